@@ -1,0 +1,56 @@
+-- The limits of a configuration and of a group, which are this project's own profile.
+--     first_config_fault (config_causes ..)   the first value that is outside its limits
+--     config_code fault                       the number of that refusal
+--     payload_limit, frame_limit              the most bytes in a payload, the most frames that a node makes
+use Rattle.std.specs.Prelude.{◌*◌, ℕ, Bool, not, ◌&&◌, nat_le, if◌then◌else◌, List, [], ◌∷◌, Option, Some, None}
+use Rattle.cast_message.specs.declared.config.ConfigFault.{ConfigFault}
+use Rattle.cast_message.specs.declared.config.ConfigFault.TheVariants.{Nodes, Faults, Choices, ItemLimit, LogLimit, BoxSize, Mode as NotUniform}
+use Rattle.cast_message.specs.declared.config.Mode.{Mode}
+use Rattle.cast_message.specs.declared.config.Mode.TheVariants.{Basic, Uniform}
+
+-- a mode bounds this many times the faults below the nodes
+abbrev pub fault_factor : Mode → ℕ
+fault_factor Basic = 0
+fault_factor Uniform = 2
+
+-- why a configuration may be refused: whether the cause holds, and the refusal
+pub record ConfigCause : Type 0 where
+  pub holds : Bool
+  pub refusal : ConfigFault
+
+abbrev pub is_outside : ℕ → ℕ → ℕ → Bool
+is_outside low high n = not (nat_le low n && nat_le n high)
+
+unfoldable pub first_config_fault : List ConfigCause → Option ConfigFault
+first_config_fault [] = None
+first_config_fault (cause ∷ causes) = if cause.holds then Some cause.refusal else first_config_fault causes
+
+-- the causes, in the order in which they are tried
+unfoldable pub config_causes : ℕ → ℕ → ℕ → ℕ → ℕ → ℕ → Mode → List ConfigCause
+config_causes nodes faults choices item_limit log_limit box_size mode =
+    record { holds = is_outside 1 64 nodes; refusal = Nodes }
+    ∷ record { holds = nat_le nodes faults; refusal = Faults }
+    ∷ record { holds = is_outside 1 nodes choices; refusal = Choices }
+    ∷ record { holds = is_outside 1 4096 item_limit; refusal = ItemLimit }
+    ∷ record { holds = is_outside 1 65536 log_limit; refusal = LogLimit }
+    ∷ record { holds = is_outside 1 4096 box_size; refusal = BoxSize }
+    ∷ record { holds = nat_le nodes (fault_factor mode * faults); refusal = NotUniform }
+    ∷ []
+
+-- the number of a refusal
+abbrev pub config_code : ConfigFault → ℕ
+config_code Nodes = 1
+config_code Faults = 2
+config_code Choices = 3
+config_code ItemLimit = 4
+config_code LogLimit = 5
+config_code BoxSize = 6
+config_code NotUniform = 7
+
+-- the most bytes in a payload
+abbrev pub payload_limit : ℕ
+payload_limit = 1024
+
+-- the most frames that a node makes
+abbrev pub frame_limit : ℕ
+frame_limit = 1048576

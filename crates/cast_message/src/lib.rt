@@ -1,0 +1,15 @@
+//! The messages of a broadcast group: items, frames, events, answers and the configuration. `specs/` has the definitions
+//! of all that a group does, read off its list of events; every crate above cites them from there.
+#![tactic(auto)]
+
+mod config;
+mod event;
+mod list;
+mod message;
+mod payload;
+
+pub use config::{Config, ConfigFault, Mode};
+pub use event::{Answer, Event, Outcome, Reply, StepFault};
+pub use list::List;
+pub use message::{Decision, Frame, FrameBody, Item, Message, NodeId};
+pub use payload::Payload;

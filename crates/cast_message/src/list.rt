@@ -1,0 +1,63 @@
+//! Lists of values, which contracts see as lists.
+ghost use Rattle.std.specs.Prelude.{◌≡◌, ◌++◌, ◌∷◌, [], OnOk, OnErr};
+
+use std::alloc::{AllocError, Global};
+use std::marker::Model;
+
+/// A `Vec` that contracts see as its list of elements.
+#[derive(Debug, Drop)]
+pub struct List<T> {
+    elements: Vec<T>,
+}
+
+impl<T> Model for List<T> {
+    ghost use Rattle.std.specs.Prelude.{List as Elements};
+
+    ghost Value = { Elements T };
+
+    ghost view = { λ list. list.elements.items };
+}
+
+impl<T> List<T> {
+    /// The empty list, which takes no memory.
+    pub fn new(alloc: Global) -> List<T>
+        ensures { result ≡ [] }
+    {
+        List {
+            elements: Vec::new(alloc),
+        }
+    }
+
+    /// The elements in order.
+    pub fn as_slice(&self) -> &[T]
+        ensures { result.now ≡ self.now }
+    {
+        self.elements.as_slice()
+    }
+
+    /// The list of these elements, which takes no memory.
+    pub fn from_vec(elements: Vec<T>) -> List<T>
+        ensures { result ≡ elements.items }
+    {
+        List { elements }
+    }
+
+    /// The elements as a `Vec`, which takes no memory.
+    pub fn into_vec(self) -> Vec<T>
+        ensures { result.items ≡ self }
+    {
+        let List { elements } = self;
+        elements
+    }
+}
+
+impl<T: Drop> List<T> {
+    /// Puts the element at the end, or answers want of memory and leaves the list as it was.
+    pub fn push(&mut self, element: T) -> Result<(), AllocError>
+        ensures ok { OnOk result (self.new ≡ self.old ++ element ∷ []) }
+        ensures err { OnErr result (self.new ≡ self.old) }
+    {
+        self.elements.push(element)?;
+        Ok(())
+    }
+}

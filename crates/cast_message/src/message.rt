@@ -1,0 +1,118 @@
+//! What nodes broadcast, and the frames that carry it between them.
+ghost use Rattle.std.specs.Prelude.{◌≡◌, IfOk};
+
+use crate::payload::Payload;
+use std::alloc::AllocError;
+use std::marker::Model;
+
+/// The number of a node. Which numbers name nodes is the configuration's to say. Contracts see the number.
+#[derive(Clone, Copy, Debug, PartialEq, Eq, PartialOrd, Ord)]
+pub struct NodeId(pub u8);
+
+impl Model for NodeId {
+    ghost use Rattle.std.specs.Prelude.{ℕ, ◌<◌};
+
+    ghost Value = { ℕ };
+
+    ghost view = { λ node. node.0 };
+
+    ghost inverse = { λ number. record { 0 = number } };
+}
+
+/// What a node puts into its stream.
+#[derive(Debug, Drop, PartialEq)]
+pub enum Item {
+    /// Bytes for whoever uses the group, at most 1,024 where they are ordered.
+    Data(Payload),
+    /// A value that the node proposes in an instance of agreement, at most once per instance.
+    Propose { instance: u64, value: u64 },
+    /// The last item of a stream.
+    Close,
+}
+
+impl Item {
+    /// An equal item, or want of memory. The payload's bytes are shared, not copied.
+    pub fn copy(&self) -> Result<Item, AllocError>
+        ensures { IfOk result (λ copy. copy ≡ self.now) }
+    {
+        match self {
+            Item::Data(payload) => Ok(Item::Data(payload.copy()?)),
+            Item::Propose { instance, value } => Ok(Item::Propose {
+                instance: *instance,
+                value: *value,
+            }),
+            Item::Close => Ok(Item::Close),
+        }
+    }
+}
+
+/// An item with its sender and its number in the sender's stream, from 0 on.
+#[derive(Debug, Drop, PartialEq)]
+pub struct Message {
+    pub sender: NodeId,
+    pub number: u64,
+    pub item: Item,
+}
+
+impl Message {
+    /// An equal message, or want of memory.
+    pub fn copy(&self) -> Result<Message, AllocError>
+        ensures { IfOk result (λ copy. copy ≡ self.now) }
+    {
+        let item = self.item.copy()?;
+        Ok(Message {
+            sender: self.sender,
+            number: self.number,
+            item,
+        })
+    }
+}
+
+/// The value on which a node settled in an instance of agreement.
+#[derive(Clone, Copy, Debug, PartialEq, Eq)]
+pub struct Decision {
+    pub instance: u64,
+    pub value: u64,
+}
+
+/// What a node hands to the network.
+#[derive(Debug, Drop, PartialEq)]
+pub struct Frame {
+    /// The node that made it.
+    pub from: NodeId,
+    /// Its number among the frames of that node, from 0 on.
+    pub seq: u64,
+    /// The node that it is for.
+    pub to: NodeId,
+    pub body: FrameBody,
+}
+
+/// What a frame says. A slot is a place in the list of what one node gives another, from 0 on.
+#[derive(Debug, Drop, PartialEq)]
+pub enum FrameBody {
+    /// The message in this slot of what the maker gives the target.
+    Carry { slot: u64, message: Message },
+    /// The maker took this slot of what the target gives it.
+    Took { slot: u64 },
+}
+
+impl Frame {
+    /// An equal frame, or want of memory.
+    pub fn copy(&self) -> Result<Frame, AllocError>
+        ensures { IfOk result (λ copy. copy ≡ self.now) }
+    {
+        let body = match &self.body {
+            FrameBody::Carry { slot, message } => FrameBody::Carry {
+                slot: *slot,
+                message: message.copy()?,
+            },
+            FrameBody::Took { slot } => FrameBody::Took { slot: *slot },
+        };
+        Ok(Frame {
+            from: self.from,
+            seq: self.seq,
+            to: self.to,
+            body,
+        })
+    }
+}
