@@ -4,6 +4,7 @@ ghost use Rattle.cast_message.specs.StepCode.{step_code};
 
 use crate::list::List;
 use crate::message::{Decision, Item, Message, NodeId};
+use std::alloc::AllocError;
 use thiserror::Error;
 
 /// One step of one node. Loss is a frame for which no arrival comes, a repeat is a second arrival of it.
@@ -73,6 +74,17 @@ pub enum StepFault {
     FramesFull,
     #[error("out of memory")]
     Memory,
+}
+
+impl From<AllocError> for StepFault {
+    ghost use Rattle.std.specs.Prelude.{◌≡◌};
+    ghost use Rattle.cast_message.specs.declared.event.StepFault.TheVariants.{Memory};
+
+    ghost from_gives = { λ _ fault. fault ≡ Memory };
+
+    fn from(_refused: AllocError) -> StepFault {
+        StepFault::Memory
+    }
 }
 
 impl StepFault {

@@ -1,0 +1,5 @@
+pub mod Lists
+pub mod Scans
+pub mod Cuts
+pub mod Shown
+pub mod Plans
