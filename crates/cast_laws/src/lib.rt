@@ -1,0 +1,50 @@
+//! The laws of the definitions, for every configuration and every list of events: what follows from the definitions alone,
+//! whatever program keeps them. Each function does nothing; its contract is the law.
+#![tactic(auto)]
+
+ghost use Rattle.cast_laws.specs.Runs.{AllRunsDeliverPrefixes, AllRunsCloseStreams, AllRunsDecideProposals, AllRunsDecideFewValues};
+ghost use Rattle.cast_laws.specs.Rounds.{RefusesRoundsAsFullAlone, RoundsSpread, RoundsAddNothing, RoundsRest, TwoRoundsRest};
+ghost use Rattle.cast_laws.specs.Rounds.{RestsWhereNothingIsDue, NothingIsDueAtRest, DeliversTheSameAtRest, DeliversWholeStreamsAtRest};
+ghost use Rattle.cast_laws.specs.Rounds.{DecidesTheSameAtRest, DecidesWhatIsProposedAtRest, NodesAnswerAsTheGroup, NodesStepAsTheGroup};
+ghost use Rattle.cast_laws.specs.Rounds.{NodesMakeTheFrames, NodesDeliverAsTheGroup, NodesDecideAsTheGroup, NodesOweAsTheGroup};
+
+/// What a node delivers from a sender is a prefix of what that sender broadcast, with nothing after its close; each
+/// decided value was proposed in its instance; and where the faults are fewer than k, at most k values are decided.
+pub fn keeps_order_and_agrees()
+    ensures prefix { AllRunsDeliverPrefixes }
+    ensures closed { AllRunsCloseStreams }
+    ensures proposed { AllRunsDecideProposals }
+    ensures few { AllRunsDecideFewValues }
+{}
+
+/// A round is refused only where a node's frames are full. After a round each live node holds exactly what some live
+/// node held before it, and two rounds bring rest.
+pub fn rests_after_two_rounds()
+    ensures refused { RefusesRoundsAsFullAlone }
+    ensures spread { RoundsSpread }
+    ensures nothing_else { RoundsAddNothing }
+    ensures rest { RoundsRest }
+    ensures two { TwoRoundsRest }
+{}
+
+/// Nothing is due exactly at rest. There all live nodes have delivered the same, the whole stream of a live sender, and
+/// decided the same instances, among them each that enough senders proposed in what they delivered.
+pub fn agrees_at_rest()
+    ensures rests { RestsWhereNothingIsDue }
+    ensures nothing_due { NothingIsDueAtRest }
+    ensures same { DeliversTheSameAtRest }
+    ensures whole { DeliversWholeStreamsAtRest }
+    ensures decided { DecidesTheSameAtRest }
+    ensures proposed { DecidesWhatIsProposedAtRest }
+{}
+
+/// Each node of a group answers by its own steps as the group does, and makes, delivers, decides and owes what the group
+/// says.
+pub fn answers_by_own_steps()
+    ensures reply { NodesAnswerAsTheGroup }
+    ensures steps { NodesStepAsTheGroup }
+    ensures frames { NodesMakeTheFrames }
+    ensures delivered { NodesDeliverAsTheGroup }
+    ensures decided { NodesDecideAsTheGroup }
+    ensures owed { NodesOweAsTheGroup }
+{}
