@@ -13,3 +13,6 @@ pub use line::Line;
 pub use lines::lines_of;
 pub use meter::{Failed, Meter};
 pub use writing::{WriteFault, write_line, write_record};
+
+#[cfg(test)]
+mod tests;
