@@ -3,6 +3,7 @@
 #![tactic(auto)]
 
 mod digits;
+mod hex;
 mod line;
 mod lines;
 mod meter;

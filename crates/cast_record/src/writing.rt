@@ -1,18 +1,21 @@
 //! Writing lines: without memory, each text whole or a front of it.
 ghost use Rattle.std.specs.Prelude.{◌≡◌, ℕ, ◌+◌, ◌<◌, ◌++◌, [], ◌∷◌, false, map, decimal};
 ghost use Rattle.std.specs.List.{join_with_byte};
-ghost use Rattle.cast_record.specs.Hex.{hex, hex_digit};
+ghost use Rattle.cast_record.specs.Hex.{hex};
 ghost use Rattle.cast_record.specs.Text.{item_word, mode_word, line_text, record_text};
 ghost use Rattle.cast_record.specs.Words.{word_text};
 ghost use Rattle.cast_record.specs.Written.{Writes};
 
 use crate::digits::Digits;
+use crate::hex::HexDigits;
 use crate::line::Line;
 use crate::meter::Meter;
 use crate::words::Word;
 use cast_message::{Item, Mode};
 use std::io::Write;
 use thiserror::Error;
+
+const BYTES_AT_ONCE: usize = 32;
 
 /// Why a text was not written.
 #[derive(Clone, Copy, Debug, PartialEq, Eq, Error)]
@@ -170,27 +173,18 @@ fn write_number<W: Write>(number: u64, writer: &mut Meter<W>) -> Result<(), Writ
     write_bytes(Digits::new(number).as_slice(), writer)
 }
 
-// Writes each byte as two digits.
+// Writes each byte as two digits, so many bytes at a time.
 fn write_hex<W: Write>(bytes: &[u8], writer: &mut Meter<W>) -> Result<(), WriteFault>
     requires { writer.old.failed ≡ false }
     ensures { Writes (W.contents writer.old.inner) (W.contents writer.new.inner) writer.new.failed result (hex bytes.now) }
 {
-    for byte in bytes {
-        write_bytes(&[digit(*byte / 16), digit(*byte % 16)], writer)?;
+    let mut rest = bytes;
+    while !rest.is_empty() {
+        let (front, others) = rest.split_at(rest.len().min(BYTES_AT_ONCE));
+        write_bytes(HexDigits::new(front).as_slice(), writer)?;
+        rest = others;
     }
     Ok(())
-}
-
-// The digit of a number below sixteen.
-fn digit(number: u8) -> u8
-    requires { number < 16 }
-    ensures { result ≡ hex_digit number }
-{
-    if number < 10 {
-        b'0' + number
-    } else {
-        b'a' + (number - 10)
-    }
 }
 
 // Writes all the bytes.

@@ -14,3 +14,6 @@ mod script;
 
 pub use reading::read_script;
 pub use script::{Fault, FaultPlan, FrameKind, Script, ScriptEvent, ScriptFault};
+
+#[cfg(test)]
+mod tests;
