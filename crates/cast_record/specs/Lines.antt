@@ -6,9 +6,9 @@ use Rattle.cast_message.specs.declared.config.Config.{Config}
 use Rattle.cast_message.specs.declared.config.Mode.{Mode}
 use Rattle.cast_message.specs.declared.config.Mode.TheVariants.{Basic, Uniform}
 use Rattle.cast_message.specs.declared.event.Event.{Event}
-use Rattle.cast_message.specs.declared.event.Event.TheVariants.{Order, Send, Ack, Arrive, Crash}
+use Rattle.cast_message.specs.declared.event.Event.TheVariants.{Order, Arrive, Crash}
 use Rattle.cast_message.specs.declared.event.Answer.{Answer}
-use Rattle.cast_message.specs.declared.event.Answer.TheVariants.{Ordered, Sent, Arrived, Down}
+use Rattle.cast_message.specs.declared.event.Answer.TheVariants.{Ordered, Arrived, Down}
 use Rattle.cast_message.specs.declared.event.Outcome.{Outcome}
 use Rattle.cast_message.specs.declared.event.StepFault.{StepFault}
 use Rattle.cast_message.specs.StepCode.{step_code}

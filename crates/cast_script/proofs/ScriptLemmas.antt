@@ -1,5 +1,5 @@
 -- A part of a script that is refused.
-use Rattle.std.proofs.Common.{◌≡◌, ℕ, ◌+◌, List, length, Result, Ok, Err, refl, sym, ◌∙◌}
+use Rattle.std.proofs.Common.{◌≡◌, ℕ, ◌+◌, List, length, Result, Ok, refl}
 use Rattle.serde_json.specs.Data.{Data}
 use Rattle.cast_message.specs.declared.message.Item.{Item}
 use Rattle.cast_script.specs.declared.script.ScriptEvent.{ScriptEvent}

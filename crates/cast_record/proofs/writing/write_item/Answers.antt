@@ -1,6 +1,5 @@
-use Rattle.std.proofs.Common.{refl, ℕ, List, [], ◌∷◌, ◌++◌, codes, decimal, append_assoc, rules, ◌≡◌}
+use Rattle.std.proofs.Common.{decimal}
 use Rattle.std.proofs.lemmas.Result.{err_from_is_err_and}
-use Rattle.cast_record.specs.Text.{item_word}
 use Rattle.cast_record.specs.Hex.{hex}
 use Rattle.cast_record.proofs.WritingLemmas.{going_start, going_again, going_more, going_fails, going_last, propose-parts}
 use Rattle.cast_record.proofs.writing.write_item.Goals as goal

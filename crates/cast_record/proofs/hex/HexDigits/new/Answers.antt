@@ -1,4 +1,4 @@
-use Rattle.std.proofs.Common.{arith, rules, length-set, ℕ}
+use Rattle.std.proofs.Common.{arith, length-set, ℕ}
 use Rattle.cast_record.proofs.HexLemmas.{two_more}
 use Rattle.cast_record.proofs.hex.HexDigits.new.Goals as goal
 
