@@ -10,7 +10,7 @@ use crate::digits::Digits;
 use crate::hex::HexDigits;
 use crate::line::Line;
 use crate::meter::Meter;
-use crate::words::Word;
+use crate::words::Word::{self, Number};
 use cast_message::{Item, Mode};
 use std::io::Write;
 use thiserror::Error;
@@ -50,11 +50,7 @@ pub fn write_line<W: Write>(line: &Line, writer: &mut Meter<W>) -> Result<(), Wr
             choices,
         } => write_words(
             b"cast/1",
-            &[
-                Word::Number(*nodes),
-                Word::Number(*faults),
-                Word::Number(*choices),
-            ],
+            &[Number(*nodes), Number(*faults), Number(*choices)],
             writer,
         ),
         Line::Head2 {
@@ -65,9 +61,9 @@ pub fn write_line<W: Write>(line: &Line, writer: &mut Meter<W>) -> Result<(), Wr
         } => write_words(
             b"cast/2",
             &[
-                Word::Number(*nodes),
-                Word::Number(*faults),
-                Word::Number(*choices),
+                Number(*nodes),
+                Number(*faults),
+                Number(*choices),
                 Word::Mode(*mode),
             ],
             writer,
@@ -75,8 +71,8 @@ pub fn write_line<W: Write>(line: &Line, writer: &mut Meter<W>) -> Result<(), Wr
         Line::Broadcast(message) => write_words(
             b"b",
             &[
-                Word::Number(u64::from(message.sender.0)),
-                Word::Number(message.number),
+                Number(u64::from(message.sender.0)),
+                Number(message.number),
                 Word::Item(&message.item),
             ],
             writer,
@@ -84,9 +80,9 @@ pub fn write_line<W: Write>(line: &Line, writer: &mut Meter<W>) -> Result<(), Wr
         Line::Delivered { node, message } => write_words(
             b"d",
             &[
-                Word::Number(u64::from(node.0)),
-                Word::Number(u64::from(message.sender.0)),
-                Word::Number(message.number),
+                Number(u64::from(node.0)),
+                Number(u64::from(message.sender.0)),
+                Number(message.number),
                 Word::Item(&message.item),
             ],
             writer,
@@ -94,15 +90,15 @@ pub fn write_line<W: Write>(line: &Line, writer: &mut Meter<W>) -> Result<(), Wr
         Line::Decided { node, decision } => write_words(
             b"v",
             &[
-                Word::Number(u64::from(node.0)),
-                Word::Number(decision.instance),
-                Word::Number(decision.value),
+                Number(u64::from(node.0)),
+                Number(decision.instance),
+                Number(decision.value),
             ],
             writer,
         ),
-        Line::Crashed { node } => { write_words(b"x", &[Word::Number(u64::from(node.0))], writer) }
+        Line::Crashed { node } => write_words(b"x", &[Number(u64::from(node.0))], writer),
         Line::Refused { index, code } => {
-            write_words(b"r", &[Word::Number(*index), Word::Number(*code)], writer)
+            write_words(b"r", &[Number(*index), Number(*code)], writer)
         }
         Line::End => write_words(b"end", &[], writer),
     }
@@ -131,7 +127,7 @@ fn write_word<W: Write>(word: &Word<'_>, writer: &mut Meter<W>) -> Result<(), Wr
     ensures { Writes (W.contents writer.old.inner) (W.contents writer.new.inner) writer.new.failed result (word_text word.now) }
 {
     match word {
-        Word::Number(number) => write_number(*number, writer),
+        Number(number) => write_number(*number, writer),
         Word::Mode(mode) => write_bytes(mode_name(*mode), writer),
         Word::Item(item) => write_item(item, writer),
     }
