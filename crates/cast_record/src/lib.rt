@@ -1,0 +1,19 @@
+//! The record of a run: its lines, and their one text. `specs/Text` says what a line is written as, `specs/Lines` which
+//! lines an event and its reply leave.
+#![tactic(auto)]
+
+mod digits;
+mod hex;
+mod line;
+mod lines;
+mod meter;
+mod words;
+mod writing;
+
+pub use line::Line;
+pub use lines::lines_of;
+pub use meter::{Failed, Meter};
+pub use writing::{WriteFault, write_line, write_record};
+
+#[cfg(test)]
+mod tests;

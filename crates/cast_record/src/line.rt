@@ -1,0 +1,72 @@
+//! The lines of a record.
+ghost use Rattle.std.specs.Prelude.{◌≡◌};
+
+use cast_message::{Config, Decision, Message, Mode, NodeId};
+
+/// A line of a record.
+#[derive(Debug, Drop, PartialEq)]
+pub enum Line {
+    /// The first line of a record `cast/1`: a group in basic mode of at most 16 nodes.
+    Head {
+        nodes: u64,
+        faults: u64,
+        choices: u64,
+    },
+    /// The first line of a record `cast/2`.
+    Head2 {
+        nodes: u64,
+        faults: u64,
+        choices: u64,
+        mode: Mode,
+    },
+    /// The message's sender has put it into its stream.
+    Broadcast(Message),
+    /// The node delivered the message.
+    Delivered {
+        node: NodeId,
+        message: Message,
+    },
+    /// The node decided.
+    Decided {
+        node: NodeId,
+        decision: Decision,
+    },
+    /// The node crashed.
+    Crashed {
+        node: NodeId,
+    },
+    /// The event of the script that has this index, from 0 on, was refused with this code, 1 to 12.
+    Refused {
+        index: u64,
+        code: u64,
+    },
+    /// The last line of a record.
+    End,
+}
+
+impl Line {
+    ghost use Rattle.cast_record.specs.Lines.{head_of};
+
+    /// The first line of a record of a group of this configuration: `cast/1` where the mode is basic and there are at
+    /// most 16 nodes, else `cast/2`.
+    pub fn head(config: &Config) -> Line
+        ensures { result ≡ head_of config.now }
+    {
+        let nodes = config.nodes();
+        let faults = config.faults();
+        let choices = config.choices();
+        match config.mode() {
+            Mode::Basic if nodes <= 16 => Line::Head {
+                nodes,
+                faults,
+                choices,
+            },
+            mode => Line::Head2 {
+                nodes,
+                faults,
+                choices,
+                mode,
+            },
+        }
+    }
+}

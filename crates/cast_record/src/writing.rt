@@ -1,0 +1,202 @@
+//! Writing lines: without memory, each text whole or a front of it.
+ghost use Rattle.std.specs.Prelude.{◌≡◌, ℕ, ◌+◌, ◌<◌, ◌++◌, [], ◌∷◌, false, map, decimal};
+ghost use Rattle.std.specs.List.{join_with_byte};
+ghost use Rattle.cast_record.specs.Hex.{hex};
+ghost use Rattle.cast_record.specs.Text.{item_word, mode_word, line_text, record_text};
+ghost use Rattle.cast_record.specs.Words.{word_text};
+ghost use Rattle.cast_record.specs.Written.{Writes};
+
+use crate::digits::Digits;
+use crate::hex::HexDigits;
+use crate::line::Line;
+use crate::meter::Meter;
+use crate::words::Word::{self, Number};
+use cast_message::{Item, Mode};
+use std::io::Write;
+use thiserror::Error;
+
+const BYTES_AT_ONCE: usize = 32;
+
+/// Why a text was not written.
+#[derive(Clone, Copy, Debug, PartialEq, Eq, Error)]
+pub enum WriteFault {
+    /// The writer failed, or took no byte, in this call.
+    #[error("the writer failed or took no byte")]
+    Write,
+}
+
+/// Writes the lines, each with a line feed. It takes no memory. A refusal comes only where the writer failed or took no
+/// byte; the meter tells so from then on, and a front of the text stands.
+pub fn write_record<W: Write>(lines: &[Line], writer: &mut Meter<W>) -> Result<(), WriteFault>
+    requires { writer.old.failed ≡ false }
+    ensures { Writes (W.contents writer.old.inner) (W.contents writer.new.inner) writer.new.failed result (record_text lines.now) }
+{
+    for line in lines {
+        write_line(line, writer)?;
+    }
+    Ok(())
+}
+
+/// Writes the line with its line feed. It takes no memory. A refusal comes only where the writer failed or took no byte;
+/// the meter tells so from then on, and a front of the text stands.
+pub fn write_line<W: Write>(line: &Line, writer: &mut Meter<W>) -> Result<(), WriteFault>
+    requires { writer.old.failed ≡ false }
+    ensures { Writes (W.contents writer.old.inner) (W.contents writer.new.inner) writer.new.failed result (line_text line.now ++ 10 ∷ []) }
+{
+    match line {
+        Line::Head {
+            nodes,
+            faults,
+            choices,
+        } => write_words(
+            b"cast/1",
+            &[Number(*nodes), Number(*faults), Number(*choices)],
+            writer,
+        ),
+        Line::Head2 {
+            nodes,
+            faults,
+            choices,
+            mode,
+        } => write_words(
+            b"cast/2",
+            &[
+                Number(*nodes),
+                Number(*faults),
+                Number(*choices),
+                Word::Mode(*mode),
+            ],
+            writer,
+        ),
+        Line::Broadcast(message) => write_words(
+            b"b",
+            &[
+                Number(u64::from(message.sender.0)),
+                Number(message.number),
+                Word::Item(&message.item),
+            ],
+            writer,
+        ),
+        Line::Delivered { node, message } => write_words(
+            b"d",
+            &[
+                Number(u64::from(node.0)),
+                Number(u64::from(message.sender.0)),
+                Number(message.number),
+                Word::Item(&message.item),
+            ],
+            writer,
+        ),
+        Line::Decided { node, decision } => write_words(
+            b"v",
+            &[
+                Number(u64::from(node.0)),
+                Number(decision.instance),
+                Number(decision.value),
+            ],
+            writer,
+        ),
+        Line::Crashed { node } => write_words(b"x", &[Number(u64::from(node.0))], writer),
+        Line::Refused { index, code } => {
+            write_words(b"r", &[Number(*index), Number(*code)], writer)
+        }
+        Line::End => write_words(b"end", &[], writer),
+    }
+}
+
+// Writes the name and the words, parted by one blank, and a line feed.
+fn write_words<W: Write>(
+    name: &[u8],
+    words: &[Word<'_>],
+    writer: &mut Meter<W>,
+) -> Result<(), WriteFault>
+    requires { writer.old.failed ≡ false }
+    ensures { Writes (W.contents writer.old.inner) (W.contents writer.new.inner) writer.new.failed result
+        (join_with_byte 32 (name.now ∷ map word_text words.now) ++ 10 ∷ []) }
+{
+    write_bytes(name, writer)?;
+    for word in words {
+        write_bytes(b" ", writer)?;
+        write_word(word, writer)?;
+    }
+    write_bytes(b"\n", writer)
+}
+
+fn write_word<W: Write>(word: &Word<'_>, writer: &mut Meter<W>) -> Result<(), WriteFault>
+    requires { writer.old.failed ≡ false }
+    ensures { Writes (W.contents writer.old.inner) (W.contents writer.new.inner) writer.new.failed result (word_text word.now) }
+{
+    match word {
+        Number(number) => write_number(*number, writer),
+        Word::Mode(mode) => write_bytes(mode_name(*mode), writer),
+        Word::Item(item) => write_item(item, writer),
+    }
+}
+
+fn mode_name(mode: Mode) -> &'static [u8]
+    ensures { result.now ≡ mode_word mode }
+{
+    match mode {
+        Mode::Basic => b"basic",
+        Mode::Uniform => b"uniform",
+    }
+}
+
+fn write_item<W: Write>(item: &Item, writer: &mut Meter<W>) -> Result<(), WriteFault>
+    requires { writer.old.failed ≡ false }
+    ensures { Writes (W.contents writer.old.inner) (W.contents writer.new.inner) writer.new.failed result (item_word item.now) }
+{
+    match item {
+        Item::Data(payload) => {
+            write_bytes(b"data:", writer)?;
+            write_hex(payload.as_slice(), writer)
+        }
+        Item::Propose { instance, value } => {
+            write_bytes(b"prop:", writer)?;
+            write_number(*instance, writer)?;
+            write_bytes(b":", writer)?;
+            write_number(*value, writer)
+        }
+        Item::Close => write_bytes(b"close", writer),
+    }
+}
+
+// Writes the number in decimal digits.
+fn write_number<W: Write>(number: u64, writer: &mut Meter<W>) -> Result<(), WriteFault>
+    requires { writer.old.failed ≡ false }
+    ensures { Writes (W.contents writer.old.inner) (W.contents writer.new.inner) writer.new.failed result (decimal number) }
+{
+    write_bytes(Digits::new(number).as_slice(), writer)
+}
+
+// Writes each byte as two digits, so many bytes at a time.
+fn write_hex<W: Write>(bytes: &[u8], writer: &mut Meter<W>) -> Result<(), WriteFault>
+    requires { writer.old.failed ≡ false }
+    ensures { Writes (W.contents writer.old.inner) (W.contents writer.new.inner) writer.new.failed result (hex bytes.now) }
+{
+    let mut rest = bytes;
+    while !rest.is_empty() {
+        let (front, others) = rest.split_at(rest.len().min(BYTES_AT_ONCE));
+        write_bytes(HexDigits::new(front).as_slice(), writer)?;
+        rest = others;
+    }
+    Ok(())
+}
+
+// Writes all the bytes.
+fn write_bytes<W: Write>(bytes: &[u8], writer: &mut Meter<W>) -> Result<(), WriteFault>
+    requires { writer.old.failed ≡ false }
+    ensures { Writes (W.contents writer.old.inner) (W.contents writer.new.inner) writer.new.failed result bytes.now }
+{
+    let mut rest = bytes;
+    while !rest.is_empty() {
+        let Ok(count) = writer.write(rest) else {
+            return Err(WriteFault::Write);
+        };
+        if count == 0 {
+            return Err(WriteFault::Write);
+        }
+        rest = &rest[count..];
+    }
+    Ok(())
+}

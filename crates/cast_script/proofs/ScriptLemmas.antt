@@ -1,0 +1,39 @@
+-- A part of a script that is refused.
+use Rattle.std.proofs.Common.{◌≡◌, ℕ, ◌+◌, List, length, Result, Ok, refl}
+use Rattle.serde_json.specs.Data.{Data}
+use Rattle.cast_message.specs.declared.message.Item.{Item}
+use Rattle.cast_script.specs.declared.script.ScriptEvent.{ScriptEvent}
+use Rattle.cast_script.specs.declared.script.Settings.{Settings}
+use Rattle.cast_script.specs.declared.script.Fault.{Fault}
+use Rattle.cast_script.specs.declared.script.ScriptFault.{ScriptFault}
+use Rattle.cast_script.specs.declared.script.ScriptFault.TheVariants.{NotJson, Shape, Config, Memory}
+use Rattle.cast_script.specs.Faults.{◌>>=◌, elements_from, Refuses}
+use Rattle.cast_script.specs.Element.{event_of, fault_of, job_of}
+use Rattle.cast_script.specs.Script.{checked, script_in}
+
+-- the fault of a part is that of the whole
+part_refused : {A B : Type 0} (fault : ScriptFault) (part : Result A ScriptFault) (next : A → Result B ScriptFault) → Refuses fault part → Refuses fault (part >>= next)
+part_refused NotJson part next h = absurd h
+part_refused (Shape index) part next h = rw h refl
+part_refused (Config cause) part next h = rw h refl
+part_refused Memory part next h = tt
+
+pub jobs_refused : (settings : Settings) (es fs js : List Data) (events : List ScriptEvent) (faults : List Fault) (m n : ℕ) (fault : ScriptFault)
+    → m ≡ 1 + length es → n ≡ 1 + length es + length fs
+    → elements_from event_of 1 es ≡ Ok events → elements_from fault_of m fs ≡ Ok faults
+    → Refuses fault (elements_from job_of n js) → Refuses fault (script_in settings es fs js)
+unfolding script_in
+jobs_refused settings es fs js events faults m n fault first_fault first_job events_read faults_read refused =
+    let faults_read' = rw first_fault at faults_read in
+    let refused' = rw first_job at refused in
+    rw (events_read, faults_read') (part_refused fault _ _ refused')
+
+pub config_refused : (settings : Settings) (es fs js : List Data) (events : List ScriptEvent) (faults : List Fault) (jobs : List (ℕ × List Item)) (m n : ℕ) (fault : ScriptFault)
+    → m ≡ 1 + length es → n ≡ 1 + length es + length fs
+    → elements_from event_of 1 es ≡ Ok events → elements_from fault_of m fs ≡ Ok faults → elements_from job_of n js ≡ Ok jobs
+    → Refuses fault (checked settings) → Refuses fault (script_in settings es fs js)
+unfolding script_in
+config_refused settings es fs js events faults jobs m n fault first_fault first_job events_read faults_read jobs_read refused =
+    let faults_read' = rw first_fault at faults_read in
+    let jobs_read' = rw first_job at jobs_read in
+    rw (events_read, faults_read', jobs_read') (part_refused fault _ _ refused)

@@ -1,0 +1,205 @@
+-- What an element of a script stands for: a value that is an array, with exactly these places.
+--     item_of places     "data",HEX or "propose",j,v or "close"
+--     event_of d         ["order",p,ITEM..], ["send",p,q,slot], ["ack",p,q,slot], ["arrive",from,seq], ["crash",p], ["settle"]
+--     fault_of d         ["lose",KIND,p,q,o,m], ["repeat",KIND,p,q,o,m], ["delay",KIND,p,q,o,m,c], ["crash",p,e]
+--     job_of d           [p,[[ITEM..],[ITEM..],..]]
+use Rattle.std.specs.Prelude.{ℕ, List, [], ◌∷◌, codes, nat_lt, if◌then◌else◌, Option, Some, None, option_map, option_and_then}
+use Rattle.std.specs.Str.{bytes_eq}
+use Rattle.serde_json.specs.Data.{Data}
+use Rattle.serde_json.specs.Find.{as_number, as_u64, as_str, as_array}
+use Rattle.cast_message.specs.declared.message.Item.{Item}
+use Rattle.cast_message.specs.declared.message.Item.TheVariants.{Data as Bytes, Propose, Close}
+use Rattle.cast_message.specs.declared.event.Event.{Event}
+use Rattle.cast_message.specs.declared.event.Event.TheVariants.{Order, Send, Ack, Arrive, Crash as Down}
+use Rattle.cast_script.specs.declared.script.ScriptEvent.{ScriptEvent}
+use Rattle.cast_script.specs.declared.script.ScriptEvent.TheVariants.{Core, Settle}
+use Rattle.cast_script.specs.declared.script.Fault.{Fault}
+use Rattle.cast_script.specs.declared.script.Fault.TheVariants.{Lose, Repeat, Delay, Crash}
+use Rattle.cast_script.specs.declared.script.FrameKind.{FrameKind}
+use Rattle.cast_script.specs.declared.script.FrameKind.TheVariants.{Carry, Took}
+use Rattle.cast_script.specs.Hex.{unhex}
+use Rattle.cast_script.specs.Places.{places}
+
+infixl 10 ◌>>=◌
+abbrev pub ◌>>=◌ : {A B : Type 0} → Option A → (A → Option B) → Option B
+o >>= f = option_and_then f o
+
+-- the places of an array
+abbrev pub places_of : Data → Option (List Data)
+places_of d = option_map places (as_array d)
+
+-- a number from 0 to 2^64 - 1
+abbrev pub number_of : Data → Option ℕ
+number_of d = option_and_then as_u64 (as_number d)
+
+-- a number from 0 to 255
+abbrev pub node_of : Data → Option ℕ
+node_of d = option_and_then (λ n. if nat_lt 255 n then None else Some n) (number_of d)
+
+-- ---- items
+
+abbrev pub data_of : List Data → Option Item
+data_of (digits ∷ []) = option_map Bytes (option_and_then unhex (as_str digits))
+data_of _ = None
+
+abbrev pub proposal_of : List Data → Option Item
+proposal_of (j ∷ v ∷ []) = do
+  instance ← number_of j
+  value ← number_of v
+  Some (Propose instance value)
+proposal_of _ = None
+
+abbrev pub close_of : List Data → Option Item
+close_of [] = Some Close
+close_of _ = None
+
+abbrev pub item_named : List ℕ → List Data → Option Item
+item_named name ds =
+    if bytes_eq name (codes "data") then data_of ds else (
+    if bytes_eq name (codes "propose") then proposal_of ds else (
+    if bytes_eq name (codes "close") then close_of ds else None))
+
+abbrev pub item_of : List Data → Option Item
+item_of [] = None
+item_of (word ∷ ds) = option_and_then (λ name. item_named name ds) (as_str word)
+
+-- ---- events
+
+abbrev pub order_of : List Data → Option Event
+order_of [] = None
+order_of (p ∷ ds) = do
+  node ← node_of p
+  item ← item_of ds
+  Some (Order node item)
+
+abbrev pub send_of : List Data → Option ScriptEvent
+send_of (p ∷ q ∷ s ∷ []) = do
+  from ← node_of p
+  to ← node_of q
+  slot ← number_of s
+  Some (Core (Send from to slot))
+send_of _ = None
+
+abbrev pub ack_of : List Data → Option ScriptEvent
+ack_of (p ∷ q ∷ s ∷ []) = do
+  from ← node_of p
+  to ← node_of q
+  slot ← number_of s
+  Some (Core (Ack from to slot))
+ack_of _ = None
+
+abbrev pub arrive_of : List Data → Option ScriptEvent
+arrive_of (p ∷ s ∷ []) = do
+  from ← node_of p
+  seq ← number_of s
+  Some (Core (Arrive from seq))
+arrive_of _ = None
+
+abbrev pub crash_of : List Data → Option ScriptEvent
+crash_of (p ∷ []) = do
+  node ← node_of p
+  Some (Core (Down node))
+crash_of _ = None
+
+abbrev pub settle_of : List Data → Option ScriptEvent
+settle_of [] = Some Settle
+settle_of _ = None
+
+abbrev pub event_named : List ℕ → List Data → Option ScriptEvent
+event_named name ds =
+    if bytes_eq name (codes "order") then option_map Core (order_of ds) else (
+    if bytes_eq name (codes "send") then send_of ds else (
+    if bytes_eq name (codes "ack") then ack_of ds else (
+    if bytes_eq name (codes "arrive") then arrive_of ds else (
+    if bytes_eq name (codes "crash") then crash_of ds else (
+    if bytes_eq name (codes "settle") then settle_of ds else None)))))
+
+abbrev pub event_at : List Data → Option ScriptEvent
+event_at [] = None
+event_at (word ∷ ds) = option_and_then (λ name. event_named name ds) (as_str word)
+
+abbrev pub event_of : Data → Option ScriptEvent
+event_of d = option_and_then event_at (places_of d)
+
+-- ---- faults
+
+abbrev pub kind_named : List ℕ → Option FrameKind
+kind_named name = if bytes_eq name (codes "carry") then Some Carry else (if bytes_eq name (codes "took") then Some Took else None)
+
+abbrev pub kind_of : Data → Option FrameKind
+kind_of d = option_and_then kind_named (as_str d)
+
+abbrev pub lose_of : List Data → Option Fault
+lose_of (k ∷ p ∷ q ∷ o ∷ m ∷ []) = do
+  kind ← kind_of k
+  from ← node_of p
+  to ← node_of q
+  first ← number_of o
+  step ← number_of m
+  Some (Lose kind from to first step)
+lose_of _ = None
+
+abbrev pub repeat_of : List Data → Option Fault
+repeat_of (k ∷ p ∷ q ∷ o ∷ m ∷ []) = do
+  kind ← kind_of k
+  from ← node_of p
+  to ← node_of q
+  first ← number_of o
+  step ← number_of m
+  Some (Repeat kind from to first step)
+repeat_of _ = None
+
+abbrev pub delay_of : List Data → Option Fault
+delay_of (k ∷ p ∷ q ∷ o ∷ m ∷ c ∷ []) = do
+  kind ← kind_of k
+  from ← node_of p
+  to ← node_of q
+  first ← number_of o
+  step ← number_of m
+  count ← number_of c
+  Some (Delay kind from to first step count)
+delay_of _ = None
+
+abbrev pub engine_crash_of : List Data → Option Fault
+engine_crash_of (p ∷ e ∷ []) = do
+  node ← node_of p
+  entries ← number_of e
+  Some (Crash node entries)
+engine_crash_of _ = None
+
+abbrev pub fault_named : List ℕ → List Data → Option Fault
+fault_named name ds =
+    if bytes_eq name (codes "lose") then lose_of ds else (
+    if bytes_eq name (codes "repeat") then repeat_of ds else (
+    if bytes_eq name (codes "delay") then delay_of ds else (
+    if bytes_eq name (codes "crash") then engine_crash_of ds else None)))
+
+abbrev pub fault_at : List Data → Option Fault
+fault_at [] = None
+fault_at (word ∷ ds) = option_and_then (λ name. fault_named name ds) (as_str word)
+
+abbrev pub fault_of : Data → Option Fault
+fault_of d = option_and_then fault_at (places_of d)
+
+-- ---- jobs
+
+-- the item, if there is one, before the others, if there are any
+abbrev pub before : Option Item → Option (List Item) → Option (List Item)
+before None others = None
+before (Some item) others = option_map (λ items. item ∷ items) others
+
+-- the items that the values are, each an array
+abbrev pub items_of : List Data → Option (List Item)
+items_of [] = Some []
+items_of (d ∷ ds) = before (option_and_then item_of (places_of d)) (items_of ds)
+
+abbrev pub job_at : List Data → Option (ℕ × List Item)
+job_at (p ∷ ds ∷ []) = do
+  node ← node_of p
+  list ← places_of ds
+  items ← items_of list
+  Some (node, items)
+job_at _ = None
+
+abbrev pub job_of : Data → Option (ℕ × List Item)
+job_of d = option_and_then job_at (places_of d)

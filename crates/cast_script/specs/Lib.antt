@@ -1,0 +1,10 @@
+pub mod Unread
+pub mod Faults
+pub mod Hex
+pub mod Places
+pub mod Element
+pub mod Members
+pub mod Script
+pub use Rattle.cast_message.specs.Limits
+pub use Rattle.serde_json.specs.Read
+pub use Rattle.serde_json.specs.Data

@@ -1,0 +1,104 @@
+//! The events of a script.
+ghost use Rattle.std.specs.Prelude.{◌≡◌, map};
+ghost use Rattle.serde_json.specs.View.{view};
+ghost use Rattle.cast_script.specs.Element.{event_of, event_named, order_of, send_of, ack_of, arrive_of, crash_of, settle_of};
+ghost use Rattle.cast_script.specs.Unread.{Gives};
+
+use crate::element::{Element, Unread, node, places};
+use crate::item::item;
+use crate::script::ScriptEvent;
+use cast_message::Event;
+use serde_json::Value;
+use std::alloc::Global;
+
+impl Element for ScriptEvent {
+    ghost element = { event_of };
+
+    fn read(alloc: Global, value: &Value) -> Result<ScriptEvent, Unread> {
+        let places = places(value).ok_or(Unread::Shape)?;
+        let (word, others) = places.split_first().ok_or(Unread::Shape)?;
+        let name = word.as_str().ok_or(Unread::Shape)?;
+        event_by(alloc, name, others)
+    }
+}
+
+// The event of this name with these places after it.
+fn event_by(alloc: Global, name: &str, places: &[Value]) -> Result<ScriptEvent, Unread>
+    ensures { Gives result (event_named name.now (map view places.now)) }
+{
+    match name {
+        "order" => Ok(ScriptEvent::Core(order(alloc, places)?)),
+        "send" => send(places).ok_or(Unread::Shape),
+        "ack" => ack(places).ok_or(Unread::Shape),
+        "arrive" => arrive(places).ok_or(Unread::Shape),
+        "crash" => crash(places).ok_or(Unread::Shape),
+        "settle" => settle(places).ok_or(Unread::Shape),
+        _ => Err(Unread::Shape),
+    }
+}
+
+fn order(alloc: Global, places: &[Value]) -> Result<Event, Unread>
+    ensures { Gives result (order_of (map view places.now)) }
+{
+    let (first, others) = places.split_first().ok_or(Unread::Shape)?;
+    let node = node(first).ok_or(Unread::Shape)?;
+    let item = item(alloc, others)?;
+    Ok(Event::Order { node, item })
+}
+
+fn send(places: &[Value]) -> Option<ScriptEvent>
+    ensures { result ≡ send_of (map view places.now) }
+{
+    let [from, to, slot] = places else {
+        return None;
+    };
+    Some(ScriptEvent::Core(Event::Send {
+        from: node(from)?,
+        to: node(to)?,
+        slot: slot.as_u64()?,
+    }))
+}
+
+fn ack(places: &[Value]) -> Option<ScriptEvent>
+    ensures { result ≡ ack_of (map view places.now) }
+{
+    let [from, to, slot] = places else {
+        return None;
+    };
+    Some(ScriptEvent::Core(Event::Ack {
+        from: node(from)?,
+        to: node(to)?,
+        slot: slot.as_u64()?,
+    }))
+}
+
+fn arrive(places: &[Value]) -> Option<ScriptEvent>
+    ensures { result ≡ arrive_of (map view places.now) }
+{
+    let [from, seq] = places else {
+        return None;
+    };
+    Some(ScriptEvent::Core(Event::Arrive {
+        from: node(from)?,
+        seq: seq.as_u64()?,
+    }))
+}
+
+fn crash(places: &[Value]) -> Option<ScriptEvent>
+    ensures { result ≡ crash_of (map view places.now) }
+{
+    let [place] = places else {
+        return None;
+    };
+    Some(ScriptEvent::Core(Event::Crash { node: node(place)? }))
+}
+
+fn settle(places: &[Value]) -> Option<ScriptEvent>
+    ensures { result ≡ settle_of (map view places.now) }
+{
+    if places.is_empty() {
+        Some(ScriptEvent::Settle)
+    } else {
+        None
+    }
+}

@@ -1,0 +1,112 @@
+//! The faults of a script's plan.
+ghost use Rattle.std.specs.Prelude.{◌≡◌, map};
+ghost use Rattle.serde_json.specs.View.{view};
+ghost use Rattle.cast_script.specs.Element.{fault_of, fault_at, fault_named, kind_of, kind_named, lose_of, repeat_of, delay_of, engine_crash_of};
+ghost use Rattle.cast_script.specs.Unread.{Gives};
+
+use crate::element::{Element, Unread, node, places};
+use crate::script::{Fault, FrameKind};
+use serde_json::Value;
+use std::alloc::Global;
+
+impl Element for Fault {
+    ghost element = { fault_of };
+
+    fn read(_alloc: Global, value: &Value) -> Result<Fault, Unread> {
+        places(value).and_then(fault).ok_or(Unread::Shape)
+    }
+}
+
+fn fault(places: &[Value]) -> Option<Fault>
+    ensures { result ≡ fault_at (map view places.now) }
+{
+    let (word, others) = places.split_first()?;
+    fault_by(word.as_str()?, others)
+}
+
+// The fault of this name with these places after it.
+fn fault_by(name: &str, places: &[Value]) -> Option<Fault>
+    ensures { result ≡ fault_named name.now (map view places.now) }
+{
+    match name {
+        "lose" => lose(places),
+        "repeat" => repeat(places),
+        "delay" => delay(places),
+        "crash" => crash(places),
+        _ => None,
+    }
+}
+
+fn lose(places: &[Value]) -> Option<Fault>
+    ensures { result ≡ lose_of (map view places.now) }
+{
+    let [word, from, to, first, step] = places else {
+        return None;
+    };
+    Some(Fault::Lose {
+        kind: kind(word)?,
+        from: node(from)?,
+        to: node(to)?,
+        first: first.as_u64()?,
+        step: step.as_u64()?,
+    })
+}
+
+fn repeat(places: &[Value]) -> Option<Fault>
+    ensures { result ≡ repeat_of (map view places.now) }
+{
+    let [word, from, to, first, step] = places else {
+        return None;
+    };
+    Some(Fault::Repeat {
+        kind: kind(word)?,
+        from: node(from)?,
+        to: node(to)?,
+        first: first.as_u64()?,
+        step: step.as_u64()?,
+    })
+}
+
+fn delay(places: &[Value]) -> Option<Fault>
+    ensures { result ≡ delay_of (map view places.now) }
+{
+    let [word, from, to, first, step, count] = places else {
+        return None;
+    };
+    Some(Fault::Delay {
+        kind: kind(word)?,
+        from: node(from)?,
+        to: node(to)?,
+        first: first.as_u64()?,
+        step: step.as_u64()?,
+        count: count.as_u64()?,
+    })
+}
+
+fn crash(places: &[Value]) -> Option<Fault>
+    ensures { result ≡ engine_crash_of (map view places.now) }
+{
+    let [place, entries] = places else {
+        return None;
+    };
+    Some(Fault::Crash {
+        node: node(place)?,
+        entries: entries.as_u64()?,
+    })
+}
+
+fn kind(value: &Value) -> Option<FrameKind>
+    ensures { result ≡ kind_of (view value.now) }
+{
+    kind_by(value.as_str()?)
+}
+
+fn kind_by(name: &str) -> Option<FrameKind>
+    ensures { result ≡ kind_named name.now }
+{
+    match name {
+        "carry" => Some(FrameKind::Carry),
+        "took" => Some(FrameKind::Took),
+        _ => None,
+    }
+}

@@ -1,0 +1,66 @@
+//! The items of a script.
+ghost use Rattle.std.specs.Prelude.{◌≡◌, map};
+ghost use Rattle.serde_json.specs.View.{view};
+ghost use Rattle.cast_script.specs.Element.{item_of, item_named, data_of, proposal_of, close_of};
+ghost use Rattle.cast_script.specs.Unread.{Gives};
+
+use crate::element::Unread;
+use crate::hex::bytes_of;
+use bytes::Bytes;
+use cast_message::{Item, Payload};
+use serde_json::Value;
+use std::alloc::Global;
+
+/// The item that stands in these places.
+pub fn item(alloc: Global, places: &[Value]) -> Result<Item, Unread>
+    ensures { Gives result (item_of (map view places.now)) }
+{
+    let (word, others) = places.split_first().ok_or(Unread::Shape)?;
+    let name = word.as_str().ok_or(Unread::Shape)?;
+    item_by(alloc, name, others)
+}
+
+// The item of this name with these places after it.
+fn item_by(alloc: Global, name: &str, places: &[Value]) -> Result<Item, Unread>
+    ensures { Gives result (item_named name.now (map view places.now)) }
+{
+    match name {
+        "data" => data(alloc, places),
+        "propose" => proposal(places).ok_or(Unread::Shape),
+        "close" => close(places).ok_or(Unread::Shape),
+        _ => Err(Unread::Shape),
+    }
+}
+
+fn data(alloc: Global, places: &[Value]) -> Result<Item, Unread>
+    ensures { Gives result (data_of (map view places.now)) }
+{
+    let [place] = places else {
+        return Err(Unread::Shape);
+    };
+    let digits = place.as_str().ok_or(Unread::Shape)?;
+    let bytes = bytes_of(alloc, digits.as_bytes())?;
+    Ok(Item::Data(Payload::new(Bytes::from_vec(bytes)?)))
+}
+
+fn proposal(places: &[Value]) -> Option<Item>
+    ensures { result ≡ proposal_of (map view places.now) }
+{
+    let [instance, value] = places else {
+        return None;
+    };
+    Some(Item::Propose {
+        instance: instance.as_u64()?,
+        value: value.as_u64()?,
+    })
+}
+
+fn close(places: &[Value]) -> Option<Item>
+    ensures { result ≡ close_of (map view places.now) }
+{
+    if places.is_empty() {
+        Some(Item::Close)
+    } else {
+        None
+    }
+}

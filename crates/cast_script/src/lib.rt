@@ -1,0 +1,19 @@
+//! Scripts: what a group is to be and what is to happen to it, read from JSON. `specs/Script` says which script a value is,
+//! `specs/Element` what each element of its lists stands for.
+#![tactic(auto)]
+
+mod element;
+mod event;
+mod fault;
+mod hex;
+mod item;
+mod job;
+mod members;
+mod reading;
+mod script;
+
+pub use reading::read_script;
+pub use script::{Fault, FaultPlan, FrameKind, Script, ScriptEvent, ScriptFault};
+
+#[cfg(test)]
+mod tests;

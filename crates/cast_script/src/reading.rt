@@ -1,0 +1,89 @@
+//! From the bytes of a text to its script.
+ghost use Rattle.std.specs.Prelude.{◌≡◌, map};
+ghost use Rattle.serde_json.specs.View.{view};
+ghost use Rattle.cast_script.specs.Faults.{AnswersBy};
+ghost use Rattle.cast_script.specs.Script.{Reads, said, settings_in, checked, script_in, script_of};
+
+use crate::element::read_elements;
+use crate::members::{has_known_members_only, list, settings};
+use crate::script::{FaultPlan, Script, ScriptFault, Settings};
+use cast_message::Config;
+use serde_json::Value;
+use std::alloc::Global;
+
+/// The script that the bytes say, or why they say none. `NotJson` is for bytes that aren't JSON, `Shape` for a value that
+/// isn't a script's, by the first place that is wrong, `Config` for the limits of a configuration, tried once all else is
+/// of its form. `Memory` is answered where a growth is refused, before what would be found later.
+pub fn read_script(alloc: Global, bytes: &[u8]) -> Result<Script, ScriptFault>
+    ensures { Reads result bytes.now }
+{
+    let value = match Value::from_slice(alloc, bytes) {
+        Ok(value) => value,
+        Err(error) => {
+            return Err(if error.is_memory() {
+                ScriptFault::Memory
+            } else {
+                ScriptFault::NotJson
+            });
+        }
+    };
+    script_from(alloc, &value)
+}
+
+#[tactic(auto, unfolding(crate::specs::Script::script_of))]
+fn script_from(alloc: Global, value: &Value) -> Result<Script, ScriptFault>
+    ensures { AnswersBy said result (script_of (view value.now)) }
+{
+    if !has_known_members_only(value) {
+        return Err(ScriptFault::Shape { index: 0 });
+    }
+    let settings = settings(value).ok_or(ScriptFault::Shape { index: 0 })?;
+    let events = list(value, "events").ok_or(ScriptFault::Shape { index: 0 })?;
+    let plan = list(value, "plan").ok_or(ScriptFault::Shape { index: 0 })?;
+    let jobs = list(value, "jobs").ok_or(ScriptFault::Shape { index: 0 })?;
+    script_in(alloc, &settings, events, plan, jobs)
+}
+
+// The script of these settings and of the values in its lists.
+#[tactic(auto, unfolding(crate::specs::Script::script_in))]
+fn script_in(
+    alloc: Global,
+    settings: &Settings,
+    event_values: &[Value],
+    fault_values: &[Value],
+    job_values: &[Value],
+) -> Result<Script, ScriptFault>
+    ensures { AnswersBy said result (script_in settings.now (map view event_values.now) (map view fault_values.now) (map view job_values.now)) }
+{
+    let first_fault = 1 + event_values.len() as u64;
+    let first_job = first_fault + fault_values.len() as u64;
+    let events = read_elements(alloc, 1, event_values)?;
+    let faults = read_elements(alloc, first_fault, fault_values)?;
+    let jobs = read_elements(alloc, first_job, job_values)?;
+    let config = check(settings)?;
+    Ok(Script {
+        config,
+        turns: settings.turns,
+        events,
+        plan: FaultPlan { faults },
+        jobs,
+    })
+}
+
+fn check(settings: &Settings) -> Result<Config, ScriptFault>
+    ensures { AnswersBy (λ config. settings_in config settings.now.turns) result (checked settings.now) }
+{
+    match Config::check(
+        settings.nodes,
+        settings.faults,
+        settings.choices,
+        settings.item_limit,
+        settings.log_limit,
+        settings.box_size,
+        settings.first_stamp,
+        settings.mode,
+    ) {
+        Ok(config) => Ok(config),
+        Err(fault) => Err(ScriptFault::Config(fault)),
+    }
+}

@@ -1,0 +1,106 @@
+//! What a script says, and why a text is none.
+use cast_message::{Config, ConfigFault, Event, Item, List, Mode, NodeId};
+use thiserror::Error;
+
+/// What a group is to be, and what is to happen to it.
+#[derive(Debug, Drop)]
+pub struct Script {
+    pub config: Config,
+    /// How many turns an engine may take, where the script is run by threads.
+    pub turns: u64,
+    /// What happens, in order, where the script is run step by step.
+    pub events: List<ScriptEvent>,
+    /// What goes wrong, where the script is run by threads.
+    pub plan: FaultPlan,
+    /// The clients, where the script is run by threads: the node of each, and the items that it orders, in order.
+    pub jobs: List<(NodeId, List<Item>)>,
+}
+
+/// An event of a script.
+#[derive(Debug, Drop, PartialEq)]
+pub enum ScriptEvent {
+    /// One event of the group.
+    Core(Event),
+    /// Two rounds, one after the other, the second planned after the first.
+    Settle,
+}
+
+/// What carriers do to frames, and when engines crash.
+#[derive(Debug, Drop)]
+pub struct FaultPlan {
+    pub faults: List<Fault>,
+}
+
+/// A fault of a plan. The ordinal of a frame counts, from 0 on, the frames of its kind that the carrier of its maker has
+/// taken for its target. A fault names the frames `first`, `first + step`, `first + 2 * step` and so on, or `first` alone
+/// where the step is 0.
+#[derive(Clone, Copy, Debug, PartialEq, Eq)]
+pub enum Fault {
+    /// These frames are lost.
+    Lose {
+        kind: FrameKind,
+        from: NodeId,
+        to: NodeId,
+        first: u64,
+        step: u64,
+    },
+    /// These frames are handed on twice.
+    Repeat {
+        kind: FrameKind,
+        from: NodeId,
+        to: NodeId,
+        first: u64,
+        step: u64,
+    },
+    /// These frames are kept until `count` more frames of either kind were taken for their target.
+    Delay {
+        kind: FrameKind,
+        from: NodeId,
+        to: NodeId,
+        first: u64,
+        step: u64,
+        count: u64,
+    },
+    /// The engine of the node crashes once its log has so many entries.
+    Crash {
+        node: NodeId,
+        entries: u64,
+    },
+}
+
+/// The kind of a frame, by its body.
+#[derive(Clone, Copy, Debug, PartialEq, Eq)]
+pub enum FrameKind {
+    Carry,
+    Took,
+}
+
+/// Why a text is no script.
+#[derive(Clone, Copy, Debug, PartialEq, Eq, Error)]
+pub enum ScriptFault {
+    #[error("the text is not JSON")]
+    NotJson,
+    /// The index is 0 for the value as a whole, else 1 and the place of the first bad element in the list made of the
+    /// events, the plan and the jobs.
+    #[error("element {index} is not of its form, counted from 1 on; 0 is the script as a whole")]
+    Shape { index: u64 },
+    /// All is of its form, and the configuration is outside its limits.
+    #[error("{0}")]
+    Config(ConfigFault),
+    #[error("out of memory")]
+    Memory,
+}
+
+/// What a script says beside its lists, before any limit is asked for.
+#[derive(Clone, Copy, Debug)]
+pub struct Settings {
+    pub nodes: u64,
+    pub faults: u64,
+    pub choices: u64,
+    pub item_limit: u64,
+    pub log_limit: u64,
+    pub box_size: u64,
+    pub first_stamp: u64,
+    pub turns: u64,
+    pub mode: Mode,
+}
