@@ -1,0 +1,3 @@
+pub mod Rec
+pub mod Text
+pub mod Recorded

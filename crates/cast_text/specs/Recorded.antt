@@ -1,0 +1,29 @@
+-- What is written, and what the world stands for, while a record is made.
+use Rattle.std.specs.Prelude.{◌≡◌, ℕ, List, Bool, true, false, not, is_none, Option, Result, Ok, Err}
+use Rattle.cast_message.specs.declared.config.Config.{Config}
+use Rattle.cast_message.specs.declared.event.Event.{Event}
+use Rattle.cast_message.specs.History.{History}
+use Rattle.cast_message.specs.Replies.{fault, reply, after}
+use Rattle.cast_plain.specs.Lists.{State, Stands}
+use Rattle.cast_record.specs.Lines.{lines_for}
+use Rattle.cast_record.specs.Text.{record_text}
+use Rattle.cast_record.specs.Written.{WroteAll}
+use Rattle.cast_script.specs.declared.script.ScriptEvent.{ScriptEvent}
+use Rattle.cast_text.specs.declared.text.TextFault.{TextFault}
+use Rattle.cast_text.specs.Rec.{Left, tried, round_left, left_by}
+use Rattle.cast_text.specs.Text.{BreaksOff}
+
+-- the lines were written, or broke off
+abbrev pub Writes : Option (List ℕ) → Option (List ℕ) → Bool → Result (Unit {0}) TextFault → List ℕ → Type 0
+Writes old new failed (Ok done) text = WroteAll old new failed text
+Writes old new failed (Err broken) text = BreaksOff broken old new failed text
+
+-- some events, up to the first that is refused: whether none was, and what they left
+abbrev pub Tries : Config → Left → State → Option (List ℕ) → Option (List ℕ) → Bool → Result Bool TextFault → Type 0
+Tries config left world old new failed (Ok all) = (all ≡ not left.stopped) × Stands config left.past world × WroteAll old new failed (record_text left.lines)
+Tries config left world old new failed (Err broken) = BreaksOff broken old new failed (record_text left.lines)
+
+-- one event of a script
+abbrev pub Leaves : Config → Left → State → Option (List ℕ) → Option (List ℕ) → Bool → Result (Unit {0}) TextFault → Type 0
+Leaves config left world old new failed (Ok done) = Stands config left.past world × WroteAll old new failed (record_text left.lines)
+Leaves config left world old new failed (Err broken) = BreaksOff broken old new failed (record_text left.lines)

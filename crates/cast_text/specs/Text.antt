@@ -1,0 +1,58 @@
+-- The bytes of a script, and those of its record.
+use Rattle.std.specs.Prelude.{◌≡◌, ℕ, ◌<◌, ◌≤◌, ◌++◌, ◌⊎◌, List, length, Bool, true, false, Option, Result, Ok, Err, IfSome}
+use Rattle.std.specs.Io.KnownBytes.{Appends, Keeps}
+use Rattle.cast_record.specs.Text.{record_text}
+use Rattle.cast_script.specs.declared.script.Script.{Script}
+use Rattle.cast_script.specs.Script.{Reads}
+use Rattle.cast_text.specs.declared.text.TextFault.{TextFault}
+use Rattle.cast_text.specs.declared.text.TextFault.TheVariants as faults
+use Rattle.cast_text.specs.Rec.{record_of}
+
+-- the most bytes of an input
+abbrev pub input_limit : ℕ
+input_limit = 67108864
+
+-- the known bytes grew by a front of the text
+pub record WroteFront (old new : Option (List ℕ)) (text : List ℕ) : Type 0 where
+  pub front : List ℕ
+  pub rest : List ℕ
+  pub parts : text ≡ front ++ rest
+  pub appends : Appends old new front
+
+-- A text broke off: the writer failed, or memory was wanted and the writer did not fail.
+abbrev pub BreaksOff : TextFault → Option (List ℕ) → Option (List ℕ) → Bool → List ℕ → Type 0
+BreaksOff faults.Write old new failed text = (failed ≡ true) × WroteFront old new text
+BreaksOff faults.Memory old new failed text = (failed ≡ false) × WroteFront old new text
+BreaksOff _ old new failed text = ⊥
+
+-- the script is what the bytes say, where they are known
+abbrev pub IsScriptIn : Option (List ℕ) → Script → Type 0
+IsScriptIn input script = IfSome input (λ bytes. (length bytes ≤ input_limit) × Reads (Ok script) bytes)
+
+-- the writer has the record of the script that was read, and nothing else
+pub record WritesRecord (input old new : Option (List ℕ)) : Type 0 where
+  pub script : Script
+  pub read : IsScriptIn input script
+  pub appends : Appends old new (record_text (record_of script))
+
+-- the record of the script that was read broke off
+pub record RecordBreaksOff (broken : TextFault) (input old new : Option (List ℕ)) (failed : Bool) : Type 0 where
+  pub script : Script
+  pub read : IsScriptIn input script
+  pub breaks : BreaksOff broken old new failed (record_text (record_of script))
+
+-- Each fault has its cause, and nothing was written but where the record broke off.
+abbrev pub Fails : Option (List ℕ) → Bool → Option (List ℕ) → Option (List ℕ) → Bool → TextFault → Type 0
+Fails input read_failed old new failed faults.Read = (read_failed ≡ true) × Keeps old new
+Fails input read_failed old new failed faults.TooLong = IfSome input (λ bytes. input_limit < length bytes) × Keeps old new
+Fails input read_failed old new failed (faults.Script fault) = IfSome input (λ bytes. (length bytes ≤ input_limit) × Reads (Err fault) bytes) × Keeps old new
+Fails input read_failed old new failed faults.Write = RecordBreaksOff faults.Write input old new failed
+Fails input read_failed old new failed faults.Memory = Keeps old new ⊎ RecordBreaksOff faults.Memory input old new failed
+
+-- the faults of reading alone
+abbrev pub IsOfReading : TextFault → Type 0
+IsOfReading faults.Read = Unit {0}
+IsOfReading faults.TooLong = Unit {0}
+IsOfReading (faults.Script fault) = ⊥
+IsOfReading faults.Write = ⊥
+IsOfReading faults.Memory = Unit {0}

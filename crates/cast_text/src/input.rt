@@ -1,0 +1,38 @@
+//! Reading an input to its end, or to the byte past its limit.
+ghost use Rattle.std.specs.Prelude.{◌≡◌, ◌<◌, ◌≤◌, length, true, false, IfOk, IfSome, IsErrOf, IfErr};
+ghost use Rattle.cast_text.specs.Text.{IsOfReading};
+
+use crate::text::TextFault;
+use cast_record::Meter;
+use std::alloc::Global;
+use std::io::Read;
+
+/// The most bytes of an input.
+const INPUT_LIMIT: usize = 67_108_864;
+
+/// All that the reader has left.
+pub fn read_input<R: Read>(alloc: Global, reader: &mut Meter<R>) -> Result<Vec<u8>, TextFault>
+    requires { reader.old.failed ≡ false }
+    ensures whole { IfOk result (λ v. IfSome (R.remaining reader.old.inner) (λ input. v.items ≡ input)) }
+    ensures short { IfOk result (λ v. length v.items ≤ INPUT_LIMIT) }
+    ensures long { IsErrOf result TextFault.TooLong → IfSome (R.remaining reader.old.inner) (λ input. INPUT_LIMIT < length input) }
+    ensures read { IsErrOf result TextFault.Read → reader.new.failed ≡ true }
+    ensures faults { IfErr result IsOfReading }
+{
+    let mut bytes = Vec::new(alloc);
+    let mut chunk = [0; 4096];
+    loop {
+        let Ok(count) = reader.read(&mut chunk) else {
+            return Err(TextFault::Read);
+        };
+        if count == 0 {
+            return Ok(bytes);
+        }
+        if bytes.extend_from_slice(&chunk[..count]).is_err() {
+            return Err(TextFault::Memory);
+        }
+        if bytes.len() > INPUT_LIMIT {
+            return Err(TextFault::TooLong);
+        }
+    }
+}

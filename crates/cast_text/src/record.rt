@@ -1,0 +1,121 @@
+//! Making the record of a script, line by line, as the world takes its events.
+ghost use Rattle.std.specs.Prelude.{◌≡◌, ℕ, ◌++◌, false};
+ghost use Rattle.cast_message.specs.declared.config.Config.{Config as Settings};
+ghost use Rattle.cast_message.specs.History.{History};
+ghost use Rattle.cast_message.specs.Replies.{fault, reply, after};
+ghost use Rattle.cast_plain.specs.Lists.{Stands, is_want_of_memory};
+ghost use Rattle.cast_record.specs.Lines.{lines_for};
+ghost use Rattle.cast_record.specs.Text.{record_text};
+ghost use Rattle.cast_text.specs.Rec.{tried, one_left, round_left, settled, left_by, record_of};
+ghost use Rattle.cast_text.specs.Recorded.{Writes, Tries, Leaves};
+
+use crate::text::TextFault;
+use cast_message::{Event, Reply, StepFault};
+use cast_plain::World;
+use cast_record::{Line, Meter, lines_of, write_line, write_record};
+use cast_script::{Script, ScriptEvent};
+use std::alloc::Global;
+use std::io::Write;
+
+/// Writes the record of the script: its head, the lines of its events, and its end.
+pub fn write_script_record<W: Write>(
+    alloc: Global,
+    script: Script,
+    writer: &mut Meter<W>,
+) -> Result<(), TextFault>
+    requires { writer.old.failed ≡ false }
+    ensures { Writes (W.contents writer.old.inner) (W.contents writer.new.inner) writer.new.failed result (record_text (record_of script)) }
+{
+    let Script { config, events, .. } = script;
+    write_line(&Line::head(&config), writer)?;
+    let mut world = World::new(alloc, config)?;
+    for (index, event) in events.as_slice().iter().enumerate() {
+        record_script_event(alloc, &mut world, index as u64, event, writer)?;
+    }
+    write_line(&Line::End, writer)?;
+    Ok(())
+}
+
+// Takes one event of a script, and writes its lines.
+fn record_script_event<W: Write>(
+    alloc: Global,
+    world: &mut World,
+    index: u64,
+    event: &ScriptEvent,
+    writer: &mut Meter<W>,
+) -> Result<(), TextFault>
+    requires { writer.old.failed ≡ false }
+    ensures { (config : Settings) (past : History) → Stands config past world.old → Leaves config (left_by config index past event.now) world.new (W.contents writer.old.inner) (W.contents writer.new.inner) writer.new.failed result }
+{
+    match event {
+        ScriptEvent::Core(event) => {
+            let _accepted = record_event(alloc, world, index, event, writer)?;
+            Ok(())
+        }
+        ScriptEvent::Settle => {
+            if record_round(alloc, world, index, writer)? {
+                let _accepted = record_round(alloc, world, index, writer)?;
+            }
+            Ok(())
+        }
+    }
+}
+
+// Takes one round, and writes its lines. Answers whether no event was refused.
+fn record_round<W: Write>(
+    alloc: Global,
+    world: &mut World,
+    index: u64,
+    writer: &mut Meter<W>,
+) -> Result<bool, TextFault>
+    requires { writer.old.failed ≡ false }
+    ensures { (config : Settings) (past : History) → Stands config past world.old → Tries config (round_left config index past) world.new (W.contents writer.old.inner) (W.contents writer.new.inner) writer.new.failed result }
+{
+    let plan = world.round_plan()?;
+    record_events(alloc, world, index, plan.as_slice(), writer)
+}
+
+// Takes these events up to the first that is refused, and writes their lines. Answers whether none was refused.
+fn record_events<W: Write>(
+    alloc: Global,
+    world: &mut World,
+    index: u64,
+    events: &[Event],
+    writer: &mut Meter<W>,
+) -> Result<bool, TextFault>
+    requires { writer.old.failed ≡ false }
+    ensures { (config : Settings) (past : History) → Stands config past world.old → Tries config (tried config index past events.now) world.new (W.contents writer.old.inner) (W.contents writer.new.inner) writer.new.failed result }
+{
+    for event in events {
+        if !record_event(alloc, world, index, event, writer)? {
+            return Ok(false);
+        }
+    }
+    Ok(true)
+}
+
+// Takes one event, and writes its lines. Answers whether it was accepted.
+fn record_event<W: Write>(
+    alloc: Global,
+    world: &mut World,
+    index: u64,
+    event: &Event,
+    writer: &mut Meter<W>,
+) -> Result<bool, TextFault>
+    requires { writer.old.failed ≡ false }
+    ensures { (config : Settings) (past : History) → Stands config past world.old → Tries config (one_left config index past event.now) world.new (W.contents writer.old.inner) (W.contents writer.new.inner) writer.new.failed result }
+{
+    let reply = world.step(event);
+    if is_want_of_memory(&reply) {
+        return Err(TextFault::Memory);
+    }
+    let lines = lines_of(alloc, index, event, &reply)?;
+    write_record(lines.as_slice(), writer)?;
+    Ok(reply.is_ok())
+}
+
+fn is_want_of_memory(reply: &Reply) -> bool
+    ensures { result ≡ is_want_of_memory reply.now }
+{
+    matches!(reply, Err(StepFault::Memory))
+}

@@ -1,0 +1,75 @@
+//! From bytes to bytes.
+ghost use Rattle.std.specs.Prelude.{◌≡◌, false, IfErr, OnOk};
+ghost use Rattle.cast_text.specs.Text.{Fails, WritesRecord};
+
+use crate::input::read_input;
+use crate::record::write_script_record;
+use cast_record::{Meter, WriteFault};
+use cast_script::{ScriptFault, read_script};
+use std::alloc::{AllocError, Global};
+use std::io::{Read, Write};
+use thiserror::Error;
+
+/// Why a text was not read or written.
+#[derive(Clone, Copy, Debug, PartialEq, Eq, Error)]
+pub enum TextFault {
+    /// The reader failed.
+    #[error("the input could not be read")]
+    Read,
+    /// The input has more than 67,108,864 bytes.
+    #[error("the input is too long")]
+    TooLong,
+    /// The input is no script. Want of memory while it is read is `Memory`.
+    #[error("the input is no script: {0}")]
+    Script(ScriptFault),
+    /// The writer failed, or took no byte.
+    #[error("the output could not be written")]
+    Write,
+    /// A growth was refused.
+    #[error("out of memory")]
+    Memory,
+}
+
+impl From<AllocError> for TextFault {
+    ghost use Rattle.std.specs.Prelude.{◌≡◌};
+    ghost use Rattle.cast_text.specs.declared.text.TextFault.TheVariants.{Memory};
+
+    ghost from_gives = { λ _ fault. fault ≡ Memory };
+
+    fn from(_refused: AllocError) -> TextFault {
+        TextFault::Memory
+    }
+}
+
+impl From<WriteFault> for TextFault {
+    ghost use Rattle.std.specs.Prelude.{◌≡◌};
+    ghost use Rattle.cast_text.specs.declared.text.TextFault.TheVariants.{Write};
+
+    ghost from_gives = { λ _ fault. fault ≡ Write };
+
+    fn from(_failed: WriteFault) -> TextFault {
+        TextFault::Write
+    }
+}
+
+/// Reads a script to its end, and writes the record of its events. After a fault of reading nothing was written, after
+/// `Write` or `Memory` a front of the record, or nothing.
+pub fn run_text<R: Read, W: Write>(
+    alloc: Global,
+    reader: &mut Meter<R>,
+    writer: &mut Meter<W>,
+) -> Result<(), TextFault>
+    requires reader { reader.old.failed ≡ false }
+    requires writer { writer.old.failed ≡ false }
+    // The bytes are a script's, and the writer has its record and nothing else.
+    ensures ok { OnOk result (WritesRecord (R.remaining reader.old.inner) (W.contents writer.old.inner) (W.contents writer.new.inner)) }
+    ensures err { IfErr result (Fails (R.remaining reader.old.inner) reader.new.failed (W.contents writer.old.inner) (W.contents writer.new.inner) writer.new.failed) }
+{
+    let input = read_input(alloc, reader)?;
+    let script = match read_script(alloc, input.as_slice()) {
+        Ok(script) => script,
+        Err(ScriptFault::Memory) => return Err(TextFault::Memory),
+        Err(fault) => return Err(TextFault::Script(fault)),
+    };
+    write_script_record(alloc, script, writer)
+}
