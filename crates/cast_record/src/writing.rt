@@ -17,10 +17,9 @@ use thiserror::Error;
 
 const BYTES_AT_ONCE: usize = 32;
 
-/// Why a text was not written.
+/// Why a text was not written: the writer failed, or took no byte, in this call.
 #[derive(Clone, Copy, Debug, PartialEq, Eq, Error)]
 pub enum WriteFault {
-    /// The writer failed, or took no byte, in this call.
     #[error("the writer failed or took no byte")]
     Write,
 }

@@ -75,16 +75,15 @@ pub enum FrameKind {
     Took,
 }
 
-/// Why a text is no script.
+/// Why a text is no script. The index of a shape is 0 for the value as a whole, else 1 and the place of the first bad
+/// element in the list made of the events, the plan and the jobs. The limits of the configuration are asked for once all
+/// is of its form.
 #[derive(Clone, Copy, Debug, PartialEq, Eq, Error)]
 pub enum ScriptFault {
     #[error("the text is not JSON")]
     NotJson,
-    /// The index is 0 for the value as a whole, else 1 and the place of the first bad element in the list made of the
-    /// events, the plan and the jobs.
     #[error("element {index} is not of its form, counted from 1 on; 0 is the script as a whole")]
     Shape { index: u64 },
-    /// All is of its form, and the configuration is outside its limits.
     #[error("{0}")]
     Config(ConfigFault),
     #[error("out of memory")]
