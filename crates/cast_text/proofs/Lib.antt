@@ -1,1 +1,3 @@
 pub mod InputLemmas
+pub mod Recording
+pub mod Whole

@@ -1,16 +1,11 @@
 -- What is written, and what the world stands for, while a record is made.
-use Rattle.std.specs.Prelude.{◌≡◌, ℕ, List, Bool, true, false, not, is_none, Option, Result, Ok, Err}
+use Rattle.std.specs.Prelude.{◌≡◌, ℕ, List, Bool, not, Option, Result, Ok, Err}
 use Rattle.cast_message.specs.declared.config.Config.{Config}
-use Rattle.cast_message.specs.declared.event.Event.{Event}
-use Rattle.cast_message.specs.History.{History}
-use Rattle.cast_message.specs.Replies.{fault, reply, after}
 use Rattle.cast_plain.specs.Lists.{State, Stands}
-use Rattle.cast_record.specs.Lines.{lines_for}
 use Rattle.cast_record.specs.Text.{record_text}
 use Rattle.cast_record.specs.Written.{WroteAll}
-use Rattle.cast_script.specs.declared.script.ScriptEvent.{ScriptEvent}
 use Rattle.cast_text.specs.declared.text.TextFault.{TextFault}
-use Rattle.cast_text.specs.Rec.{Left, tried, round_left, left_by}
+use Rattle.cast_text.specs.Rec.{Left}
 use Rattle.cast_text.specs.Text.{BreaksOff}
 
 -- the lines were written, or broke off

@@ -1,16 +1,16 @@
 //! Making the record of a script, line by line, as the world takes its events.
-ghost use Rattle.std.specs.Prelude.{◌≡◌, ℕ, ◌++◌, false};
+ghost use Rattle.std.specs.Prelude.{◌≡◌, ◌++◌, ◌∷◌, [], false, OnOk};
 ghost use Rattle.cast_message.specs.declared.config.Config.{Config as Settings};
 ghost use Rattle.cast_message.specs.History.{History};
 ghost use Rattle.cast_message.specs.Replies.{fault, reply, after};
 ghost use Rattle.cast_plain.specs.Lists.{Stands, is_want_of_memory};
-ghost use Rattle.cast_record.specs.Lines.{lines_for};
-ghost use Rattle.cast_record.specs.Text.{record_text};
+ghost use Rattle.cast_record.specs.Lines.{head_of, lines_for};
+ghost use Rattle.cast_record.specs.Text.{record_text, line_text};
 ghost use Rattle.cast_text.specs.Rec.{tried, one_left, round_left, settled, left_by, record_of};
 ghost use Rattle.cast_text.specs.Recorded.{Writes, Tries, Leaves};
 
 use crate::text::TextFault;
-use cast_message::{Event, Reply, StepFault};
+use cast_message::{Config, Event, Reply, StepFault};
 use cast_plain::World;
 use cast_record::{Line, Meter, lines_of, write_line, write_record};
 use cast_script::{Script, ScriptEvent};
@@ -20,19 +20,33 @@ use std::io::Write;
 /// Writes the record of the script: its head, the lines of its events, and its end.
 pub fn write_script_record<W: Write>(
     alloc: Global,
-    script: Script,
+    script: &Script,
     writer: &mut Meter<W>,
 ) -> Result<(), TextFault>
     requires { writer.old.failed ≡ false }
-    ensures { Writes (W.contents writer.old.inner) (W.contents writer.new.inner) writer.new.failed result (record_text (record_of script)) }
+    ensures { Writes (W.contents writer.old.inner) (W.contents writer.new.inner) writer.new.failed result (record_text (record_of script.now)) }
 {
-    let Script { config, events, .. } = script;
-    write_line(&Line::head(&config), writer)?;
-    let mut world = World::new(alloc, config)?;
-    for (index, event) in events.as_slice().iter().enumerate() {
+    let mut world = World::new(alloc, script.config.copy())?;
+    put_head(&script.config, writer)?;
+    for (index, event) in script.events.as_slice().iter().enumerate() {
         record_script_event(alloc, &mut world, index as u64, event, writer)?;
     }
-    write_line(&Line::End, writer)?;
+    put_line(&Line::End, writer)
+}
+
+fn put_head<W: Write>(config: &Config, writer: &mut Meter<W>) -> Result<(), TextFault>
+    requires { writer.old.failed ≡ false }
+    ensures { Writes (W.contents writer.old.inner) (W.contents writer.new.inner) writer.new.failed result (line_text (head_of config.now) ++ 10 ∷ []) }
+{
+    let head = Line::head(config);
+    put_line(&head, writer)
+}
+
+fn put_line<W: Write>(line: &Line, writer: &mut Meter<W>) -> Result<(), TextFault>
+    requires { writer.old.failed ≡ false }
+    ensures { Writes (W.contents writer.old.inner) (W.contents writer.new.inner) writer.new.failed result (line_text line.now ++ 10 ∷ []) }
+{
+    write_line(line, writer)?;
     Ok(())
 }
 
@@ -45,7 +59,8 @@ fn record_script_event<W: Write>(
     writer: &mut Meter<W>,
 ) -> Result<(), TextFault>
     requires { writer.old.failed ≡ false }
-    ensures { (config : Settings) (past : History) → Stands config past world.old → Leaves config (left_by config index past event.now) world.new (W.contents writer.old.inner) (W.contents writer.new.inner) writer.new.failed result }
+    ensures sound { OnOk result (writer.new.failed ≡ false) }
+    ensures left { (config : Settings) (past : History) → Stands config past world.old → Leaves config (left_by config index past event.now) world.new (W.contents writer.old.inner) (W.contents writer.new.inner) writer.new.failed result }
 {
     match event {
         ScriptEvent::Core(event) => {
@@ -69,7 +84,8 @@ fn record_round<W: Write>(
     writer: &mut Meter<W>,
 ) -> Result<bool, TextFault>
     requires { writer.old.failed ≡ false }
-    ensures { (config : Settings) (past : History) → Stands config past world.old → Tries config (round_left config index past) world.new (W.contents writer.old.inner) (W.contents writer.new.inner) writer.new.failed result }
+    ensures sound { OnOk result (writer.new.failed ≡ false) }
+    ensures left { (config : Settings) (past : History) → Stands config past world.old → Tries config (round_left config index past) world.new (W.contents writer.old.inner) (W.contents writer.new.inner) writer.new.failed result }
 {
     let plan = world.round_plan()?;
     record_events(alloc, world, index, plan.as_slice(), writer)
@@ -84,7 +100,8 @@ fn record_events<W: Write>(
     writer: &mut Meter<W>,
 ) -> Result<bool, TextFault>
     requires { writer.old.failed ≡ false }
-    ensures { (config : Settings) (past : History) → Stands config past world.old → Tries config (tried config index past events.now) world.new (W.contents writer.old.inner) (W.contents writer.new.inner) writer.new.failed result }
+    ensures sound { OnOk result (writer.new.failed ≡ false) }
+    ensures left { (config : Settings) (past : History) → Stands config past world.old → Tries config (tried config index past events.now) world.new (W.contents writer.old.inner) (W.contents writer.new.inner) writer.new.failed result }
 {
     for event in events {
         if !record_event(alloc, world, index, event, writer)? {
@@ -103,7 +120,8 @@ fn record_event<W: Write>(
     writer: &mut Meter<W>,
 ) -> Result<bool, TextFault>
     requires { writer.old.failed ≡ false }
-    ensures { (config : Settings) (past : History) → Stands config past world.old → Tries config (one_left config index past event.now) world.new (W.contents writer.old.inner) (W.contents writer.new.inner) writer.new.failed result }
+    ensures sound { OnOk result (writer.new.failed ≡ false) }
+    ensures left { (config : Settings) (past : History) → Stands config past world.old → Tries config (one_left config index past event.now) world.new (W.contents writer.old.inner) (W.contents writer.new.inner) writer.new.failed result }
 {
     let reply = world.step(event);
     if is_want_of_memory(&reply) {

@@ -71,5 +71,5 @@ pub fn run_text<R: Read, W: Write>(
         Err(ScriptFault::Memory) => return Err(TextFault::Memory),
         Err(fault) => return Err(TextFault::Script(fault)),
     };
-    write_script_record(alloc, script, writer)
+    write_script_record(alloc, &script, writer)
 }

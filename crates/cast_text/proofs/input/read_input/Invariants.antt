@@ -1,4 +1,4 @@
-use Rattle.std.proofs.Common.{◌≡◌, ◌≤◌, ◌-◌, ◌+◌, length, vec_len}
+use Rattle.std.proofs.Common.{◌≡◌, ◌≤◌, ◌-◌, length}
 use Rattle.cast_text.proofs.InputLemmas.{HasGiven}
 use Rattle.cast_text.proofs.input.read_input.Given as goal
 

@@ -1,0 +1,145 @@
+//! The program `castgroup`: the command line, files and exit statuses over the library `cast_text`.
+#![tactic(auto)]
+
+use cast_record::Meter;
+use cast_script::ScriptFault;
+use cast_text::{TextFault, run_text};
+use clap::error::ErrorKind;
+use clap::{Arg, ArgMatches, Command, Error};
+use std::alloc::{AllocError, Global};
+use std::fs;
+use std::io;
+use std::io::{BufWriter, Write};
+use std::process::ExitCode;
+use std::rt::Runtime;
+
+/// What the process ends with.
+#[derive(Clone, Copy)]
+enum Status {
+    /// All was done, refused steps included; also help.
+    Good,
+    /// The command line names nothing that the program does.
+    Usage,
+    /// The input was refused.
+    Refused,
+    /// Memory was wanted.
+    Resources,
+    /// A read or a write failed.
+    Channel,
+}
+
+impl Status {
+    fn code(self) -> u8 {
+        match self {
+            Status::Good => 0,
+            Status::Usage => 1,
+            Status::Refused => 2,
+            Status::Resources => 5,
+            Status::Channel => 6,
+        }
+    }
+}
+
+fn main(rt: HostRuntime) -> ExitCode {
+    ExitCode::from(run(&rt).code())
+}
+
+fn run<R: Runtime + AllocGlobal>(rt: &R) -> Status {
+    let Ok(words) = command_words(rt) else {
+        return refuse(rt, TextFault::Memory);
+    };
+    let Ok(command) = castgroup_command(rt.alloc()) else {
+        return refuse(rt, TextFault::Memory);
+    };
+    match command.try_get_matches_from(words.as_slice()) {
+        Ok(matches) => run_matches(rt, &matches),
+        Err(error) => show(rt, &error),
+    }
+}
+
+fn command_words<R: Runtime + AllocGlobal>(rt: &R) -> io::Result<Vec<String>> {
+    let words = std::env::args(rt)?.collect(rt.alloc())?;
+    Ok(words)
+}
+
+fn castgroup_command<'a>(alloc: Global) -> Result<Command<'a>, AllocError> {
+    let script = Arg::new(alloc, "SCRIPT").help("The script; standard input if absent");
+    let run = Command::new(alloc, "run")
+        .about("Writes the record of a script's events")
+        .arg(script)?;
+    Command::new(alloc, "castgroup")
+        .about("A FIFO broadcast group with k-set agreement")
+        .version("0.1.0")
+        .subcommand_required(true)
+        .subcommand(run)
+}
+
+fn run_matches<R: Runtime + AllocGlobal>(rt: &R, matches: &ArgMatches<'_>) -> Status {
+    match matches.subcommand() {
+        Some(("run", inner)) => run_script(rt, inner.get_str("SCRIPT")),
+        _ => Status::Usage,
+    }
+}
+
+/// Shows help or the version on standard output, or a usage fault on standard error.
+fn show<R: Runtime + AllocGlobal>(rt: &R, error: &Error) -> Status {
+    if let ErrorKind::OutOfMemory = error.kind() {
+        return refuse(rt, TextFault::Memory);
+    }
+    let shown = error.print(rt);
+    match (error.exit_code(), shown) {
+        (0, Ok(())) => Status::Good,
+        (0, Err(_)) => refuse(rt, TextFault::Write),
+        _ => Status::Usage,
+    }
+}
+
+/// Writes the record of the script in the file, or of that on standard input.
+fn run_script<R: Runtime + AllocGlobal>(rt: &R, path: Option<&str>) -> Status {
+    let Ok(mut output) = BufWriter::new(rt.alloc(), io::writer(rt)) else {
+        return refuse(rt, TextFault::Memory);
+    };
+    let mut writer = Meter::new(&mut output);
+    let outcome = match path {
+        Some(path) => match fs::open(rt, path) {
+            Ok(file) => run_text(rt.alloc(), &mut Meter::new(file), &mut writer),
+            Err(_) => Err(TextFault::Read),
+        },
+        None => run_text(rt.alloc(), &mut Meter::new(rt.reader()), &mut writer),
+    };
+    let flushed = output.flush();
+    match (outcome, flushed) {
+        (Ok(()), Ok(())) => Status::Good,
+        (Ok(()), Err(_)) => refuse(rt, TextFault::Write),
+        (Err(fault), _) => refuse(rt, fault),
+    }
+}
+
+/// Says on standard error why nothing more was done.
+fn refuse<R: Eprint>(rt: &R, fault: TextFault) -> Status {
+    let (said, status) = match fault {
+        TextFault::Read => (eprintln!(rt; "castgroup: read fault"), Status::Channel),
+        TextFault::Write => (eprintln!(rt; "castgroup: write fault"), Status::Channel),
+        TextFault::TooLong => (eprintln!(rt; "castgroup: input too long"), Status::Refused),
+        TextFault::Memory | TextFault::Script(ScriptFault::Memory) => {
+            (eprintln!(rt; "castgroup: out of memory"), Status::Resources)
+        }
+        TextFault::Script(ScriptFault::NotJson) => {
+            (eprintln!(rt; "castgroup: script: not json"), Status::Refused)
+        }
+        TextFault::Script(ScriptFault::Shape { index }) => (
+            eprintln!(rt; "castgroup: script: shape {index}"),
+            Status::Refused,
+        ),
+        TextFault::Script(ScriptFault::Config(fault)) => {
+            let code = fault.code();
+            (
+                eprintln!(rt; "castgroup: script: config {code}"),
+                Status::Refused,
+            )
+        }
+    };
+    // Where standard error fails there is nowhere left to say so: the status tells it.
+    let _ = said;
+    status
+}
