@@ -111,7 +111,7 @@ impl World {
         ensures { (config : Settings) (past : History) → Stands config past self.now → result ≡ (nat_lt node config.nodes && is_live past node) }
     {
         match self.find(node) {
-            Some(lists) => lists.is_live(),
+            Some(found) => found.is_live(),
             None => false,
         }
     }
