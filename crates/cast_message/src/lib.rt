@@ -13,3 +13,6 @@ pub use event::{Answer, Event, Outcome, Reply, StepFault};
 pub use list::List;
 pub use message::{Decision, Frame, FrameBody, Item, Message, NodeId};
 pub use payload::Payload;
+
+#[cfg(test)]
+mod tests;

@@ -11,3 +11,6 @@ mod world;
 
 pub use run::run_events;
 pub use world::World;
+
+#[cfg(test)]
+mod tests;
