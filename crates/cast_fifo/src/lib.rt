@@ -107,3 +107,10 @@ impl HoldBack {
         self.senders[usize::from(sender.0)].offer(self.alloc, sender, number, item)
     }
 }
+
+/// A law of every list of calls: Next is the least number that was not offered and was not both held and marked, `closed`
+/// says whether a Close is among the first Next messages, and each call answers the messages from Next before it up to
+/// Next after it. Of two messages of one pair the first counts.
+pub fn gives_in_order()
+    ensures { GivesInOrder }
+{}
