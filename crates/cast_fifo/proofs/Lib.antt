@@ -2,3 +2,4 @@ pub mod Entries
 pub mod Turns
 pub mod Stands
 pub mod Law
+pub mod Came
