@@ -1,4 +1,6 @@
-//! Set agreement: the least of the first proposals of a quorum of senders.
+//! Set agreement (after Chaudhuri 1993), one instance beside another: of n senders of which f may be faulty, the proposals of
+//! the first n - f distinct ones to be delivered decide an instance, by the least of their values. Fewer than f + 1 values
+//! lie below any value decided so, so that at most f + 1 are.
 #![tactic(auto)]
 
 ghost use Rattle.std.specs.Prelude.{◌≡◌, ◌-◌, ◌<◌, IfOk, OnOk, OnErr};
@@ -7,6 +9,8 @@ ghost use Rattle.cast_agree.specs.Counted.{counted_after, decision_by, decision}
 ghost use Rattle.cast_agree.specs.Proposals.{DecidesLeast};
 
 mod tally;
+#[cfg(test)]
+mod tests;
 
 use cast_message::{Decision, Item, NodeId};
 use std::alloc::{AllocError, Global};
@@ -17,7 +21,9 @@ use tally::Tally;
 /// The proposals counted, by instance.
 #[derive(Debug, Drop)]
 pub struct Agree {
+    // How many distinct senders decide an instance.
     quorum: u64,
+    // What is counted, by instance.
     tallies: BTreeMap<u64, Tally>,
 }
 
@@ -37,7 +43,8 @@ impl Model for Agree {
 }
 
 impl Agree {
-    /// Nothing is counted; the proposals of all but the faulty nodes decide.
+    /// Nothing is counted; the proposals of all but `faults` of the nodes decide. The faults are below the nodes. It takes
+    /// no memory.
     pub fn new(alloc: Global, nodes: u64, faults: u64) -> Agree
         requires { faults < nodes }
         ensures { result ≡ record { quorum = nodes - faults; tallies = map.empty } }
@@ -48,7 +55,9 @@ impl Agree {
         }
     }
 
-    /// Counts an item that was delivered from a sender, and gives the decision that it completes.
+    /// Counts an item that was delivered from a sender, and gives the decision that it completes: there is one exactly
+    /// where this is the proposal of the (n - f)-th distinct sender in its instance. A second proposal of a sender in an
+    /// instance is not counted.
     pub fn delivered(&mut self, sender: NodeId, item: &Item) -> Result<Option<Decision>, AllocError>
         ensures decision { IfOk result (λ decision. decision ≡ decision_by self.old sender item.now) }
         ensures ok { OnOk result (self.new ≡ counted_after self.old sender item.now) }
@@ -70,7 +79,7 @@ impl Agree {
         Ok(decided.map(|value| Decision { instance, value }))
     }
 
-    /// The value decided in an instance.
+    /// The value decided in an instance, if it is. It takes no memory.
     pub fn decision(&self, instance: u64) -> Option<u64>
         ensures { result ≡ decision self.now instance }
     {
@@ -78,41 +87,8 @@ impl Agree {
     }
 }
 
-/// A law of what is counted: a quorum of senders decides, by the least of their values.
+/// A law of every list of deliveries: an instance is decided from the (n - f)-th distinct proposer on, by the least of the
+/// values of the first n - f, and a delivery completes a decision exactly where it is the (n - f)-th's.
 pub fn decides_least()
     ensures { DecidesLeast }
 {}
-
-#[cfg(test)]
-mod tests {
-    use super::*;
-    use std::alloc::Global;
-
-    fn propose(instance: u64, value: u64) -> Item {
-        Item::Propose { instance, value }
-    }
-
-    #[test]
-    fn decides_at_the_last_of_a_quorum(rt: HostRuntime) {
-        let mut agree = Agree::new(rt.alloc(), 2, 0);
-        let first = agree.delivered(NodeId(0), &propose(7, 4));
-        assert_eq!(rt; first, Ok(None));
-        let second = agree.delivered(NodeId(0), &propose(7, 1));
-        assert_eq!(rt; second, Ok(None));
-        assert_eq!(rt; agree.decision(7), None);
-        let third = agree.delivered(NodeId(1), &propose(7, 9));
-        assert_eq!(rt;
-            third,
-            Ok(Some(Decision {
-                instance: 7,
-                value: 4
-            }))
-        );
-        assert_eq!(rt; agree.decision(7), Some(4));
-        let late = agree.delivered(NodeId(5), &propose(7, 0));
-        assert_eq!(rt; late, Ok(None));
-        assert_eq!(rt; agree.decision(7), Some(4));
-        let other = agree.delivered(NodeId(1), &Item::Close);
-        assert_eq!(rt; other, Ok(None));
-    }
-}

@@ -34,10 +34,20 @@ pub fn has_bit(words: &VecDeque<u64>, bit: u64) -> bool
     }
 }
 
+/// How many bits there are from this one on in its word, where all of the word's bits are set; else none.
+pub fn full_word(words: &VecDeque<u64>, bit: u64) -> u64
+    ensures { (k : ℕ) → k < result → is_set words.now.items (bit + k) ≡ true }
+{
+    match words.get((bit / 64) as usize) {
+        Some(word) if *word == u64::MAX => 64 - bit % 64,
+        _ => 0,
+    }
+}
+
 /// Makes words up to a bit, the new ones with no bit set.
 pub fn make_room(words: &mut VecDeque<u64>, bit: u64) -> Result<(), AllocError>
-    requires { bit < 2147483648 }
     ensures ok { OnOk result (bit / 64 < length words.new.items) }
+    ensures more { length words.old.items ≤ length words.new.items }
     ensures few { (n : ℕ) → length words.old.items ≤ n → bit / 64 < n → length words.new.items ≤ n }
     ensures same { (k : ℕ) → slice_index words.new.items k ≡ slice_index words.old.items k }
 {
@@ -104,8 +114,8 @@ fn make_reach(words: &mut VecDeque<u64>, far: &BTreeSet<u64>) -> Result<(), Allo
     words.reserve(WORDS - words.len())
 }
 
-// Drops words at the front.
-fn drop_front(words: &mut VecDeque<u64>, count: u64)
+/// Drops words at the front.
+pub fn drop_front(words: &mut VecDeque<u64>, count: u64)
     ensures words { words.new.items ≡ drop count words.old.items }
     ensures room { deque_capacity words.new ≡ deque_capacity words.old }
 {

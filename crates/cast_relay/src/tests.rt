@@ -1,8 +1,12 @@
 //! The relay by hand: rows of the worked examples.
+ghost use Rattle.std.specs.Prelude.{◌≡◌};
+
 use super::*;
 use std::test::Fail;
 
-fn closing(sender: u8) -> Message {
+fn closing(sender: u8) -> Message
+    ensures { result.sender ≡ sender }
+{
     Message {
         sender: NodeId(sender),
         number: 0,

@@ -55,8 +55,8 @@ fn behind_a_gap(rt: &(impl Clock + Print), alloc: Global, calls: u64) -> Result<
     }
     report(rt, "LinkOut::acked, the last first", calls, &since)?;
     let since = Instant::now(rt)?;
-    for _call in 0..1_000 {
-        link.least_owed(1);
+    for call in 0..1_000 {
+        link.least_owed(call % 64 + 1);
     }
     report(
         rt,

@@ -1,23 +1,25 @@
-use Rattle.std.proofs.Common.{◌≡◌, ℕ, ◌+◌, ◌<◌, ◌^◌, List, [], ◌∷◌, ◌++◌, length, Option, Some, sym, ap, ◌∙◌, subst, refl, arith, length-append}
+use Rattle.std.proofs.Common.{◌≡◌, ℕ, ◌+◌, ◌<◌, ◌^◌, ◌/◌, List, [], ◌∷◌, ◌++◌, length, Option, Some, sym, ap, ◌∙◌, subst, arith, length-append}
 use Rattle.std.specs.FinMap as map
 use Rattle.cast_message.specs.declared.message.Message.{Message}
-use Rattle.cast_link.specs.Links.{Link, owed_map, StartsOwed}
-use Rattle.cast_link.proofs.Windows.{owed_map-push, StartsOwed-push, len-put_new, len-owed_map, get-owed_map, none_past}
+use Rattle.cast_link.specs.Taken.{bit_of}
+use Rattle.cast_link.specs.Links.{Link, owed_map}
+use Rattle.cast_link.proofs.Windows.{owed_map-push, len-owed_map, more_room, one_given}
 use Rattle.cast_link.proofs.link_out.LinkOut.give.Goals as goal
 
 pub overflow_add-self : goal.overflow_add-self
-overflow_add-self c = omega (arith, c.self.invariant.2, c.self.invariant.0, len-owed_map c.self.inside.base c.self.inside.places.items, c.requires, ap (λ (l : Link). l.given) c.self.view_is)
+overflow_add-self c = omega (arith, c.self.invariant.count, c.self.invariant.fits, len-owed_map c.self.inside.base c.self.inside.places.items, c.requires, ap (λ (l : Link). l.given) c.self.view_is)
 
 pub invariant_of-self-2 : goal.invariant_of-self-2
 invariant_of-self-2 c =
     let base = c.self.inside.base in
     let places = c.self.inside.places.items in
-    let absent = get-owed_map base places (base + length places) ∙ none_past base places (base + length places) (omega arith) in
-    subst (λ (ps : List (Option Message)). (base + length ps < 2 ^ 64) × StartsOwed ps × (c.self.inside.owed + 1 ≡ map.len (owed_map base ps))) (sym c.in_ok-push_back.ensures.items) (
-      omega (arith, length-append places (Some c.args.message ∷ []), c.requires, ap (λ (l : Link). l.given) c.self.view_is),
-      StartsOwed-push places c.args.message c.self.invariant.1,
-      ap (λ n. n + 1) c.self.invariant.2 ∙ sym (ap map.len (owed_map-push base places c.args.message) ∙ len-put_new _ _ c.args.message absent),
-    )
+    let given = ap (λ (l : Link). l.given) c.self.view_is in
+    let at : c.bit_of.result ≡ bit_of base (base + length places) = c.bit_of.ensures ∙ ap (bit_of base) (c.given-slot.ensures ∙ sym given) in
+    let room = more_room base places c.self.inside.marks.items c.make_room.new.words.items c.self.inside.owed c.self.invariant c.make_room.ensures.same c.make_room.ensures.more in
+    one_given base places c.push_back.new.self.items c.make_room.new.words.items c.self.inside.owed c.args.message room c.in_ok-push_back.ensures.items (omega (arith, given, c.requires)) (subst (λ bit. bit / 64 < length c.make_room.new.words.items) at c.in_ok-make_room.ensures.ok)
+
+pub invariant_of-self : goal.invariant_of-self
+invariant_of-self c = more_room c.self.inside.base c.self.inside.places.items c.self.inside.marks.items c.make_room.new.words.items c.self.inside.owed c.self.invariant c.make_room.ensures.same c.make_room.ensures.more
 
 pub returns-clause-ok : goal.returns-clause-ok
 returns-clause-ok c =
