@@ -1,11 +1,11 @@
 -- A quorum of senders decides, by the least of their values.
-use Rattle.std.specs.Prelude.{◌≡◌, ◌⊎◌, ℕ, zero, suc, ◌+◌, ◌==◌, ◌<◌, ◌≤◌, nat_le, nat_eq, min, Bool, true, false, not, ◌&&◌, ◌||◌, cond, if◌then◌else◌, List, [], ◌∷◌, ◌++◌, length, take, map, Option, Some, None, unwrap_or, option_map, refl}
+use Rattle.std.specs.Prelude.{◌≡◌, ℕ, zero, suc, ◌+◌, ◌==◌, ◌<◌, ◌≤◌, nat_le, nat_eq, min, Bool, true, false, not, ◌&&◌, ◌||◌, cond, if◌then◌else◌, List, [], ◌∷◌, ◌++◌, length, take, Option, Some, None, unwrap_or, option_map, refl}
 use Rattle.std.specs.List.{fold}
 use Rattle.std.specs.Ordering.{nat_cmp, eq_by_cmp}
 use Rattle.std.specs.Cmp.{nat_cmp_total}
 use Rattle.std.specs.FinMap as finite
 use Rattle.std.specs.FinSet as set
-use Rattle.std.specs.FinSet.{len-empty, contains-empty, contains-insert, len-insert}
+use Rattle.std.specs.FinSet.{len-empty, contains-empty, contains-insert}
 use Rattle.std.specs.FinMap.{get-insert, get-empty}
 use Rattle.std.proofs.Common.{sym, ap, ◌∙◌, subst, arith, inl, inr, length-append}
 use Rattle.std.proofs.lemmas.Bool.Decides.{nat_tests, leb_tells, eqb_tells}
@@ -14,9 +14,9 @@ use Rattle.cast_message.specs.declared.message.Item.{Item}
 use Rattle.cast_message.specs.declared.message.Item.TheVariants.{Data, Propose, Close}
 use Rattle.cast_message.specs.declared.message.Decision.{Decision}
 use Rattle.cast_agree.specs.declared.tally.Tally.{Tally}
-use Rattle.cast_agree.specs.Tallies.{no_tally, counts, with_proposal, tally_after, decided, decided_by, is_complete}
-use Rattle.cast_agree.specs.Counted.{Counted, tally_at, counted_after, decision, decision_by}
-use Rattle.cast_agree.specs.Proposals.{has_proposed, with_item, proposals, counted_of, values, least, settled, settled_by, DecidesLeast}
+use Rattle.cast_agree.specs.Tallies.{no_tally, with_proposal, tally_after, decided, decided_by, is_complete}
+use Rattle.cast_agree.specs.Counted.{Counted, tally_at}
+use Rattle.cast_agree.specs.Proposals.{has_proposed, proposals, counted_of, values, least, settled, settled_by, DecidesLeast}
 
 pub record StandsFor (quorum : ℕ) (tally : Tally) (ps : List (ℕ × ℕ)) : Type 0 where
   pub count : set.len tally.proposers ≡ min (length ps) quorum

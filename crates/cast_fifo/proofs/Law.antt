@@ -1,5 +1,5 @@
 -- What a hold-back does, by induction over its calls.
-use Rattle.std.specs.Prelude.{◌≡◌, ◌≢◌, ◌⊎◌, ℕ, zero, suc, ◌+◌, ◌-◌, ◌≤◌, ◌<◌, ◌==◌, Bool, true, false, ◌&&◌, ◌||◌, if◌then◌else◌, List, [], ◌∷◌, map, length, replicate, slice_index_or, slice_set, Option, Some, None, is_some, unwrap_or, refl}
+use Rattle.std.specs.Prelude.{◌≡◌, ◌≢◌, ℕ, zero, suc, ◌-◌, ◌<◌, ◌==◌, Bool, true, false, ◌&&◌, ◌||◌, if◌then◌else◌, List, [], ◌∷◌, map, length, replicate, slice_set, Option, Some, None, is_some, unwrap_or, refl}
 use Rattle.std.specs.List.{list_any, range_with_len}
 use Rattle.std.specs.BTreeMap.{insert_entry}
 use Rattle.std.specs.Ordering.{nat_cmp}
@@ -11,8 +11,8 @@ use Rattle.cast_message.specs.declared.message.Item.TheVariants.{Close}
 use Rattle.cast_message.specs.declared.message.Message.{Message}
 use Rattle.cast_message.specs.History.{numbered}
 use Rattle.cast_fifo.specs.Held.{Held, nothing_held, held_of, came, with_item, known_items, known_after, offered_items, offered_after}
-use Rattle.cast_fifo.specs.Calls.{Call, Hold, Known, Offer, is_pair, is_offer_of, is_hold_of, is_mark_of, is_ready, brought, first_of, item_of, IsNext, message_of, between, has_close, sender_of, held_after, held_by, answer, MayCall, MayBeCalled, ShowsOf, AnswersTurns, GivesInOrder}
-use Rattle.cast_fifo.proofs.Stands.{Stands, Turned, same_stands, came_is, holds, knows, with_one, numbered-map}
+use Rattle.cast_fifo.specs.Calls.{Call, Hold, Known, Offer, is_pair, is_offer_of, is_hold_of, is_mark_of, is_ready, first_of, item_of, message_of, between, sender_of, held_after, held_by, answer, MayCall, MayBeCalled, GivesInOrder}
+use Rattle.cast_fifo.proofs.Stands.{Stands, same_stands, came_is, holds, knows, with_one, numbered-map}
 
 some_first : (a b : Option Item) → is_some (first_of a b) ≡ (is_some a || is_some b)
 some_first None b = refl

@@ -1,20 +1,20 @@
 -- The turn of one number after another.
-use Rattle.std.specs.Prelude.{◌≡◌, ◌≢◌, ◌⊎◌, ℕ, zero, suc, ◌+◌, ◌-◌, ◌^◌, ◌≤◌, ◌<◌, ◌==◌, nat_lt, Bool, true, false, ◌&&◌, ◌||◌, not, cond, if◌then◌else◌, List, [], ◌∷◌, ◌++◌, length, replicate, drop, slice_index_or, slice_set, slice_get, Option, Some, None, is_some, IsSome, refl}
+use Rattle.std.specs.Prelude.{◌≡◌, ◌≢◌, ◌⊎◌, ℕ, zero, suc, ◌+◌, ◌-◌, ◌^◌, ◌≤◌, ◌<◌, ◌==◌, nat_lt, Bool, true, false, ◌&&◌, ◌||◌, cond, if◌then◌else◌, List, [], ◌∷◌, ◌++◌, length, replicate, drop, slice_get, Option, Some, None, is_some, IsSome, refl}
 use Rattle.std.specs.List.{All, list_any}
-use Rattle.std.specs.Map.{keys_of, lookup, set_value}
+use Rattle.std.specs.Map.{keys_of, set_value}
 use Rattle.std.specs.Ordering.{nat_cmp, match_ordering}
 use Rattle.std.specs.declared.cmp.Ordering.{Ordering}
 use Rattle.std.specs.declared.cmp.Ordering.TheVariants.{Less, Equal, Greater}
 use Rattle.std.specs.BTreeMap.{insert_entry, is_at}
 use Rattle.std.proofs.Common.{sym, ap, ◌∙◌, subst, arith, inl, inr, add-one, true≢false, append_assoc}
-use Rattle.std.proofs.lemmas.Bool.Decides.{nat_tests, leb_tells}
-use Rattle.std.proofs.lemmas.List.Elements.{All-head, All-tail, All-weaker, All-same}
+use Rattle.std.proofs.lemmas.Bool.Decides.{nat_tests}
+use Rattle.std.proofs.lemmas.List.Elements.{All-head, All-tail, All-weaker}
 use Rattle.cast_message.specs.declared.message.Item.{Item}
 use Rattle.cast_message.specs.declared.message.Message.{Message}
 use Rattle.cast_message.specs.History.{numbered}
 use Rattle.cast_fifo.specs.declared.queue.Waiting.{Waiting}
 use Rattle.cast_fifo.specs.Held.{Held, waiting_at, came, marked, with_mark, with_item, run_from, rest_from, is_close, advanced, turned_items, turned_after, known_items, known_after, offered_items, offered_after}
-use Rattle.cast_fifo.specs.Windows.{entries_from, entries_of, is_marked, marked_front, front_item, HasFront, next_item, next_far, HasNext, StartsUnmarked, IsWindow}
+use Rattle.cast_fifo.specs.Windows.{entries_from, entries_of, marked_front, front_item, HasFront, next_item, next_far, HasNext, StartsUnmarked, IsWindow}
 use Rattle.cast_fifo.proofs.Entries.{Places, Entries, seen, past, none_at, below_ring, insert_before, no_run, rest_none}
 
 pub numbered-cons : (s n : ℕ) (x : Item) (xs : List Item) → numbered s n (x ∷ xs) ≡ record { sender = s; number = n; item = x } ∷ numbered s (n + 1) xs

@@ -4,7 +4,7 @@
 --     with_pair held s i       the same with one pair more
 --     relays_to held s r q     a pair of s that first came from r goes on to q
 --     by_sender sets           sets for the first senders, as a list for all 256 that a `NodeId` can name
-use Rattle.std.specs.Prelude.{◌≡◌, ℕ, ◌-◌, ◌==◌, Bool, not, ◌&&◌, List, ◌++◌, length, replicate, slice_index_or, slice_set, refl}
+use Rattle.std.specs.Prelude.{ℕ, ◌-◌, ◌==◌, Bool, not, ◌&&◌, List, ◌++◌, length, replicate, slice_index_or, slice_set, refl}
 use Rattle.std.specs.Ordering.{nat_cmp}
 use Rattle.std.specs.FinSet as set
 use Rattle.std.specs.Coded.{Coded, code_by, coded×, coded_ℕ, coded_list}

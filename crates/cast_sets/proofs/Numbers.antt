@@ -1,5 +1,5 @@
 -- A set of numbers, as bits and an ordered set.
-use Rattle.std.specs.Prelude.{◌≡◌, ◌≢◌, ◌⊎◌, ℕ, zero, suc, ◌+◌, ◌-◌, ◌*◌, ◌/◌, ◌%◌, ◌^◌, ◌≤◌, ◌<◌, nat_eq, nat_lt, Bool, true, false, cond, ◌&&◌, ◌||◌, List, [], ◌∷◌, ◌++◌, length, slice_index, slice_index_or, slice_set, bit_and, bit_or, replicate, refl}
+use Rattle.std.specs.Prelude.{◌≡◌, ℕ, zero, suc, ◌*◌, ◌/◌, ◌%◌, ◌^◌, ◌≤◌, ◌<◌, nat_eq, nat_lt, Bool, true, false, cond, ◌&&◌, ◌||◌, List, [], ◌∷◌, ◌++◌, length, slice_index, slice_index_or, slice_set, bit_or, replicate, refl}
 use Rattle.std.specs.List.{All, list_any}
 use Rattle.std.specs.Int.{bit_at}
 use Rattle.std.specs.Ordering.{nat_cmp}
@@ -12,8 +12,8 @@ use Rattle.std.proofs.lemmas.List.Folds.{list_any_none}
 use Rattle.std.proofs.lemmas.Nat.Bits.{bit_at-zero}
 use Rattle.cast_sets.specs.Bits.{is_set}
 use Rattle.cast_sets.specs.Numbers.{is_number, number_set}
-use Rattle.cast_sets.specs.Members.{members_below, contains-members_below, members_below-insert, members_below-empty, members_below-same}
-use Rattle.cast_sets.proofs.Places.{is_set-with_place, with_place, is_set-test}
+use Rattle.cast_sets.specs.Members.{contains-members_below, members_below-insert, members_below-same}
+use Rattle.cast_sets.proofs.Places.{is_set-with_place, with_place}
 
 no_bits : (k i : ℕ) → slice_index (replicate k 0) i ≡ 0
 no_bits zero i = refl

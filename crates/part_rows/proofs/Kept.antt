@@ -1,6 +1,6 @@
 -- The first message of the first sender came.
 use Rattle.std.specs.Prelude.{◌≡◌, ℕ, ◌<◌, true, List, length, slice_set}
-use Rattle.std.proofs.Common.{sym, ap, ◌∙◌, subst}
+use Rattle.std.proofs.Common.{ap, ◌∙◌}
 use Rattle.cast_message.specs.declared.message.Item.{Item}
 use Rattle.cast_fifo.specs.Held.{Held, held_of, came, with_item, known_after}
 use Rattle.cast_fifo.proofs.Came.{held_of-set, came-with_item, came-known_after}

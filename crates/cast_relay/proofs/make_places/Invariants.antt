@@ -1,4 +1,4 @@
-use Rattle.std.proofs.Common.{◌≡◌, ◌+◌, ◌≤◌, length}
+use Rattle.std.proofs.Common.{◌≡◌, ◌≤◌, length}
 use Rattle.cast_relay.specs.Held.{by_sender}
 use Rattle.cast_relay.proofs.make_places.Given as goal
 

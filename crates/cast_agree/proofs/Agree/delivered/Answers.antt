@@ -1,6 +1,5 @@
 use Rattle.std.proofs.Common.{◌≡◌, Some, None, Option, option_map, IsSome, sym, ap, ◌∙◌, subst, refl, arith}
 use Rattle.std.proofs.lemmas.Grind.{common_steps}
-use Rattle.cast_message.specs.declared.message.Decision.{Decision}
 use Rattle.cast_agree.specs.declared.tally.Tally.{Tally}
 use Rattle.std.proofs.Common.{ℕ, cond}
 use Rattle.std.specs.Ordering.{nat_cmp}

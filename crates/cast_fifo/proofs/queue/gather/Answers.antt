@@ -1,9 +1,7 @@
-use Rattle.std.proofs.Common.{◌≡◌, ◌≤◌, ◌<◌, ◌+◌, ◌-◌, ◌^◌, ◌++◌, ◌∷◌, ℕ, List, [], Option, Some, None, length, sym, ap, ◌∙◌, append_assoc, length-append, arith}
-use Rattle.std.specs.List.{All}
+use Rattle.std.proofs.Common.{◌≡◌, ◌≤◌, ◌<◌, ◌+◌, ◌-◌, ◌^◌, ◌++◌, ◌∷◌, [], Some, length, sym, ap, ◌∙◌, append_assoc, length-append, arith}
 use Rattle.std.specs.Map.{keys_of}
 use Rattle.std.proofs.lemmas.List.Elements.{All-weaker}
-use Rattle.cast_fifo.specs.declared.queue.Waiting.{Waiting}
-use Rattle.cast_fifo.specs.Windows.{entries_from, entries_of}
+use Rattle.cast_fifo.specs.Windows.{entries_from}
 use Rattle.cast_fifo.proofs.Entries.{length-padded}
 use Rattle.cast_fifo.proofs.Turns.{moved, head_of, tail_of, first_is}
 use Rattle.cast_fifo.proofs.queue.gather.Goals as goal

@@ -1,9 +1,8 @@
-use Rattle.std.proofs.Common.{◌≡◌, ◌≤◌, ◌<◌, ◌+◌, ◌-◌, ◌^◌, ℕ, length, drop, sym, ap, ◌∙◌, refl, arith}
-use Rattle.std.specs.List.{All}
+use Rattle.std.proofs.Common.{◌≡◌, ◌≤◌, ◌<◌, ◌+◌, length, drop, sym, ap, ◌∙◌, arith}
 use Rattle.std.specs.Map.{keys_of}
 use Rattle.std.proofs.lemmas.List.Elements.{All-weaker}
 use Rattle.cast_fifo.specs.Held.{run_from}
-use Rattle.cast_fifo.specs.Windows.{entries_of, marked_front}
+use Rattle.cast_fifo.specs.Windows.{marked_front}
 use Rattle.cast_fifo.proofs.Turns.{stops_inside, stops_beyond, marked_front-le, length-drop_one}
 use Rattle.cast_fifo.proofs.queue.ready_after.Goals as goal
 

@@ -1,4 +1,4 @@
-use Rattle.std.proofs.Common.{◌≡◌, ℕ, List, length, slice_index, ap, ◌∙◌, arith, length-append, ◌∷◌, []}
+use Rattle.std.proofs.Common.{ℕ, List, length, slice_index, ap, ◌∙◌, arith, length-append, ◌∷◌, []}
 use Rattle.cast_sets.proofs.Numbers.{padded}
 use Rattle.cast_link.proofs.bits.add_words.Goals as goal
 

@@ -1,5 +1,5 @@
-use Rattle.std.proofs.Common.{◌≡◌, ◌+◌, ◌-◌, ◌/◌, ◌≤◌, ◌<◌, ◌^◌, ℕ, List, drop, length, sym, ap, ◌∙◌, arith}
-use Rattle.cast_link.specs.Taken.{is_marked, IsWindow}
+use Rattle.std.proofs.Common.{◌-◌, ◌/◌, ℕ, List, drop, ap, ◌∙◌, arith}
+use Rattle.cast_link.specs.Taken.{is_marked}
 use Rattle.cast_link.proofs.Slots.{Moves, moved_window, moved_set}
 use Rattle.cast_link.proofs.bits.advance.Goals as goal
 

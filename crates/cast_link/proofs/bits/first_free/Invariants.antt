@@ -1,4 +1,4 @@
-use Rattle.std.proofs.Common.{◌≡◌, ◌≤◌, ◌<◌, ℕ, true}
+use Rattle.std.proofs.Common.{◌≤◌, ◌<◌, ℕ}
 use Rattle.std.specs.Bool.{IsTrue}
 use Rattle.cast_link.specs.Taken.{is_marked}
 use Rattle.cast_link.proofs.bits.first_free.Given as goal

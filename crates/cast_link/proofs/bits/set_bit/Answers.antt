@@ -1,4 +1,4 @@
-use Rattle.std.proofs.Common.{◌≡◌, ◌/◌, ◌%◌, ◌*◌, ◌^◌, bit_or, slice_set, slice_index, length, ◌∙◌, sym, ap, arith}
+use Rattle.std.proofs.Common.{◌/◌, ◌%◌, ◌*◌, ◌^◌, bit_or, slice_set, ◌∙◌, ap, arith}
 use Rattle.std.proofs.lemmas.List.{get_or_default}
 use Rattle.cast_sets.specs.Bits.{is_set}
 use Rattle.cast_sets.proofs.Places.{is_set-with_place}

@@ -1,4 +1,4 @@
-use Rattle.std.proofs.Common.{◌<◌, ◌≤◌, length, None, slice_index_or, refl, sym, ap, ◌∙◌, arith}
+use Rattle.std.proofs.Common.{◌<◌, length, slice_index_or, refl, sym, ap, ◌∙◌, arith}
 use Rattle.cast_link.specs.Links.{owed_map}
 use Rattle.cast_link.proofs.Windows.{owed_map-next, popped, trimmed_next}
 use Rattle.cast_link.proofs.link_out.trim.Goals as goal

@@ -1,8 +1,7 @@
-use Rattle.std.proofs.Common.{◌≡◌, ◌<◌, length, false, true, not, sym, ap, ◌∙◌, arith, if◌then◌else◌}
+use Rattle.std.proofs.Common.{◌<◌, length, not, sym, ap, ◌∙◌, if◌then◌else◌}
 use Rattle.std.specs.FinSet as set
 use Rattle.std.proofs.lemmas.List.{get_or_default}
 use Rattle.cast_relay.specs.declared.Taken.TheVariants.{New, Known}
-use Rattle.cast_relay.specs.Held.{numbers_of}
 use Rattle.cast_relay.proofs.Senders.{put, answer}
 use Rattle.cast_relay.proofs.Relay.arrive.Goals as goal
 

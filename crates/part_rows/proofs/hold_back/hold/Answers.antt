@@ -1,4 +1,4 @@
-use Rattle.std.proofs.Common.{◌≡◌, ◌<◌, List, length, sym, subst}
+use Rattle.std.proofs.Common.{◌<◌, List, length, sym, subst}
 use Rattle.cast_fifo.specs.Held.{Held}
 use Rattle.part_rows.proofs.Kept.{held_comes}
 use Rattle.part_rows.proofs.hold_back.hold.Goals as goal

@@ -1,11 +1,9 @@
-use Rattle.std.proofs.Common.{◌≡◌, ◌≤◌, ◌<◌, ◌+◌, ◌-◌, ℕ, inl, inr, true≢false, Some, None, option_map, length, sym, ap, ◌∙◌, refl, arith}
+use Rattle.std.proofs.Common.{◌≤◌, ◌<◌, ◌+◌, ◌-◌, inl, inr, true≢false, None, length, sym, ap, ◌∙◌, refl, arith}
 use Rattle.std.specs.Option.{option_copied}
-use Rattle.std.specs.List.{All}
 use Rattle.std.specs.Map.{keys_of}
 use Rattle.std.specs.VecDeque.{deque_len}
 use Rattle.std.proofs.lemmas.Bool.Decides.{leb_tells}
-use Rattle.std.proofs.lemmas.List.{get_or_default, get_or_past}
-use Rattle.std.proofs.lemmas.List.Elements.{All-weaker}
+use Rattle.std.proofs.lemmas.List.{get_or_default}
 use Rattle.cast_fifo.specs.Held.{Held, waiting_at}
 use Rattle.cast_fifo.proofs.Entries.{far_at, near_at, none_at, past}
 use Rattle.cast_fifo.proofs.queue.Queue.at.Goals as goal

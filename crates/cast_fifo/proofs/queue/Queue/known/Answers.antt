@@ -1,4 +1,4 @@
-use Rattle.std.proofs.Common.{◌≡◌, inl, ap, sym, ◌∙◌, arith}
+use Rattle.std.proofs.Common.{inl, ap, sym, ◌∙◌, arith}
 use Rattle.cast_message.specs.History.{numbered}
 use Rattle.cast_fifo.specs.Held.{Held}
 use Rattle.cast_fifo.proofs.Turns.{marked_elsewhere, marked_before, numbered-none, front_fits}

@@ -1,4 +1,4 @@
-use Rattle.std.proofs.Common.{◌≡◌, ◌≤◌, ◌<◌, ◌+◌, ◌-◌, ℕ, None, length, sym, ap, ◌∙◌, refl, arith}
+use Rattle.std.proofs.Common.{◌≡◌, ◌+◌, ◌-◌, None, ap, ◌∙◌, arith}
 use Rattle.std.proofs.lemmas.List.{get_or_default}
 use Rattle.cast_fifo.specs.Held.{Held}
 use Rattle.cast_fifo.proofs.Entries.{kept_marked_near, seen_marked_near, kept_marked_far, seen_marked_far, within_ring, with_known}

@@ -1,4 +1,4 @@
-use Rattle.std.proofs.Common.{◌≡◌, ◌⊎◌, ◌≤◌, ◌<◌, ◌+◌, ◌++◌, ◌^◌, ℕ, true, List, [], Option, length, drop, is_some, sym, ap, ◌∙◌, subst, refl, arith}
+use Rattle.std.proofs.Common.{◌≡◌, ◌⊎◌, ◌≤◌, ◌<◌, ◌+◌, ◌++◌, ◌^◌, ℕ, true, List, length, drop, is_some, sym, ap, ◌∙◌, subst, refl, arith}
 use Rattle.std.specs.Prelude.{IsSome}
 use Rattle.std.specs.Map.{keys_of}
 use Rattle.std.specs.List.{All}
@@ -7,9 +7,9 @@ use Rattle.std.proofs.lemmas.List.{nil_from_length}
 use Rattle.cast_message.specs.History.{numbered}
 use Rattle.cast_fifo.specs.declared.queue.Waiting.{Waiting}
 use Rattle.cast_fifo.specs.Held.{Held, waiting_at, run_from}
-use Rattle.cast_fifo.specs.Windows.{entries_of, HasFront, next_far, IsWindow}
-use Rattle.cast_fifo.proofs.Entries.{Places, seen, past}
-use Rattle.cast_fifo.proofs.Turns.{Between, has_front, begins, continues, next_of, next_fits, between_first, between_next, between_same, starts_none, advanced_none, numbered-none, append_none}
+use Rattle.cast_fifo.specs.Windows.{entries_of, HasFront, next_far}
+use Rattle.cast_fifo.proofs.Entries.{Places, past}
+use Rattle.cast_fifo.proofs.Turns.{has_front, begins, continues, next_of, next_fits, between_first, between_next, between_same, starts_none, advanced_none, numbered-none, append_none}
 use Rattle.cast_fifo.proofs.queue.Queue.turn.Goals as goal
 
 pub take_front-first-requires : goal.take_front-first-requires

@@ -1,4 +1,4 @@
-use Rattle.std.proofs.Common.{◌≡◌, ◌^◌, [], ◌∙◌, ap, refl}
+use Rattle.std.proofs.Common.{◌^◌, [], ◌∙◌, refl}
 use Rattle.cast_sets.specs.Members.{members_below-empty}
 use Rattle.cast_link.specs.Taken.{is_taken, taken_set}
 use Rattle.cast_link.proofs.Slots.{none_taken}

@@ -1,10 +1,9 @@
-use Rattle.std.proofs.Common.{◌≡◌, ℕ, suc, Bor, refl, Bool, true, false, true≢false, ◌+◌, ◌<◌, ◌≤◌, Option, Some, None, is_some, sym, ap, ◌∙◌, arith, inl, inr}
+use Rattle.std.proofs.Common.{◌≡◌, suc, Bor, refl, false, true≢false, ◌+◌, Option, Some, None, is_some, sym, ap, ◌∙◌, arith, inl, inr}
 use Rattle.std.specs.FinMap as map
 use Rattle.std.specs.Option.{option_copied}
 use Rattle.std.proofs.lemmas.Bool.Decides.{leb_tells}
 use Rattle.cast_message.specs.declared.message.Message.{Message}
 use Rattle.cast_sets.specs.Bits.{is_set}
-use Rattle.cast_link.specs.Taken.{bit_of}
 use Rattle.cast_link.specs.Links.{Link}
 use Rattle.cast_link.proofs.Windows.{get-owed_map, none_past, none_below, none_in_word}
 use Rattle.cast_link.proofs.link_out.LinkOut.least_owed.Goals as goal
