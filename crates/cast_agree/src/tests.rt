@@ -1,0 +1,26 @@
+//! Agreement by hand: a row of the worked examples.
+use super::*;
+use std::test::Fail;
+
+fn propose(value: u64) -> Item {
+    Item::Propose { instance: 7, value }
+}
+
+#[test]
+fn decides_at_the_last_of_a_quorum(rt: HostRuntime) -> Result<(), Fail> {
+    let mut agree = Agree::new(rt.alloc(), 2, 0);
+    assert_eq!(rt; agree.delivered(NodeId(0), &propose(4))?, None);
+    assert_eq!(rt; agree.delivered(NodeId(0), &propose(1))?, None);
+    assert_eq!(rt; agree.decision(7), None);
+    let decision = Decision {
+        instance: 7,
+        value: 4,
+    };
+    assert_eq!(rt; agree.delivered(NodeId(1), &propose(9))?, Some(decision));
+    assert_eq!(rt; agree.decision(7), Some(4));
+    assert_eq!(rt; agree.delivered(NodeId(5), &propose(0))?, None);
+    assert_eq!(rt; agree.decision(7), Some(4));
+    assert_eq!(rt; agree.delivered(NodeId(1), &Item::Close)?, None);
+    assert_eq!(rt; agree.decision(8), None);
+    Ok(())
+}

@@ -1,0 +1,5 @@
+pub mod Entries
+pub mod Turns
+pub mod Stands
+pub mod Law
+pub mod Came

@@ -1,0 +1,92 @@
+-- What is held back of one sender, and what a call changes.
+--     Held                          the number whose turn is next, whether a Close had its turn, and what waits, by number
+--     waiting_at waiting i          what waits at a number
+--     came held i                   the number had its turn or waits
+--     with_item held i item         a message is kept, of two of one number the first
+--     with_mark held i              a message that waits is marked
+--     run_from i waiting            the items marked from a number on, without a gap
+--     advanced held                 they had their turn
+--     known_items, known_after      what a mark brings, and what is held then
+--     offered_items, offered_after  the same, where the message is kept first
+--     held_of all s                 what is held of a sender
+use Rattle.std.specs.Prelude.{ℕ, ◌+◌, ◌==◌, nat_lt, Bool, true, false, ◌&&◌, ◌||◌, if◌then◌else◌, List, [], ◌∷◌, length, slice_index_or, Option, Some, None, is_some}
+use Rattle.std.specs.List.{list_any}
+use Rattle.std.specs.Ordering.{nat_cmp}
+use Rattle.std.specs.Map.{lookup, set_value}
+use Rattle.std.specs.BTreeMap.{insert_entry, is_at}
+use Rattle.cast_message.specs.declared.message.Item.{Item}
+use Rattle.cast_message.specs.declared.message.Item.TheVariants.{Data, Propose, Close}
+use Rattle.cast_fifo.specs.declared.queue.Waiting.{Waiting}
+
+pub record Held : Type 0 where
+  pub next : ℕ
+  pub closed : Bool
+  pub waiting : List (ℕ × Waiting)
+
+abbrev pub nothing_held : Held
+nothing_held = record { next = 0; closed = false; waiting = [] }
+
+abbrev pub held_of : List Held → ℕ → Held
+held_of all sender = slice_index_or all sender nothing_held
+
+abbrev pub waiting_at : List (ℕ × Waiting) → ℕ → Option Waiting
+waiting_at waiting number = lookup (is_at (nat_cmp number)) waiting
+
+abbrev pub came : Held → ℕ → Bool
+came held number = nat_lt number held.next || is_some (waiting_at held.waiting number)
+
+abbrev pub with_item : Held → ℕ → Item → Held
+with_item held number item =
+    if came held number
+    then held
+    else record held { waiting = insert_entry nat_cmp held.waiting number (record { item = item; known = false }) }
+
+abbrev pub marked : List (ℕ × Waiting) → ℕ → Option Waiting → List (ℕ × Waiting)
+marked waiting number None = waiting
+marked waiting number (Some w) = set_value (is_at (nat_cmp number)) waiting (record { item = w.item; known = true })
+
+abbrev pub with_mark : Held → ℕ → Held
+with_mark held number = record held { waiting = marked held.waiting number (waiting_at held.waiting number) }
+
+abbrev pub run_from : ℕ → List (ℕ × Waiting) → List Item
+run_from next [] = []
+run_from next (entry ∷ entries) = if entry.0 == next && entry.1.known then entry.1.item ∷ run_from (next + 1) entries else []
+
+-- what waits behind them
+abbrev pub rest_from : ℕ → List (ℕ × Waiting) → List (ℕ × Waiting)
+rest_from next [] = []
+rest_from next (entry ∷ entries) = if entry.0 == next && entry.1.known then rest_from (next + 1) entries else entry ∷ entries
+
+abbrev pub is_close : Item → Bool
+is_close (Data payload) = false
+is_close (Propose instance value) = false
+is_close Close = true
+
+abbrev pub advanced : Held → Held
+advanced held =
+    record {
+      next = held.next + length (run_from held.next held.waiting);
+      closed = held.closed || list_any is_close (run_from held.next held.waiting);
+      waiting = rest_from held.next held.waiting;
+    }
+
+abbrev pub known_items : Held → ℕ → List Item
+known_items held number = run_from held.next (with_mark held number).waiting
+
+abbrev pub known_after : Held → ℕ → Held
+known_after held number = advanced (with_mark held number)
+
+abbrev pub offered_items : Held → ℕ → Item → List Item
+offered_items held number item = known_items (with_item held number item) number
+
+abbrev pub offered_after : Held → ℕ → Item → Held
+offered_after held number item = known_after (with_item held number item) number
+
+-- the turn of the next number, whose message waits or is offered
+abbrev pub turned_items : Held → Option Item → List Item
+turned_items held None = known_items held held.next
+turned_items held (Some item) = offered_items held held.next item
+
+abbrev pub turned_after : Held → Option Item → Held
+turned_after held None = known_after held held.next
+turned_after held (Some item) = offered_after held held.next item

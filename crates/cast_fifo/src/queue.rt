@@ -1,0 +1,431 @@
+//! What is held back of one sender: a ring of places for the numbers from the next on, and an ordered map for those
+//! farther away.
+ghost use Rattle.std.specs.Prelude.{◌≡◌, ◌≢◌, ℕ, ◌+◌, ◌-◌, ◌*◌, ◌<◌, ◌≤◌, ◌^◌, ◌∷◌, ◌++◌, ◌||◌, length, [], replicate, drop, true, false, None, Some, is_some, IsSome, IfOk, OnOk, OnErr, option_map, vec_len, vec_capacity, ◌⊎◌};
+ghost use Rattle.std.specs.Option.{option_copied};
+ghost use Rattle.std.specs.List.{All, list_any};
+ghost use Rattle.std.specs.Map.{keys_of, set_value};
+ghost use Rattle.std.specs.Ordering.{nat_cmp};
+ghost use Rattle.std.specs.BTreeMap.{insert_entry, is_at, IsOrdered};
+ghost use Rattle.std.specs.VecDeque.{deque_capacity, deque_len};
+ghost use Rattle.cast_message.specs.History.{numbered};
+ghost use Rattle.cast_fifo.specs.Held.{nothing_held, waiting_at, came, marked, with_item, with_mark, run_from, rest_from, is_close, known_items, known_after, offered_items, offered_after, turned_items, turned_after};
+ghost use Rattle.cast_fifo.specs.Windows.{entries_from, entries_of, is_marked, marked_front, front_item, HasFront, next_item, next_far, HasNext};
+
+use cast_message::{Item, Message, NodeId};
+use std::alloc::{AllocError, Global};
+use std::collections::{BTreeMap, VecDeque};
+use std::marker::Model;
+
+// How many places from the next number on the ring may have.
+const REACH: u64 = 4096;
+
+/// What is kept of a message whose turn has not come.
+#[derive(Debug, Drop)]
+pub struct Waiting {
+    pub item: Item,
+    /// It was marked, so that it goes as soon as its turn comes.
+    pub known: bool,
+}
+
+/// The messages of one sender that wait for their turn.
+#[derive(Debug, Drop)]
+pub struct Queue {
+    // The number whose turn is next.
+    next: u64,
+    // A Close had its turn.
+    closed: bool,
+    // The places of the numbers from `next` on.
+    ring: VecDeque<Option<Waiting>>,
+    // The numbers that the ring doesn't reach.
+    far: BTreeMap<u64, Waiting>,
+}
+
+impl Model for Queue {
+    ghost use Rattle.cast_fifo.specs.Held.{Held};
+    ghost use Rattle.cast_fifo.specs.Windows.{entries_of, IsWindow};
+
+    ghost Value = { Held };
+
+    ghost view = { λ q. record { next = q.next; closed = q.closed; waiting = entries_of q.next q.ring.items q.far.entries } };
+
+    ghost invariant = { λ q. IsWindow q.next q.ring.items q.far.entries };
+}
+
+impl Queue {
+    /// Nothing is held.
+    pub fn new(alloc: Global) -> Queue
+        ensures { result ≡ nothing_held }
+    {
+        Queue {
+            next: 0,
+            closed: false,
+            ring: VecDeque::new(alloc),
+            far: BTreeMap::new(alloc),
+        }
+    }
+
+    /// The number whose turn is next.
+    pub fn next(&self) -> u64
+        ensures { result ≡ self.now.next }
+    {
+        self.next
+    }
+
+    /// Whether a Close had its turn.
+    pub fn closed(&self) -> bool
+        ensures { result ≡ self.now.closed }
+    {
+        self.closed
+    }
+
+    /// Keeps an item, of two of one number the first.
+    pub fn hold(&mut self, number: u64, item: Item) -> Result<(), AllocError>
+        requires { number + 1 < 2 ^ 64 }
+        ensures ok { OnOk result (self.new ≡ with_item self.old number item) }
+        ensures err { OnErr result (self.new ≡ self.old) }
+    {
+        if self.came(number) {
+            return Ok(());
+        }
+        self.keep(number, Waiting { item, known: false })
+    }
+
+    /// Marks a number that came, and answers the messages whose turn has come.
+    pub fn known(
+        &mut self,
+        alloc: Global,
+        sender: NodeId,
+        number: u64,
+    ) -> Result<Vec<Message>, AllocError>
+        requires { came self.old number ≡ true }
+        ensures messages { IfOk result (λ messages. messages.items ≡ numbered sender self.old.next (known_items self.old number)) }
+        ensures ok { OnOk result (self.new ≡ known_after self.old number) }
+        ensures err { OnErr result (self.new ≡ self.old) }
+    {
+        if number == self.next {
+            return self.turn(alloc, sender, None);
+        }
+        if number > self.next {
+            self.mark(number);
+        }
+        Ok(Vec::new(alloc))
+    }
+
+    /// Keeps an item and marks its number in one.
+    pub fn offer(
+        &mut self,
+        alloc: Global,
+        sender: NodeId,
+        number: u64,
+        item: Item,
+    ) -> Result<Vec<Message>, AllocError>
+        requires { number + 1 < 2 ^ 64 }
+        ensures messages { IfOk result (λ messages. messages.items ≡ numbered sender self.old.next (offered_items self.old number item)) }
+        ensures ok { OnOk result (self.new ≡ offered_after self.old number item) }
+        ensures err { OnErr result (self.new ≡ self.old) }
+    {
+        if self.came(number) {
+            return self.known(alloc, sender, number);
+        }
+        if number == self.next {
+            return self.turn(alloc, sender, Some(item));
+        }
+        self.keep(number, Waiting { item, known: true })?;
+        Ok(Vec::new(alloc))
+    }
+
+    // Whether the number had its turn or waits.
+    fn came(&self, number: u64) -> bool
+        ensures { result ≡ came self.now number }
+    {
+        number < self.next || self.at(number).is_some()
+    }
+
+    // What waits at a number.
+    fn at(&self, number: u64) -> Option<&Waiting>
+        requires { self.now.next ≤ number }
+        ensures { option_copied result ≡ waiting_at self.now.waiting number }
+    {
+        let place = number - self.next;
+        if place >= REACH {
+            return self.far.get(&number);
+        }
+        self.ring.get(place as usize)?.as_ref()
+    }
+
+    // Keeps what waits at a number that did not come.
+    fn keep(&mut self, number: u64, waiting: Waiting) -> Result<(), AllocError>
+        requires new { came self.old number ≡ false }
+        requires number { number + 1 < 2 ^ 64 }
+        requires waits { number ≡ self.old.next → waiting.known ≡ false }
+        ensures ok { OnOk result (self.new ≡ record self.old { waiting = insert_entry nat_cmp self.old.waiting number waiting }) }
+        ensures err { OnErr result (self.new ≡ self.old) }
+    {
+        let place = number - self.next;
+        if place >= REACH {
+            self.far.insert(number, waiting)?;
+            return Ok(());
+        }
+        make_places(&mut self.ring, place as usize)?;
+        self.ring[place as usize] = Some(waiting);
+        Ok(())
+    }
+
+    // Marks a number past the next that waits.
+    fn mark(&mut self, number: u64)
+        requires past { self.old.next < number }
+        requires waits { IsSome (waiting_at self.old.waiting number) }
+        ensures { self.new ≡ with_mark self.old number }
+    {
+        let place = number - self.next;
+        if place >= REACH {
+            mark_far(&mut self.far, number);
+            return;
+        }
+        mark_place(&mut self.ring[place as usize]);
+    }
+
+    // The turn of the next number, whose message waits or is offered, and of those marked right after it.
+    fn turn(
+        &mut self,
+        alloc: Global,
+        sender: NodeId,
+        offered: Option<Item>,
+    ) -> Result<Vec<Message>, AllocError>
+        requires number { self.old.next + 1 < 2 ^ 64 }
+        requires item { is_some (waiting_at self.old.waiting self.old.next) ≡ true ⊎ IsSome offered }
+        ensures messages { IfOk result (λ messages. messages.items ≡ numbered sender self.old.next (turned_items self.old offered)) }
+        ensures ok { OnOk result (self.new ≡ turned_after self.old offered) }
+        ensures err { OnErr result (self.new ≡ self.old) }
+    {
+        let ready = ready_after(&self.ring, &self.far, self.next);
+        let mut messages = Vec::with_capacity(alloc, ready + 1)?;
+        make_reach(&mut self.ring, &self.far)?;
+        let first = take_front(&mut self.ring, offered);
+        pass(
+            sender,
+            &mut self.next,
+            &mut self.closed,
+            first,
+            &mut messages,
+        );
+        for _place in 0..ready {
+            let item = take_next(&mut self.ring, &mut self.far);
+            pass(
+                sender,
+                &mut self.next,
+                &mut self.closed,
+                item,
+                &mut messages,
+            );
+        }
+        gather(self.next, &mut self.ring, &mut self.far);
+        Ok(messages)
+    }
+}
+
+// A message has its turn.
+fn pass(sender: NodeId, next: &mut u64, closed: &mut bool, item: Item, messages: &mut Vec<Message>)
+    requires number { next.old + 1 < 2 ^ 64 }
+    requires room { vec_len messages.old < vec_capacity messages.old }
+    ensures messages { messages.new.items ≡ messages.old.items ++ record { sender = sender; number = next.old; item = item } ∷ [] }
+    ensures len { vec_len messages.new ≡ vec_len messages.old + 1 }
+    ensures room { vec_capacity messages.new ≡ vec_capacity messages.old }
+    ensures next { next.new ≡ next.old + 1 }
+    ensures closed { closed.new ≡ (closed.old || is_close item) }
+{
+    *closed = *closed || is_close(&item);
+    messages.push_reserved(Message {
+        sender,
+        number: *next,
+        item,
+    });
+    *next += 1;
+}
+
+fn is_close(item: &Item) -> bool
+    ensures { result ≡ is_close item.now }
+{
+    match item {
+        Item::Data(_) | Item::Propose { .. } => false,
+        Item::Close => true,
+    }
+}
+
+// How many numbers have their turn right after the next one.
+fn ready_after(ring: &VecDeque<Option<Waiting>>, far: &BTreeMap<u64, Waiting>, next: u64) -> usize
+    requires number { next + 1 < 2 ^ 64 }
+    requires short { length ring.now.items ≤ 4096 }
+    requires fits { next + length ring.now.items < 2 ^ 64 }
+    requires beyond { All (λ number. next + 4096 ≤ number) (keys_of far.now.entries) }
+    ensures value { result ≡ length (run_from (next + 1) (entries_of (next + 1) (drop 1 ring.now.items) far.now.entries)) }
+    ensures small { result < 2 ^ 63 + 4096 }
+{
+    let near = ready_in_ring(ring);
+    if near + 1 < ring.len() {
+        return near;
+    }
+    near + ready_in_map(far, next + 1 + near as u64)
+}
+
+// How many places are marked right behind the first.
+fn ready_in_ring(ring: &VecDeque<Option<Waiting>>) -> usize
+    ensures { result ≡ marked_front (drop 1 ring.now.items) }
+{
+    for index in 1..ring.len() {
+        if !is_marked(&ring[index]) {
+            return index - 1;
+        }
+    }
+    ring.len().saturating_sub(1)
+}
+
+fn is_marked(place: &Option<Waiting>) -> bool
+    ensures { result ≡ is_marked place.now }
+{
+    match place {
+        Some(waiting) => waiting.known,
+        None => false,
+    }
+}
+
+// How many entries are marked at a number and right after it.
+fn ready_in_map(far: &BTreeMap<u64, Waiting>, first: u64) -> usize
+    ensures value { result ≡ length (run_from first far.now.entries) }
+    ensures small { result < 2 ^ 63 }
+{
+    let _most = far.len();
+    let mut count = 0;
+    for (number, waiting) in far {
+        if number.checked_sub(first) != Some(count as u64) || !waiting.known {
+            return count;
+        }
+        count += 1;
+    }
+    count
+}
+
+// Room for all places of the ring, where numbers wait that it may reach in time.
+fn make_reach(
+    ring: &mut VecDeque<Option<Waiting>>,
+    far: &BTreeMap<u64, Waiting>,
+) -> Result<(), AllocError>
+    requires { length ring.old.items ≤ 4096 }
+    ensures same { ring.new.items ≡ ring.old.items }
+    ensures ok { OnOk result (0 < length far.now.entries → 4096 ≤ deque_capacity ring.new) }
+{
+    if far.is_empty() {
+        return Ok(());
+    }
+    ring.reserve(REACH as usize - ring.len())
+}
+
+// The first place goes, and its item, or else the one that is offered.
+fn take_front(ring: &mut VecDeque<Option<Waiting>>, offered: Option<Item>) -> Item
+    requires { HasFront ring.old.items offered }
+    ensures item { result ≡ front_item ring.old.items offered }
+    ensures ring { ring.new.items ≡ drop 1 ring.old.items }
+    ensures room { deque_capacity ring.new ≡ deque_capacity ring.old }
+{
+    if let Some(Some(waiting)) = ring.pop_front() {
+        return waiting.item;
+    }
+    match offered {
+        Some(item) => item,
+        None => unreachable!(),
+    }
+}
+
+// The first of what waits goes, where there is no gap before it.
+fn take_next(ring: &mut VecDeque<Option<Waiting>>, far: &mut BTreeMap<u64, Waiting>) -> Item
+    requires { HasNext ring.old.items far.old.entries }
+    ensures item { result ≡ next_item ring.old.items far.old.entries }
+    ensures ring { ring.new.items ≡ drop 1 ring.old.items }
+    ensures room { deque_capacity ring.new ≡ deque_capacity ring.old }
+    ensures far { far.new.entries ≡ next_far ring.old.items far.old.entries }
+    ensures beyond { (next : ℕ) → All (λ number. next + length ring.old.items ≤ number) (keys_of far.old.entries) → All (λ number. next + 1 + length ring.new.items ≤ number) (keys_of far.new.entries) }
+{
+    if let Some(Some(waiting)) = ring.pop_front() {
+        return waiting.item;
+    }
+    let (_, waiting) = take_first(far);
+    waiting.item
+}
+
+// The first entry goes.
+fn take_first(far: &mut BTreeMap<u64, Waiting>) -> (u64, Waiting)
+    requires { 0 < length far.old.entries }
+    ensures first { far.old.entries ≡ result ∷ far.new.entries }
+    ensures above { All (λ number. result.0 < number) (keys_of far.new.entries) }
+{
+    match far.pop_first() {
+        Some(entry) => entry,
+        None => unreachable!(),
+    }
+}
+
+// Gives places to the numbers that the ring reaches by now.
+fn gather(next: u64, ring: &mut VecDeque<Option<Waiting>>, far: &mut BTreeMap<u64, Waiting>)
+    requires short { length ring.old.items ≤ 4096 }
+    requires room { 0 < length far.old.entries → 4096 ≤ deque_capacity ring.old }
+    requires fits { next + length ring.old.items < 2 ^ 64 }
+    requires beyond { All (λ number. next + length ring.old.items ≤ number) (keys_of far.old.entries) }
+    requires below { All (λ number. number + 1 < 2 ^ 64) (keys_of far.old.entries) }
+    ensures same { entries_of next ring.new.items far.new.entries ≡ entries_of next ring.old.items far.old.entries }
+    ensures short { length ring.new.items ≤ 4096 }
+    ensures fits { next + length ring.new.items < 2 ^ 64 }
+    ensures beyond { All (λ number. next + 4096 ≤ number) (keys_of far.new.entries) }
+    ensures below { All (λ number. number + 1 < 2 ^ 64) (keys_of far.new.entries) }
+{
+    while let Some((first, _)) = far.first_key_value() {
+        let place = *first - next;
+        if place >= REACH {
+            break;
+        }
+        let gap = place as usize - ring.len();
+        add_places(ring, gap);
+        let (_, waiting) = take_first(far);
+        ring.push_back_reserved(Some(waiting));
+    }
+}
+
+// Marks what waits at a place.
+fn mark_place(place: &mut Option<Waiting>)
+    ensures { place.new ≡ option_map (λ w. record { item = w.item; known = true }) place.old }
+{
+    if let Some(waiting) = place {
+        waiting.known = true;
+    }
+}
+
+// Marks what waits at a number.
+fn mark_far(far: &mut BTreeMap<u64, Waiting>, number: u64)
+    ensures { far.new.entries ≡ marked far.old.entries number (waiting_at far.old.entries number) }
+{
+    if let Some(waiting) = far.get_mut(&number) {
+        waiting.known = true;
+    }
+}
+
+// Places up to this one, the new ones empty.
+fn make_places(ring: &mut VecDeque<Option<Waiting>>, place: usize) -> Result<(), AllocError>
+    requires { place < 4096 }
+    ensures ok { OnOk result (ring.new.items ≡ ring.old.items ++ replicate (place + 1 - length ring.old.items) None) }
+    ensures err { OnErr result (ring.new.items ≡ ring.old.items) }
+{
+    let more = (place + 1).saturating_sub(ring.len());
+    ring.reserve(more)?;
+    add_places(ring, more);
+    Ok(())
+}
+
+// More places, all of them empty.
+fn add_places(ring: &mut VecDeque<Option<Waiting>>, more: usize)
+    requires { length ring.old.items + more ≤ deque_capacity ring.old }
+    ensures places { ring.new.items ≡ ring.old.items ++ replicate more None }
+    ensures room { deque_capacity ring.new ≡ deque_capacity ring.old }
+{
+    for _place in 0..more {
+        ring.push_back_reserved(None);
+    }
+}

@@ -1,0 +1,81 @@
+//! The hold-back by hand: rows of the worked examples, and the ring's edge.
+ghost use Rattle.std.specs.Prelude.{◌≡◌, ◌+◌, ◌<◌, ◌^◌, length};
+
+use super::*;
+use cast_message::Item;
+use std::test::Fail;
+
+// Offers a message, and counts those whose turn has come.
+fn offer(held: &mut HoldBack, sender: u8, number: u64, item: Item) -> Result<usize, AllocError>
+    requires sender { sender < length held.old }
+    requires number { number + 1 < 2 ^ 64 }
+    ensures { length held.new ≡ length held.old }
+{
+    let messages = held.offer(Message {
+        sender: NodeId(sender),
+        number,
+        item,
+    })?;
+    Ok(messages.len())
+}
+
+// Offers messages up to a number, each of which gives one.
+fn offer_below(held: &mut HoldBack, most: u64) -> Result<bool, AllocError>
+    requires { 0 < length held.old }
+    ensures { length held.new ≡ length held.old }
+{
+    let mut one_each = true;
+    for number in 0..most {
+        one_each = offer(held, 0, number, Item::Close)? == 1 && one_each;
+    }
+    Ok(one_each)
+}
+
+// Offers messages from one to another, the last first.
+fn offer_backwards(held: &mut HoldBack, most: u64) -> Result<bool, AllocError>
+    requires { 0 < length held.old }
+    ensures { length held.new ≡ length held.old }
+{
+    let mut none_each = true;
+    for number in (1..most).rev() {
+        none_each = offer(held, 0, number, Item::Close)? == 0 && none_each;
+    }
+    Ok(none_each)
+}
+
+#[test]
+fn gives_messages_in_order_once(rt: HostRuntime) -> Result<(), Fail> {
+    let mut held = HoldBack::new(rt.alloc(), 2)?;
+    assert_eq!(rt; offer(&mut held, 0, 1, Item::Close)?, 0);
+    assert!(rt; !held.closed(NodeId(0)));
+    let propose = Item::Propose {
+        instance: 7,
+        value: 4,
+    };
+    assert_eq!(rt; offer(&mut held, 0, 0, propose)?, 2);
+    assert!(rt; held.closed(NodeId(0)));
+    assert!(rt; !held.closed(NodeId(1)));
+    assert_eq!(rt; offer(&mut held, 0, 0, Item::Close)?, 0);
+    assert_eq!(rt; held.next(NodeId(0)), 2);
+    assert_eq!(rt; held.next(NodeId(1)), 0);
+    Ok(())
+}
+
+#[test]
+fn reaches_past_the_ring(rt: HostRuntime) -> Result<(), Fail> {
+    let mut held = HoldBack::new(rt.alloc(), 1)?;
+    assert_eq!(rt; offer(&mut held, 0, 5000, Item::Close)?, 0);
+    assert!(rt; offer_below(&mut held, 4999)?);
+    assert_eq!(rt; offer(&mut held, 0, 4999, Item::Close)?, 2);
+    assert_eq!(rt; held.next(NodeId(0)), 5001);
+    Ok(())
+}
+
+#[test]
+fn gives_a_run_longer_than_the_ring(rt: HostRuntime) -> Result<(), Fail> {
+    let mut held = HoldBack::new(rt.alloc(), 1)?;
+    assert!(rt; offer_backwards(&mut held, 6000)?);
+    assert_eq!(rt; offer(&mut held, 0, 0, Item::Close)?, 6000);
+    assert_eq!(rt; held.next(NodeId(0)), 6000);
+    Ok(())
+}

@@ -1,0 +1,193 @@
+-- Slots taken, as a base, bits and an ordered set.
+use Rattle.std.specs.Prelude.{◌≡◌, ℕ, zero, suc, ◌+◌, ◌-◌, ◌*◌, ◌/◌, ◌%◌, ◌^◌, ◌≤◌, ◌<◌, nat_eq, nat_lt, Bool, true, false, cond, ◌&&◌, ◌||◌, List, [], ◌∷◌, length, slice_index, drop, refl}
+use Rattle.std.specs.List.{All, list_any}
+use Rattle.std.specs.Int.{bit_at}
+use Rattle.std.specs.Ordering.{nat_cmp}
+use Rattle.std.specs.BTreeMap.{is_at}
+use Rattle.std.specs.FinSet as set
+use Rattle.std.proofs.Common.{sym, ap, ◌∙◌, subst, arith, inl, inr, true≢false}
+use Rattle.std.specs.BTreeSet.{insert_key}
+use Rattle.std.proofs.lemmas.Map.Views.{All-insert_key}
+use Rattle.std.proofs.lemmas.Bool.Decides.{nat_tests, leb_tells}
+use Rattle.cast_sets.specs.Bits.{is_set}
+use Rattle.cast_sets.specs.Members.{contains-members_below, members_below-insert, members_below-same}
+use Rattle.cast_sets.proofs.Numbers.{no_bit}
+use Rattle.cast_link.specs.Taken.{bit_of, is_taken, is_marked, taken_set, IsWindow}
+
+lt_true : (q n : ℕ) → q < n → nat_lt q n ≡ true
+lt_true q n l = grind (arith, nat_tests)
+
+ge_false : (q n : ℕ) → n ≤ q → nat_lt q n ≡ false
+ge_false q n l = grind (arith, nat_tests)
+
+or_false : (b : Bool) → (b || false) ≡ b
+or_false true = refl
+or_false false = refl
+
+pub taken_in : (base : ℕ) (words far : List ℕ) (s : set.FinSet nat_cmp) → taken_set base words far ≡ s → (q : ℕ) → q < 2 ^ 64 → is_taken base words far q ≡ set.contains s q
+taken_in base words far s e q l = sym (contains-members_below (2 ^ 64) (is_taken base words far) q ∙ ap (λ b. b && is_taken base words far q) (lt_true q (2 ^ 64) l)) ∙ ap (λ s. set.contains s q) e
+
+pub none_taken : (words : List ℕ) → words ≡ [] → (q : ℕ) → is_taken 0 words [] q ≡ false
+none_taken words e q =
+    let no : nat_lt q 0 ≡ false = grind (arith, nat_tests) in
+    ap (λ b. b || (is_set words (bit_of 0 q) || false)) no ∙ or_false (is_set words (bit_of 0 q)) ∙ no_bit words (bit_of 0 q) (omega (arith, ap length e))
+
+tie : (q k : ℕ) → is_at (nat_cmp k) q ≡ nat_eq q k
+tie q k = grind (arith, nat_tests)
+
+far_or : (a b t c : Bool) → (a || (b || cond t true c)) ≡ (t || (a || (b || c)))
+far_or true b true c = refl
+far_or true b false c = refl
+far_or false true true c = refl
+far_or false true false c = refl
+far_or false false true c = refl
+far_or false false false c = refl
+
+pub far_taken : (base : ℕ) (words far more : List ℕ) (s : set.FinSet nat_cmp) (k : ℕ) → taken_set base words far ≡ s → k < 2 ^ 64 → ((q : ℕ) → list_any (is_at (nat_cmp q)) more ≡ cond (is_at (nat_cmp k) q) true (list_any (is_at (nat_cmp q)) far)) → taken_set base words more ≡ set.insert s k
+far_taken base words far more s k e l h =
+    members_below-insert (2 ^ 64) (is_taken base words far) (is_taken base words more) k l (λ q _.
+    ap (λ b. nat_lt q base || (is_set words (bit_of base q) || b)) (h q)
+    ∙ far_or (nat_lt q base) (is_set words (bit_of base q)) (is_at (nat_cmp k) q) _
+    ∙ ap (λ b. b || is_taken base words far q) (tie q k))
+    ∙ ap (λ s. set.insert s k) e
+
+near_or : (a t b c : Bool) → (a || ((t || b) || c)) ≡ (t || (a || (b || c)))
+near_or true true b c = refl
+near_or true false b c = refl
+near_or false true b c = refl
+near_or false false b c = refl
+
+same_places : (i j q k : ℕ) → i + k ≡ q + j → nat_eq i j ≡ nat_eq q k
+same_places i j q k e = grind (arith, nat_tests)
+
+below_test : (q base k : ℕ) → base ≤ k → q < base → nat_eq q k ≡ false
+below_test q base k l m = grind (arith, nat_tests)
+
+pub near_taken : (base : ℕ) (words room far : List ℕ) (s : set.FinSet nat_cmp) (k : ℕ) → taken_set base words far ≡ s → base ≤ k → k < 2 ^ 64 → ((other : ℕ) → is_set room other ≡ (nat_eq other (bit_of base k) || is_set words other)) → taken_set base room far ≡ set.insert s k
+near_taken base words room far s k e least l h =
+    members_below-insert (2 ^ 64) (is_taken base words far) (is_taken base room far) k l at ∙ ap (λ s. set.insert s k) e
+  where
+    in_reach : (q : ℕ) → base ≤ q → nat_eq (bit_of base q) (bit_of base k) ≡ nat_eq q k
+    in_reach q m = same_places (bit_of base q) (bit_of base k) q k (omega (arith, m, least))
+
+    at : (q : ℕ) → q < 2 ^ 64 → is_taken base room far q ≡ (nat_eq q k || is_taken base words far q)
+    at q _ = elim (leb_tells (suc q) base) [
+      | inl m ↦ ap (λ b. b || (is_set room (bit_of base q) || list_any (is_at (nat_cmp q)) far)) m.0 ∙ sym (ap (λ b. b || is_taken base words far q) (below_test q base k least m.1) ∙ ap (λ b. b || (is_set words (bit_of base q) || list_any (is_at (nat_cmp q)) far)) m.0)
+      | inr m ↦ ap (λ b. nat_lt q base || (b || list_any (is_at (nat_cmp q)) far)) (h (bit_of base q) ∙ ap (λ b. b || is_set words (bit_of base q)) (in_reach q (omega (arith, m.1)))) ∙ near_or (nat_lt q base) (nat_eq q k) (is_set words (bit_of base q)) _
+    ]
+
+pub same_taken : (base : ℕ) (words room far : List ℕ) → ((i : ℕ) → slice_index room i ≡ slice_index words i) → taken_set base room far ≡ taken_set base words far
+same_taken base words room far same = members_below-same (2 ^ 64) (is_taken base room far) (is_taken base words far) (λ q _. ap (λ w. nat_lt q base || (nat_eq (bit_at w (bit_of base q % 64)) 1 || list_any (is_at (nat_cmp q)) far)) (same (bit_of base q / 64)))
+
+-- ---- the window moves on
+
+index-drop : (n : ℕ) (words : List ℕ) (i : ℕ) → slice_index (drop n words) i ≡ slice_index words (n + i)
+index-drop zero words i = ap (slice_index words) (let e : i ≡ 0 + i = omega arith in e)
+index-drop (suc n) [] i = refl
+index-drop (suc n) (w ∷ words) i = index-drop n words i ∙ ap (slice_index (w ∷ words)) (let e : suc (n + i) ≡ suc n + i = omega arith in e)
+
+is_set-drop : (words : List ℕ) (n k m : ℕ) → m ≡ 64 * n + k → is_set (drop n words) k ≡ is_set words m
+is_set-drop words n k m e =
+    let place : n + k / 64 ≡ m / 64 = omega (arith, e) in
+    let within : k % 64 ≡ m % 64 = omega (arith, e) in
+    λ i. nat_eq (bit_at ((index-drop n words (k / 64) ∙ ap (slice_index words) place) i) (within i)) 1
+
+-- a slot keeps its bit where the words below a later base are dropped
+pub bit_stays : (words : List ℕ) (base next q : ℕ) → base ≤ next → next ≤ q → is_set (drop (next / 64 - base / 64) words) (bit_of next q) ≡ is_set words (bit_of base q)
+bit_stays words base next q l m = is_set-drop words (next / 64 - base / 64) (bit_of next q) (bit_of base q) (omega (arith, l, m))
+
+and_left : (a b : Bool) → (a || b) ≡ false → a ≡ false
+and_left true b e = e
+and_left false b e = refl
+
+-- what stands once a base has moved on
+pub record Moves (base : ℕ) (words far : List ℕ) (next : ℕ) (words' far' : List ℕ) : Type 0 where
+  pub later : base + 1 ≤ next
+  pub taken : (slot : ℕ) → base + 1 ≤ slot → slot < next → is_marked base words far slot ≡ true
+  pub free : next + 1 < 2 ^ 64 → is_marked base words far next ≡ false
+  pub same : (slot : ℕ) → next ≤ slot → is_marked next words' far' slot ≡ is_marked next (drop (next / 64 - base / 64) words) far slot
+  pub short : length words' ≤ 4097
+  pub beyond : All (λ slot. next + 262144 ≤ slot) far'
+
+marked_stays : (base : ℕ) (words far : List ℕ) (next : ℕ) (words' far' : List ℕ) → Moves base words far next words' far' → (q : ℕ) → next ≤ q → is_marked next words' far' q ≡ is_marked base words far q
+marked_stays base words far next words' far' h q l = h.same q l ∙ ap (λ b. b || list_any (is_at (nat_cmp q)) far) (bit_stays words base next q (omega (arith, h.later)) l)
+
+pub moved_window : (base : ℕ) (words far : List ℕ) (next : ℕ) (words' far' : List ℕ) → Moves base words far next words' far' → IsWindow next words' far'
+moved_window base words far next words' far' h = record {
+  least = λ l. and_left (is_set words' (bit_of next next)) (list_any (is_at (nat_cmp next)) far') (marked_stays base words far next words' far' h next (omega arith) ∙ h.free l);
+  short = h.short;
+  beyond = h.beyond;
+}
+
+pub moved_set : (base : ℕ) (words far : List ℕ) (next : ℕ) (words' far' : List ℕ) → Moves base words far next words' far' → base < 2 ^ 64 → taken_set next words' far' ≡ set.insert (taken_set base words far) base
+moved_set base words far next words' far' h l = members_below-insert (2 ^ 64) (is_taken base words far) (is_taken next words' far') base l at
+  where
+    marked : ℕ → Bool
+    marked q = is_marked base words far q
+
+    eq_true : (q : ℕ) → q ≡ base → nat_eq q base ≡ true
+    eq_true q e = grind (arith, nat_tests)
+
+    eq_false : (q : ℕ) → base < q → nat_eq q base ≡ false
+    eq_false q e = grind (arith, nat_tests)
+
+    or_true : (b : Bool) → (b || true) ≡ true
+    or_true true = refl
+    or_true false = refl
+
+    passed : (q : ℕ) → q < next → (nat_eq q base || (nat_lt q base || is_marked base words far q)) ≡ true
+    passed q m = elim (leb_tells (suc q) base) [
+      | inl a ↦ ap (λ b. nat_eq q base || (b || is_marked base words far q)) (lt_true q base a.1) ∙ or_true (nat_eq q base)
+      | inr a ↦ elim (leb_tells (suc base) q) [
+        | inl b ↦ ap (λ c. nat_eq q base || (nat_lt q base || c)) (h.taken q (omega (arith, b.1)) m) ∙ ap (λ c. nat_eq q base || c) (or_true (nat_lt q base)) ∙ or_true (nat_eq q base)
+        | inr b ↦ ap (λ c. c || (nat_lt q base || is_marked base words far q)) (eq_true q (omega (arith, a.1, b.1)))
+      ]
+    ]
+
+    at : (q : ℕ) → q < 2 ^ 64 → is_taken next words' far' q ≡ (nat_eq q base || is_taken base words far q)
+    at q _ = elim (leb_tells (suc q) next) [
+      | inl m ↦ ap (λ b. b || is_marked next words' far' q) (lt_true q next m.1) ∙ sym (passed q m.1)
+      | inr m ↦
+          ap (λ b. b || is_marked next words' far' q) (ge_false q next (omega (arith, m.1)))
+          ∙ marked_stays base words far next words' far' h q (omega (arith, m.1))
+          ∙ sym ((λ i. eq_false q (omega (arith, m.1, h.later)) i || (ge_false q base (omega (arith, m.1, h.later)) i || is_marked base words far q)))
+    ]
+
+-- ---- one slot more
+
+-- a slot that wasn't taken isn't below the base
+pub not_below : (base : ℕ) (words far : List ℕ) (s : set.FinSet nat_cmp) (q : ℕ) → taken_set base words far ≡ s → q < 2 ^ 64 → set.contains s q ≡ false → base ≤ q
+not_below base words far s q e l f = elim (leb_tells base q) [
+  | inl m ↦ m.1
+  | inr m ↦ absurd (true≢false (sym (ap (λ b. b || is_marked base words far q) (lt_true q base m.1)) ∙ taken_in base words far s e q l ∙ f))
+]
+
+-- words with the same bits
+pub same_window : (base : ℕ) (words room far : List ℕ) → ((k : ℕ) → slice_index room k ≡ slice_index words k) → length room ≤ 4097 → IsWindow base words far → IsWindow base room far
+same_window base words room far same l h = record {
+  least = λ m. ap (λ w. nat_eq (bit_at w (bit_of base base % 64)) 1) (same (bit_of base base / 64)) ∙ h.least m;
+  short = l;
+  beyond = h.beyond;
+}
+
+apart_bits : (base slot : ℕ) → base < slot → nat_eq (bit_of base base) (bit_of base slot) ≡ false
+apart_bits base slot l = not_same (bit_of base base) (bit_of base slot) (omega (arith, l))
+  where
+    not_same : (a b : ℕ) → a < b → nat_eq a b ≡ false
+    not_same a b l = grind (arith, nat_tests)
+
+-- a bit more, past the base
+pub near_window : (base : ℕ) (words marked far : List ℕ) (slot : ℕ) → IsWindow base words far → (base + 1 < 2 ^ 64 → base < slot) → length marked ≡ length words → ((other : ℕ) → is_set marked other ≡ (nat_eq other (bit_of base slot) || is_set words other)) → IsWindow base marked far
+near_window base words marked far slot h past len bits = record {
+  least = λ m. bits (bit_of base base) ∙ ap (λ b. b || is_set words (bit_of base base)) (apart_bits base slot (past m)) ∙ h.least m;
+  short = omega (arith, len, h.short);
+  beyond = h.beyond;
+}
+
+-- a slot more, farther away
+pub far_window : (base : ℕ) (words far more : List ℕ) (slot : ℕ) → IsWindow base words far → base + 262144 ≤ slot → more ≡ insert_key nat_cmp far slot → IsWindow base words more
+far_window base words far more slot h l e = record {
+  least = h.least;
+  short = h.short;
+  beyond = subst (All (λ slot. base + 262144 ≤ slot)) (sym e) (All-insert_key nat_cmp slot (λ slot. base + 262144 ≤ slot) far h.beyond l);
+}

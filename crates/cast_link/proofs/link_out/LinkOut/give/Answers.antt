@@ -1,0 +1,31 @@
+use Rattle.std.proofs.Common.{◌≡◌, ◌+◌, ◌<◌, ◌/◌, List, [], ◌∷◌, ◌++◌, length, Option, Some, sym, ap, ◌∙◌, subst, arith, length-append}
+use Rattle.std.specs.FinMap as map
+use Rattle.cast_message.specs.declared.message.Message.{Message}
+use Rattle.cast_link.specs.Taken.{bit_of}
+use Rattle.cast_link.specs.Links.{Link, owed_map}
+use Rattle.cast_link.proofs.Windows.{owed_map-push, len-owed_map, more_room, one_given}
+use Rattle.cast_link.proofs.link_out.LinkOut.give.Goals as goal
+
+pub overflow_add-self : goal.overflow_add-self
+overflow_add-self c = omega (arith, c.self.invariant.count, c.self.invariant.fits, len-owed_map c.self.inside.base c.self.inside.places.items, c.requires, ap (λ (l : Link). l.given) c.self.view_is)
+
+pub invariant_of-self-2 : goal.invariant_of-self-2
+invariant_of-self-2 c =
+    let base = c.self.inside.base in
+    let places = c.self.inside.places.items in
+    let given = ap (λ (l : Link). l.given) c.self.view_is in
+    let at : c.bit_of.result ≡ bit_of base (base + length places) = c.bit_of.ensures ∙ ap (bit_of base) (c.given-slot.ensures ∙ sym given) in
+    let room = more_room base places c.self.inside.marks.items c.make_room.new.words.items c.self.inside.owed c.self.invariant c.make_room.ensures.same c.make_room.ensures.more in
+    one_given base places c.push_back.new.self.items c.make_room.new.words.items c.self.inside.owed c.args.message room c.in_ok-push_back.ensures.items (omega (arith, given, c.requires)) (subst (λ bit. bit / 64 < length c.make_room.new.words.items) at c.in_ok-make_room.ensures.ok)
+
+pub invariant_of-self : goal.invariant_of-self
+invariant_of-self c = more_room c.self.inside.base c.self.inside.places.items c.self.inside.marks.items c.make_room.new.words.items c.self.inside.owed c.self.invariant c.make_room.ensures.same c.make_room.ensures.more
+
+pub returns-clause-ok : goal.returns-clause-ok
+returns-clause-ok c =
+    let base = c.self.inside.base in
+    let places = c.self.inside.places.items in
+    let view = c.self.view_is in
+    let given : base + length (places ++ Some c.args.message ∷ []) ≡ c.args.self.now.given + 1 = omega (arith, length-append places (Some c.args.message ∷ []), ap (λ (l : Link). l.given) view) in
+    ap (λ (ps : List (Option Message)). let link : Link = record { given = base + length ps; owed = owed_map base ps } in link) c.in_ok-push_back.ensures.items
+    ∙ (λ i. record { given = given i; owed = (owed_map-push base places c.args.message ∙ (λ k. map.insert (view k).owed (view k).given c.args.message)) i })

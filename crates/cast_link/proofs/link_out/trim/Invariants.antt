@@ -1,0 +1,15 @@
+use Rattle.std.proofs.Common.{◌≡◌, ◌+◌, ◌≤◌, ℕ, List, length}
+use Rattle.cast_link.specs.Links.{owed_map, Trimmed}
+use Rattle.cast_link.proofs.link_out.trim.Given as goal
+
+abbrev pub invariant-loop-places : goal.invariant-loop-places
+invariant-loop-places l =
+    record {
+      later : l.fn.base ≤ l.base;
+      given : l.base + length l.places.items ≡ l.fn.base + length l.fn.places.items;
+      same : owed_map l.base l.places.items ≡ owed_map l.fn.base l.fn.places.items;
+      trimmed : (before : ℕ) (marks : List ℕ) → Trimmed before l.fn.base l.fn.places.items marks → Trimmed before l.base l.places.items marks;
+    }
+
+abbrev pub decreases-loop-places : goal.decreases-loop-places
+decreases-loop-places l = length l.places.items

@@ -1,0 +1,83 @@
+//! The two ends of a link by hand: rows of the worked examples, and the edges of both windows.
+use super::*;
+use cast_message::{Item, Message, NodeId};
+use std::test::Fail;
+
+const MOST: u64 = 18446744073709551615;
+
+fn message(number: u64) -> Message {
+    Message {
+        sender: NodeId(1),
+        number,
+        item: Item::Close,
+    }
+}
+
+#[test]
+fn owes_until_acknowledged(rt: HostRuntime) -> Result<(), Fail> {
+    let mut link = LinkOut::new(rt.alloc());
+    assert_eq!(rt; link.give(message(0))?, 0);
+    assert_eq!(rt; link.carry(0), Ok(message(0)));
+    assert_eq!(rt; link.carry(1), Err(LinkFault::NoSlot));
+    assert!(rt; link.acked(0));
+    assert!(rt; !link.acked(0));
+    assert_eq!(rt; link.carry(0), Err(LinkFault::Acked));
+    assert_eq!(rt; link.owed(), 0);
+    Ok(())
+}
+
+#[test]
+fn drops_what_lies_below_the_least_slot_owed(rt: HostRuntime) -> Result<(), Fail> {
+    let mut link = LinkOut::new(rt.alloc());
+    assert_eq!(rt; link.give(message(0))?, 0);
+    assert_eq!(rt; link.give(message(1))?, 1);
+    assert_eq!(rt; link.give(message(2))?, 2);
+    assert!(rt; link.acked(1));
+    assert_eq!(rt; link.least_owed(0), Some(0));
+    assert_eq!(rt; link.least_owed(1), Some(2));
+    assert!(rt; link.acked(0));
+    assert_eq!(rt; link.least_owed(0), Some(2));
+    assert_eq!(rt; link.least_owed(3), None);
+    assert_eq!(rt; link.carry(1), Err(LinkFault::Acked));
+    assert_eq!(rt; link.pair(2), Some((NodeId(1), 2)));
+    assert_eq!(rt; link.pair(1), None);
+    assert_eq!(rt; link.owed(), 1);
+    assert_eq!(rt; link.given(), 3);
+    Ok(())
+}
+
+#[test]
+fn takes_each_slot_once(rt: HostRuntime) -> Result<(), Fail> {
+    let mut link = LinkIn::new(rt.alloc());
+    assert!(rt; link.take(5)?);
+    assert!(rt; !link.take(5)?);
+    assert!(rt; !link.may_ack(4));
+    assert!(rt; link.take(MOST)?);
+    assert!(rt; !link.take(MOST)?);
+    assert!(rt; !link.may_ack(MOST - 1));
+    assert!(rt; link.take(0)?);
+    assert!(rt; link.may_ack(0));
+    Ok(())
+}
+
+#[test]
+fn moves_far_slots_into_reach(rt: HostRuntime) -> Result<(), Fail> {
+    let mut link = LinkIn::new(rt.alloc());
+    assert!(rt; link.take(262_144)?);
+    assert!(rt; link.take(262_150)?);
+    assert!(rt; link.take(600_000)?);
+    for slot in 1..262_144 {
+        assert!(rt; link.take(slot)?);
+    }
+    assert!(rt; link.take(0)?);
+    assert!(rt; !link.take(262_144)?);
+    assert!(rt; link.may_ack(262_150));
+    assert!(rt; !link.may_ack(262_149));
+    assert!(rt; link.may_ack(600_000));
+    for slot in 262_145..262_150 {
+        assert!(rt; link.take(slot)?);
+    }
+    assert!(rt; link.take(262_151)?);
+    assert!(rt; link.may_ack(600_000));
+    Ok(())
+}

@@ -1,0 +1,84 @@
+-- A set of numbers, as bits and an ordered set.
+use Rattle.std.specs.Prelude.{◌≡◌, ℕ, zero, suc, ◌*◌, ◌/◌, ◌%◌, ◌^◌, ◌≤◌, ◌<◌, nat_eq, nat_lt, Bool, true, false, cond, ◌&&◌, ◌||◌, List, [], ◌∷◌, ◌++◌, length, slice_index, slice_index_or, slice_set, bit_or, replicate, refl}
+use Rattle.std.specs.List.{All, list_any}
+use Rattle.std.specs.Int.{bit_at}
+use Rattle.std.specs.Ordering.{nat_cmp}
+use Rattle.std.specs.BTreeMap.{is_at}
+use Rattle.std.specs.FinSet as set
+use Rattle.std.proofs.Common.{sym, ap, ◌∙◌, arith}
+use Rattle.std.proofs.lemmas.Bool.Decides.{nat_tests}
+use Rattle.std.proofs.lemmas.List.{get_or_past}
+use Rattle.std.proofs.lemmas.List.Folds.{list_any_none}
+use Rattle.std.proofs.lemmas.Nat.Bits.{bit_at-zero}
+use Rattle.cast_sets.specs.Bits.{is_set}
+use Rattle.cast_sets.specs.Numbers.{is_number, number_set}
+use Rattle.cast_sets.specs.Members.{contains-members_below, members_below-insert, members_below-same}
+use Rattle.cast_sets.proofs.Places.{is_set-with_place, with_place}
+
+no_bits : (k i : ℕ) → slice_index (replicate k 0) i ≡ 0
+no_bits zero i = refl
+no_bits (suc k) zero = refl
+no_bits (suc k) (suc i) = no_bits k i
+
+pub padded : (words : List ℕ) (k i : ℕ) → slice_index (words ++ replicate k 0) i ≡ slice_index words i
+padded [] k i = no_bits k i
+padded (w ∷ words) k zero = refl
+padded (w ∷ words) k (suc i) = padded words k i
+
+-- no bit from the last word on
+pub no_bit : (words : List ℕ) (q : ℕ) → length words ≤ q / 64 → is_set words q ≡ false
+no_bit words q l = ap (λ w. nat_eq (bit_at w (q % 64)) 1) (get_or_past words (q / 64) 0 l) ∙ ap (λ b. nat_eq b 1) (bit_at-zero (q % 64))
+
+lt_true : (q n : ℕ) → q < n → nat_lt q n ≡ true
+lt_true q n l = grind (arith, nat_tests)
+
+pub is_number-in : (words far : List ℕ) (s : set.FinSet nat_cmp) → number_set words far ≡ s → (q : ℕ) → q < 2 ^ 64 → is_number words far q ≡ set.contains s q
+is_number-in words far s e q l = sym (contains-members_below (2 ^ 64) (is_number words far) q ∙ ap (λ b. b && is_number words far q) (lt_true q (2 ^ 64) l)) ∙ ap (λ s. set.contains s q) e
+
+or_false : (b : Bool) → (b || false) ≡ b
+or_false true = refl
+or_false false = refl
+
+pub far_number : (words far : List ℕ) (q : ℕ) → length words ≤ 64 → 4096 ≤ q → is_number words far q ≡ list_any (is_at (nat_cmp q)) far
+far_number words far q l m = ap (λ b. b || list_any (is_at (nat_cmp q)) far) (no_bit words q (omega arith))
+
+apart : (q k : ℕ) → q < 4096 → 4096 ≤ k → is_at (nat_cmp q) k ≡ false
+apart q k l m = grind (arith, nat_tests)
+
+All-apart : (far : List ℕ) (q : ℕ) → q < 4096 → All (λ k. 4096 ≤ k) far → All (λ k. is_at (nat_cmp q) k ≡ false) far
+All-apart far q l h = λ i d within. apart q (slice_index_or far i d) l (h i d within)
+
+pub near_number : (words far : List ℕ) (q : ℕ) → q < 4096 → All (λ k. 4096 ≤ k) far → is_number words far q ≡ is_set words q
+near_number words far q l h = ap (λ b. is_set words q || b) (list_any_none (is_at (nat_cmp q)) far (All-apart far q l h)) ∙ or_false (is_set words q)
+
+tie : (q k : ℕ) → is_at (nat_cmp k) q ≡ nat_eq q k
+tie q k = grind (arith, nat_tests)
+
+or_cond : (a b c : Bool) → (a || cond b true c) ≡ (b || (a || c))
+or_cond true true c = refl
+or_cond true false c = refl
+or_cond false true c = refl
+or_cond false false c = refl
+
+or_or : (a b c : Bool) → ((a || b) || c) ≡ (a || (b || c))
+or_or true b c = refl
+or_or false b c = refl
+
+pub far_added : (words far more : List ℕ) (s : set.FinSet nat_cmp) (k : ℕ) → number_set words far ≡ s → k < 2 ^ 64 → ((q : ℕ) → list_any (is_at (nat_cmp q)) more ≡ cond (is_at (nat_cmp k) q) true (list_any (is_at (nat_cmp q)) far)) → number_set words more ≡ set.insert s k
+far_added words far more s k e l h =
+    members_below-insert (2 ^ 64) (is_number words far) (is_number words more) k l (λ q _. ap (λ b. is_set words q || b) (h q) ∙ or_cond (is_set words q) (is_at (nat_cmp k) q) _ ∙ ap (λ b. b || is_number words far q) (tie q k))
+    ∙ ap (λ s. set.insert s k) e
+
+pub near_added : (words room far : List ℕ) (s : set.FinSet nat_cmp) (k place : ℕ) → number_set words far ≡ s → k < 2 ^ 64 → ((i : ℕ) → slice_index room i ≡ slice_index words i) → place ≡ k / 64 → place < length room → number_set (slice_set room place (bit_or (slice_index room place) (1 * 2 ^ (k % 64) % 2 ^ 64))) far ≡ set.insert s k
+near_added words room far s k place e l same at within =
+    ap (λ p. number_set (slice_set room p (bit_or (slice_index room p) (1 * 2 ^ (k % 64) % 2 ^ 64))) far) at
+    ∙ members_below-insert (2 ^ 64) (is_number words far) (is_number (with_place room k) far) k l (λ q _.
+    ap (λ b. b || list_any (is_at (nat_cmp q)) far) (is_set-with_place room k q (omega (arith, within, at)) ∙ ap (λ w. nat_eq q k || nat_eq (bit_at w (q % 64)) 1) (same (q / 64)))
+    ∙ or_or (nat_eq q k) (is_set words q) (list_any (is_at (nat_cmp q)) far))
+    ∙ ap (λ s. set.insert s k) e
+
+pub same_words : (words room far : List ℕ) → ((i : ℕ) → slice_index room i ≡ slice_index words i) → number_set room far ≡ number_set words far
+same_words words room far same = members_below-same (2 ^ 64) (is_number room far) (is_number words far) (λ q _. ap (λ w. nat_eq (bit_at w (q % 64)) 1 || list_any (is_at (nat_cmp q)) far) (same (q / 64)))
+
+pub no_number : (q : ℕ) → is_number [] [] q ≡ false
+no_number q = or_false (is_set [] q) ∙ no_bit [] q (omega arith)

@@ -1,0 +1,27 @@
+//! Set agreement.
+use crate::report;
+use anyhow::Result;
+use cast_agree::Agree;
+use cast_message::{Item, NodeId};
+use std::alloc::Global;
+use std::rt::Clock;
+use std::time::Instant;
+
+// Proposals of 64 senders, one of each in turn, in an instance after another.
+pub fn agreement(rt: &(impl Clock + Print), alloc: Global, calls: u64) -> Result<()> {
+    let mut agree = Agree::new(alloc, 64, 21);
+    let since = Instant::now(rt)?;
+    for call in 0..calls {
+        let item = Item::Propose {
+            instance: call / 64,
+            value: call,
+        };
+        agree.delivered(NodeId((call % 64) as u8), &item)?;
+    }
+    report(rt, "Agree::delivered", calls, &since)?;
+    let since = Instant::now(rt)?;
+    for call in 0..calls {
+        let _decided = agree.decision(call / 64);
+    }
+    report(rt, "Agree::decision", calls, &since)
+}

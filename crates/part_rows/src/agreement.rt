@@ -1,0 +1,28 @@
+//! Set agreement.
+use crate::refused;
+use anyhow::Result;
+use cast_agree::Agree;
+use cast_message::{Item, NodeId};
+use std::alloc::Global;
+
+pub fn agreement(rt: &impl Print, alloc: Global) -> Result<()> {
+    let mut agree = Agree::new(alloc, 2, 0);
+    propose(rt, &mut agree, 0, 4)?;
+    propose(rt, &mut agree, 0, 1)?;
+    propose(rt, &mut agree, 1, 9)?;
+    println!(rt; "decision(7): {:?}", agree.decision(7))?;
+    Ok(())
+}
+
+fn propose(rt: &impl Print, agree: &mut Agree, sender: u8, value: u64) -> Result<()> {
+    let item = Item::Propose { instance: 7, value };
+    let before = agree.decision(7);
+    if let Ok(decision) = agree.delivered(NodeId(sender), &item) {
+        println!(rt; "delivered({sender}, {value}): {decision:?}")?;
+        return Ok(());
+    }
+    refused(rt, "delivered", agree.decision(7) == before)?;
+    let decision = agree.delivered(NodeId(sender), &item)?;
+    println!(rt; "delivered({sender}, {value}): {decision:?}")?;
+    Ok(())
+}

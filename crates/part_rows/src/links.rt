@@ -1,0 +1,72 @@
+//! The two ends of a link.
+ghost use Rattle.std.specs.Prelude.{◌+◌, ◌<◌, ◌^◌};
+
+use crate::{data, refused};
+use anyhow::Result;
+use cast_link::{LinkFault, LinkIn, LinkOut};
+use std::alloc::Global;
+
+pub fn link_out(rt: &impl Print, alloc: Global) -> Result<()> {
+    let mut link = LinkOut::new(alloc);
+    give(rt, alloc, &mut link)?;
+    carry(rt, &link, 0)?;
+    carry(rt, &link, 1)?;
+    println!(rt; "acked(0): {}", link.acked(0))?;
+    println!(rt; "acked(0): {}", link.acked(0))?;
+    carry(rt, &link, 0)?;
+    println!(rt; "owed: {}", link.owed())?;
+    Ok(())
+}
+
+fn give(rt: &impl Print, alloc: Global, link: &mut LinkOut) -> Result<()>
+    requires { link.old.given + 1 < 2 ^ 64 }
+{
+    if let Ok(slot) = link.give(data(alloc, 0, 0)?) {
+        println!(rt; "give: {slot}")?;
+        return Ok(());
+    }
+    let kept = link.given() == 0 && link.owed() == 0 && link.pair(0).is_none();
+    refused(rt, "give", kept)?;
+    let slot = link.give(data(alloc, 0, 0)?)?;
+    println!(rt; "give: {slot}")?;
+    Ok(())
+}
+
+fn carry(rt: &impl Print, link: &LinkOut, slot: u64) -> Result<()> {
+    let mut carried = link.carry(slot);
+    if let Err(LinkFault::Memory) = carried {
+        refused(rt, "carry", true)?;
+        carried = link.carry(slot);
+    }
+    match carried {
+        Ok(message) => println!(rt;
+            "carry({slot}): {} {} {:?}",
+            message.sender.0, message.number, message.item
+        )?,
+        Err(fault) => println!(rt; "carry({slot}): {fault:?}")?,
+    }
+    Ok(())
+}
+
+pub fn link_in(rt: &impl Print, alloc: Global) -> Result<()> {
+    let mut link = LinkIn::new(alloc);
+    take(rt, &mut link, 5)?;
+    take(rt, &mut link, 5)?;
+    println!(rt; "may_ack(4): {}", link.may_ack(4))?;
+    take(rt, &mut link, 300_000)?;
+    take(rt, &mut link, 0)?;
+    println!(rt; "may_ack(300000): {}", link.may_ack(300_000))?;
+    Ok(())
+}
+
+fn take(rt: &impl Print, link: &mut LinkIn, slot: u64) -> Result<()> {
+    let before = link.may_ack(slot);
+    if let Ok(first) = link.take(slot) {
+        println!(rt; "take({slot}): {first}")?;
+        return Ok(());
+    }
+    refused(rt, "take", link.may_ack(slot) == before)?;
+    let first = link.take(slot)?;
+    println!(rt; "take({slot}): {first}")?;
+    Ok(())
+}
