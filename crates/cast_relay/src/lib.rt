@@ -86,8 +86,9 @@ impl Relay {
         })
     }
 
-    /// Holds the pair of another node's message that arrived, and says whether it was held before.
-    pub fn arrive(&mut self, message: &Message) -> Result<Taken, AllocError>
+    /// Holds the pair of another node's message that arrived from a peer, and says whether it was held before, by whichever
+    /// peer.
+    pub fn arrive(&mut self, message: &Message, _from: NodeId) -> Result<Taken, AllocError>
         requires { message.now.sender ≢ self.old.me }
         ensures taken { IfOk result (λ taken. taken ≡ taken_of self.old message.now.sender message.now.number) }
         ensures ok { OnOk result (self.new ≡ with_pair self.old message.now.sender message.now.number) }

@@ -18,8 +18,8 @@ fn closing(sender: u8) -> Message
 fn holds_a_pair_once(rt: HostRuntime) -> Result<(), Fail> {
     let mut relay = Relay::new(rt.alloc(), NodeId(1), 4)?;
     assert_eq!(rt; relay.own(Item::Close)?, closing(1));
-    assert_eq!(rt; relay.arrive(&closing(0))?, Taken::New);
-    assert_eq!(rt; relay.arrive(&closing(0))?, Taken::Known);
+    assert_eq!(rt; relay.arrive(&closing(0), NodeId(2))?, Taken::New);
+    assert_eq!(rt; relay.arrive(&closing(0), NodeId(2))?, Taken::Known);
     assert!(rt; relay.holds(NodeId(0), 0));
     assert!(rt; !relay.holds(NodeId(0), 1));
     for (to, goes_on) in [(3, true), (1, false), (0, false), (2, false)] {
@@ -32,8 +32,8 @@ fn holds_a_pair_once(rt: HostRuntime) -> Result<(), Fail> {
 fn holds_pairs_of_senders_beyond_the_group(rt: HostRuntime) -> Result<(), Fail> {
     let mut relay = Relay::new(rt.alloc(), NodeId(0), 1)?;
     assert!(rt; !relay.holds(NodeId(255), 0));
-    assert_eq!(rt; relay.arrive(&closing(255))?, Taken::New);
-    assert_eq!(rt; relay.arrive(&closing(255))?, Taken::Known);
+    assert_eq!(rt; relay.arrive(&closing(255), NodeId(2))?, Taken::New);
+    assert_eq!(rt; relay.arrive(&closing(255), NodeId(2))?, Taken::Known);
     assert!(rt; relay.holds(NodeId(255), 0));
     assert!(rt; !relay.holds(NodeId(254), 0));
     Ok(())

@@ -25,11 +25,12 @@ fn arrive_all(relay: &mut Relay, calls: u64) -> Result<()>
     ensures { relay.new.me ≡ 64 }
 {
     for call in 0..calls {
-        relay.arrive(&Message {
+        let message = Message {
             sender: NodeId((call % 64) as u8),
             number: call / 64,
             item: Item::Close,
-        })?;
+        };
+        relay.arrive(&message, NodeId(65))?;
     }
     Ok(())
 }

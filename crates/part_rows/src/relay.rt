@@ -54,12 +54,12 @@ fn arrive(rt: &impl Print, relay: &mut Relay) -> Result<()>
         item: Item::Close,
     };
     let before = relay.holds(NodeId(0), 0);
-    if let Ok(taken) = relay.arrive(&message) {
+    if let Ok(taken) = relay.arrive(&message, NodeId(2)) {
         println!(rt; "arrive: {taken:?}")?;
         return Ok(());
     }
     refused(rt, "arrive", relay.holds(NodeId(0), 0) == before)?;
-    let taken = relay.arrive(&message)?;
+    let taken = relay.arrive(&message, NodeId(2))?;
     println!(rt; "arrive: {taken:?}")?;
     Ok(())
 }
