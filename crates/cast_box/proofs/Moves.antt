@@ -9,7 +9,7 @@ use Rattle.crossbeam_queue.specs.Fifo.{Pushes, Pops, Forks, Merges, Learns}
 use Rattle.crossbeam_queue.proofs.Lists.{at_set}
 use Rattle.cast_box.specs.declared.rule.Known.{Known}
 use Rattle.cast_box.specs.declared.rule.Role.TheVariants.{Putting, Taking, Gathering}
-use Rattle.cast_box.specs.Lists.{of, put_by, HasTakenOfEnded}
+use Rattle.cast_box.specs.Lists.{of, put_by}
 use Rattle.cast_box.specs.Rule.{Ruled, Fits, IsPutter, IsTaker, putter, taker, gatherer, spent, Puts, Takes, Closes, Empties, ShowsPutter, ShowsEnded, ShowsAll, ShowsLeft}
 use Rattle.cast_box.proofs.Lists.{of-append, of_same, of_other, put_by_past, all_below}
 

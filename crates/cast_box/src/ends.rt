@@ -75,10 +75,8 @@ impl<T> Putter<T> {
             (λ full. (full.item ≡ item) × (self.new.put ≡ self.old.put) × WasFull self.old) }
         ensures sole { OnErr result (FilledItAlone self.old) }
     {
-        match self
-            .queue
-            .push_as::<Put, R>(rt, &mut self.pass, (self.number, item))
-        {
+        let numbered = (self.number, item);
+        match self.queue.push_as::<Put, R>(rt, &mut self.pass, numbered) {
             Ok(()) => Ok(()),
             Err((_, item)) => Err(Full { item }),
         }

@@ -1,6 +1,6 @@
 -- What is told of a log that has one entry more.
 use Rattle.std.proofs.Common.{◌≡◌, ℕ, zero, suc, ◌+◌, ◌^◌, ◌%◌, ◌<◌, ◌≤◌, List, [], ◌∷◌, ◌++◌, length, map, take, get_or, refl, sym, ap, ◌∙◌, arith}
-use Rattle.std.proofs.lemmas.List.{append-nil, append_assoc, map-append, length-append, take_more}
+use Rattle.std.proofs.lemmas.List.{append-nil, append_assoc, map-append, take_more}
 use Rattle.cast_message.specs.declared.event.Event.{Event}
 use Rattle.cast_message.specs.declared.event.Event.TheVariants.{Order, Send, Ack, Arrive, Crash}
 use Rattle.cast_node.specs.declared.entry.Entry.{Entry}

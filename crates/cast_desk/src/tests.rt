@@ -1,3 +1,4 @@
+//! The worked rows `desk-of-one` and, as far as it speaks of desks, `box-limits`.
 use super::*;
 use cast_box::{BoxFault, Full};
 use cast_message::{Event, Item, List, Message, NodeId, Outcome};
@@ -5,39 +6,38 @@ use cast_node::{Entry, EntryKind, Origin};
 use std::alloc::AllocError;
 use std::test::*;
 
+// The reply of row `desk-of-one`.
+fn reply() -> Notice {
+    Notice::Reply {
+        ticket: 0,
+        outcome: Ok(0),
+    }
+}
+
 #[test]
-fn one_place_and_two_clients(rt: HostRuntime) -> Result<(), Fail> {
+fn desk_of_one(rt: HostRuntime) -> Result<(), Fail> {
     let Ok((mut clients, mut desk)) = make_desk(rt.alloc(), 1, 2, 0) else {
         return Err(Fail::from(AllocError));
     };
     assert!(&rt; matches!(clients[0].submit(&rt, Item::Close), Ok(0)));
-    assert!(&rt;
-        matches!(
-            clients[1].submit(&rt, Item::Close),
-            Err(DeskFault::Full(Item::Close))
-        )
-    );
-    assert!(&rt;
-        matches!(
-            desk.take(&rt),
-            Some(OrderIn {
-                client: 0,
-                ticket: 0,
-                item: Item::Close
-            })
-        )
-    );
+    let refused = clients[1].submit(&rt, Item::Close);
+    assert!(&rt; matches!(refused, Err(DeskFault::Full(Item::Close))));
+    let Some(order) = desk.take(&rt) else {
+        return Err(Fail::from(AllocError));
+    };
+    assert_eq!(&rt; (order.client, order.ticket), (0, 0));
+    assert!(&rt; matches!(order.item, Item::Close));
     assert!(&rt; matches!(clients[1].submit(&rt, Item::Close), Ok(0)));
-    let (ticket, outcome) = (0, Ok(0));
-    assert!(&rt;
-        desk.notify(&rt, 0, Notice::Reply { ticket, outcome })
-            .is_ok()
-    );
-    let (ticket, outcome) = (0, Ok(0));
+    assert!(&rt; desk.notify(&rt, 0, reply()).is_ok());
     assert!(&rt;
         matches!(
-            desk.notify(&rt, 0, Notice::Reply { ticket, outcome }),
-            Err(Full { .. })
+            desk.notify(&rt, 0, reply()),
+            Err(Full {
+                item: Notice::Reply {
+                    ticket: 0,
+                    outcome: Ok(0)
+                }
+            })
         )
     );
     assert!(&rt;
@@ -54,6 +54,36 @@ fn one_place_and_two_clients(rt: HostRuntime) -> Result<(), Fail> {
 }
 
 #[test]
+fn last_ticket(rt: HostRuntime) -> Result<(), Fail> {
+    let last = 18446744073709551614;
+    let Ok((mut clients, _desk)) = make_desk(rt.alloc(), 4, 1, last) else {
+        return Err(Fail::from(AllocError));
+    };
+    assert!(&rt;
+        matches!(
+            clients[0].submit(&rt, Item::Close),
+            Ok(18446744073709551614)
+        )
+    );
+    let refused = clients[0].submit(&rt, Item::Close);
+    assert!(&rt; matches!(refused, Err(DeskFault::Tickets(Item::Close))));
+    Ok(())
+}
+
+#[test]
+fn desk_limits(rt: HostRuntime) {
+    for (size, clients, fault) in [
+        (4, 5, BoxFault::Putters),
+        (4, 0, BoxFault::Putters),
+        (0, 1, BoxFault::Size),
+        (4097, 5, BoxFault::Size),
+    ] {
+        let answer = make_desk(rt.alloc(), size, clients, 0).map(|_| ());
+        assert_eq!(&rt; answer, Err(fault), "at {size} {clients}");
+    }
+}
+
+#[test]
 fn nothing_is_left(rt: HostRuntime) -> Result<(), Fail> {
     let Ok((clients, desk)) = make_desk(rt.alloc(), 1, 2, 0) else {
         return Err(Fail::from(AllocError));
@@ -64,29 +94,7 @@ fn nothing_is_left(rt: HostRuntime) -> Result<(), Fail> {
 }
 
 #[test]
-fn last_ticket(rt: HostRuntime) -> Result<(), Fail> {
-    let Ok((mut clients, _desk)) = make_desk(rt.alloc(), 4, 1, 18446744073709551614) else {
-        return Err(Fail::from(AllocError));
-    };
-    assert!(&rt;
-        matches!(
-            clients[0].submit(&rt, Item::Close),
-            Ok(18446744073709551614)
-        )
-    );
-    assert!(&rt;
-        matches!(
-            clients[0].submit(&rt, Item::Close),
-            Err(DeskFault::Tickets(Item::Close))
-        )
-    );
-    assert!(&rt; matches!(make_desk(rt.alloc(), 0, 1, 0), Err(BoxFault::Size)));
-    assert!(&rt; matches!(make_desk(rt.alloc(), 1, 5, 0), Err(BoxFault::Putters)));
-    Ok(())
-}
-
-#[test]
-fn feeds(rt: HostRuntime) -> Result<(), Fail> {
+fn feed_of_one_order(rt: HostRuntime) -> Result<(), Fail> {
     let node = NodeId(0);
     let mut deliveries = List::new(rt.alloc());
     deliveries.push(Message {
@@ -113,33 +121,24 @@ fn feeds(rt: HostRuntime) -> Result<(), Fail> {
             },
         },
     })?;
-    let mine = feed(rt.alloc(), &log, 0)?;
-    assert!(&rt;
-        matches!(
-            mine.as_slice(),
-            [
-                Notice::Reply {
-                    ticket: 0,
-                    outcome: Ok(0)
-                },
-                Notice::Delivered(Message {
-                    number: 0,
-                    item: Item::Close,
-                    ..
-                })
-            ]
-        )
-    );
+    let own = feed(rt.alloc(), &log, 0)?;
+    let [
+        Notice::Reply { ticket, outcome },
+        Notice::Delivered(message),
+    ] = own.as_slice()
+    else {
+        return Err(Fail::from(AllocError));
+    };
+    assert_eq!(&rt; (*ticket, *outcome), (0, Ok(0)));
+    assert!(&rt; is_first_close(message));
     let others = feed(rt.alloc(), &log, 1)?;
-    assert!(&rt;
-        matches!(
-            others.as_slice(),
-            [Notice::Delivered(Message {
-                number: 0,
-                item: Item::Close,
-                ..
-            })]
-        )
-    );
+    let [Notice::Delivered(message)] = others.as_slice() else {
+        return Err(Fail::from(AllocError));
+    };
+    assert!(&rt; is_first_close(message));
     Ok(())
+}
+
+fn is_first_close(message: &Message) -> bool {
+    message.sender == NodeId(0) && message.number == 0 && message.item == Item::Close
 }

@@ -1,4 +1,4 @@
-use Rattle.std.proofs.Common.{◌≡◌, ◌<◌, ◌∙◌, length, ap, rules}
+use Rattle.std.proofs.Common.{◌<◌, ◌∙◌, length, ap, rules}
 use Rattle.cast_desk.specs.Feed.{feed_from}
 use Rattle.cast_desk.proofs.Feeds.{fed_more, counted_more, take_all}
 use Rattle.cast_desk.proofs.told.feed.Goals as goal

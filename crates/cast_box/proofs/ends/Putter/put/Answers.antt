@@ -1,4 +1,4 @@
-use Rattle.std.proofs.Common.{◌≡◌, ap, ◌∙◌, sym, subst, length, arith}
+use Rattle.std.proofs.Common.{ap, ◌∙◌, sym, length, arith}
 use Rattle.crossbeam_queue.specs.Passes.{ruled_capacity, view as known}
 use Rattle.cast_box.proofs.Closing.{sole_full}
 use Rattle.cast_box.proofs.Moves.{puts_as, shows_putter}

@@ -1,5 +1,5 @@
 use Rattle.std.proofs.Common.{ap, ◌∙◌, sym, length}
-use Rattle.cast_box.proofs.Closing.{fair_left, room_left}
+use Rattle.cast_box.proofs.Closing.{fair_left}
 use Rattle.cast_box.proofs.Moves.{closes, shows_all}
 use Rattle.cast_box.proofs.ends.Taker.gather.Goals as goal
 

@@ -1,4 +1,4 @@
-use Rattle.std.proofs.Common.{ap, sym, subst}
+use Rattle.std.proofs.Common.{ap, subst}
 use Rattle.crossbeam_queue.specs.Passes.{view as known}
 use Rattle.cast_box.specs.Ends.{TakerEnd}
 use Rattle.cast_box.specs.Lists.{HasTakenOfEnded}
