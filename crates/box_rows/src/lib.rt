@@ -54,20 +54,21 @@ fn put_numbers<R: Wait>(rt: &R, mut putter: Putter<u64>, first: u64, count: u64)
 #[derive(Drop)]
 struct TakesNumbers {
     was: Snapshot<Taker<u64>>,
+    count: usize,
 }
 
 type Taken = Result<(Taker<u64>, Vec<u64>), AllocError>;
 
 impl Promise<Taken> for TakesNumbers {
-    ghost use Rattle.std.specs.Prelude.{IfOk};
+    ghost use Rattle.std.specs.Prelude.{◌≡◌, length, IfOk};
     ghost use Rattle.box_rows.specs.Uses.{TookThese};
 
-    ghost kept_by = { λ p taken. IfOk taken (λ t. TookThese p.was.value t.1.items t.0) };
+    ghost kept_by = { λ p taken. IfOk taken (λ t. TookThese p.was.value t.1.items t.0 × (length t.1.items ≡ p.count)) };
 }
 
 /// Takes `count` numbers, and tries again where the box is empty.
 fn take_numbers<R: Wait>(rt: &R, alloc: Global, mut taker: Taker<u64>, count: usize) -> Taken
-    ensures { IfOk result (λ r. TookThese taker r.1.items r.0) }
+    ensures { IfOk result (λ r. TookThese taker r.1.items r.0 × (length r.1.items ≡ count)) }
 {
     let mut into = Vec::new(alloc);
     for _ in rt.forever() {
@@ -133,16 +134,17 @@ fn start_taker<R: Threads + Wait + Copy + Send + 'static>(
     taker: Taker<u64>,
     takes: usize,
 ) -> Result<PromisedHandle<Taken, TakesNumbers>, AllocError>
-    ensures { IfOk result (λ t. t.promise.was.value ≡ taker) }
+    ensures { IfOk result (λ t. (t.promise.was.value ≡ taker) × (t.promise.count ≡ takes)) }
 {
     let promise = TakesNumbers {
         was: Snapshot::of(&taker),
+        count: takes,
     };
     let thread = thread::spawn_with(
         &rt,
         promise,
         move || -> Taken
-            ensures { IfOk result (λ r. TookThese taker r.1.items r.0) }
+            ensures { IfOk result (λ r. TookThese taker r.1.items r.0 × (length r.1.items ≡ takes)) }
         { take_numbers(&rt, alloc, taker, takes) },
     )?;
     Ok(thread)
@@ -160,7 +162,8 @@ pub fn exchange<R: Threads + Wait + Copy + Send + 'static>(
     takes: usize,
 ) -> Result<(Vec<u64>, Gathered<u64>), AllocError>
     requires { putters * count < 2 ^ 64 }
-    ensures taken { IfOk result (λ r. r.0.items ≡ map (λ m. m.1) r.1.taken) }
+    ensures taken { IfOk result (λ r. (r.0.items ≡ map (λ m. m.1) r.1.taken) × (length r.0.items ≡ takes)) }
+    ensures room { IfOk result (λ r. length r.1.left ≤ size) }
     ensures fair { IfOk result (λ r. (a : ℕ) → a < putters → of a (r.1.taken ++ r.1.left) ≡ range_with_len (a * count) count) }
     ensures others { IfOk result (λ r. (a : ℕ) → putters ≤ a → of a (r.1.taken ++ r.1.left) ≡ []) }
 {

@@ -6,7 +6,7 @@ use Rattle.box_rows.proofs.exchange.Goals as goal
 
 pub gather-requires : goal.gather-requires
 gather-requires g c = ends_back c.args.count c.in-Ok.ends.items c.in_ok-ends.ends.items _ c.in-Ok.taker c.in_ok-threads.ensures c.in_ok-ends.ensures c.in_ok-taker.taker c.in-Ok.ensures.ends.0
-    (let P : TakerEnd ℕ → Type 0 = λ t. IsSameTaker t c.in_ok-taker.taker in subst P c.in_ok-taking.ensures c.in_ok-taker.ensures.0)
+    (let P : TakerEnd ℕ → Type 0 = λ t. IsSameTaker t c.in_ok-taker.taker in subst P c.in_ok-taking.ensures.0 c.in_ok-taker.ensures.0.0)
 
 pub returns-clause-fair : goal.returns-clause-fair
 returns-clause-fair g c a lt =
