@@ -81,7 +81,7 @@ module _ (size first : ℕ) (ps : List (PutterEnd OrderIn)) (all : List ClientSt
           let fresh = new.0 c d.orders p in
           let t = found trays c (let w = m.width in let k = slice_get_within all c d e in omega arith) in
           let is = m.tray c d t.0 e t.1 in
-          ((m.client c d e).1, fresh.2, fresh.0 ∙ is_size, is.1.1, is.2);
+          ((m.client c d e).1, fresh.2, fresh.0 ∙ is_size, fresh.1, is.1.1, is.2);
       desk = (new.1, is_size);
       tray = λ c t f.
           let d = found all c (let w = m.width in let k = slice_get_within trays c t f in omega arith) in

@@ -55,7 +55,7 @@ pub record IsDeskOf (clients : List ClientState) (orders : TakerEnd OrderIn) (tr
 -- has one putter
 pub record IsNewDesk (size first_ticket : ℕ) (clients : List ClientState) (orders : TakerEnd OrderIn) (trays : List (PutterEnd Notice)) : Type 0 where
   pub client : (c : ℕ) (client : ClientState) → slice_get clients c ≡ Some client
-      → (client.first_ticket ≡ first_ticket) × (client.orders.put ≡ []) × (client.orders.size ≡ size) × (client.tray.taken ≡ []) × (client.tray.size ≡ size)
+      → (client.first_ticket ≡ first_ticket) × (client.orders.put ≡ []) × (client.orders.size ≡ size) × (client.orders.putters ≡ orders.putters) × (client.tray.taken ≡ []) × (client.tray.size ≡ size)
   pub desk : (orders.taken ≡ []) × (orders.size ≡ size)
   pub tray : (c : ℕ) (tray : PutterEnd Notice) → slice_get trays c ≡ Some tray → (tray.put ≡ []) × (tray.size ≡ size) × (tray.putters ≡ 1)
 
