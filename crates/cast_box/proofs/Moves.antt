@@ -1,0 +1,455 @@
+-- Each step on a box keeps its rule.
+use Rattle.std.proofs.Common.{◌≡◌, ◌≢◌, ℕ, zero, suc, ◌+◌, ◌<◌, ◌≤◌, true, false, cond, eqb, List, [], ◌∷◌, ◌++◌, length, set, sym, refl, ap, ◌∙◌, subst, ⊎_elim, eq-eqb, ne_eqb, arith, ◌⊎◌, inl, inr}
+use Rattle.std.proofs.lemmas.List.{append-nil, append_assoc, get_or_append_left, get_or_at, length-append}
+use Rattle.std.proofs.Math.Decide.{dec_lt}
+use mathlib.Core.Logic.{dite}
+use mathlib.Core.Option.{Option, some, none, some-injective, some-ne-none}
+use lib.ListN.{get_elem?}
+use Rattle.crossbeam_queue.specs.Fifo.{Pushes, Pops, Forks, Merges, Learns}
+use Rattle.crossbeam_queue.proofs.Lists.{at_set}
+use Rattle.cast_box.specs.declared.rule.Known.{Known}
+use Rattle.cast_box.specs.declared.rule.Role.TheVariants.{Putting, Taking, Gathering}
+use Rattle.cast_box.specs.Lists.{of, put_by}
+use Rattle.cast_box.specs.Rule.{Ruled, Fits, IsPutter, IsTaker, putter, taker, gatherer, spent, Puts, Takes, Closes, Empties, ShowsPutter, ShowsEnded, ShowsAll, ShowsLeft}
+use Rattle.cast_box.proofs.Lists.{of-append, of_same, of_other, put_by_past, all_below}
+
+-- the seats with seat b changed
+seat_with : (ℕ → Option ℕ) → ℕ → Option ℕ → ℕ → Option ℕ
+seat_with seat b o a = cond (eqb a b) o (seat a)
+
+seat_same : (seat : ℕ → Option ℕ) (b : ℕ) (o : Option ℕ) → seat_with seat b o b ≡ o
+unfolding seat_with
+seat_same seat b o = ap (λ t. cond t o (seat b)) (eq-eqb b b refl)
+
+seat_other : (seat : ℕ → Option ℕ) (a b : ℕ) (o : Option ℕ) → a ≢ b → seat_with seat b o a ≡ seat a
+unfolding seat_with
+seat_other seat a b o n = ap (λ t. cond t o (seat a)) (ne_eqb a b n)
+
+-- a seat that was none is none, also where it is the one that was made none
+still_none : (seat : ℕ → Option ℕ) (a b : ℕ) → seat a ≡ none → seat_with seat b none a ≡ none
+unfolding seat_with
+still_none seat a b e = elim (eqb a b) as (λ t. cond t none (seat a) ≡ none) [ true ↦ refl | false ↦ e ]
+
+-- two putters with different seats are two
+apart : (seat : ℕ → Option ℕ) (a b i j : ℕ) → seat a ≡ some i → seat b ≡ some j → i ≢ j → a ≢ b
+apart seat a b i j p q n e = n (some-injective i j (sym p ∙ ap seat e ∙ q))
+
+seated : (seat : ℕ → Option ℕ) (a b i : ℕ) → seat a ≡ none → seat b ≡ some i → a ≢ b
+seated seat a b i p q e = some-ne-none i (sym q ∙ sym (ap seat e) ∙ p)
+
+module _ {T : Type 0} where
+  at_snoc : (l : List (Known T)) (a b : Known T) (j : ℕ) → get_elem? (l ++ a ∷ []) j ≡ some b → (get_elem? l j ≡ some b) ⊎ ((j ≡ length l) × (a ≡ b))
+  at_snoc [] a b zero e = inr (refl, some-injective a b e)
+  at_snoc [] a b (suc j) e = absurd (some-ne-none b (sym e))
+  at_snoc (x ∷ xs) a b zero e = inl e
+  at_snoc (x ∷ xs) a b (suc j) e = ⊎_elim (λ t. inl t) (λ (t : (j ≡ length xs) × (a ≡ b)). inr (ap suc t.0, t.1)) (at_snoc xs a b j e)
+
+  abbrev All : (ℕ → Known T → Type 0) → List (Known T) → Type 0
+  All F views = (pass : ℕ) (v : Known T) → get_elem? views pass ≡ some v → F pass v
+
+  all_set : (F : ℕ → Known T → Type 0) (views : List (Known T)) (pass : ℕ) (w : Known T) → F pass w
+      → ((j : ℕ) (u : Known T) → j ≢ pass → get_elem? views j ≡ some u → F j u) → All F (set views pass w)
+  all_set F views pass w mine others j u e =
+      ⊎_elim (λ (x : (j ≡ pass) × (w ≡ u)). subst (λ (y : ℕ × Known T). F y.0 y.1) (λ i. (sym x.0 i, x.1 i)) mine)
+      (λ (x : (j ≢ pass) × (get_elem? views j ≡ some u)). others j u x.0 x.1) (at_set views pass j w u e)
+
+  pub begins : Ruled {T = T} [] (taker 0 0 0 [] [] ∷ [])
+  begins = record {
+    reader = 0;
+    seat = λ a. none;
+    put = λ a. [];
+    taken = [];
+    size = 0;
+    putters = 0;
+    fair = λ a. refl;
+    room = omega arith;
+    within = λ a h. refl;
+    fits = all_set (Fits 0 (λ a. none) (λ a. []) [] [] 0 0) (taker 0 0 0 [] [] ∷ []) 0 (taker 0 0 0 [] [])
+        (record {
+          as_putter = λ r. cc;
+          as_taker = λ r. record {
+            reads = refl;
+            taken_is = refl;
+            unmade = λ a h. (refl, refl);
+            ended = λ a h. absurd (omega arith);
+            ended_made = omega arith;
+            size_is = refl;
+            putters_is = refl;
+            made_within = omega arith;
+          };
+          as_gatherer = λ r. cc;
+        })
+        (λ j u other e. ⊎_elim (λ (x : get_elem? [] j ≡ some u). absurd (some-ne-none u (sym x))) (λ x. absurd (other x.0)) (at_snoc [] (taker 0 0 0 [] []) u j e));
+  }
+
+  -- an end that was given up fits every box
+  spent_fits : (reader : ℕ) (seat : ℕ → Option ℕ) (put : ℕ → List T) (taken items : List (ℕ × T)) (size putters pass : ℕ) → Fits reader seat put taken items size putters pass spent
+  spent_fits reader seat put taken items size putters pass = record { as_putter = λ r. cc; as_taker = λ r. cc; as_gatherer = λ r. cc }
+
+  -- the first end is told the limits of its box, before any other end is made
+  pub limits : (pass size putters : ℕ) (v : Known T) → v ≡ taker 0 0 0 [] [] → Forks Ruled pass v (taker size putters 0 [] []) spent
+  limits pass size putters v is items views h at =
+      let l : Known T = taker size putters 0 [] [] in
+      let vs : List (Known T) = set views pass l in
+      let mine = (h.fits pass v at).as_taker (ap (λ w. w.role) is) in
+      let fresh : (a : ℕ) → (h.seat a ≡ none) × (h.put a ≡ []) = λ a. mine.unmade a (let n = ap (λ (w : Known T). w.number) is in omega arith) in
+      let F : ℕ → Known T → Type 0 = Fits h.reader h.seat h.put h.taken items size putters in
+      let old_fits : All F vs = all_set F views pass l
+      (record {
+        as_putter = λ q. cc;
+        as_taker = λ q. record {
+          reads = mine.reads;
+          taken_is = sym (ap (λ (w : Known T). w.taken) is) ∙ mine.taken_is;
+          unmade = λ a k. fresh a;
+          ended = λ a k. absurd (omega arith);
+          ended_made = omega arith;
+          size_is = refl;
+          putters_is = refl;
+          made_within = omega arith;
+        };
+        as_gatherer = λ q. cc;
+      })
+      (λ j u other e. let old = h.fits j u e in record {
+        as_putter = λ q. absurd (seated h.seat u.number u.number j (fresh u.number).0 (old.as_putter q).sits refl);
+        as_taker = λ q. absurd (other ((old.as_taker q).reads ∙ sym mine.reads));
+        as_gatherer = λ q. absurd (other ((old.as_gatherer q).reads ∙ sym mine.reads));
+      }) in
+      record {
+        reader = h.reader;
+        seat = h.seat;
+        put = h.put;
+        taken = h.taken;
+        size = size;
+        putters = putters;
+        fair = h.fair;
+        room = let none_yet = h.room in let size_is = mine.size_is in let zero_is = ap (λ (w : Known T). w.size) is in omega arith;
+        within = λ a k. (fresh a).1;
+        fits = λ j u e. ⊎_elim (λ x. old_fits j u x)
+            (λ (x : (j ≡ length vs) × (spent ≡ u)). subst (λ (y : ℕ × Known T). F y.0 y.1) (λ i. (sym x.0 i, x.1 i))
+            (spent_fits h.reader h.seat h.put h.taken items size putters (length vs)))
+            (at_snoc vs spent u j e);
+      }
+
+  pub puts : (n pass : ℕ) (v : Known T) (x : T) → v.role ≡ Putting → v.size ≡ n → Pushes Ruled n pass v (v.number, x) (Puts v (v.number, x))
+  puts n pass v x may size_is items views room h at =
+      let w : Known T = putter v.size v.putters v.number (v.put ++ x ∷ []) in
+      let m : ℕ × T = (v.number, x) in
+      let mine = (h.fits pass v at).as_putter may in
+      let put' : ℕ → List T = λ a. h.put a ++ of a (m ∷ []) in
+      let same : (a : ℕ) → a ≢ v.number → put' a ≡ h.put a = λ a ne. ap (λ l. h.put a ++ l) (of_other a v.number x ne) ∙ append-nil (h.put a) in
+      let F : ℕ → Known T → Type 0 = Fits h.reader h.seat put' h.taken (items ++ m ∷ []) h.size h.putters in (
+        w,
+        record {
+          reader = h.reader;
+          seat = h.seat;
+          put = put';
+          taken = h.taken;
+          size = h.size;
+          putters = h.putters;
+          fair = λ a. ap (of a) (sym (append_assoc h.taken items (m ∷ []))) ∙ of-append a (h.taken ++ items) (m ∷ []) ∙ ap (λ l. l ++ of a (m ∷ [])) (h.fair a);
+          room = let long = length-append items (m ∷ []) in let same_size = mine.size_is in omega arith;
+          within = λ a k. let lt = mine.below in let ne : a ≢ v.number = omega arith in same a ne ∙ h.within a k;
+          fits = all_set F views pass w
+              (record {
+                as_putter = λ r. record {
+                  sits = mine.sits;
+                  put_is = ap (λ l. l ++ x ∷ []) mine.put_is ∙ ap (λ l. h.put v.number ++ l) (sym (of_same v.number x));
+                  size_is = mine.size_is;
+                  putters_is = mine.putters_is;
+                  below = mine.below;
+                };
+                as_taker = λ r. cc;
+                as_gatherer = λ r. cc;
+              })
+              (λ j u other e. let old = h.fits j u e in record {
+                as_putter = λ r. let his = old.as_putter r in record {
+                  sits = his.sits;
+                  put_is = his.put_is ∙ sym (same u.number (apart h.seat u.number v.number j pass his.sits mine.sits other));
+                  size_is = his.size_is;
+                  putters_is = his.putters_is;
+                  below = his.below;
+                };
+                as_taker = λ r. let his = old.as_taker r in record {
+                  reads = his.reads;
+                  taken_is = his.taken_is;
+                  unmade = λ a k. let no = his.unmade a k in (no.0, same a (seated h.seat a v.number pass no.0 mine.sits) ∙ no.1);
+                  ended = λ a k. let no = his.ended a k in (no.0, no.1 ∙ sym (same a (seated h.seat a v.number pass no.0 mine.sits)));
+                  ended_made = his.ended_made;
+                  size_is = his.size_is;
+                  putters_is = his.putters_is;
+                  made_within = his.made_within;
+                };
+                as_gatherer = λ r. let his = old.as_gatherer r in absurd (seated h.seat v.number v.number pass (his.all_ended v.number) mine.sits refl);
+              });
+        },
+        refl,
+      )
+
+  pub puts_as : (a n pass : ℕ) (v : Known T) (x : T) → v.role ≡ Putting → v.size ≡ n → v.number ≡ a → Pushes Ruled n pass v (a, x) (Puts v (a, x))
+  puts_as a n pass v x may size_is is = let P : ℕ → Type 0 = λ b. Pushes Ruled n pass v (b, x) (Puts v (b, x)) in subst P is (puts n pass v x may size_is)
+
+  not_nil : (x : T) (xs ys : List T) → xs ++ x ∷ ys ≡ [] → ⊥
+  not_nil x [] ys e = cc
+  not_nil x (y ∷ xs) ys e = cc
+
+  -- an item in the middle stands among its putter's items
+  brought : (xs : List (ℕ × T)) (m : ℕ × T) (ys : List (ℕ × T)) → of m.0 (xs ++ m ∷ ys) ≡ of m.0 xs ++ m.1 ∷ of m.0 ys
+  brought xs m ys = of-append m.0 xs (m ∷ ys) ∙ ap (λ l. of m.0 xs ++ l) (of-append m.0 (m ∷ []) ys ∙ ap (λ l. l ++ of m.0 ys) (of_same m.0 m.1))
+
+  pub shows_putter : (pass : ℕ) (v : Known T) → v.role ≡ Putting → Learns Ruled pass v (ShowsPutter v)
+  shows_putter pass v may items views h at =
+      let mine = (h.fits pass v at).as_putter may in
+      let B : ℕ → Type 0 = λ n. (before : List (ℕ × T)) (m : ℕ × T) (after : List (ℕ × T)) → items ≡ before ++ m ∷ after → m.0 < n in
+      let below : B h.putters = λ before m after e. dite (dec_lt m.0 h.putters) (λ y. y)
+      (λ n. absurd (not_nil m.1 (of m.0 (h.taken ++ before)) (of m.0 after)
+      (sym (brought (h.taken ++ before) m after) ∙ ap (of m.0) (append_assoc h.taken before (m ∷ after) ∙ ap (λ l. h.taken ++ l) (sym e)) ∙ h.fair m.0 ∙ h.within m.0 (omega arith)))) in (
+        all_below v.putters items (subst B (sym mine.putters_is) below),
+        (of v.number h.taken, mine.put_is ∙ sym (h.fair v.number) ∙ of-append v.number h.taken items),
+      )
+
+  -- a putter's knowledge says nothing of what was taken and is held
+  kept_putter : (reader : ℕ) (seat : ℕ → Option ℕ) (put : ℕ → List T) (taken taken' items items' : List (ℕ × T)) (size putters pass : ℕ) (v : Known T)
+      → IsPutter reader seat put taken items size putters pass v → IsPutter reader seat put taken' items' size putters pass v
+  kept_putter reader seat put taken taken' items items' size putters pass v his =
+      record { sits = his.sits; put_is = his.put_is; size_is = his.size_is; putters_is = his.putters_is; below = his.below }
+
+  pub takes : (pass : ℕ) (v : Known T) → v.role ≡ Taking → Pops Ruled pass v (Takes v)
+  takes pass v may m items views h at =
+      let w : Known T = taker v.size v.putters v.number (v.taken ++ m ∷ []) v.ended in
+      let mine = (h.fits pass v at).as_taker may in
+      let below : m.0 < v.number = dite (dec_lt m.0 v.number) (λ y. y)
+      (λ n. absurd (not_nil m.1 (of m.0 h.taken) (of m.0 items) (sym (brought h.taken m items) ∙ h.fair m.0 ∙ (mine.unmade m.0 (omega arith)).1))) in
+      let taken' = h.taken ++ m ∷ [] in (
+        w,
+        record {
+          reader = h.reader;
+          seat = h.seat;
+          put = h.put;
+          taken = taken';
+          size = h.size;
+          putters = h.putters;
+          fair = λ a. ap (of a) (append_assoc h.taken (m ∷ []) items) ∙ h.fair a;
+          room = let was = h.room in omega arith;
+          within = h.within;
+          fits = all_set (Fits h.reader h.seat h.put taken' items h.size h.putters) views pass w
+              (record {
+                as_putter = λ r. cc;
+                as_taker = λ r. record {
+                  reads = mine.reads;
+                  taken_is = ap (λ l. l ++ m ∷ []) mine.taken_is;
+                  unmade = mine.unmade;
+                  ended = mine.ended;
+                  ended_made = mine.ended_made;
+                  size_is = mine.size_is;
+                  putters_is = mine.putters_is;
+                  made_within = mine.made_within;
+                };
+                as_gatherer = λ r. cc;
+              })
+              (λ j u other e. let old = h.fits j u e in record {
+                as_putter = λ r. kept_putter h.reader h.seat h.put h.taken taken' (m ∷ items) items h.size h.putters j u (old.as_putter r);
+                as_taker = λ r. absurd (other ((old.as_taker r).reads ∙ sym mine.reads));
+                as_gatherer = λ r. absurd (other ((old.as_gatherer r).reads ∙ sym mine.reads));
+              });
+        },
+        (refl, below),
+      )
+
+  pub shows_ended : (pass : ℕ) (v : Known T) → v.role ≡ Taking → Learns Ruled pass v (ShowsEnded v)
+  shows_ended pass v may items views h at a lt =
+      let mine = (h.fits pass v at).as_taker may in
+      ap (λ l. of a (l ++ items)) mine.taken_is ∙ h.fair a ∙ sym (mine.ended a lt).1
+
+  pub forks : (pass : ℕ) (v : Known T) → v.role ≡ Taking → v.number < v.putters → Forks Ruled pass v (taker v.size v.putters (v.number + 1) v.taken v.ended) (putter v.size v.putters v.number [])
+  forks pass v may more items views h at =
+      let l : Known T = taker v.size v.putters (v.number + 1) v.taken v.ended in
+      let r : Known T = putter v.size v.putters v.number [] in
+      let mine = (h.fits pass v at).as_taker may in
+      let vs : List (Known T) = set views pass l in
+      let seat' : ℕ → Option ℕ = seat_with h.seat v.number (some (length vs)) in
+      let free = mine.unmade v.number (omega arith) in
+      let kept : (a : ℕ) → a ≢ v.number → seat' a ≡ h.seat a = λ a ne. seat_other h.seat a v.number (some (length vs)) ne in
+      let F : ℕ → Known T → Type 0 = Fits h.reader seat' h.put h.taken items h.size h.putters in
+      let old_fits : All F vs = all_set F views pass l
+      (record {
+        as_putter = λ q. cc;
+        as_taker = λ q. record {
+          reads = mine.reads;
+          taken_is = mine.taken_is;
+          unmade = λ a k. let no = mine.unmade a (omega arith) in let ne : a ≢ v.number = omega arith in (kept a ne ∙ no.0, no.1);
+          ended = λ a k. let no = mine.ended a k in let le = mine.ended_made in let ne : a ≢ v.number = omega arith in (kept a ne ∙ no.0, no.1);
+          ended_made = let le = mine.ended_made in omega arith;
+          size_is = mine.size_is;
+          putters_is = mine.putters_is;
+          made_within = let is = mine.putters_is in omega arith;
+        };
+        as_gatherer = λ q. cc;
+      })
+      (λ j u other e. let old = h.fits j u e in record {
+        as_putter = λ q. let his = old.as_putter q in record {
+          sits = kept u.number (λ eq. seated h.seat v.number u.number j free.0 his.sits (sym eq)) ∙ his.sits;
+          put_is = his.put_is;
+          size_is = his.size_is;
+          putters_is = his.putters_is;
+          below = his.below;
+        };
+        as_taker = λ q. absurd (other ((old.as_taker q).reads ∙ sym mine.reads));
+        as_gatherer = λ q. absurd (other ((old.as_gatherer q).reads ∙ sym mine.reads));
+      }) in
+      let new : F (length vs) r = record {
+        as_putter = λ q. record {
+          sits = seat_same h.seat v.number (some (length vs));
+          put_is = sym free.1;
+          size_is = mine.size_is;
+          putters_is = mine.putters_is;
+          below = let is = mine.putters_is in omega arith;
+        };
+        as_taker = λ q. cc;
+        as_gatherer = λ q. cc;
+      } in
+      record {
+        reader = h.reader;
+        seat = seat';
+        put = h.put;
+        taken = h.taken;
+        size = h.size;
+        putters = h.putters;
+        fair = h.fair;
+        room = h.room;
+        within = h.within;
+        fits = λ j u e. ⊎_elim (λ x. old_fits j u x)
+            (λ (x : (j ≡ length vs) × (r ≡ u)). subst (λ (y : ℕ × Known T). F y.0 y.1) (λ i. (sym x.0 i, x.1 i)) new)
+            (at_snoc vs r u j e);
+      }
+
+  pub merges : (pass : ℕ) (v : Known T) (other : ℕ) (w : Known T) → v.role ≡ Taking → w.role ≡ Putting → w.number ≡ length v.ended
+      → Merges Ruled pass v other w (taker v.size v.putters v.number v.taken (v.ended ++ w.put ∷ [])) spent
+  merges pass v other w may put next items views h at two at' =
+      let both : Known T = taker v.size v.putters v.number v.taken (v.ended ++ w.put ∷ []) in
+      let vs : List (Known T) = set views pass both in
+      let mine = (h.fits pass v at).as_taker may in
+      let was : get_elem? views other ≡ some w = ⊎_elim (λ x. absurd (two x.0)) (λ x. x.1) (at_set views pass other both w at') in
+      let his = (h.fits other w was).as_putter put in
+      let seat' : ℕ → Option ℕ = seat_with h.seat w.number none in
+      let kept : (a : ℕ) → a ≢ w.number → seat' a ≡ h.seat a = λ a ne. seat_other h.seat a w.number none ne in
+      let gone : (a : ℕ) → h.seat a ≡ none → seat' a ≡ none = λ a e. still_none h.seat a w.number e in
+      let made : length v.ended < v.number = dite (dec_lt (length v.ended) v.number) (λ y. y)
+      (λ n. absurd (seated h.seat w.number w.number other (mine.unmade w.number (omega arith)).0 his.sits refl)) in
+      let ended : (a : ℕ) → a < length (v.ended ++ w.put ∷ []) → (seat' a ≡ none) × (put_by (v.ended ++ w.put ∷ []) a ≡ h.put a) =
+      λ a k. let len = length-append v.ended (w.put ∷ []) in
+      dite (dec_lt a (length v.ended))
+      (λ y. (gone a (mine.ended a y).0, get_or_append_left v.ended (w.put ∷ []) [] a y ∙ (mine.ended a y).1))
+      (λ n. let is : a ≡ w.number = omega arith in
+      (ap seat' is ∙ seat_same h.seat w.number none, get_or_at v.ended w.put [] [] a (omega arith) ∙ his.put_is ∙ ap h.put (sym is))) in
+      let F : ℕ → Known T → Type 0 = Fits h.reader seat' h.put h.taken items h.size h.putters in
+      let Now : ℕ → Known T → Type 0 = λ j y. j ≢ other → F j y in
+      let now : All Now vs = all_set Now views pass both
+      (λ ne. record {
+        as_putter = λ q. cc;
+        as_taker = λ q. record {
+          reads = mine.reads;
+          taken_is = mine.taken_is;
+          unmade = λ a k. let no = mine.unmade a k in (gone a no.0, no.1);
+          ended = ended;
+          ended_made = let len = length-append v.ended (w.put ∷ []) in omega arith;
+          size_is = mine.size_is;
+          putters_is = mine.putters_is;
+          made_within = mine.made_within;
+        };
+        as_gatherer = λ q. cc;
+      })
+      (λ j u o e ne. let old = h.fits j u e in record {
+        as_putter = λ q. let its = old.as_putter q in record {
+          sits = kept u.number (apart h.seat u.number w.number j other its.sits his.sits ne) ∙ its.sits;
+          put_is = its.put_is;
+          size_is = its.size_is;
+          putters_is = its.putters_is;
+          below = its.below;
+        };
+        as_taker = λ q. absurd (o ((old.as_taker q).reads ∙ sym mine.reads));
+        as_gatherer = λ q. absurd (o ((old.as_gatherer q).reads ∙ sym mine.reads));
+      }) in
+      record {
+        reader = h.reader;
+        seat = seat';
+        put = h.put;
+        taken = h.taken;
+        size = h.size;
+        putters = h.putters;
+        fair = h.fair;
+        room = h.room;
+        within = h.within;
+        fits = all_set F vs other spent (spent_fits h.reader seat' h.put h.taken items h.size h.putters other) (λ j u ne e. now j u e ne);
+      }
+
+  -- once all putters have ended, no seat is left, and what each has put is known
+  all_ended : (reader : ℕ) (seat : ℕ → Option ℕ) (put : ℕ → List T) (taken items : List (ℕ × T)) (size putters pass : ℕ) (v : Known T)
+      → v.number ≡ length v.ended → IsTaker reader seat put taken items size putters pass v → (a : ℕ) → (seat a ≡ none) × (put_by v.ended a ≡ put a)
+  all_ended reader seat put taken items size putters pass v all mine a =
+      dite (dec_lt a (length v.ended)) (λ y. mine.ended a y)
+      (λ n. let past : length v.ended ≤ a = omega arith in let no = mine.unmade a (omega arith) in (no.0, put_by_past v.ended a past ∙ sym no.1))
+
+  pub closes : (pass : ℕ) (v : Known T) → v.role ≡ Taking → v.number ≡ length v.ended → Pops Ruled pass v (Closes v)
+  closes pass v may all m items views h at =
+      let w : Known T = gatherer v.taken v.ended items in
+      let mine = (h.fits pass v at).as_taker may in
+      let know = all_ended h.reader h.seat h.put h.taken (m ∷ items) h.size h.putters pass v all mine in
+      let taken' = h.taken ++ m ∷ [] in
+      let room : length (m ∷ items) ≤ v.size = let was = h.room in let is = mine.size_is in omega arith in (
+        w,
+        record {
+          reader = h.reader;
+          seat = h.seat;
+          put = h.put;
+          taken = taken';
+          size = h.size;
+          putters = h.putters;
+          fair = λ a. ap (of a) (append_assoc h.taken (m ∷ []) items) ∙ h.fair a;
+          room = let was = h.room in omega arith;
+          within = h.within;
+          fits = all_set (Fits h.reader h.seat h.put taken' items h.size h.putters) views pass w
+              (record { as_putter = λ r. cc; as_taker = λ r. cc; as_gatherer = λ r. record { reads = mine.reads; left_is = refl; all_ended = λ a. (know a).0 } })
+              (λ j u other e. let old = h.fits j u e in record {
+                as_putter = λ r. kept_putter h.reader h.seat h.put h.taken taken' (m ∷ items) items h.size h.putters j u (old.as_putter r);
+                as_taker = λ r. absurd (other ((old.as_taker r).reads ∙ sym mine.reads));
+                as_gatherer = λ r. absurd (other ((old.as_gatherer r).reads ∙ sym mine.reads));
+              });
+        },
+        (refl, (λ a. ap (λ l. of a (l ++ m ∷ items)) mine.taken_is ∙ h.fair a ∙ sym (know a).1), room),
+      )
+
+  pub shows_all : (pass : ℕ) (v : Known T) → v.role ≡ Taking → v.number ≡ length v.ended → Learns Ruled pass v (ShowsAll v)
+  shows_all pass v may all items views h at a =
+      let mine = (h.fits pass v at).as_taker may in
+      let know = all_ended h.reader h.seat h.put h.taken items h.size h.putters pass v all mine a in
+      ap (λ l. of a (l ++ items)) mine.taken_is ∙ h.fair a ∙ sym know.1
+
+  pub empties : (pass : ℕ) (v : Known T) → v.role ≡ Gathering → Pops Ruled pass v (Empties v)
+  empties pass v may m items views h at =
+      let w : Known T = gatherer v.taken v.ended items in
+      let mine = (h.fits pass v at).as_gatherer may in
+      let taken' = h.taken ++ m ∷ [] in (
+        w,
+        record {
+          reader = h.reader;
+          seat = h.seat;
+          put = h.put;
+          taken = taken';
+          size = h.size;
+          putters = h.putters;
+          fair = λ a. ap (of a) (append_assoc h.taken (m ∷ []) items) ∙ h.fair a;
+          room = let was = h.room in omega arith;
+          within = h.within;
+          fits = all_set (Fits h.reader h.seat h.put taken' items h.size h.putters) views pass w
+              (record { as_putter = λ r. cc; as_taker = λ r. cc; as_gatherer = λ r. record { reads = mine.reads; left_is = refl; all_ended = mine.all_ended } })
+              (λ j u other e. let old = h.fits j u e in record {
+                as_putter = λ r. kept_putter h.reader h.seat h.put h.taken taken' (m ∷ items) items h.size h.putters j u (old.as_putter r);
+                as_taker = λ r. absurd (other ((old.as_taker r).reads ∙ sym mine.reads));
+                as_gatherer = λ r. absurd (other ((old.as_gatherer r).reads ∙ sym mine.reads));
+              });
+        },
+        (refl, mine.left_is),
+      )
+
+  pub shows_left : (pass : ℕ) (v : Known T) → v.role ≡ Gathering → Learns Ruled pass v (ShowsLeft v)
+  shows_left pass v may items views h at = sym ((h.fits pass v at).as_gatherer may).left_is

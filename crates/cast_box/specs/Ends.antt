@@ -1,0 +1,99 @@
+-- The ends of a box, as contracts see them.
+use Rattle.std.specs.Prelude.{◌≡◌, ℕ, ◌<◌, ◌≤◌, List, [], ◌∷◌, length, slice_get, Some, Option, None}
+use Rattle.atomic_table.specs.Seated.{TableId}
+use Rattle.crossbeam_queue.specs.Fifo.{Held}
+use Rattle.cast_box.specs.Lists.{HasOwn}
+use Rattle.cast_box.specs.declared.opening.BoxFault.{BoxFault}
+use Rattle.cast_box.specs.declared.opening.BoxFault.TheVariants.{Size, Putters, Memory}
+
+-- a box of which `made` putters of `putters` were made
+pub record OpeningBox : Type 0 where
+  pub home : TableId
+  pub size : ℕ
+  pub putters : ℕ
+  pub made : ℕ
+
+-- a putter of the box `home`, which has `size` places and `putters` putters: its number, and what it has put
+pub record PutterEnd (T : Type 0) : Type 0 where
+  pub home : TableId
+  pub size : ℕ
+  pub putters : ℕ
+  pub number : ℕ
+  pub put : List T
+
+-- the taker of the box `home`: what it has taken, with the putters' numbers, and what those putters have put that have
+-- ended, which are the first
+pub record TakerEnd (T : Type 0) : Type 0 where
+  pub home : TableId
+  pub size : ℕ
+  pub putters : ℕ
+  pub taken : List (ℕ × T)
+  pub ended : List (List T)
+
+-- a box after its end: what each putter has put, what was taken and what is left
+pub record GatheredBox (T : Type 0) : Type 0 where
+  pub put : List (List T)
+  pub taken : List (ℕ × T)
+  pub left : List (ℕ × T)
+
+module _ {T : Type 0} where
+  -- the same putter of the same box, whatever it has put since
+  abbrev pub IsSamePutter : PutterEnd T → PutterEnd T → Type 0
+  IsSamePutter old new = (new.home ≡ old.home) × (new.size ≡ old.size) × (new.putters ≡ old.putters) × (new.number ≡ old.number)
+
+  -- the taker of the same box, with the same putters ended, whatever it has taken since
+  abbrev pub IsSameTaker : TakerEnd T → TakerEnd T → Type 0
+  IsSameTaker old new = (new.home ≡ old.home) × (new.size ≡ old.size) × (new.putters ≡ old.putters) × (new.ended ≡ old.ended)
+
+  -- each putter is the one that stood in its place
+  abbrev pub AreSamePutters : List (PutterEnd T) → List (PutterEnd T) → Type 0
+  AreSamePutters old new =
+      (length new ≡ length old)
+      × ((a : ℕ) (p : PutterEnd T) → slice_get new a ≡ Some p → (was : PutterEnd T) × (slice_get old a ≡ Some was) × IsSamePutter was p)
+
+  -- these are all the ends of one box, the putters in the order of their numbers
+  abbrev pub AreAllEnds : List (PutterEnd T) → TakerEnd T → Type 0
+  AreAllEnds putters taker =
+      (length putters ≡ taker.putters)
+      × ((a : ℕ) (p : PutterEnd T) → slice_get putters a ≡ Some p → (p.home ≡ taker.home) × (p.number ≡ a))
+      × (taker.ended ≡ [])
+
+  -- the putter is the next to end
+  abbrev pub IsNextToEnd : PutterEnd T → TakerEnd T → Type 0
+  IsNextToEnd putter taker = (putter.home ≡ taker.home) × (putter.number ≡ length taker.ended)
+
+  -- every putter of the box has ended
+  abbrev pub HaveAllEnded : TakerEnd T → Type 0
+  HaveAllEnded taker = length taker.ended ≡ taker.putters
+
+  -- the ends know the limits of their box, no putter has put anything, and nothing was taken
+  abbrev pub AreNew : List (PutterEnd T) → TakerEnd T → Type 0
+  AreNew putters taker =
+      ((a : ℕ) (p : PutterEnd T) → slice_get putters a ≡ Some p → (p.size ≡ taker.size) × (p.putters ≡ taker.putters) × (p.put ≡ []))
+      × (taker.taken ≡ [])
+
+  -- at one moment of the call the box held `size` items, all of its putters, and this putter's among them were the last
+  -- that it had put
+  abbrev pub WasFull : PutterEnd T → Type 0
+  WasFull p = Held p.size (HasOwn p.putters p.number p.put)
+
+  -- where it is the only putter of its box, it has put as many items as the box has places
+  abbrev pub FilledItAlone : PutterEnd T → Type 0
+  FilledItAlone p = p.putters ≡ 1 → p.size ≤ length p.put
+
+  -- the item handed out next, and then the others
+  abbrev pub left_from : Option (ℕ × T) → List (ℕ × T) → List (ℕ × T)
+  left_from None rest = []
+  left_from (Some m) rest = m ∷ rest
+
+abbrev pub IsSize : ℕ → Type 0
+IsSize size = (0 < size) × (size ≤ 4096)
+
+abbrev pub IsPutters : ℕ → Type 0
+IsPutters putters = (0 < putters) × (putters ≤ 64)
+
+-- the first refusal that has a cause
+abbrev pub IsFaultOf : ℕ → ℕ → BoxFault → Type 0
+IsFaultOf size putters Size = ¬ IsSize size
+IsFaultOf size putters Putters = IsSize size × ¬ IsPutters putters
+IsFaultOf size putters Memory = IsSize size × IsPutters putters

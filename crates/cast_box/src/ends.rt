@@ -1,0 +1,126 @@
+//! The ends of a box, which threads hold.
+ghost use Rattle.std.specs.Prelude.{◌≡◌, ◌++◌, ◌∷◌, [], ◌<◌, ◌≤◌, ℕ, length, IfNone, OnErr, MatchResult, MatchOption};
+ghost use Rattle.cast_box.specs.Lists.{IsFair, HasTakenOfEnded};
+ghost use Rattle.cast_box.specs.Ends.{PutterEnd, TakerEnd, IsSamePutter, IsSameTaker, IsNextToEnd, HaveAllEnded, WasFull, FilledItAlone};
+
+use crate::gathered::Gathered;
+use crate::rule::{BoxPass, BoxQueue, Close, EndPutter, Put, Take};
+use std::alloc::Global;
+use std::marker::Model;
+use std::sync::{Arc, Wait};
+
+/// An item that found the box full.
+#[derive(Debug, Drop)]
+pub struct Full<T> {
+    pub item: T,
+}
+
+/// An end of a box through which its thread puts items. To contracts it is its number, the limits of its box, and the list
+/// of what it has put.
+#[derive(Drop)]
+pub struct Putter<T> {
+    pub(crate) number: u64,
+    pub(crate) queue: Arc<BoxQueue<T>, Global>,
+    pub(crate) pass: BoxPass<T>,
+}
+
+impl<T> Model for Putter<T> {
+    ghost use Rattle.std.specs.Prelude.{◌≡◌, ◌<◌};
+    ghost use Rattle.std.specs.Arc.{arc_value};
+    ghost use Rattle.crossbeam_queue.specs.Passes.{view as known, IsPassOf, ruled_capacity};
+    ghost use Rattle.cast_box.specs.Ends.{PutterEnd};
+    ghost use Rattle.cast_box.specs.Rule.{putter};
+
+    ghost Value = { PutterEnd T };
+
+    ghost view = { λ p. record { home = p.pass.table_id; size = ruled_capacity (arc_value p.queue); putters = (known p.pass).putters; number = p.number; put = (known p.pass).put } };
+
+    ghost invariant = { λ p. IsPassOf (arc_value p.queue) p.pass
+        × (known p.pass ≡ putter (ruled_capacity (arc_value p.queue)) (known p.pass).putters p.number (known p.pass).put)
+        × (p.number < (known p.pass).putters) };
+}
+
+/// The end of a box through which items are taken. To contracts it is the limits of its box, the list of what it has taken,
+/// with the putters' numbers, and what those putters have put that have ended.
+#[derive(Drop)]
+pub struct Taker<T> {
+    pub(crate) queue: Arc<BoxQueue<T>, Global>,
+    pub(crate) pass: BoxPass<T>,
+}
+
+impl<T> Model for Taker<T> {
+    ghost use Rattle.std.specs.Prelude.{◌≡◌};
+    ghost use Rattle.std.specs.Arc.{arc_value};
+    ghost use Rattle.crossbeam_queue.specs.Passes.{view as known, IsPassOf, ruled_capacity};
+    ghost use Rattle.cast_box.specs.Ends.{TakerEnd};
+    ghost use Rattle.cast_box.specs.Rule.{taker};
+
+    ghost Value = { TakerEnd T };
+
+    ghost view = { λ t. record { home = t.pass.table_id; size = ruled_capacity (arc_value t.queue); putters = (known t.pass).putters; taken = (known t.pass).taken; ended = (known t.pass).ended } };
+
+    ghost invariant = { λ t. IsPassOf (arc_value t.queue) t.pass
+        × (known t.pass ≡ taker (ruled_capacity (arc_value t.queue)) (known t.pass).putters (known t.pass).putters (known t.pass).taken (known t.pass).ended) };
+}
+
+impl<T> Putter<T> {
+    /// Puts the item at the back of the box, under this putter's number. Where the box had no room at one moment of the
+    /// call, the item comes back and nothing was put: the box then held as many items as it has places, and this putter's
+    /// among them were the last that it had put. So the only putter of a box gets an item back only where it has put that
+    /// many. It may spin behind a thread that stalls in a put or a take.
+    pub fn put<R: Wait>(&mut self, rt: &R, item: T) -> Result<(), Full<T>>
+        ensures same { IsSamePutter self.old self.new }
+        ensures put { MatchResult result
+            (λ _. self.new.put ≡ self.old.put ++ item ∷ [])
+            (λ full. (full.item ≡ item) × (self.new.put ≡ self.old.put) × WasFull self.old) }
+        ensures sole { OnErr result (FilledItAlone self.old) }
+    {
+        let numbered = (self.number, item);
+        match self.queue.push_as::<Put, R>(rt, &mut self.pass, numbered) {
+            Ok(()) => Ok(()),
+            Err((_, item)) => Err(Full { item }),
+        }
+    }
+}
+
+impl<T> Taker<T> {
+    /// Takes the item at the front of the box, where it is not empty. It answers nothing only where the box was empty at
+    /// one moment of the call; so all that the putters have put that have ended was taken then. It may spin behind a thread
+    /// that stalls in a put.
+    pub fn take<R: Wait>(&mut self, rt: &R) -> Option<T>
+        ensures same { IsSameTaker self.old self.new }
+        ensures taken { MatchOption result
+            (self.new.taken ≡ self.old.taken)
+            (λ item. (from : ℕ) × (from < self.old.putters) × (self.new.taken ≡ self.old.taken ++ (from, item) ∷ [])) }
+        ensures empty { IfNone result (HasTakenOfEnded self.old.ended self.old.taken) }
+    {
+        match self.queue.pop_as::<Take, R>(rt, &mut self.pass) {
+            Some((_, item)) => Some(item),
+            None => None,
+        }
+    }
+}
+
+impl<T: Drop> Taker<T> {
+    /// Ends the putter of the next number, beginning with 0, and knows from then on what it has put. It takes no memory.
+    pub fn end(&mut self, putter: Putter<T>)
+        requires { IsNextToEnd putter self.old }
+        ensures { self.new ≡ record self.old { ended = self.old.ended ++ putter.put ∷ [] } }
+    {
+        self.queue.absorb::<EndPutter>(&mut self.pass, putter.pass);
+    }
+
+    /// Ends the box, whose putters have all ended. What was taken and then what is left has each putter's items, in the
+    /// order in which it put them, and no others; and no more is left than the box has places. It takes no memory.
+    pub fn gather<R: Wait>(self, rt: &R) -> Gathered<T>
+        requires { HaveAllEnded self }
+        ensures put { result.put ≡ self.ended }
+        ensures taken { result.taken ≡ self.taken }
+        ensures fair { IsFair result.put result.taken result.left }
+        ensures room { length result.left ≤ self.size }
+    {
+        let Taker { queue, mut pass } = self;
+        let next = queue.pop_as::<Close, R>(rt, &mut pass);
+        Gathered { queue, pass, next }
+    }
+}

@@ -1,0 +1,164 @@
+//! The rule of a box as the queue takes it: what each end knows, how ends are made and ended, and what each put and take
+//! tells.
+use crossbeam_queue::protocol::{Join, Lesson, Outcome, Protocol, Split};
+use crossbeam_queue::{Pass, RuledArrayQueue};
+use std::collections::LinkedList;
+use std::marker::{Brand, PhantomData};
+
+/// What an end may do.
+pub enum Role {
+    /// Put items under its number.
+    Putting,
+    /// Take items, make putters and end them.
+    Taking,
+    /// Take what is left, after all putters have ended.
+    Gathering,
+    /// Nothing more.
+    Ended,
+}
+
+/// What an end knows. No value of it is made: it stands in proofs alone.
+pub struct Known<T> {
+    pub role: Role,
+    /// How many places the box has.
+    pub size: u64,
+    /// How many putters the box has.
+    pub putters: u64,
+    /// Of a putter its number, of the taker how many putters were made.
+    pub number: u64,
+    pub put: LinkedList<T>,
+    pub taken: LinkedList<(u64, T)>,
+    pub ended: LinkedList<LinkedList<T>>,
+    pub left: LinkedList<(u64, T)>,
+}
+
+/// The rule of a box.
+pub struct EachInOrder;
+
+impl<T> Protocol<(u64, T), Known<T>> for EachInOrder {
+    ghost use Rattle.std.specs.Prelude.{[]};
+    ghost use Rattle.cast_box.specs.Rule.{Ruled, taker};
+
+    ghost holds = { Ruled };
+
+    ghost first = { taker 0 0 0 [] [] };
+}
+
+/// How many places and putters a box gets, which is known only when it is made.
+pub trait Limits {
+    ghost use Rattle.std.specs.Prelude.{ℕ};
+
+    ghost size: { ℕ };
+
+    ghost putters: { ℕ };
+}
+
+impl Limits for Brand {
+    ghost size = { 0 };
+
+    ghost putters = { 0 };
+}
+
+/// The first end is told the limits of its box.
+pub struct SetLimits<L: Limits> {
+    of: PhantomData<L>,
+}
+
+impl<T, L: Limits> Split<Known<T>> for SetLimits<L> {
+    ghost use Rattle.std.specs.Prelude.{[]};
+    ghost use Rattle.cast_box.specs.Rule.{taker, spent};
+
+    ghost left = { λ v. taker L.size L.putters 0 [] [] };
+
+    ghost right = { λ v. spent };
+}
+
+/// The taker makes the putter of the next number.
+pub struct NextPutter;
+
+impl<T> Split<Known<T>> for NextPutter {
+    ghost use Rattle.std.specs.Prelude.{◌+◌, []};
+    ghost use Rattle.cast_box.specs.Rule.{putter, taker};
+
+    ghost left = { λ v. taker v.size v.putters (v.number + 1) v.taken v.ended };
+
+    ghost right = { λ v. putter v.size v.putters v.number [] };
+}
+
+/// The taker ends the putter of the next number, and knows from then on what it put.
+pub struct EndPutter;
+
+impl<T> Join<Known<T>> for EndPutter {
+    ghost use Rattle.std.specs.Prelude.{◌++◌, ◌∷◌, []};
+    ghost use Rattle.cast_box.specs.Rule.{taker, spent};
+
+    ghost both = { λ v w. taker v.size v.putters v.number v.taken (v.ended ++ w.put ∷ []) };
+
+    ghost spent = { spent };
+}
+
+/// A put.
+pub struct Put;
+
+impl<T> Outcome<(u64, T), Known<T>> for Put {
+    ghost use Rattle.cast_box.specs.Rule.{Puts};
+
+    ghost then = { Puts };
+}
+
+impl<T> Lesson<(u64, T), Known<T>> for Put {
+    ghost use Rattle.cast_box.specs.Rule.{ShowsPutter};
+
+    ghost fact = { ShowsPutter };
+}
+
+/// A take while putters may still put.
+pub struct Take;
+
+impl<T> Outcome<(u64, T), Known<T>> for Take {
+    ghost use Rattle.cast_box.specs.Rule.{Takes};
+
+    ghost then = { Takes };
+}
+
+impl<T> Lesson<(u64, T), Known<T>> for Take {
+    ghost use Rattle.cast_box.specs.Rule.{ShowsEnded};
+
+    ghost fact = { ShowsEnded };
+}
+
+/// The first take after all putters have ended.
+pub struct Close;
+
+impl<T> Outcome<(u64, T), Known<T>> for Close {
+    ghost use Rattle.cast_box.specs.Rule.{Closes};
+
+    ghost then = { Closes };
+}
+
+impl<T> Lesson<(u64, T), Known<T>> for Close {
+    ghost use Rattle.cast_box.specs.Rule.{ShowsAll};
+
+    ghost fact = { ShowsAll };
+}
+
+/// A later take of what is left.
+pub struct Empty;
+
+impl<T> Outcome<(u64, T), Known<T>> for Empty {
+    ghost use Rattle.cast_box.specs.Rule.{Empties};
+
+    ghost then = { Empties };
+}
+
+impl<T> Lesson<(u64, T), Known<T>> for Empty {
+    ghost use Rattle.cast_box.specs.Rule.{ShowsLeft};
+
+    ghost fact = { ShowsLeft };
+}
+
+/// The queue of a box. Each item stands beside its putter's number.
+pub type BoxQueue<T> = RuledArrayQueue<(u64, T), Known<T>, EachInOrder>;
+
+/// What an end holds of the rule. It takes no bytes.
+pub type BoxPass<T> = Pass<(u64, T), Known<T>>;

@@ -1,0 +1,106 @@
+-- Clients and trays that are made one by one.
+use Rattle.std.proofs.Common.{◌≡◌, ℕ, zero, suc, ◌+◌, ◌<◌, List, [], ◌∷◌, ◌++◌, length, map, slice_get, Some, sym, refl, ap, ◌∙◌, subst, ⊎_elim, arith}
+use Rattle.std.proofs.lemmas.List.{length-map, length-append, map-append}
+use Rattle.std.proofs.lemmas.Option.{slice_get_within}
+use Rattle.cast_box.proofs.Closing.{get_snoc}
+use Rattle.cast_box.specs.Ends.{PutterEnd, TakerEnd, AreAllEnds, AreNew}
+use Rattle.cast_desk.specs.declared.desk.OrderIn.{OrderIn}
+use Rattle.cast_desk.specs.declared.notice.Notice.{Notice}
+use Rattle.cast_desk.specs.Desk.{ClientState, IsDeskOf, IsNewDesk}
+
+abbrev pub client_of : ℕ → ℕ → PutterEnd OrderIn → TakerEnd Notice → ClientState
+client_of number first p u = record { number = number; first_ticket = first; orders = p; tray = u }
+
+abbrev pub IsTray : ℕ → PutterEnd Notice → TakerEnd Notice → Type 0
+IsTray size t u = AreAllEnds (t ∷ []) u × AreNew (t ∷ []) u × (u.size ≡ size)
+
+pub record Made (size first : ℕ) (ps : List (PutterEnd OrderIn)) (all : List ClientState) (trays : List (PutterEnd Notice)) : Type 0 where
+  pub orders : map (λ (c : ClientState). c.orders) all ≡ ps
+  pub width : length trays ≡ length all
+  pub tray : (c : ℕ) (client : ClientState) (t : PutterEnd Notice) → slice_get all c ≡ Some client → slice_get trays c ≡ Some t → IsTray size t client.tray
+  pub client : (c : ℕ) (client : ClientState) → slice_get all c ≡ Some client → (client.number ≡ c) × (client.first_ticket ≡ first)
+
+pub made_none : (size first : ℕ) → Made size first [] [] []
+made_none size first = record { orders = refl; width = refl; tray = λ c client t e. absurd cc; client = λ c client e. absurd cc }
+
+pub map_at : {A B : Type 0} (f : A → B) (xs : List A) (i : ℕ) (x : A) → slice_get xs i ≡ Some x → slice_get (map f xs) i ≡ Some (f x)
+map_at f [] i x e = absurd cc
+map_at f (y ∷ ys) zero x e = let h : y ≡ x = cc in ap (λ z. Some (f z)) h
+map_at f (y ∷ ys) (suc i) x e = map_at f ys i x e
+
+found : {A : Type 0} (xs : List A) (a : ℕ) → a < length xs → (x : A) × (slice_get xs a ≡ Some x)
+found [] a h = absurd (omega arith)
+found (x ∷ xs) zero h = (x, refl)
+found (x ∷ xs) (suc a) h = found xs a (omega arith)
+
+module _ (size first : ℕ) (ps : List (PutterEnd OrderIn)) (all : List ClientState) (trays : List (PutterEnd Notice)) (m : Made size first ps all trays) where
+  pub made_more : (number : ℕ) (p : PutterEnd OrderIn) (t : PutterEnd Notice) (u : TakerEnd Notice) → number ≡ length ps → IsTray size t u
+      → Made size first (ps ++ p ∷ []) (all ++ client_of number first p u ∷ []) (trays ++ t ∷ [])
+  made_more number p t u n is =
+      let orders_of : ClientState → PutterEnd OrderIn = λ c. c.orders in
+      let client = client_of number first p u in
+      let many : length all ≡ length ps = sym (length-map all orders_of) ∙ ap length m.orders in
+      let w = m.width in
+      record {
+        orders = map-append orders_of all (client ∷ []) ∙ ap (λ l. l ++ p ∷ []) m.orders;
+        width = length-append trays (t ∷ []) ∙ ap (λ n. n + 1) m.width ∙ sym (length-append all (client ∷ []));
+        tray = λ c d s e f.
+            ⊎_elim
+            (λ (x : slice_get all c ≡ Some d). ⊎_elim (λ (y : slice_get trays c ≡ Some s). m.tray c d s x y)
+            (λ (y : (c ≡ length trays) × (t ≡ s)). absurd (let k = slice_get_within all c d x in let l = y.0 in omega arith)) (get_snoc trays t s c f))
+            (λ (x : (c ≡ length all) × (client ≡ d)). ⊎_elim (λ (y : slice_get trays c ≡ Some s). absurd (let k = slice_get_within trays c s y in let l = x.0 in omega arith))
+            (λ (y : (c ≡ length trays) × (t ≡ s)). let P : PutterEnd Notice → ClientState → Type 0 = λ a b. IsTray size a b.tray in subst (P s) x.1 (subst (λ a. P a client) y.1 is))
+            (get_snoc trays t s c f))
+            (get_snoc all client d c e);
+        client = λ c d e.
+            ⊎_elim (λ (x : slice_get all c ≡ Some d). m.client c d x)
+            (λ (x : (c ≡ length all) × (client ≡ d)). let P : ClientState → Type 0 = λ b. (b.number ≡ c) × (b.first_ticket ≡ first) in
+            subst P x.1 (n ∙ sym many ∙ sym x.0, refl))
+            (get_snoc all client d c e);
+      }
+
+  module _ (orders : TakerEnd OrderIn) (ends : AreAllEnds ps orders) (new : AreNew ps orders) (is_size : orders.size ≡ size) where
+    many : length all ≡ length ps
+    many = sym (length-map all (λ c. c.orders)) ∙ ap length m.orders
+
+    pub made_ends : IsDeskOf all orders trays
+    made_ends = record {
+      desk = let P : List (PutterEnd OrderIn) → Type 0 = λ l. AreAllEnds l orders in subst P (sym m.orders) ends;
+      width = m.width;
+      tray = λ c d t e f. (m.tray c d t e f).0;
+      number = λ c d e. (m.client c d e).0;
+    }
+
+    pub made_count : length all ≡ orders.putters
+    made_count = many ∙ ends.0
+
+    pub made_new : IsNewDesk size first all orders trays
+    made_new = record {
+      client = λ c d e.
+          let p = ap (λ l. slice_get l c) (sym m.orders) ∙ map_at (λ (z : ClientState). z.orders) all c d e in
+          let fresh = new.0 c d.orders p in
+          let t = found trays c (let w = m.width in let k = slice_get_within all c d e in omega arith) in
+          let is = m.tray c d t.0 e t.1 in
+          ((m.client c d e).1, fresh.2, fresh.0 ∙ is_size, fresh.1, is.1.1, is.2);
+      desk = (new.1, is_size);
+      tray = λ c t f.
+          let d = found all c (let w = m.width in let k = slice_get_within trays c t f in omega arith) in
+          let is = m.tray c d.0 t d.1 f in
+          let fresh = is.1.0 0 t refl in
+          (fresh.2, fresh.0 ∙ is.2, fresh.1 ∙ sym is.0.0);
+    }
+
+pub made_as : (size first : ℕ) (ps : List (PutterEnd OrderIn)) (all all' : List ClientState) (trays trays' : List (PutterEnd Notice))
+    → all' ≡ all → trays' ≡ trays → Made size first ps all trays → Made size first ps all' trays'
+made_as size first ps all all' trays trays' p q m =
+    let P : List ClientState → List (PutterEnd Notice) → Type 0 = λ l t. Made size first ps l t in
+    subst (λ l. P l trays') (sym p) (subst (P all) (sym q) m)
+
+-- where all putters have been seen
+pub made_all : (size first : ℕ) (ps seen : List (PutterEnd OrderIn)) (all : List ClientState) (trays : List (PutterEnd Notice)) (orders : TakerEnd OrderIn)
+    → ps ≡ seen → AreAllEnds ps orders → AreNew ps orders → orders.size ≡ size → Made size first seen all trays
+    → IsDeskOf all orders trays × (length all ≡ orders.putters) × IsNewDesk size first all orders trays
+made_all size first ps seen all trays orders e ends new is m =
+    let P : List (PutterEnd OrderIn) → Type 0 = λ l. AreAllEnds l orders × AreNew l orders in
+    let now = subst P e (ends, new) in
+    (made_ends size first seen all trays m orders now.0 now.1 is, made_count size first seen all trays m orders now.0 now.1 is, made_new size first seen all trays m orders now.0 now.1 is)

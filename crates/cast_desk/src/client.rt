@@ -1,0 +1,116 @@
+//! The ends of a node's client.
+ghost use Rattle.std.specs.Prelude.{◌≡◌, ◌<◌, ◌++◌, ◌∷◌, [], ℕ, IfOk, IfErr, IfNone, OnErr, MatchOption};
+ghost use Rattle.cast_box.specs.Lists.{HasTakenOfEnded};
+ghost use Rattle.cast_desk.specs.Desk.{ClientState, IsSameClient, IsRefusal, AreInTurn, next_ticket};
+
+use crate::desk::OrderIn;
+use crate::notice::Notice;
+use cast_box::{Full, Putter, Taker};
+use cast_message::Item;
+use std::marker::Model;
+use std::sync::Wait;
+
+/// Why an item is not submitted. It comes back.
+#[derive(Debug, Drop)]
+pub enum DeskFault {
+    /// The desk was full at one moment of the call.
+    Full(Item),
+    /// All tickets up to 2^64 - 2 were given.
+    Tickets(Item),
+}
+
+/// A client's ends of its boxes. To contracts it is its number, its first ticket and these ends; the orders that it has put
+/// carry its number and, in turn, the tickets from its first ticket on. The ends may be taken out where the client ends, but
+/// nothing can be put through them past the client.
+#[derive(Drop)]
+pub struct Client {
+    pub(crate) number: u64,
+    pub(crate) first_ticket: u64,
+    pub(crate) next_ticket: u64,
+    /// Its putter at the desk.
+    pub orders: Putter<OrderIn>,
+    /// The taker of its tray.
+    pub tray: Taker<Notice>,
+}
+
+impl Model for Client {
+    ghost use Rattle.std.specs.Prelude.{◌≡◌, ◌+◌, length};
+    ghost use Rattle.cast_desk.specs.Desk.{ClientState, AreInTurn};
+
+    ghost Value = { ClientState };
+
+    ghost view = { λ c. record { number = c.number; first_ticket = c.first_ticket; orders = c.orders; tray = c.tray } };
+
+    ghost invariant = { λ c. (c.next_ticket ≡ c.first_ticket + length c.orders.put) × AreInTurn c.number c.first_ticket c.orders.put };
+}
+
+impl Client {
+    pub(crate) fn new(
+        number: u64,
+        first_ticket: u64,
+        orders: Putter<OrderIn>,
+        tray: Taker<Notice>,
+    ) -> Client
+        requires { orders.put ≡ [] }
+        ensures { result ≡ record { number = number; first_ticket = first_ticket; orders = orders; tray = tray } }
+    {
+        Client {
+            number,
+            first_ticket,
+            next_ticket: first_ticket,
+            orders,
+            tray,
+        }
+    }
+
+    /// Puts the item on the desk as an order with the client's number and its next ticket, and answers that ticket. Tickets
+    /// rise by one from `first_ticket`; 2^64 - 1 is never given, which is tried before the put. A refusal hands the item
+    /// back and spends no ticket. It may spin behind a thread that stalls at the desk.
+    pub fn submit<R: Wait>(&mut self, rt: &R, item: Item) -> Result<u64, DeskFault>
+        ensures same { IsSameClient self.old self.new }
+        ensures tray { self.new.tray ≡ self.old.tray }
+        ensures ticket { IfOk result (λ ticket. ticket ≡ next_ticket self.old) }
+        ensures put { IfOk result (λ ticket. self.new.orders.put ≡ self.old.orders.put ++ record { client = self.old.number; ticket = ticket; item = item } ∷ []) }
+        ensures fault { IfErr result (IsRefusal self.old item) }
+        ensures kept { OnErr result (self.new.orders.put ≡ self.old.orders.put) }
+    {
+        let ticket = self.next_ticket;
+        if ticket == u64::MAX {
+            return Err(DeskFault::Tickets(item));
+        }
+        let order = OrderIn {
+            client: self.number,
+            ticket,
+            item,
+        };
+        match self.orders.put(rt, order) {
+            Ok(()) => {
+                self.next_ticket = ticket + 1;
+                Ok(ticket)
+            }
+            Err(Full { item: order }) => Err(DeskFault::Full(order.item)),
+        }
+    }
+
+    /// Takes the notice at the front of the client's tray. It answers nothing only where the tray was empty at one moment of
+    /// the call. It may spin behind a node that stalls in `notify`.
+    pub fn next<R: Wait>(&mut self, rt: &R) -> Option<Notice>
+        ensures same { IsSameClient self.old self.new }
+        ensures orders { self.new.orders ≡ self.old.orders }
+        ensures taken { MatchOption result
+            (self.new.tray.taken ≡ self.old.tray.taken)
+            (λ notice. (from : ℕ) × (from < self.old.tray.putters) × (self.new.tray.taken ≡ self.old.tray.taken ++ (from, notice) ∷ [])) }
+        ensures empty { IfNone result (HasTakenOfEnded self.old.tray.ended self.old.tray.taken) }
+    {
+        self.tray.take(rt)
+    }
+
+    /// The ends, where the client ends.
+    pub fn into_ends(self) -> (Putter<OrderIn>, Taker<Notice>)
+        ensures ends { (result.0 ≡ self.orders) × (result.1 ≡ self.tray) }
+        ensures tickets { AreInTurn self.number self.first_ticket self.orders.put }
+    {
+        let Client { orders, tray, .. } = self;
+        (orders, tray)
+    }
+}

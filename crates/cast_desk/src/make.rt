@@ -1,0 +1,103 @@
+//! The making of a desk with its clients, and its end.
+ghost use Rattle.std.specs.Prelude.{◌≡◌, ◌<◌, ◌≤◌, ◌∷◌, ◌++◌, [], ℕ, List, length, map, slice_get, Some, IfOk, IfErr};
+ghost use Rattle.cast_box.specs.Lists.{of, StartsWith, IsFair};
+ghost use Rattle.cast_box.specs.Ends.{PutterEnd, TakerEnd, AreAllEnds, AreNew};
+ghost use Rattle.cast_desk.specs.declared.notice.Notice.{Notice};
+ghost use Rattle.cast_desk.specs.Desk.{ClientState, IsDeskOf, IsNewDesk, IsFaultOf};
+
+use crate::client::Client;
+use crate::desk::{Desk, OrderIn};
+use crate::notice::Notice;
+use cast_box::{BoxFault, Gathered, Putter, Taker, make_box};
+use std::alloc::{AllocError, Global};
+use std::sync::Wait;
+
+/// A desk with `clients` clients, 1 to 4, in the order of their numbers from 0 on, each with a tray. The boxes have `size`
+/// places each, 1 to 4,096, and tickets count up from `first_ticket`. All memory that the boxes ever take is taken here. A
+/// refusal is that of a box: of two causes the size comes before the number of clients (`Putters`).
+pub fn make_desk(
+    alloc: Global,
+    size: u64,
+    clients: u64,
+    first_ticket: u64,
+) -> Result<(Vec<Client>, Desk), BoxFault>
+    ensures ends { IfOk result (λ r. IsDeskOf r.0.items r.1.orders r.1.trays.items × (length r.0.items ≡ clients) × IsNewDesk size first_ticket r.0.items r.1.orders r.1.trays.items) }
+    ensures fault { IfErr result (IsFaultOf size clients) }
+{
+    if size < 1 || size > 4096 {
+        return Err(BoxFault::Size);
+    }
+    if clients < 1 || clients > 4 {
+        return Err(BoxFault::Putters);
+    }
+    open(alloc, size, clients, first_ticket).map_err(|_| BoxFault::Memory)
+}
+
+fn open(
+    alloc: Global,
+    size: u64,
+    clients: u64,
+    first_ticket: u64,
+) -> Result<(Vec<Client>, Desk), AllocError>
+    requires { clients ≤ 4 }
+    ensures { IfOk result (λ r. IsDeskOf r.0.items r.1.orders r.1.trays.items × (length r.0.items ≡ clients) × IsNewDesk size first_ticket r.0.items r.1.orders r.1.trays.items) }
+{
+    let Ok((putters, orders)) = make_box::<OrderIn>(alloc, size, clients) else {
+        return Err(AllocError);
+    };
+    let mut all = Vec::new(alloc);
+    let mut trays = Vec::new(alloc);
+    let mut number = 0;
+    for putter in putters {
+        let (tray_putter, tray) = make_tray(alloc, size)?;
+        trays.push(tray_putter)?;
+        all.push(Client::new(number, first_ticket, putter, tray))?;
+        number += 1;
+    }
+    Ok((all, Desk { orders, trays }))
+}
+
+fn make_tray(alloc: Global, size: u64) -> Result<(Putter<Notice>, Taker<Notice>), AllocError>
+    ensures { IfOk result (λ r. AreAllEnds (r.0 ∷ []) r.1 × AreNew (r.0 ∷ []) r.1 × (r.1.size ≡ size)) }
+{
+    let Ok((putters, taker)) = make_box::<Notice>(alloc, size, 1) else {
+        return Err(AllocError);
+    };
+    Ok((sole(putters), taker))
+}
+
+fn sole(mut all: Vec<Putter<Notice>>) -> Putter<Notice>
+    requires { length all.items ≡ 1 }
+    ensures { all.items ≡ result ∷ [] }
+{
+    all.swap_remove(0)
+}
+
+/// Ends all boxes of a desk, whose ends these all are, the clients in the order of their numbers. What the desk took of a
+/// client, followed by what is left of it, is what that client submitted; and what a client took is the beginning of what it
+/// was notified. It takes no memory.
+pub fn end_desk<R: Wait>(rt: &R, clients: Vec<Client>, desk: Desk) -> Gathered<OrderIn>
+    requires { IsDeskOf clients.items desk.orders desk.trays.items }
+    ensures orders { (c : ℕ) (client : ClientState) → slice_get clients.items c ≡ Some client → of c (desk.orders.taken ++ result.left) ≡ client.orders.put }
+    ensures notices { (c : ℕ) (client : ClientState) (tray : PutterEnd Notice) → slice_get clients.items c ≡ Some client → slice_get desk.trays.items c ≡ Some tray
+        → StartsWith tray.put (map (λ m. m.1) client.tray.taken) }
+    ensures gathered { (result.taken ≡ desk.orders.taken) × (result.put ≡ map (λ c. c.orders.put) clients.items) }
+{
+    let Desk { mut orders, trays } = desk;
+    let mut trays = trays.into_iter();
+    for client in clients {
+        let tray = trays.next().unwrap();
+        let (putter, taker) = client.into_ends();
+        orders.end(putter);
+        end_tray(rt, tray, taker);
+    }
+    orders.gather(rt)
+}
+
+fn end_tray<R: Wait>(rt: &R, putter: Putter<Notice>, mut taker: Taker<Notice>)
+    requires { AreAllEnds (putter ∷ []) taker }
+    ensures { StartsWith putter.put (map (λ m. m.1) taker.taken) }
+{
+    taker.end(putter);
+    let _left = taker.gather(rt);
+}

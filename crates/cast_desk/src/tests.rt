@@ -1,0 +1,144 @@
+//! The worked rows `desk-of-one` and, as far as it speaks of desks, `box-limits`.
+use super::*;
+use cast_box::{BoxFault, Full};
+use cast_message::{Event, Item, List, Message, NodeId, Outcome};
+use cast_node::{Entry, EntryKind, Origin};
+use std::alloc::AllocError;
+use std::test::*;
+
+// The reply of row `desk-of-one`.
+fn reply() -> Notice {
+    Notice::Reply {
+        ticket: 0,
+        outcome: Ok(0),
+    }
+}
+
+#[test]
+fn desk_of_one(rt: HostRuntime) -> Result<(), Fail> {
+    let Ok((mut clients, mut desk)) = make_desk(rt.alloc(), 1, 2, 0) else {
+        return Err(Fail::from(AllocError));
+    };
+    assert!(&rt; matches!(clients[0].submit(&rt, Item::Close), Ok(0)));
+    let refused = clients[1].submit(&rt, Item::Close);
+    assert!(&rt; matches!(refused, Err(DeskFault::Full(Item::Close))));
+    let Some(order) = desk.take(&rt) else {
+        return Err(Fail::from(AllocError));
+    };
+    assert_eq!(&rt; (order.client, order.ticket), (0, 0));
+    assert!(&rt; matches!(order.item, Item::Close));
+    assert!(&rt; matches!(clients[1].submit(&rt, Item::Close), Ok(0)));
+    assert!(&rt; desk.notify(&rt, 0, reply()).is_ok());
+    assert!(&rt;
+        matches!(
+            desk.notify(&rt, 0, reply()),
+            Err(Full {
+                item: Notice::Reply {
+                    ticket: 0,
+                    outcome: Ok(0)
+                }
+            })
+        )
+    );
+    assert!(&rt;
+        matches!(
+            clients[0].next(&rt),
+            Some(Notice::Reply {
+                ticket: 0,
+                outcome: Ok(0)
+            })
+        )
+    );
+    assert!(&rt; clients[0].next(&rt).is_none());
+    Ok(())
+}
+
+#[test]
+fn last_ticket(rt: HostRuntime) -> Result<(), Fail> {
+    let last = 18446744073709551614;
+    let Ok((mut clients, _desk)) = make_desk(rt.alloc(), 4, 1, last) else {
+        return Err(Fail::from(AllocError));
+    };
+    assert!(&rt;
+        matches!(
+            clients[0].submit(&rt, Item::Close),
+            Ok(18446744073709551614)
+        )
+    );
+    let refused = clients[0].submit(&rt, Item::Close);
+    assert!(&rt; matches!(refused, Err(DeskFault::Tickets(Item::Close))));
+    Ok(())
+}
+
+#[test]
+fn desk_limits(rt: HostRuntime) {
+    for (size, clients, fault) in [
+        (4, 5, BoxFault::Putters),
+        (4, 0, BoxFault::Putters),
+        (0, 1, BoxFault::Size),
+        (4097, 5, BoxFault::Size),
+    ] {
+        let answer = make_desk(rt.alloc(), size, clients, 0).map(|_| ());
+        assert_eq!(&rt; answer, Err(fault), "at {size} {clients}");
+    }
+}
+
+#[test]
+fn nothing_is_left(rt: HostRuntime) -> Result<(), Fail> {
+    let Ok((clients, desk)) = make_desk(rt.alloc(), 1, 2, 0) else {
+        return Err(Fail::from(AllocError));
+    };
+    let mut left = end_desk(&rt, clients, desk);
+    assert!(&rt; left.next_left(&rt).is_none());
+    Ok(())
+}
+
+#[test]
+fn feed_of_one_order(rt: HostRuntime) -> Result<(), Fail> {
+    let node = NodeId(0);
+    let mut deliveries = List::new(rt.alloc());
+    deliveries.push(Message {
+        sender: node,
+        number: 0,
+        item: Item::Close,
+    })?;
+    let decisions = List::new(rt.alloc());
+    let mut log = Vec::new(rt.alloc());
+    log.push(Entry {
+        stamp: 1,
+        kind: EntryKind::Step {
+            event: Event::Order {
+                node,
+                item: Item::Close,
+            },
+            origin: Some(Origin {
+                client: 0,
+                ticket: 0,
+            }),
+            outcome: Outcome {
+                deliveries,
+                decisions,
+            },
+        },
+    })?;
+    let own = feed(rt.alloc(), &log, 0)?;
+    let [
+        Notice::Reply { ticket, outcome },
+        Notice::Delivered(message),
+    ] = own.as_slice()
+    else {
+        return Err(Fail::from(AllocError));
+    };
+    assert_eq!(&rt; (*ticket, *outcome), (0, Ok(0)));
+    assert!(&rt; is_first_close(message));
+    let others = feed(rt.alloc(), &log, 1)?;
+    let [Notice::Delivered(message)] = others.as_slice() else {
+        return Err(Fail::from(AllocError));
+    };
+    assert!(&rt; is_first_close(message));
+    Ok(())
+}
+
+fn is_first_close(message: &Message) -> bool {
+    message.sender == NodeId(0) && message.number == 0 && message.item == Item::Close
+}

@@ -1,0 +1,103 @@
+//! What a client is told of a log.
+ghost use Rattle.std.specs.Prelude.{◌≡◌, ◌++◌, IfOk, OnOk};
+ghost use Rattle.cast_desk.specs.Feed.{feed as feed_of, told_by, reply_of, refusal_of, news_of, orders_in};
+
+use crate::notice::Notice;
+use cast_message::{Event, List, Outcome, StepFault};
+use cast_node::{Entry, EntryKind, Origin};
+use std::alloc::{AllocError, Global};
+
+/// What the client of this number is told of a log, entry by entry: first the reply to its own order, with the number of
+/// orders before it in the log or with the fault for which it was refused; then each message that the step delivered; then
+/// each decision that it took.
+pub fn feed(alloc: Global, log: &[Entry], client: u64) -> Result<List<Notice>, AllocError>
+    ensures { IfOk result (λ notices. notices ≡ feed_of log.now client) }
+{
+    let mut notices = List::new(alloc);
+    let mut orders = 0;
+    for entry in log {
+        tell(&mut notices, client, orders, &entry.kind)?;
+        orders = orders.wrapping_add(orders_of(&entry.kind));
+    }
+    Ok(notices)
+}
+
+fn tell(
+    notices: &mut List<Notice>,
+    client: u64,
+    number: u64,
+    kind: &EntryKind,
+) -> Result<(), AllocError>
+    ensures { OnOk result (notices.new ≡ notices.old ++ told_by client number kind.now) }
+{
+    match kind {
+        EntryKind::Step {
+            event,
+            origin,
+            outcome,
+        } => {
+            tell_reply(notices, client, event, origin, number)?;
+            tell_news(notices, outcome)
+        }
+        EntryKind::Refused { origin, fault } => tell_refusal(notices, client, *origin, *fault),
+    }
+}
+
+fn tell_reply(
+    notices: &mut List<Notice>,
+    client: u64,
+    event: &Event,
+    origin: &Option<Origin>,
+    number: u64,
+) -> Result<(), AllocError>
+    ensures { OnOk result (notices.new ≡ notices.old ++ reply_of client event.now origin.now number) }
+{
+    if let (Event::Order { .. }, Some(origin)) = (event, origin) {
+        if origin.client == client {
+            let outcome = Ok(number);
+            let ticket = origin.ticket;
+            return notices.push(Notice::Reply { ticket, outcome });
+        }
+    }
+    Ok(())
+}
+
+fn tell_refusal(
+    notices: &mut List<Notice>,
+    client: u64,
+    origin: Origin,
+    fault: StepFault,
+) -> Result<(), AllocError>
+    ensures { OnOk result (notices.new ≡ notices.old ++ refusal_of client origin fault) }
+{
+    if origin.client == client {
+        let outcome = Err(fault);
+        let ticket = origin.ticket;
+        return notices.push(Notice::Reply { ticket, outcome });
+    }
+    Ok(())
+}
+
+fn tell_news(notices: &mut List<Notice>, outcome: &Outcome) -> Result<(), AllocError>
+    ensures { OnOk result (notices.new ≡ notices.old ++ news_of outcome.now) }
+{
+    for message in outcome.deliveries.as_slice() {
+        notices.push(Notice::Delivered(message.copy()?))?;
+    }
+    for decision in outcome.decisions.as_slice() {
+        notices.push(Notice::Decided(*decision))?;
+    }
+    Ok(())
+}
+
+fn orders_of(kind: &EntryKind) -> u64
+    ensures { result ≡ orders_in kind.now }
+{
+    match kind {
+        EntryKind::Step {
+            event: Event::Order { .. },
+            ..
+        } => 1,
+        _ => 0,
+    }
+}
