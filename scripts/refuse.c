@@ -11,7 +11,9 @@ static int refused(void) {
         const char *number = getenv("REFUSE_NTH");
         left = number ? atol(number) : 0;
     }
-    return left > 0 && --left == 0;
+    if (left <= 0 || --left > 0) return 0;
+    errno = ENOMEM;
+    return 1;
 }
 
 static void *next_of(const char *name) { return dlsym(RTLD_NEXT, name); }
