@@ -7,11 +7,10 @@ use cast_text::{TextFault, run_text};
 use clap::error::ErrorKind;
 use clap::{Arg, ArgMatches, Command, Error};
 use std::alloc::{AllocError, Global};
-use std::fs;
-use std::io;
 use std::io::{BufWriter, Write};
 use std::process::ExitCode;
 use std::rt::Runtime;
+use std::{fs, io};
 
 /// What the process ends with.
 #[derive(Clone, Copy)]
@@ -125,7 +124,10 @@ fn refuse<R: Eprint>(rt: &R, fault: TextFault) -> Status {
             (eprintln!(rt; "castgroup: out of memory"), Status::Resources)
         }
         TextFault::Script(ScriptFault::NotJson) => {
-            (eprintln!(rt; "castgroup: script: not json"), Status::Refused)
+            (
+                eprintln!(rt; "castgroup: script: not json"),
+                Status::Refused,
+            )
         }
         TextFault::Script(ScriptFault::Shape { index }) => (
             eprintln!(rt; "castgroup: script: shape {index}"),
