@@ -1,0 +1,79 @@
+-- When what a node keeps stands for its steps: each part shows what the definitions say of them.
+--     item_at hs s i                 the item of a held pair
+--     StandsOut                      what it gave a peer, and owes it
+--     Stands config me steps kept    the node has these steps behind it
+--     Continues                      how a node goes on by a step
+use Rattle.std.specs.Prelude.{◌≡◌, ℕ, ◌-◌, ◌<◌, nat_lt, Bool, not, ◌&&◌, if◌then◌else◌, List, [], ◌∷◌, ◌++◌, length, map, slice_index_or, Option, Some, None, option_map, Result, Ok, Err}
+use Rattle.std.specs.List.{filter}
+use Rattle.std.specs.Ordering.{nat_cmp}
+use Rattle.std.specs.FinSet as set
+use Rattle.std.specs.FinMap as finite
+use Rattle.cast_message.specs.declared.config.Config.{Config}
+use Rattle.cast_message.specs.declared.event.Answer.{Answer}
+use Rattle.cast_message.specs.declared.event.StepFault.{StepFault}
+use Rattle.cast_message.specs.declared.message.Item.{Item}
+use Rattle.cast_message.specs.declared.message.Message.{Message}
+use Rattle.cast_message.specs.History.{has_pair}
+use Rattle.cast_message.specs.Replies.{is_from}
+use Rattle.cast_message.specs.Steps.{Step, Steps, own_items, frame_count, Held, held}
+use Rattle.cast_message.specs.OwnSteps.{own_live, own_copies, own_given, own_taken, own_acked, own_owed, own_knows, own_is_ready, message_at, message_in, own_log, own_fault, node_reply, node_after, IsOwnAccepted}
+use Rattle.cast_link.specs.Links.{Link}
+use Rattle.cast_relay.specs.Held.{holds}
+use Rattle.cast_fifo.specs.Held.{held_of}
+use Rattle.cast_fifo.proofs.Stands.{Stands as HoldsBack}
+use Rattle.cast_agree.specs.Proposals.{counted_of}
+use Rattle.cast_node.specs.Kept.{Kept, link_to, taken_from, knowers_of}
+use Rattle.cast_node.specs.Turns.{IsRefused}
+
+abbrev pub item_of : Message → Item
+item_of message = message.item
+
+-- the item of a held pair
+abbrev pub item_at : List Held → ℕ → ℕ → Option Item
+item_at hs s i = option_map item_of (message_at hs s i)
+
+-- what is owed in a slot of these, given to q
+abbrev pub owed_in : ℕ → Steps → ℕ → ℕ → Option Message
+owed_in me steps q slot =
+    if nat_lt slot (length (own_given me steps q)) && not (own_acked steps q slot)
+    then Some (message_in (own_given me steps q) slot)
+    else None
+
+-- how many slots were given to q, and the messages of those that q has not acknowledged
+pub record StandsOut (me : ℕ) (steps : Steps) (q : ℕ) (link : Link) : Type 0 where
+  pub given : link.given ≡ length (own_given me steps q)
+  pub owed : (slot : ℕ) → finite.get link.owed slot ≡ owed_in me steps q slot
+  pub count : finite.len link.owed ≡ length (own_owed me steps q)
+
+-- the deliveries as agreement takes them, the newest first
+unfoldable pub newest_first : List (ℕ × Item) → List Message → List (ℕ × Item)
+newest_first before [] = before
+newest_first before (message ∷ messages) = newest_first ((message.sender, message.item) ∷ before) messages
+
+pub record Stands (config : Config) (me : ℕ) (steps : Steps) (kept : Kept) : Type 0 where
+  pub accepted : IsOwnAccepted config me steps
+  pub place : me < config.nodes
+  pub same_config : kept.config ≡ config
+  pub same_me : kept.me ≡ me
+  pub live : kept.live ≡ own_live steps
+  pub frames : kept.frames ≡ frame_count steps
+  pub stream : kept.stream ≡ own_items steps
+  pub relay_me : kept.relay.me ≡ me
+  pub relay_size : length kept.relay.numbers ≡ 256
+  pub relay_holds : (s i : ℕ) → s < config.nodes → holds kept.relay s i ≡ has_pair (own_copies me steps) s i
+  pub peers_out : length kept.outgoing ≡ config.nodes
+  pub out : (q : ℕ) → q < config.nodes → StandsOut me steps q (link_to kept q)
+  pub peers_in : length kept.incoming ≡ config.nodes
+  pub taken : (r slot : ℕ) → r < config.nodes → set.contains (taken_from kept r) slot ≡ own_taken steps r slot
+  pub senders_back : length kept.hold_back ≡ config.nodes
+  pub holds_back : (s : ℕ) → s < config.nodes → HoldsBack (item_at (held me steps) s) (own_is_ready config me steps s) (held_of kept.hold_back s)
+  pub senders_known : length kept.knowers ≡ config.nodes
+  pub knows : (s i r : ℕ) → s < config.nodes → set.contains (knowers_of kept s i) r ≡ (has_pair (own_copies me steps) s i && (nat_lt r config.nodes && own_knows me steps s i r))
+  pub senders_delivered : length kept.delivered ≡ config.nodes
+  pub delivers : (s : ℕ) → s < config.nodes → slice_index_or kept.delivered s [] ≡ map item_of (filter (is_from s) (own_log config me steps))
+  pub agrees : kept.agree ≡ counted_of (config.nodes - config.faults) (newest_first [] (own_log config me steps))
+
+-- how a node that has these steps behind it goes on by one more: as the definitions say, or it wants memory in place of an answer
+abbrev pub Continues : Config → ℕ → Steps → Step → Result Answer StepFault → Kept → Type 0
+Continues config me steps step (Ok answer) kept = (node_reply config me steps step ≡ Ok answer) × Stands config me (node_after config me steps step) kept
+Continues config me steps step (Err refusal) kept = IsRefused (own_fault config me steps step) refusal × Stands config me steps kept
