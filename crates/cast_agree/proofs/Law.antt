@@ -36,15 +36,15 @@ take_some [] ys (suc n) l = absurd (omega arith)
 take_some (x ∷ xs) ys zero l = refl
 take_some (x ∷ xs) ys (suc n) l = ap (λ zs. x ∷ zs) (take_some xs ys n (omega arith))
 
-values-push : (ps : List (ℕ × ℕ)) (s v : ℕ) → values (ps ++ (s, v) ∷ []) ≡ values ps ++ v ∷ []
+pub values-push : (ps : List (ℕ × ℕ)) (s v : ℕ) → values (ps ++ (s, v) ∷ []) ≡ values ps ++ v ∷ []
 values-push [] s v = refl
 values-push (p ∷ ps) s v = ap (λ xs. p.1 ∷ xs) (values-push ps s v)
 
-length-values : (ps : List (ℕ × ℕ)) → length (values ps) ≡ length ps
+pub length-values : (ps : List (ℕ × ℕ)) → length (values ps) ≡ length ps
 length-values [] = refl
 length-values (p ∷ ps) = ap suc (length-values ps)
 
-proposed-push : (ps : List (ℕ × ℕ)) (s v q : ℕ) → has_proposed (ps ++ (s, v) ∷ []) q ≡ ((q == s) || has_proposed ps q)
+pub proposed-push : (ps : List (ℕ × ℕ)) (s v q : ℕ) → has_proposed (ps ++ (s, v) ∷ []) q ≡ ((q == s) || has_proposed ps q)
 proposed-push [] s v q = refl
 proposed-push (p ∷ ps) s v q = ap (λ b. (q == p.0) || b) (proposed-push ps s v q) ∙ swap (q == p.0) (q == s) (has_proposed ps q)
   where

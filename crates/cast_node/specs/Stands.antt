@@ -3,7 +3,7 @@
 --     StandsOut                      what it gave a peer, and owes it
 --     Stands config me steps kept    the node has these steps behind it
 --     Continues                      how a node goes on by a step
-use Rattle.std.specs.Prelude.{◌≡◌, ℕ, ◌-◌, ◌<◌, nat_lt, Bool, not, ◌&&◌, if◌then◌else◌, List, [], ◌∷◌, ◌++◌, length, map, slice_index_or, Option, Some, None, option_map, Result, Ok, Err}
+use Rattle.std.specs.Prelude.{◌≡◌, ◌≢◌, ℕ, ◌-◌, ◌<◌, nat_lt, Bool, not, ◌&&◌, if◌then◌else◌, List, [], ◌∷◌, ◌++◌, length, map, slice_index_or, Option, Some, None, option_map, Result, Ok, Err}
 use Rattle.std.specs.List.{filter}
 use Rattle.std.specs.Ordering.{nat_cmp}
 use Rattle.std.specs.FinSet as set
@@ -62,7 +62,7 @@ pub record Stands (config : Config) (me : ℕ) (steps : Steps) (kept : Kept) : T
   pub relay_size : length kept.relay.numbers ≡ 256
   pub relay_holds : (s i : ℕ) → s < config.nodes → holds kept.relay s i ≡ has_pair (own_copies me steps) s i
   pub peers_out : length kept.outgoing ≡ config.nodes
-  pub out : (q : ℕ) → q < config.nodes → StandsOut me steps q (link_to kept q)
+  pub out : (q : ℕ) → q < config.nodes → q ≢ me → StandsOut me steps q (link_to kept q)
   pub peers_in : length kept.incoming ≡ config.nodes
   pub taken : (r slot : ℕ) → r < config.nodes → set.contains (taken_from kept r) slot ≡ own_taken steps r slot
   pub senders_back : length kept.hold_back ≡ config.nodes

@@ -1,0 +1,150 @@
+-- The members kept of a pair are the nodes known to hold it, and so as many.
+use Rattle.std.proofs.Common.{◌≡◌, ◌≢◌, ℕ, zero, suc, ◌+◌, ◌<◌, ◌≤◌, refl, sym, ◌∙◌, ap, Bool, true, false, not, ◌&&◌, ◌||◌, cond, List, [], ◌∷◌, ◌++◌, length, map, inl, inr, ◌⊎◌, arith, length-append}
+use Rattle.std.specs.Prelude.{◌==◌, nat_lt, slice_set, slice_index_or}
+use Rattle.std.specs.List.{count_by, filter, range_with_len, list_any}
+use Rattle.std.specs.Ordering.{nat_cmp, eq_by_cmp}
+use Rattle.std.specs.Cmp.{nat_cmp_total}
+use Rattle.std.specs.FinSet as set
+use Rattle.std.specs.FinSet.{contains-insert, contains-empty, len-empty, same_set, nat_cmp-IsAntisymmetric}
+use Rattle.std.proofs.lemmas.Bool.Decides.{nat_tests, leb_tells, eqb_tells}
+use Rattle.std.proofs.lemmas.Bool.{and_parts, eqb-true}
+use Rattle.std.proofs.lemmas.List.Sums.{length-filter}
+use Rattle.std.proofs.lemmas.List.Elements.{filter-append}
+use Rattle.std.proofs.lemmas.List.Folds.{list_any-append}
+use Rattle.cast_sets.specs.Members.{members_below, contains-members_below, members_below-empty, len-new_member}
+use Rattle.cast_message.specs.declared.config.Config.{Config}
+use Rattle.cast_message.specs.declared.config.Mode.{Mode}
+use Rattle.cast_message.specs.declared.config.Mode.TheVariants.{Basic, Uniform}
+use Rattle.cast_message.specs.declared.message.Message.{Message}
+use Rattle.cast_message.specs.History.{has_pair}
+use Rattle.cast_message.specs.Delivery.{nodes_of}
+use Rattle.cast_message.specs.Steps.{Step, Steps, Held, copy_of}
+use Rattle.cast_message.specs.OwnSteps.{own_copies, own_knows, own_known_by, own_known_enough, own_is_ready, IsOwnAccepted}
+use Rattle.cast_message.proofs.OwnGrowth.{brought, own_copies-more}
+use Rattle.cast_node.specs.Kept.{knowers_in, is_enough_in}
+use Rattle.cast_node.specs.Turns.{known_row}
+use Rattle.cast_node.proofs.Links.{range-more}
+use Rattle.cast_node.proofs.Tellers.{knowers_in-set}
+
+-- as many numbers below n pass a test as the set of them has members
+len-members : (f : ℕ → Bool) (n : ℕ) → set.len (members_below n f) ≡ count_by f (range_with_len 0 n)
+unfolding members_below
+len-members f zero = len-empty nat_cmp
+len-members f (suc n) = by_test (len-members f n) (f n) refl
+  where
+    last : count_by f (range_with_len 0 (suc n)) ≡ count_by f (range_with_len 0 n) + cond (f n) 1 0
+    last =
+        sym (length-filter f (range_with_len 0 (suc n)))
+        ∙ ap (λ k. length (filter f (range_with_len 0 k))) (let z : suc n ≡ n + 1 = omega arith in z)
+        ∙ ap (λ xs. length (filter f xs)) (range-more n 0)
+        ∙ ap length (filter-append f (range_with_len 0 n) ((0 + n) ∷ []))
+        ∙ length-append (filter f (range_with_len 0 n)) (filter f ((0 + n) ∷ []))
+        ∙ ap (λ k. k + length (filter f ((0 + n) ∷ []))) (length-filter f (range_with_len 0 n))
+        ∙ (let z : 0 + n ≡ n = omega arith in ap (λ k. count_by f (range_with_len 0 n) + length (filter f (k ∷ []))) z)
+        ∙ ap (λ k. count_by f (range_with_len 0 n) + k) (one (f n))
+      where
+        one : (b : Bool) → length (cond b (n ∷ []) []) ≡ cond b 1 0
+        one true = refl
+        one false = refl
+
+    absent : set.contains (members_below n f) n ≡ false
+    absent = contains-members_below n f n ∙ ap (λ b. b && f n) (let z : nat_lt n n ≡ false = grind (arith, nat_tests) in z)
+
+    with_last : (q : ℕ) → f n ≡ true → (nat_lt q (suc n) && f q) ≡ (eq_by_cmp nat_cmp q n || (nat_lt q n && f q))
+    with_last q e = elim (eqb_tells q n) [
+      | inl here ↦ (let same : f q ≡ true = ap f here.1 ∙ e in grind (arith, nat_tests))
+      | inr apart ↦ grind (arith, nat_tests)
+    ]
+
+    without_last : (q : ℕ) → f n ≡ false → (nat_lt q (suc n) && f q) ≡ (nat_lt q n && f q)
+    without_last q e = elim (eqb_tells q n) [
+      | inl here ↦ (let same : f q ≡ false = ap f here.1 ∙ e in grind (arith, nat_tests))
+      | inr apart ↦ grind (arith, nat_tests)
+    ]
+
+    by_test : set.len (members_below n f) ≡ count_by f (range_with_len 0 n) → (b : Bool) → f n ≡ b → set.len (members_below (suc n) f) ≡ count_by f (range_with_len 0 (suc n))
+    by_test ih true e =
+        ap set.len (same_set nat_cmp_total nat_cmp-IsAntisymmetric (members_below (suc n) f) (set.insert (members_below n f) n) (λ q. contains-members_below (suc n) f q ∙ with_last q e ∙ sym (contains-insert nat_cmp_total (members_below n f) n q ∙ ap (λ b. eq_by_cmp nat_cmp q n || b) (contains-members_below n f q))))
+        ∙ len-new_member (members_below n f) n absent
+        ∙ ap (λ k. k + 1) ih
+        ∙ sym (last ∙ ap (λ b. count_by f (range_with_len 0 n) + cond b 1 0) e)
+    by_test ih false e =
+        ap set.len (same_set nat_cmp_total nat_cmp-IsAntisymmetric (members_below (suc n) f) (members_below n f) (λ q. contains-members_below (suc n) f q ∙ without_last q e ∙ sym (contains-members_below n f q)))
+        ∙ ih
+        ∙ sym (last ∙ ap (λ b. count_by f (range_with_len 0 n) + cond b 1 0) e ∙ (let z : count_by f (range_with_len 0 n) + 0 ≡ count_by f (range_with_len 0 n) = omega arith in z))
+
+pub len_by_test : (members : set.FinSet nat_cmp) (n : ℕ) (f : ℕ → Bool) → ((q : ℕ) → set.contains members q ≡ (nat_lt q n && f q)) → set.len members ≡ count_by f (range_with_len 0 n)
+len_by_test members n f h = ap set.len (same_set nat_cmp_total nat_cmp-IsAntisymmetric members (members_below n f) (λ q. h q ∙ sym (contains-members_below n f q))) ∙ len-members f n
+
+-- the members kept of each pair are the nodes known to hold it
+abbrev pub KnowsAll : Config → ℕ → Steps → List (List (set.FinSet nat_cmp)) → Type 0
+KnowsAll config me steps all = (s i r : ℕ) → s < config.nodes → set.contains (knowers_in all s i) r ≡ (has_pair (own_copies me steps) s i && (nat_lt r config.nodes && own_knows me steps s i r))
+
+pub known_by-is : (config : Config) (me : ℕ) (steps : Steps) (all : List (List (set.FinSet nat_cmp))) → KnowsAll config me steps all → (s i : ℕ) → s < config.nodes → set.len (knowers_in all s i) ≡ own_known_by config me steps s i
+unfolding own_known_by
+known_by-is config me steps all h s i l = by_test (has_pair (own_copies me steps) s i) (λ r. h s i r l)
+  where
+    by_test : (b : Bool) → ((r : ℕ) → set.contains (knowers_in all s i) r ≡ (b && (nat_lt r config.nodes && own_knows me steps s i r))) → set.len (knowers_in all s i) ≡ cond b (count_by (own_knows me steps s i) (nodes_of config)) 0
+    by_test true e = len_by_test (knowers_in all s i) config.nodes (own_knows me steps s i) e
+    by_test false e = ap set.len (same_set nat_cmp_total nat_cmp-IsAntisymmetric (knowers_in all s i) set.empty (λ q. e q ∙ sym (contains-empty nat_cmp q))) ∙ len-empty nat_cmp
+
+pub enough-is : (config : Config) (me : ℕ) (steps : Steps) (all : List (List (set.FinSet nat_cmp))) → KnowsAll config me steps all → (s i : ℕ) → s < config.nodes → is_enough_in config.mode config.faults (knowers_in all s i) ≡ own_known_enough config.mode config me steps s i
+unfolding own_known_enough
+enough-is config me steps all h s i l = by_mode config.mode
+  where
+    by_mode : (mode : Mode) → is_enough_in mode config.faults (knowers_in all s i) ≡ own_known_enough mode config me steps s i
+    by_mode Basic = refl
+    by_mode Uniform = ap (nat_lt config.faults) (known_by-is config me steps all h s i l)
+
+-- a pair of which nothing new is known is as ready as it was
+pub ready_alike : (config : Config) (me : ℕ) (step : Step) (steps : Steps) (s i : ℕ) → has_pair (own_copies me (step ∷ steps)) s i ≡ has_pair (own_copies me steps) s i → ((r : ℕ) → own_knows me (step ∷ steps) s i r ≡ own_knows me steps s i r) → own_is_ready config me (step ∷ steps) s i ≡ own_is_ready config me steps s i
+unfolding own_is_ready own_known_enough own_known_by
+ready_alike config me step steps s i pair knows = λ k. pair k && by_mode config.mode k
+  where
+    by_mode : (mode : Mode) → own_known_enough mode config me (step ∷ steps) s i ≡ own_known_enough mode config me steps s i
+    by_mode Basic = refl
+    by_mode Uniform = λ k. nat_lt config.faults (cond (pair k) (count_by (λ r. knows r k) (nodes_of config)) 0)
+
+-- whether these are numbers of one pair
+abbrev pub same_pair : ℕ → ℕ → ℕ → ℕ → Bool
+same_pair s i x k = x == s && k == i
+
+-- what is held after a step that brings one message
+pub pair_more : (me : ℕ) (step : Step) (steps : Steps) (h : Held) → brought me steps step ≡ h ∷ [] → (s i : ℕ) → has_pair (own_copies me (step ∷ steps)) s i ≡ (has_pair (own_copies me steps) s i || same_pair h.message.sender h.message.number s i)
+unfolding has_pair
+pair_more me step steps h e s i =
+    ap (λ copies. has_pair copies s i) (own_copies-more me step steps ∙ ap (λ hs. own_copies me steps ++ map copy_of hs) e)
+    ∙ list_any-append _ (own_copies me steps) (copy_of h ∷ [])
+    ∙ ap (λ b. has_pair (own_copies me steps) s i || b) (turn h.message.sender h.message.number)
+  where
+    turn : (a b : ℕ) → ((a == s && b == i) || false) ≡ (s == a && i == b)
+    turn a b = grind (arith, nat_tests)
+
+pub pair_none : (me : ℕ) (step : Step) (steps : Steps) → brought me steps step ≡ [] → (s i : ℕ) → has_pair (own_copies me (step ∷ steps)) s i ≡ has_pair (own_copies me steps) s i
+unfolding has_pair
+pair_none me step steps e s i =
+    ap (λ copies. has_pair copies s i) (own_copies-more me step steps ∙ ap (λ hs. own_copies me steps ++ map copy_of hs) e)
+    ∙ list_any-append _ (own_copies me steps) []
+    ∙ no_more (has_pair (own_copies me steps) s i)
+  where
+    no_more : (b : Bool) → (b || false) ≡ b
+    no_more true = refl
+    no_more false = refl
+
+module _ (config : Config) (me : ℕ) (step : Step) (steps : Steps) (all : List (List (set.FinSet nat_cmp))) (before : KnowsAll config me steps all) where
+  -- nothing new is known
+  pub knows_same : ((s i : ℕ) → has_pair (own_copies me (step ∷ steps)) s i ≡ has_pair (own_copies me steps) s i) → ((s i r : ℕ) → own_knows me (step ∷ steps) s i r ≡ own_knows me steps s i r) → KnowsAll config me (step ∷ steps) all
+  knows_same pair knows s i r l = before s i r l ∙ sym (λ k. pair s i k && (nat_lt r config.nodes && knows s i r k))
+
+  module _ (a b : ℕ) (members : set.FinSet nat_cmp) (place : a < length all) (same_size : length all ≡ config.nodes)
+    (other : (s i : ℕ) → same_pair a b s i ≡ false → (has_pair (own_copies me (step ∷ steps)) s i ≡ has_pair (own_copies me steps) s i) × ((r : ℕ) → own_knows me (step ∷ steps) s i r ≡ own_knows me steps s i r))
+    (here : (r : ℕ) → set.contains members r ≡ (has_pair (own_copies me (step ∷ steps)) a b && (nat_lt r config.nodes && own_knows me (step ∷ steps) a b r))) where
+    -- something is known of one pair
+    pub knows_pair : KnowsAll config me (step ∷ steps) (slice_set all a (known_row (slice_index_or all a []) b members))
+    knows_pair s i r l = ap (λ m. set.contains m r) (knowers_in-set all a b members place s i) ∙ by_test (same_pair a b s i) refl
+      where
+        by_test : (c : Bool) → same_pair a b s i ≡ c → set.contains (cond c members (knowers_in all s i)) r ≡ (has_pair (own_copies me (step ∷ steps)) s i && (nat_lt r config.nodes && own_knows me (step ∷ steps) s i r))
+        by_test true e =
+            let p = and_parts (s == a) (i == b) e in
+            here r ∙ (λ k. has_pair (own_copies me (step ∷ steps)) (sym (eqb-true s a p.0) k) (sym (eqb-true i b p.1) k) && (nat_lt r config.nodes && own_knows me (step ∷ steps) (sym (eqb-true s a p.0) k) (sym (eqb-true i b p.1) k) r))
+        by_test false e = let o = other s i e in before s i r l ∙ sym (λ k. o.0 k && (nat_lt r config.nodes && o.1 r k))

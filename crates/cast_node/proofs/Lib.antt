@@ -1,0 +1,6 @@
+pub mod Places
+pub mod Links
+pub mod Tellers
+pub mod Known
+pub mod Back
+pub mod Counting

@@ -1,0 +1,253 @@
+-- What a node gave its peers, and owes them, after each step.
+use Rattle.std.proofs.Common.{◌≡◌, ◌≢◌, ℕ, zero, suc, ◌+◌, ◌-◌, ◌<◌, ◌≤◌, refl, sym, ◌∙◌, ap, subst, Bool, true, false, not, ◌&&◌, ◌||◌, cond, List, [], ◌∷◌, ◌++◌, length, map, Option, Some, None, inl, inr, ◌⊎◌, arith, length-append, true≢false}
+use Rattle.std.specs.Prelude.{◌==◌, nat_lt, nat_eq, slice_index_or, is_some, if◌then◌else◌}
+use Rattle.std.specs.List.{filter, list_any, range_with_len}
+use Rattle.std.specs.Ordering.{nat_cmp, eq_by_cmp}
+use Rattle.std.specs.Cmp.{nat_cmp_total}
+use Rattle.std.specs.FinMap as finite
+use Rattle.std.specs.FinMap.{get-insert, get-remove, len-insert, len-remove}
+use Rattle.std.proofs.lemmas.Bool.Decides.{nat_tests, leb_tells, eqb_tells}
+use Rattle.std.proofs.lemmas.Bool.{cases_eq, cases_lt, lt-ltb, ltb-true, false_from_ne_true}
+use Rattle.std.proofs.lemmas.List.{get_or_append_left, append-nil}
+use Rattle.std.proofs.lemmas.List.Elements.{filter-append}
+use Rattle.std.proofs.lemmas.List.FromFn.{length-range_with_len}
+use Rattle.cast_message.specs.declared.config.Config.{Config}
+use Rattle.cast_message.specs.declared.message.Item.TheVariants.{Close}
+use Rattle.cast_message.specs.declared.message.Message.{Message}
+use Rattle.cast_message.specs.declared.message.Frame.{Frame}
+use Rattle.cast_message.specs.declared.message.FrameBody.{FrameBody}
+use Rattle.cast_message.specs.declared.message.FrameBody.TheVariants.{Carry, Took}
+use Rattle.cast_message.specs.History.{is_took_of}
+use Rattle.cast_message.specs.Steps.{Step, Steps, Held, frames_in, frame_of}
+use Rattle.cast_message.specs.OwnSteps.{own_given, own_acked, own_owed, message_in, IsOwnAccepted}
+use Rattle.cast_message.proofs.Members.{Member, Member-list_any}
+use Rattle.cast_message.proofs.OwnGrowth.{brought, own_given-more, frames_given, GivenTo}
+use Rattle.cast_link.specs.Links.{Link}
+use Rattle.cast_relay.specs.Held.{Held as HeldPairs, relays_to}
+use Rattle.cast_node.specs.Turns.{given_one, given_from}
+use Rattle.cast_node.specs.Stands.{owed_in, StandsOut}
+use Rattle.cast_node.proofs.Places.{same_number, other_number}
+
+pub length-given_from : (q : ℕ) (relay : HeldPairs) (source : ℕ) (message : Message) (links : List Link) → length (given_from q relay source message links) ≡ length links
+unfolding given_from
+length-given_from q relay source message [] = refl
+length-given_from q relay source message (link ∷ links) = ap suc (length-given_from (q + 1) relay source message links)
+
+abbrev pub goes : HeldPairs → ℕ → Message → ℕ → Link → Link
+goes relay source message q link = cond (relays_to relay message.sender source q) (given_one link message) link
+
+pub given_from-at : (q : ℕ) (relay : HeldPairs) (source : ℕ) (message : Message) (links : List Link) (i : ℕ) (d : Link) → i < length links → slice_index_or (given_from q relay source message links) i d ≡ goes relay source message (q + i) (slice_index_or links i d)
+unfolding given_from
+given_from-at q relay source message [] i d h = absurd (omega (arith, h))
+given_from-at q relay source message (link ∷ links) zero d h = ap (λ k. goes relay source message k link) (let z : q ≡ q + 0 = omega arith in z)
+given_from-at q relay source message (link ∷ links) (suc i) d h =
+    given_from-at (q + 1) relay source message links i d (omega (arith, h))
+    ∙ ap (λ k. goes relay source message k (slice_index_or links i d)) (let z : (q + 1) + i ≡ q + suc i = omega arith in z)
+
+cmp_eq : (q k : ℕ) → eq_by_cmp nat_cmp q k ≡ (q == k)
+cmp_eq q k = grind (arith, nat_tests)
+
+-- a slot that isn't given is not acknowledged
+pub acked_given : (config : Config) (me : ℕ) (steps : Steps) → IsOwnAccepted config me steps → (q slot : ℕ) → own_acked steps q slot ≡ true → slot < length (own_given me steps q)
+unfolding own_acked
+acked_given config me steps accepted q slot e =
+    let found = Member-list_any (λ (frame : Frame). frame.from == q && is_took_of slot frame.body) (frames_in steps) e in
+    by_body found.0.from found.0.body (frames_given config me steps accepted found.0 found.1) found.2
+  where
+    by_body : (from : ℕ) (body : FrameBody) → GivenTo me steps from body → (from == q && is_took_of slot body) ≡ true → slot < length (own_given me steps q)
+    by_body from (Carry place message) h t = absurd (true≢false (sym t ∙ never (from == q)))
+      where
+        never : (b : Bool) → (b && false) ≡ false
+        never true = refl
+        never false = refl
+    by_body from (Took place) h t = grind (arith, nat_tests)
+
+pub range-more : (n a : ℕ) → range_with_len a (n + 1) ≡ range_with_len a n ++ (a + n) ∷ []
+range-more zero a = ap (λ k. k ∷ []) (let z : a ≡ a + 0 = omega arith in z)
+range-more (suc n) a = ap (range_with_len a) (let z : suc n + 1 ≡ suc (n + 1) = omega arith in z) ∙ ap (λ xs. a ∷ xs) (range-more n (a + 1) ∙ ap (λ k. range_with_len (a + 1) n ++ k ∷ []) (let z : (a + 1) + n ≡ a + suc n = omega arith in z))
+
+-- with one place more, at which the test holds
+one_place : (p : ℕ → Bool) (n : ℕ) → p n ≡ true → length (filter p (range_with_len 0 (n + 1))) ≡ length (filter p (range_with_len 0 n)) + 1
+one_place p n e =
+    ap (λ xs. length (filter p xs)) (range-more n 0)
+    ∙ ap length (filter-append p (range_with_len 0 n) ((0 + n) ∷ []))
+    ∙ length-append (filter p (range_with_len 0 n)) (filter p ((0 + n) ∷ []))
+    ∙ ap (λ b. length (filter p (range_with_len 0 n)) + length (cond b ((0 + n) ∷ []) [])) (ap p (let z : 0 + n ≡ n = omega arith in z) ∙ e)
+
+filter_alike : (p t : ℕ → Bool) (xs : List ℕ) → ((k : ℕ) → p k ≡ t k) → filter p xs ≡ filter t xs
+filter_alike p t xs h = λ i. filter (λ k. h k i) xs
+
+module _ (me : ℕ) (steps : Steps) (step : Step) (q : ℕ) where
+  abbrev slot_owed : ℕ → Bool
+  slot_owed slot = not (own_acked steps q slot)
+
+  abbrev slot_after : ℕ → Bool
+  slot_after slot = not (own_acked (step ∷ steps) q slot)
+
+  -- where the step gives the peer nothing and brings no acknowledgement of it
+  pub out_same : (link : Link) → own_given me (step ∷ steps) q ≡ own_given me steps q → ((slot : ℕ) → own_acked (step ∷ steps) q slot ≡ own_acked steps q slot) → StandsOut me steps q link → StandsOut me (step ∷ steps) q link
+  unfolding own_owed
+  out_same link same still h = record {
+    given = h.given ∙ sym (ap length same);
+    owed = λ slot. h.owed slot ∙ sym (λ i. if nat_lt slot (length (same i)) && not (still slot i) then Some (message_in (same i) slot) else None);
+    count = h.count ∙ sym (λ i. length (filter (λ slot. not (still slot i)) (range_with_len 0 (length (same i)))));
+  }
+
+  last_message : (given : List Held) (h : Held) → message_in (given ++ h ∷ []) (length given) ≡ h.message
+  unfolding message_in
+  last_message [] h = refl
+  last_message (x ∷ given) h = last_message given h
+
+  message_before : (given : List Held) (h : Held) (slot : ℕ) → slot < length given → message_in (given ++ h ∷ []) slot ≡ message_in given slot
+  unfolding message_in
+  message_before given h slot l = ap (λ x. x.message) (get_or_append_left given (h ∷ []) _ slot l)
+
+  -- where it gives one message more
+  pub out_given : (config : Config) → IsOwnAccepted config me steps → (link : Link) (h : Held) → own_given me (step ∷ steps) q ≡ own_given me steps q ++ h ∷ [] → ((slot : ℕ) → own_acked (step ∷ steps) q slot ≡ own_acked steps q slot) → StandsOut me steps q link → StandsOut me (step ∷ steps) q (given_one link h.message)
+  unfolding own_owed
+  out_given config accepted link h more still stands = record {
+    given = ap (λ n. n + 1) stands.given ∙ sym (ap length more ∙ length-append (own_given me steps q) (h ∷ []));
+    owed = λ slot. get-insert nat_cmp_total link.owed link.given h.message slot ∙ at slot;
+    count = len-insert nat_cmp_total link.owed link.given h.message ∙ ap (λ b. cond b (finite.len link.owed) (finite.len link.owed + 1)) none_there ∙ ap (λ n. n + 1) stands.count
+        ∙ sym ((λ i. length (filter (λ slot. not (still slot i)) (range_with_len 0 (length (more i))))) ∙ ap (λ n. length (filter slot_owed (range_with_len 0 n))) (length-append (own_given me steps q) (h ∷ [])) ∙ one_place slot_owed (length (own_given me steps q)) (ap not fresh));
+  }
+    where
+      size : ℕ
+      size = length (own_given me steps q)
+
+      fresh : own_acked steps q (length (own_given me steps q)) ≡ false
+      fresh = false_from_ne_true _ (λ e. let l = acked_given config me steps accepted q (length (own_given me steps q)) e in omega (arith, l))
+
+      no_slot : (n slot : ℕ) → n ≤ slot → nat_lt slot n ≡ false
+      no_slot n slot l = grind (arith, nat_tests)
+
+      is_slot : (n slot : ℕ) → slot < n → nat_lt slot n ≡ true
+      is_slot n slot l = grind (arith, nat_tests)
+
+      none_there : finite.contains_key link.owed link.given ≡ false
+      none_there = ap is_some (ap (finite.get link.owed) stands.given ∙ stands.owed size ∙ ap (λ b. if b && not (own_acked steps q size) then Some (message_in (own_given me steps q) size) else None) (no_slot size size (omega arith)))
+
+      after : ℕ → Option Message
+      after slot = if nat_lt slot (size + 1) && not (own_acked steps q slot) then Some (message_in (own_given me steps q ++ h ∷ []) slot) else None
+
+      is_after : (slot : ℕ) → owed_in me (step ∷ steps) q slot ≡ after slot
+      is_after slot =
+          (λ i. if nat_lt slot (length (more i)) && not (still slot i) then Some (message_in (more i) slot) else None)
+          ∙ ap (λ n. if nat_lt slot n && not (own_acked steps q slot) then Some (message_in (own_given me steps q ++ h ∷ []) slot) else None) (length-append (own_given me steps q) (h ∷ []))
+
+      at : (slot : ℕ) → cond (eq_by_cmp nat_cmp slot link.given) (Some h.message) (finite.get link.owed slot) ≡ owed_in me (step ∷ steps) q slot
+      at slot =
+          ap (λ b. cond b (Some h.message) (finite.get link.owed slot)) (cmp_eq slot link.given ∙ ap (λ n. slot == n) stands.given)
+          ∙ ap (cond (slot == size) (Some h.message)) (stands.owed slot)
+          ∙ elim (cases_eq slot size) [
+            | inl e ↦
+                (ap (λ b. cond b (Some h.message) (owed_in me steps q slot)) (same_number slot size e)
+                ∙ sym (ap after e ∙ (λ i. if is_slot (size + 1) size (omega arith) i && not (fresh i) then Some (last_message (own_given me steps q) h i) else None)))
+            | inr e ↦ ap (λ b. cond b (Some h.message) (owed_in me steps q slot)) (other_number slot size e) ∙ beside slot e
+          ]
+          ∙ sym (is_after slot)
+        where
+          beside : (slot : ℕ) → slot ≢ size → owed_in me steps q slot ≡ after slot
+          beside slot e = elim (cases_lt slot size) [
+            | inl l ↦
+                (let in_both : nat_lt slot size ≡ nat_lt slot (size + 1) = is_slot size slot l ∙ sym (is_slot (size + 1) slot (omega (arith, l))) in
+                λ i. if in_both i && not (own_acked steps q slot) then Some (sym (message_before (own_given me steps q) h slot l) i) else None)
+            | inr l ↦
+                (let past : size + 1 ≤ slot = omega (arith, l, e) in
+                ap (λ b. if b && not (own_acked steps q slot) then Some (message_in (own_given me steps q) slot) else None) (no_slot size slot l)
+                ∙ sym (ap (λ b. if b && not (own_acked steps q slot) then Some (message_in (own_given me steps q ++ h ∷ []) slot) else None) (no_slot (size + 1) slot past)))
+          ]
+
+  no_more : (b : Bool) → (b || false) ≡ b
+  no_more true = refl
+  no_more false = refl
+
+  unchanged : (b c : Bool) → (c ≡ true → b ≡ true) → (b || c) ≡ b
+  unchanged true c h = refl
+  unchanged false true h = sym (h refl)
+  unchanged false false h = refl
+
+  -- where it takes the acknowledgement of a slot that was given
+  module _ (slot : ℕ) (same : own_given me (step ∷ steps) q ≡ own_given me steps q) (told : (k : ℕ) → own_acked (step ∷ steps) q k ≡ (own_acked steps q k || (slot == k))) where
+    -- it was acknowledged before
+    pub out_acked_again : (link : Link) → own_acked steps q slot ≡ true → StandsOut me steps q link → StandsOut me (step ∷ steps) q link
+    out_acked_again link before h = out_same link same (λ k. told k ∙ unchanged (own_acked steps q k) (slot == k) (λ e. ap (own_acked steps q) (let z : k ≡ slot = grind (arith, nat_tests) in z) ∙ before)) h
+
+    fewer : (p t : ℕ → Bool) (a n : ℕ) → a ≤ slot → slot < a + n → p slot ≡ true → ((k : ℕ) → t k ≡ (p k && not (slot == k))) → length (filter t (range_with_len a n)) + 1 ≡ length (filter p (range_with_len a n))
+    fewer p t a zero low high e is = absurd (omega (arith, low, high))
+    fewer p t a (suc n) low high e is = elim (cases_eq slot a) [
+      | inl here ↦
+          (ap (λ b. length (cond b (a ∷ filter t (range_with_len (a + 1) n)) (filter t (range_with_len (a + 1) n))) + 1) (is a ∙ ap (λ b. p a && not b) (same_number slot a here) ∙ none (p a))
+          ∙ ap (λ xs. length xs + 1) (alike n (a + 1) (omega (arith, here)))
+          ∙ (let z : length (filter p (range_with_len (a + 1) n)) + 1 ≡ suc (length (filter p (range_with_len (a + 1) n))) = omega arith in z)
+          ∙ sym (ap (λ b. length (cond b (a ∷ filter p (range_with_len (a + 1) n)) (filter p (range_with_len (a + 1) n)))) (ap p (sym here) ∙ e)))
+      | inr apart ↦
+          (let rest = fewer p t (a + 1) n (omega (arith, low, apart)) (omega (arith, high)) e is in
+          ap (λ b. length (cond b (a ∷ filter t (range_with_len (a + 1) n)) (filter t (range_with_len (a + 1) n))) + 1) (is a ∙ ap (λ b. p a && not b) (other_number slot a apart) ∙ all (p a))
+          ∙ by_test (p a) rest)
+    ]
+      where
+        none : (b : Bool) → (b && false) ≡ false
+        none true = refl
+        none false = refl
+
+        all : (b : Bool) → (b && true) ≡ b
+        all true = refl
+        all false = refl
+
+        alike : (m b : ℕ) → slot < b → filter t (range_with_len b m) ≡ filter p (range_with_len b m)
+        alike zero b l = refl
+        alike (suc m) b l = λ i. cond ((is b ∙ ap (λ c. p b && not c) (other_number slot b (omega (arith, l))) ∙ all (p b)) i) (b ∷ alike m (b + 1) (omega (arith, l)) i) (alike m (b + 1) (omega (arith, l)) i)
+
+        by_test : (b : Bool) → length (filter t (range_with_len (a + 1) n)) + 1 ≡ length (filter p (range_with_len (a + 1) n)) →
+            length (cond b (a ∷ filter t (range_with_len (a + 1) n)) (filter t (range_with_len (a + 1) n))) + 1 ≡ length (cond b (a ∷ filter p (range_with_len (a + 1) n)) (filter p (range_with_len (a + 1) n)))
+        by_test true h = omega (arith, h)
+        by_test false h = h
+
+    -- it is owed
+    pub out_acked : (link : Link) → slot < length (own_given me steps q) → own_acked steps q slot ≡ false → StandsOut me steps q link → StandsOut me (step ∷ steps) q (record { given = link.given; owed = finite.remove link.owed slot })
+    unfolding own_owed
+    out_acked link inside waiting stands = record {
+      given = stands.given ∙ sym (ap length same);
+      owed = λ k. get-remove nat_cmp_total link.owed slot k ∙ ap (λ b. cond b None (finite.get link.owed k)) (cmp_eq k slot) ∙ at k;
+      count =
+          len-remove nat_cmp_total link.owed slot
+          ∙ ap (λ b. cond b (finite.len link.owed - 1) (finite.len link.owed)) there
+          ∙ ap (λ n. n - 1) (stands.count ∙ sym less)
+          ∙ (let z : (length (filter slot_after (range_with_len 0 (length (own_given me steps q)))) + 1) - 1 ≡ length (filter slot_after (range_with_len 0 (length (own_given me steps q)))) = omega arith in z)
+          ∙ sym (ap (λ given. length (filter slot_after (range_with_len 0 (length given)))) same);
+    }
+      where
+        is_slot : (n : ℕ) → slot < n → nat_lt slot n ≡ true
+        is_slot n l = grind (arith, nat_tests)
+
+        there : finite.contains_key link.owed slot ≡ true
+        there = ap is_some (stands.owed slot ∙ (λ i. if is_slot (length (own_given me steps q)) inside i && not (waiting i) then Some (message_in (own_given me steps q) slot) else None))
+
+        neither : (b c : Bool) → not (b || c) ≡ (not b && not c)
+        neither true c = refl
+        neither false c = refl
+
+        less : length (filter slot_after (range_with_len 0 (length (own_given me steps q)))) + 1 ≡ length (filter slot_owed (range_with_len 0 (length (own_given me steps q))))
+        less = fewer slot_owed slot_after 0 (length (own_given me steps q)) (omega arith) (omega (arith, inside)) (ap not waiting) (λ k. ap not (told k) ∙ neither (own_acked steps q k) (slot == k))
+
+        apart : (b c : Bool) (x : Option Message) → c ≡ false → cond (b && not c) x None ≡ cond (b && not false) x None
+        apart b c x e = ap (λ y. cond (b && not y) x None) e
+
+        gone : (a b : Bool) (x : Option Message) → cond (a && not (b || true)) x None ≡ None
+        gone true true x = refl
+        gone true false x = refl
+        gone false b x = refl
+
+        is_after : (k : ℕ) → owed_in me (step ∷ steps) q k ≡ (if nat_lt k (length (own_given me steps q)) && not (own_acked steps q k || (slot == k)) then Some (message_in (own_given me steps q) k) else None)
+        is_after k = λ i. if nat_lt k (length (same i)) && not (told k i) then Some (message_in (same i) k) else None
+
+        at : (k : ℕ) → cond (k == slot) None (finite.get link.owed k) ≡ owed_in me (step ∷ steps) q k
+        at k = elim (cases_eq k slot) [
+          | inl e ↦
+              (ap (λ b. cond b None (finite.get link.owed k)) (same_number k slot e)
+              ∙ sym (is_after k ∙ ap (λ b. if nat_lt k (length (own_given me steps q)) && not (own_acked steps q k || b) then Some (message_in (own_given me steps q) k) else None) (same_number slot k (sym e)) ∙ gone (nat_lt k (length (own_given me steps q))) (own_acked steps q k) (Some (message_in (own_given me steps q) k))))
+          | inr e ↦
+              (ap (λ b. cond b None (finite.get link.owed k)) (other_number k slot e) ∙ stands.owed k
+              ∙ sym (is_after k ∙ ap (λ b. if nat_lt k (length (own_given me steps q)) && not b then Some (message_in (own_given me steps q) k) else None) (ap (λ b. own_acked steps q k || b) (other_number slot k (λ z. e (sym z))) ∙ no_more (own_acked steps q k))))
+        ]
