@@ -4,3 +4,5 @@ pub mod Tellers
 pub mod Known
 pub mod Back
 pub mod Counting
+pub mod Telling
+pub mod Hearing

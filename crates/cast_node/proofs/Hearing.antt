@@ -1,0 +1,206 @@
+-- What stands once a step was taken in: that of a new message, and that of one that tells more of a held pair.
+use Rattle.std.proofs.Common.{◌≡◌, ◌≢◌, ℕ, zero, suc, ◌+◌, ◌-◌, ◌<◌, ◌≤◌, refl, sym, ◌∙◌, ap, subst, Bool, true, false, not, ◌&&◌, ◌||◌, cond, List, [], ◌∷◌, ◌++◌, length, map, Option, Some, None, inl, inr, arith, true≢false}
+use Rattle.std.specs.Prelude.{◌==◌, nat_lt, slice_index_or, slice_set}
+use Rattle.std.specs.List.{filter, list_any}
+use Rattle.std.specs.Ordering.{nat_cmp, eq_by_cmp}
+use Rattle.std.specs.Cmp.{nat_cmp_total}
+use Rattle.std.specs.FinSet as set
+use Rattle.std.specs.FinSet.{contains-insert, contains-empty}
+use Rattle.std.specs.FinMap as finite
+use Rattle.std.proofs.lemmas.Bool.{cases_eq, or_left}
+use Rattle.std.proofs.lemmas.Bool.Decides.{nat_tests, eqb_tells}
+use Rattle.std.proofs.lemmas.List.{append-nil}
+use Rattle.cast_message.specs.declared.config.Config.{Config}
+use Rattle.cast_message.specs.declared.message.Item.{Item}
+use Rattle.cast_message.specs.declared.message.Message.{Message}
+use Rattle.cast_message.specs.History.{has_pair}
+use Rattle.cast_message.specs.Replies.{is_from}
+use Rattle.cast_message.specs.Steps.{Step, Steps, own_items, frame_count, Held, held}
+use Rattle.cast_message.specs.OwnSteps.{own_live, own_copies, own_given, own_acked, own_knows, own_is_ready, own_taken, own_concerned, own_log, IsOwnAccepted}
+use Rattle.cast_message.proofs.OwnGrowth.{brought, held-more, own_given-more}
+use Rattle.cast_link.specs.Links.{Link}
+use Rattle.cast_relay.specs.Held.{holds, relays_to}
+use Rattle.cast_fifo.specs.Held.{Held as HeldBack, held_of, nothing_held, with_item}
+use Rattle.cast_fifo.proofs.Stands.{Stands as HoldsBack}
+use Rattle.cast_agree.specs.Proposals.{counted_of}
+use Rattle.cast_node.specs.Kept.{Kept, link_to, taken_from, knowers_of}
+use Rattle.cast_node.specs.Turns.{with_knower, spread, given_one, given_from}
+use Rattle.cast_node.specs.Stands.{item_of, item_at, newest_first, StandsOut, Stands}
+use Rattle.cast_node.proofs.Places.{length-slice_set, at_set, same_number, other_number}
+use Rattle.cast_node.proofs.Links.{length-given_from, given_from-at, goes, out_same, out_given}
+use Rattle.cast_node.proofs.Known.{KnowsAll, ready_alike, same_pair, pair_more, pair_none, knows_pair}
+use Rattle.cast_node.proofs.Back.{back_same, back_more, item_other}
+use Rattle.cast_node.proofs.Telling.{Heard}
+
+-- The node's own numbers, its relay and what it took stand for one step more; what is held back, known, delivered and
+-- counted stands for the steps before.
+pub record Base (config : Config) (me : ℕ) (step : Step) (steps : Steps) (kept : Kept) : Type 0 where
+  pub accepted : IsOwnAccepted config me (step ∷ steps)
+  pub before : IsOwnAccepted config me steps
+  pub place : me < config.nodes
+  pub same_config : kept.config ≡ config
+  pub same_me : kept.me ≡ me
+  pub live : kept.live ≡ own_live (step ∷ steps)
+  pub frames : kept.frames ≡ frame_count (step ∷ steps)
+  pub stream : kept.stream ≡ own_items (step ∷ steps)
+  pub relay_me : kept.relay.me ≡ me
+  pub relay_size : length kept.relay.numbers ≡ 256
+  pub relay_holds : (x k : ℕ) → x < config.nodes → holds kept.relay x k ≡ has_pair (own_copies me (step ∷ steps)) x k
+  pub peers_out : length kept.outgoing ≡ config.nodes
+  pub peers_in : length kept.incoming ≡ config.nodes
+  pub taken : (r slot : ℕ) → r < config.nodes → set.contains (taken_from kept r) slot ≡ own_taken (step ∷ steps) r slot
+  pub senders_back : length kept.hold_back ≡ config.nodes
+  pub holds_back : (s : ℕ) → s < config.nodes → HoldsBack (item_at (held me steps) s) (own_is_ready config me steps s) (held_of kept.hold_back s)
+  pub senders_known : length kept.knowers ≡ config.nodes
+  pub knows : KnowsAll config me steps kept.knowers
+  pub senders_delivered : length kept.delivered ≡ config.nodes
+  pub delivers : (x : ℕ) → x < config.nodes → slice_index_or kept.delivered x [] ≡ map item_of (filter (is_from x) (own_log config me steps))
+  pub agrees : kept.agree ≡ counted_of (config.nodes - config.faults) (newest_first [] (own_log config me steps))
+
+other_pair : (a b s i : ℕ) → s ≢ a → same_pair a b s i ≡ false
+other_pair a b s i e = ap (λ c. c && i == b) (other_number s a e)
+
+other_item : (a b i : ℕ) → i ≢ b → same_pair a b a i ≡ false
+other_item a b i e = ap (λ c. a == a && c) (other_number i b e) ∙ none (a == a)
+  where
+    none : (c : Bool) → (c && false) ≡ false
+    none true = refl
+    none false = refl
+
+module _ (config : Config) (me : ℕ) (step : Step) (steps : Steps) (kept : Kept) (b : Base config me step steps kept) where
+  -- more is heard of a pair that is held
+  module _ (s i r : ℕ) (nothing_new : brought me steps step ≡ []) (sender : s < config.nodes) (from : r < config.nodes)
+    (pair : has_pair (own_copies me steps) s i ≡ true)
+    (here : (x : ℕ) → own_knows me (step ∷ steps) s i x ≡ (own_knows me steps s i x || (r == x)))
+    (other : (x k : ℕ) → same_pair s i x k ≡ false → (y : ℕ) → own_knows me (step ∷ steps) x k y ≡ own_knows me steps x k y)
+    (concerned : own_concerned me steps step ≡ Some s)
+    (out : (q : ℕ) → q < config.nodes → q ≢ me → StandsOut me (step ∷ steps) q (link_to kept q)) where
+    items_same : (x k : ℕ) → item_at (held me (step ∷ steps)) x k ≡ item_at (held me steps) x k
+    items_same x k = ap (λ hs. item_at hs x k) (held-more me step steps ∙ ap (λ hs. held me steps ++ hs) nothing_new ∙ append-nil (held me steps))
+
+    ready_same : (x k : ℕ) → same_pair s i x k ≡ false → own_is_ready config me (step ∷ steps) x k ≡ own_is_ready config me steps x k
+    ready_same x k e = ready_alike config me step steps x k (pair_none me step steps nothing_new x k) (other x k e)
+
+    members_here : (x : ℕ) → set.contains (set.insert (knowers_of kept s i) r) x ≡ (has_pair (own_copies me (step ∷ steps)) s i && (nat_lt x config.nodes && own_knows me (step ∷ steps) s i x))
+    members_here x =
+        contains-insert nat_cmp_total (knowers_of kept s i) r x
+        ∙ ap (λ c. eq_by_cmp nat_cmp x r || c) (b.knows s i x sender ∙ (λ k. pair k && (nat_lt x config.nodes && own_knows me steps s i x)))
+        ∙ joined (own_knows me steps s i x)
+        ∙ sym (λ k. (pair_none me step steps nothing_new s i ∙ pair) k && (nat_lt x config.nodes && here x k))
+      where
+        joined : (c : Bool) → (eq_by_cmp nat_cmp x r || (true && (nat_lt x config.nodes && c))) ≡ (true && (nat_lt x config.nodes && (c || (r == x))))
+        joined c = elim (eqb_tells x r) [
+          | inl e ↦ (let l : x < config.nodes = omega (arith, from, e.1) in grind (arith, nat_tests))
+          | inr e ↦ grind (arith, nat_tests)
+        ]
+
+    pub known_heard : Heard config me step steps (with_knower kept s i r) s i
+    known_heard = record {
+      accepted = b.accepted; place = b.place; same_config = b.same_config; same_me = b.same_me; live = b.live; frames = b.frames; stream = b.stream;
+      relay_me = b.relay_me; relay_size = b.relay_size; relay_holds = b.relay_holds; peers_out = b.peers_out; out = out; peers_in = b.peers_in; taken = b.taken;
+      senders_back = b.senders_back;
+      back_here = back_items s (held_of kept.hold_back s) (b.holds_back s sender);
+      back_other = λ x l e. back_same config me step steps x (held_of kept.hold_back x) (items_same x) (λ k. ready_same x k (other_pair s i x k e)) (b.holds_back x l);
+      senders_known = length-slice_set kept.knowers s _ ∙ b.senders_known;
+      knows = knows_pair config me step steps kept.knowers b.knows s i (set.insert (knowers_of kept s i) r) (subst (λ n. s < n) (sym b.senders_known) sender) b.senders_known
+          (λ x k e. (pair_none me step steps nothing_new x k, other x k e)) members_here;
+      senders_delivered = b.senders_delivered; delivers = b.delivers; agrees = b.agrees;
+      sender = sender;
+      pair = pair_none me step steps nothing_new s i ∙ pair;
+      others = λ k e. ready_same s k (other_item s i k e);
+      concerned = concerned;
+    }
+      where
+        back_items : (x : ℕ) (back : HeldBack) → HoldsBack (item_at (held me steps) x) (own_is_ready config me steps x) back → HoldsBack (item_at (held me (step ∷ steps)) x) (own_is_ready config me steps x) back
+        back_items x back h = subst (λ hs. HoldsBack (item_at hs x) (own_is_ready config me steps x) back) (sym (held-more me step steps ∙ ap (λ hs. held me steps ++ hs) nothing_new ∙ append-nil (held me steps))) h
+
+  -- a message that wasn't held
+  module _ (h : Held) (new : brought me steps step ≡ h ∷ []) (sender : h.message.sender < config.nodes) (from : h.source < config.nodes)
+    (fresh : has_pair (own_copies me steps) h.message.sender h.message.number ≡ false)
+    (here : (x : ℕ) → own_knows me (step ∷ steps) h.message.sender h.message.number x ≡ ((x == me || x == h.message.sender) || (h.source == x)))
+    (other : (x k : ℕ) → same_pair h.message.sender h.message.number x k ≡ false → (y : ℕ) → own_knows me (step ∷ steps) x k y ≡ own_knows me steps x k y)
+    (concerned : own_concerned me steps step ≡ Some h.message.sender)
+    (still : (q slot : ℕ) → own_acked (step ∷ steps) q slot ≡ own_acked steps q slot)
+    (out : (q : ℕ) → q < config.nodes → q ≢ me → StandsOut me steps q (link_to kept q)) where
+    held_is : held me (step ∷ steps) ≡ held me steps ++ h ∷ []
+    held_is = held-more me step steps ∙ ap (λ hs. held me steps ++ hs) new
+
+    pair_other : (x k : ℕ) → same_pair h.message.sender h.message.number x k ≡ false → has_pair (own_copies me (step ∷ steps)) x k ≡ has_pair (own_copies me steps) x k
+    pair_other x k e = pair_more me step steps h new x k ∙ ap (λ c. has_pair (own_copies me steps) x k || c) e ∙ none (has_pair (own_copies me steps) x k)
+      where
+        none : (c : Bool) → (c || false) ≡ c
+        none true = refl
+        none false = refl
+
+    pair_here : has_pair (own_copies me (step ∷ steps)) h.message.sender h.message.number ≡ true
+    pair_here = pair_more me step steps h new h.message.sender h.message.number ∙ (λ k. fresh k || (same_number h.message.sender h.message.sender refl k && same_number h.message.number h.message.number refl k))
+
+    ready_other : (x k : ℕ) → same_pair h.message.sender h.message.number x k ≡ false → own_is_ready config me (step ∷ steps) x k ≡ own_is_ready config me steps x k
+    ready_other x k e = ready_alike config me step steps x k (pair_other x k e) (other x k e)
+
+    abbrev members : set.FinSet nat_cmp
+    members = set.insert (set.insert (set.insert set.empty kept.me) h.message.sender) h.source
+
+    members_new : (x : ℕ) → set.contains members x ≡ (has_pair (own_copies me (step ∷ steps)) h.message.sender h.message.number && (nat_lt x config.nodes && own_knows me (step ∷ steps) h.message.sender h.message.number x))
+    members_new x =
+        contains-insert nat_cmp_total (set.insert (set.insert set.empty kept.me) h.message.sender) h.source x
+        ∙ ap (λ c. eq_by_cmp nat_cmp x h.source || c) (contains-insert nat_cmp_total (set.insert set.empty kept.me) h.message.sender x)
+        ∙ ap (λ c. eq_by_cmp nat_cmp x h.source || (eq_by_cmp nat_cmp x h.message.sender || c)) (contains-insert nat_cmp_total set.empty kept.me x ∙ (λ k. eq_by_cmp nat_cmp x (b.same_me k) || contains-empty nat_cmp x k))
+        ∙ joined h.source h.message.sender from sender
+        ∙ sym (λ k. pair_here k && (nat_lt x config.nodes && here x k))
+      where
+        joined : (u v : ℕ) → u < config.nodes → v < config.nodes → (eq_by_cmp nat_cmp x u || (eq_by_cmp nat_cmp x v || (eq_by_cmp nat_cmp x me || false))) ≡ (true && (nat_lt x config.nodes && ((x == me || x == v) || (u == x))))
+        joined u v lu lv = elim (eqb_tells x u) [
+          | inl e ↦ (let l : x < config.nodes = omega (arith, lu, e.1) in grind (arith, nat_tests))
+          | inr e ↦ (elim (eqb_tells x v) [
+            | inl f ↦ (let l : x < config.nodes = omega (arith, lv, f.1) in grind (arith, nat_tests))
+            | inr f ↦ (elim (eqb_tells x me) [
+              | inl g ↦ (let l : x < config.nodes = (let p = b.place in omega (arith, p, g.1)) in grind (arith, nat_tests))
+              | inr g ↦ grind (arith, nat_tests)
+            ])
+          ])
+        ]
+
+    out_after : (q : ℕ) → q < config.nodes → q ≢ me → StandsOut me (step ∷ steps) q (slice_index_or (given_from 0 kept.relay h.source h.message kept.outgoing) q (record { given = 0; owed = finite.empty }))
+    out_after q l apart =
+        subst (StandsOut me (step ∷ steps) q) (sym (given_from-at 0 kept.relay h.source h.message kept.outgoing q _ (subst (λ n. q < n) (sym b.peers_out) l)))
+        (subst (λ k. StandsOut me (step ∷ steps) q (goes kept.relay h.source h.message k (link_to kept q))) (let z : q ≡ 0 + q = omega arith in z)
+        (by_test (relays_to kept.relay h.message.sender h.source q) refl))
+      where
+        given_is : own_given me (step ∷ steps) q ≡ own_given me steps q ++ cond (not (h.message.sender == q) && not (h.source == q)) (h ∷ []) []
+        given_is = own_given-more me step steps q ∙ ap (λ hs. own_given me steps q ++ filter (λ (x : Held). not (x.message.sender == q) && not (x.source == q)) hs) new
+
+        same_test : (u v w : ℕ) → w ≢ q → (not (q == w) && not (q == u) && not (q == v)) ≡ (not (u == q) && not (v == q))
+        same_test u v w e = grind (arith, nat_tests)
+
+        test_is : relays_to kept.relay h.message.sender h.source q ≡ (not (h.message.sender == q) && not (h.source == q))
+        test_is = same_test h.message.sender h.source kept.relay.me (λ z. apart (sym z ∙ b.relay_me))
+
+        by_test : (c : Bool) → relays_to kept.relay h.message.sender h.source q ≡ c → StandsOut me (step ∷ steps) q (cond c (given_one (link_to kept q) h.message) (link_to kept q))
+        by_test true e = out_given me steps step q config b.before (link_to kept q) h (given_is ∙ ap (λ c. own_given me steps q ++ cond c (h ∷ []) []) (sym test_is ∙ e)) (still q) (out q l apart)
+        by_test false e = out_same me steps step q (link_to kept q) (given_is ∙ ap (λ c. own_given me steps q ++ cond c (h ∷ []) []) (sym test_is ∙ e) ∙ append-nil (own_given me steps q)) (still q) (out q l apart)
+
+    pub new_heard : Heard config me step steps (spread kept h.message h.source) h.message.sender h.message.number
+    new_heard = record {
+      accepted = b.accepted; place = b.place; same_config = b.same_config; same_me = b.same_me; live = b.live; frames = b.frames; stream = b.stream;
+      relay_me = b.relay_me; relay_size = b.relay_size; relay_holds = b.relay_holds;
+      peers_out = length-given_from 0 kept.relay h.source h.message kept.outgoing ∙ b.peers_out;
+      out = out_after;
+      peers_in = b.peers_in; taken = b.taken;
+      senders_back = length-slice_set kept.hold_back h.message.sender _ ∙ b.senders_back;
+      back_here = subst (HoldsBack (item_at (held me (step ∷ steps)) h.message.sender) (own_is_ready config me steps h.message.sender)) (sym (back_at h.message.sender ∙ ap (λ c. cond c (with_item (held_of kept.hold_back h.message.sender) h.message.number h.message.item) (held_of kept.hold_back h.message.sender)) (same_number h.message.sender h.message.sender refl)))
+          (subst (λ hs. HoldsBack (item_at hs h.message.sender) (own_is_ready config me steps h.message.sender) (with_item (held_of kept.hold_back h.message.sender) h.message.number h.message.item)) (sym held_is) (back_more config me steps h (held_of kept.hold_back h.message.sender) (b.holds_back h.message.sender sender)));
+      back_other = λ x l e. subst (HoldsBack (item_at (held me (step ∷ steps)) x) (own_is_ready config me (step ∷ steps) x)) (sym (back_at x ∙ ap (λ c. cond c (with_item (held_of kept.hold_back h.message.sender) h.message.number h.message.item) (held_of kept.hold_back x)) (other_number x h.message.sender e)))
+          (back_same config me step steps x (held_of kept.hold_back x) (λ k. ap (λ hs. item_at hs x k) held_is ∙ item_other (held me steps) h x k e) (λ k. ready_other x k (other_pair h.message.sender h.message.number x k e)) (b.holds_back x l));
+      senders_known = length-slice_set kept.knowers h.message.sender _ ∙ b.senders_known;
+      knows = knows_pair config me step steps kept.knowers b.knows h.message.sender h.message.number members (subst (λ n. h.message.sender < n) (sym b.senders_known) sender) b.senders_known
+          (λ x k e. (pair_other x k e, other x k e)) members_new;
+      senders_delivered = b.senders_delivered; delivers = b.delivers; agrees = b.agrees;
+      sender = sender;
+      pair = pair_here;
+      others = λ k e. ready_other h.message.sender k (other_item h.message.sender h.message.number k e);
+      concerned = concerned;
+    }
+      where
+        back_at : (x : ℕ) → held_of (slice_set kept.hold_back h.message.sender (with_item (held_of kept.hold_back h.message.sender) h.message.number h.message.item)) x ≡ cond (x == h.message.sender) (with_item (held_of kept.hold_back h.message.sender) h.message.number h.message.item) (held_of kept.hold_back x)
+        back_at x = at_set kept.hold_back h.message.sender x _ nothing_held (subst (λ n. h.message.sender < n) (sym b.senders_back) sender)

@@ -1,0 +1,182 @@
+-- Once something was heard of a pair: what is delivered and decided, and that the node stands for one step more.
+use Rattle.std.proofs.Common.{◌≡◌, ◌≢◌, ℕ, zero, suc, ◌+◌, ◌-◌, ◌<◌, ◌≤◌, refl, sym, ◌∙◌, ap, subst, Bool, true, false, cond, List, [], ◌∷◌, ◌++◌, length, map, Option, Some, None, inl, inr, arith}
+use Rattle.std.specs.Prelude.{◌==◌, slice_index_or, slice_set}
+use Rattle.std.specs.List.{filter}
+use Rattle.std.specs.Ordering.{nat_cmp}
+use Rattle.std.specs.FinSet as set
+use Rattle.std.proofs.lemmas.Bool.{cases_eq, eq-eqb, ne_eqb}
+use Rattle.std.proofs.lemmas.List.{append-nil, map-append}
+use Rattle.std.proofs.lemmas.List.Elements.{filter-append}
+use Rattle.cast_message.specs.declared.config.Config.{Config}
+use Rattle.cast_message.specs.declared.event.Outcome.{Outcome}
+use Rattle.cast_message.specs.declared.message.Item.{Item}
+use Rattle.cast_message.specs.declared.message.Message.{Message}
+use Rattle.cast_message.specs.History.{has_pair, numbered}
+use Rattle.cast_message.specs.Replies.{is_from}
+use Rattle.cast_message.specs.Steps.{Step, Steps, own_items, frame_count, held}
+use Rattle.cast_message.specs.OwnSteps.{own_live, own_copies, own_known_enough, own_is_ready, own_next, own_taken, own_concerned, own_turns, own_deliveries, own_log, own_outcome, own_decisions_of, messages_from, nothing, IsOwnAccepted}
+use Rattle.cast_message.proofs.Members.{Member}
+use Rattle.cast_message.proofs.Fronts.{filter_all, filter_none}
+use Rattle.cast_message.proofs.OwnFronts.{messages_sender, no_messages}
+use Rattle.cast_relay.specs.Held.{holds}
+use Rattle.cast_fifo.specs.Held.{Held as HeldBack, held_of, nothing_held, known_items, known_after}
+use Rattle.cast_fifo.proofs.Stands.{Stands as HoldsBack, Turned}
+use Rattle.cast_agree.specs.Proposals.{counted_of}
+use Rattle.cast_node.specs.Kept.{Kept, link_to, taken_from, knowers_of, is_enough_in, is_enough}
+use Rattle.cast_node.specs.Turns.{Told, told, released, unmoved, news_of, counted_all, decisions_all}
+use Rattle.cast_node.specs.Stands.{item_of, item_at, newest_first, StandsOut, Stands}
+use Rattle.cast_node.proofs.Places.{length-slice_set, at_set, same_number, other_number}
+use Rattle.cast_node.proofs.Known.{KnowsAll, enough-is}
+use Rattle.cast_node.proofs.Back.{next_is, turns_are, told_turn, told_still}
+use Rattle.cast_node.proofs.Counting.{newest_first-append, counted_newest, decisions_are}
+
+-- What stands once a step was taken in that tells of a pair, and before what has its turn is delivered: all but the marks
+-- of the pair's sender, what was delivered, and what was counted.
+pub record Heard (config : Config) (me : ℕ) (step : Step) (steps : Steps) (kept : Kept) (s i : ℕ) : Type 0 where
+  pub accepted : IsOwnAccepted config me (step ∷ steps)
+  pub place : me < config.nodes
+  pub same_config : kept.config ≡ config
+  pub same_me : kept.me ≡ me
+  pub live : kept.live ≡ own_live (step ∷ steps)
+  pub frames : kept.frames ≡ frame_count (step ∷ steps)
+  pub stream : kept.stream ≡ own_items (step ∷ steps)
+  pub relay_me : kept.relay.me ≡ me
+  pub relay_size : length kept.relay.numbers ≡ 256
+  pub relay_holds : (x k : ℕ) → x < config.nodes → holds kept.relay x k ≡ has_pair (own_copies me (step ∷ steps)) x k
+  pub peers_out : length kept.outgoing ≡ config.nodes
+  pub out : (q : ℕ) → q < config.nodes → q ≢ me → StandsOut me (step ∷ steps) q (link_to kept q)
+  pub peers_in : length kept.incoming ≡ config.nodes
+  pub taken : (r slot : ℕ) → r < config.nodes → set.contains (taken_from kept r) slot ≡ own_taken (step ∷ steps) r slot
+  pub senders_back : length kept.hold_back ≡ config.nodes
+  pub back_here : HoldsBack (item_at (held me (step ∷ steps)) s) (own_is_ready config me steps s) (held_of kept.hold_back s)
+  pub back_other : (x : ℕ) → x < config.nodes → x ≢ s → HoldsBack (item_at (held me (step ∷ steps)) x) (own_is_ready config me (step ∷ steps) x) (held_of kept.hold_back x)
+  pub senders_known : length kept.knowers ≡ config.nodes
+  pub knows : KnowsAll config me (step ∷ steps) kept.knowers
+  pub senders_delivered : length kept.delivered ≡ config.nodes
+  pub delivers : (x : ℕ) → x < config.nodes → slice_index_or kept.delivered x [] ≡ map item_of (filter (is_from x) (own_log config me steps))
+  pub agrees : kept.agree ≡ counted_of (config.nodes - config.faults) (newest_first [] (own_log config me steps))
+  pub sender : s < config.nodes
+  pub pair : has_pair (own_copies me (step ∷ steps)) s i ≡ true
+  pub others : (k : ℕ) → k ≢ i → own_is_ready config me (step ∷ steps) s k ≡ own_is_ready config me steps s k
+  pub concerned : own_concerned me steps step ≡ Some s
+
+items_numbered : (s n : ℕ) (items : List Item) → map item_of (numbered s n items) ≡ items
+unfolding numbered
+items_numbered s n [] = refl
+items_numbered s n (x ∷ xs) = ap (λ ys. x ∷ ys) (items_numbered s (suc n) xs)
+
+module _ (config : Config) (me : ℕ) (step : Step) (steps : Steps) where
+  -- what the log gains of each sender
+  log_here : (s : ℕ) (news : List Message) → ((m : Message) → Member m news → m.sender ≡ s) → (x : ℕ) → (row : List Item) → row ≡ map item_of (filter (is_from x) (own_log config me steps)) →
+      cond (x == s) (row ++ map item_of news) row ≡ map item_of (filter (is_from x) (own_log config me steps ++ news))
+  log_here s news from x row is =
+      by_sender
+      ∙ ap (λ more. more ++ map item_of (filter (is_from x) news)) is
+      ∙ sym (ap (map item_of) (filter-append (is_from x) (own_log config me steps) news) ∙ map-append item_of (filter (is_from x) (own_log config me steps)) (filter (is_from x) news))
+    where
+      by_sender : cond (x == s) (row ++ map item_of news) row ≡ row ++ map item_of (filter (is_from x) news)
+      by_sender = elim (cases_eq x s) [
+        | inl e ↦ ap (λ b. cond b (row ++ map item_of news) row) (same_number x s e) ∙ ap (λ ms. row ++ map item_of ms) (sym (filter_all (is_from x) news (λ m n. eq-eqb m.sender x (from m n ∙ sym e))))
+        | inr e ↦ ap (λ b. cond b (row ++ map item_of news) row) (other_number x s e) ∙ sym (append-nil row) ∙ ap (λ ms. row ++ map item_of ms) (sym (filter_none (is_from x) news (λ m n. ne_eqb m.sender x (λ z. e (sym z ∙ from m n)))))
+      ]
+
+  pub record Told_right (kept : Kept) (t : Told) : Type 0 where
+    pub stands : Stands config me (step ∷ steps) t.kept
+    pub outcome : t.outcome ≡ own_outcome config me steps step
+
+  module _ (kept : Kept) (s i : ℕ) (h : Heard config me step steps kept s i) where
+    deliveries_are : own_deliveries config me steps step ≡ messages_from (held me (step ∷ steps)) s (own_next config me steps s) (own_next config me (step ∷ steps) s)
+    unfolding own_deliveries
+    deliveries_are = ap (own_turns config me steps step) h.concerned
+
+    next_before : (held_of kept.hold_back s).next ≡ own_next config me steps s
+    next_before = next_is config me steps s (item_at (held me (step ∷ steps)) s) (held_of kept.hold_back s) h.back_here
+
+    from_sender : (m : Message) → Member m (own_deliveries config me steps step) → m.sender ≡ s
+    from_sender m n = messages_sender (held me (step ∷ steps)) s (own_next config me steps s) (own_next config me (step ∷ steps) s) m (subst (λ all. Member m all) deliveries_are n)
+
+    turned : own_known_enough config.mode config me (step ∷ steps) s i ≡ true → Told_right kept (released kept s i)
+    unfolding own_log own_outcome
+    turned enough = record {
+      stands = record {
+        accepted = h.accepted; place = h.place; same_config = h.same_config; same_me = h.same_me; live = h.live; frames = h.frames; stream = h.stream;
+        relay_me = h.relay_me; relay_size = h.relay_size; relay_holds = h.relay_holds; peers_out = h.peers_out; out = h.out; peers_in = h.peers_in; taken = h.taken;
+        senders_back = length-slice_set kept.hold_back s (known_after (held_of kept.hold_back s) i) ∙ h.senders_back;
+        holds_back = λ x l. subst (HoldsBack (item_at (held me (step ∷ steps)) x) (own_is_ready config me (step ∷ steps) x)) (sym (at_set kept.hold_back s x (known_after (held_of kept.hold_back s) i) nothing_held (subst (λ n. s < n) (sym h.senders_back) h.sender))) (back x l);
+        senders_known = h.senders_known; knows = h.knows;
+        senders_delivered = length-slice_set kept.delivered s _ ∙ h.senders_delivered;
+        delivers = λ x l.
+            at_set kept.delivered s x (slice_index_or kept.delivered s [] ++ known_items (held_of kept.hold_back s) i) [] (subst (λ n. s < n) (sym h.senders_delivered) h.sender)
+            ∙ row x
+            ∙ ap (λ ms. cond (x == s) (slice_index_or kept.delivered x [] ++ map item_of ms) (slice_index_or kept.delivered x [])) news_are
+            ∙ log_here s (own_deliveries config me steps step) from_sender x (slice_index_or kept.delivered x []) (h.delivers x l);
+        agrees =
+            (λ k. counted_all (h.agrees k) (news_are k))
+            ∙ sym (counted_newest (config.nodes - config.faults) (newest_first [] (own_log config me steps)) (own_deliveries config me steps step))
+            ∙ ap (counted_of (config.nodes - config.faults)) (sym (newest_first-append [] (own_log config me steps) (own_deliveries config me steps step)));
+      };
+      outcome = λ k. record { deliveries = news_are k; decisions = ((λ j. decisions_all (h.agrees j) (news_are j)) ∙ decisions_are config (own_log config me steps) (own_deliveries config me steps step)) k };
+    }
+      where
+        t : Turned (item_at (held me (step ∷ steps)) s) (own_is_ready config me (step ∷ steps) s) (held_of kept.hold_back s).next (known_items (held_of kept.hold_back s) i) (known_after (held_of kept.hold_back s) i)
+        t = told_turn config me step steps h.accepted s i (held_of kept.hold_back s) h.pair h.others h.back_here enough
+
+        news_are : news_of kept s i ≡ own_deliveries config me steps step
+        news_are =
+            turns_are config me (step ∷ steps) s (held_of kept.hold_back s).next (known_items (held_of kept.hold_back s) i) (known_after (held_of kept.hold_back s) i) t
+            ∙ ap (λ n. messages_from (held me (step ∷ steps)) s n (own_next config me (step ∷ steps) s)) next_before
+            ∙ sym deliveries_are
+
+        back : (x : ℕ) → x < config.nodes → HoldsBack (item_at (held me (step ∷ steps)) x) (own_is_ready config me (step ∷ steps) x) (cond (x == s) (known_after (held_of kept.hold_back s) i) (held_of kept.hold_back x))
+        back x l = elim (cases_eq x s) [
+          | inl e ↦ subst (λ b. HoldsBack (item_at (held me (step ∷ steps)) x) (own_is_ready config me (step ∷ steps) x) (cond b (known_after (held_of kept.hold_back s) i) (held_of kept.hold_back x))) (sym (same_number x s e)) (subst (λ y. HoldsBack (item_at (held me (step ∷ steps)) y) (own_is_ready config me (step ∷ steps) y) (known_after (held_of kept.hold_back s) i)) (sym e) t.stands)
+          | inr e ↦ subst (λ b. HoldsBack (item_at (held me (step ∷ steps)) x) (own_is_ready config me (step ∷ steps) x) (cond b (known_after (held_of kept.hold_back s) i) (held_of kept.hold_back x))) (sym (other_number x s e)) (h.back_other x l e)
+        ]
+
+        row : (x : ℕ) → cond (x == s) (slice_index_or kept.delivered s [] ++ known_items (held_of kept.hold_back s) i) (slice_index_or kept.delivered x [])
+            ≡ cond (x == s) (slice_index_or kept.delivered x [] ++ map item_of (news_of kept s i)) (slice_index_or kept.delivered x [])
+        row x = elim (cases_eq x s) [
+          | inl e ↦ (λ k. cond (x == s) (slice_index_or kept.delivered (sym e k) [] ++ sym (items_numbered s (held_of kept.hold_back s).next (known_items (held_of kept.hold_back s) i)) k) (slice_index_or kept.delivered x []))
+          | inr e ↦ ap (λ b. cond b (slice_index_or kept.delivered s [] ++ known_items (held_of kept.hold_back s) i) (slice_index_or kept.delivered x [])) (other_number x s e) ∙ sym (ap (λ b. cond b (slice_index_or kept.delivered x [] ++ map item_of (news_of kept s i)) (slice_index_or kept.delivered x [])) (other_number x s e))
+        ]
+
+    still : own_known_enough config.mode config me (step ∷ steps) s i ≡ false → Told_right kept (unmoved kept)
+    unfolding own_log own_outcome own_decisions_of
+    still lacking = record {
+      stands = record {
+        accepted = h.accepted; place = h.place; same_config = h.same_config; same_me = h.same_me; live = h.live; frames = h.frames; stream = h.stream;
+        relay_me = h.relay_me; relay_size = h.relay_size; relay_holds = h.relay_holds; peers_out = h.peers_out; out = h.out; peers_in = h.peers_in; taken = h.taken;
+        senders_back = h.senders_back;
+        holds_back = λ x l. elim (cases_eq x s) [
+          | inl e ↦ subst (λ y. HoldsBack (item_at (held me (step ∷ steps)) y) (own_is_ready config me (step ∷ steps) y) (held_of kept.hold_back y)) (sym e) at
+          | inr e ↦ h.back_other x l e
+        ];
+        senders_known = h.senders_known; knows = h.knows;
+        senders_delivered = h.senders_delivered;
+        delivers = λ x l. h.delivers x l ∙ ap (λ log. map item_of (filter (is_from x) log)) (sym log_same);
+        agrees = h.agrees ∙ ap (λ log. counted_of (config.nodes - config.faults) (newest_first [] log)) (sym log_same);
+      };
+      outcome = ap (λ news. record { deliveries = news; decisions = own_decisions_of config (own_log config me steps) news }) (sym none);
+    }
+      where
+        at : HoldsBack (item_at (held me (step ∷ steps)) s) (own_is_ready config me (step ∷ steps) s) (held_of kept.hold_back s)
+        at = told_still config me step steps h.accepted s i (held_of kept.hold_back s) h.pair h.others h.back_here lacking
+
+        none : own_deliveries config me steps step ≡ []
+        none = deliveries_are
+            ∙ ap (messages_from (held me (step ∷ steps)) s (own_next config me steps s)) (sym (next_is config me (step ∷ steps) s (item_at (held me (step ∷ steps)) s) (held_of kept.hold_back s) at) ∙ next_before)
+            ∙ no_messages (held me (step ∷ steps)) s (own_next config me steps s)
+
+        log_same : own_log config me steps ++ own_deliveries config me steps step ≡ own_log config me steps
+        log_same = ap (λ more. own_log config me steps ++ more) none ∙ append-nil (own_log config me steps)
+
+    -- so what is told is right
+    pub told_right : Told_right kept (told kept s i)
+    told_right = by_test (is_enough kept s i) refl
+      where
+        enough : is_enough kept s i ≡ own_known_enough config.mode config me (step ∷ steps) s i
+        enough = ap (λ c. is_enough_in c.mode c.faults (knowers_of kept s i)) h.same_config ∙ enough-is config me (step ∷ steps) kept.knowers h.knows s i h.sender
+
+        by_test : (b : Bool) → is_enough kept s i ≡ b → Told_right kept (cond b (released kept s i) (unmoved kept))
+        by_test true e = turned (sym enough ∙ e)
+        by_test false e = still (sym enough ∙ e)
