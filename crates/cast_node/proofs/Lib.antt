@@ -6,3 +6,6 @@ pub mod Back
 pub mod Counting
 pub mod Telling
 pub mod Hearing
+pub mod Refusals
+pub mod Stepping
+pub mod Continuing

@@ -95,7 +95,7 @@ module _ (config : Config) (me : ℕ) where
       by_step (Acknowledged to slot) n = elim n [ ]
       by_step Stopped n = elim n [ ]
 
-  given_held : (steps : Steps) (r slot : ℕ) → slot < length (own_given me steps r) → has_pair (own_copies me steps) (copy_at (own_given_copies me steps r) slot).sender (copy_at (own_given_copies me steps r) slot).number ≡ true
+  pub given_held : (steps : Steps) (r slot : ℕ) → slot < length (own_given me steps r) → has_pair (own_copies me steps) (copy_at (own_given_copies me steps r) slot).sender (copy_at (own_given_copies me steps r) slot).number ≡ true
   unfolding own_given copy_at
   given_held steps r slot l =
       let at = Member-get_or (own_given_copies me steps r) slot (record { sender = 0; number = 0; source = 0 }) (omega (arith, l, length-map copy_of (own_given me steps r))) in

@@ -80,7 +80,7 @@ module _ (config : Config) (me : ℕ) (step : Step) (steps : Steps) where
         | inr e ↦ ap (λ b. cond b (row ++ map item_of news) row) (other_number x s e) ∙ sym (append-nil row) ∙ ap (λ ms. row ++ map item_of ms) (sym (filter_none (is_from x) news (λ m n. ne_eqb m.sender x (λ z. e (sym z ∙ from m n)))))
       ]
 
-  pub record Told_right (kept : Kept) (t : Told) : Type 0 where
+  pub record ToldRight (t : Told) : Type 0 where
     pub stands : Stands config me (step ∷ steps) t.kept
     pub outcome : t.outcome ≡ own_outcome config me steps step
 
@@ -95,7 +95,7 @@ module _ (config : Config) (me : ℕ) (step : Step) (steps : Steps) where
     from_sender : (m : Message) → Member m (own_deliveries config me steps step) → m.sender ≡ s
     from_sender m n = messages_sender (held me (step ∷ steps)) s (own_next config me steps s) (own_next config me (step ∷ steps) s) m (subst (λ all. Member m all) deliveries_are n)
 
-    turned : own_known_enough config.mode config me (step ∷ steps) s i ≡ true → Told_right kept (released kept s i)
+    turned : own_known_enough config.mode config me (step ∷ steps) s i ≡ true → ToldRight (released kept s i)
     unfolding own_log own_outcome
     turned enough = record {
       stands = record {
@@ -140,7 +140,7 @@ module _ (config : Config) (me : ℕ) (step : Step) (steps : Steps) where
           | inr e ↦ ap (λ b. cond b (slice_index_or kept.delivered s [] ++ known_items (held_of kept.hold_back s) i) (slice_index_or kept.delivered x [])) (other_number x s e) ∙ sym (ap (λ b. cond b (slice_index_or kept.delivered x [] ++ map item_of (news_of kept s i)) (slice_index_or kept.delivered x [])) (other_number x s e))
         ]
 
-    still : own_known_enough config.mode config me (step ∷ steps) s i ≡ false → Told_right kept (unmoved kept)
+    still : own_known_enough config.mode config me (step ∷ steps) s i ≡ false → ToldRight (unmoved kept)
     unfolding own_log own_outcome own_decisions_of
     still lacking = record {
       stands = record {
@@ -171,12 +171,12 @@ module _ (config : Config) (me : ℕ) (step : Step) (steps : Steps) where
         log_same = ap (λ more. own_log config me steps ++ more) none ∙ append-nil (own_log config me steps)
 
     -- so what is told is right
-    pub told_right : Told_right kept (told kept s i)
+    pub told_right : ToldRight (told kept s i)
     told_right = by_test (is_enough kept s i) refl
       where
         enough : is_enough kept s i ≡ own_known_enough config.mode config me (step ∷ steps) s i
         enough = ap (λ c. is_enough_in c.mode c.faults (knowers_of kept s i)) h.same_config ∙ enough-is config me (step ∷ steps) kept.knowers h.knows s i h.sender
 
-        by_test : (b : Bool) → is_enough kept s i ≡ b → Told_right kept (cond b (released kept s i) (unmoved kept))
+        by_test : (b : Bool) → is_enough kept s i ≡ b → ToldRight (cond b (released kept s i) (unmoved kept))
         by_test true e = turned (sym enough ∙ e)
         by_test false e = still (sym enough ∙ e)
