@@ -9,3 +9,5 @@ pub mod Hearing
 pub mod Refusals
 pub mod Stepping
 pub mod Continuing
+pub mod Beginning
+pub mod Showing

@@ -1,0 +1,60 @@
+-- A node that has done nothing stands for no steps.
+use Rattle.std.proofs.Common.{◌≡◌, ◌≢◌, ℕ, zero, ◌-◌, ◌<◌, refl, sym, ◌∙◌, ap, subst, Bool, true, false, not, ◌&&◌, cond, List, [], length, map, Option, Some, None, arith}
+use Rattle.std.specs.Prelude.{nat_lt, replicate, slice_index_or, if◌then◌else◌}
+use Rattle.std.specs.Ordering.{nat_cmp}
+use Rattle.std.specs.FinSet as set
+use Rattle.std.specs.FinSet.{contains-empty}
+use Rattle.std.specs.FinMap as finite
+use Rattle.std.specs.FinMap.{get-empty, len-empty}
+use Rattle.std.proofs.lemmas.Bool.Decides.{nat_tests}
+use Rattle.cast_message.specs.declared.config.Config.{Config}
+use Rattle.cast_message.specs.declared.message.Message.{Message}
+use Rattle.cast_message.specs.History.{has_pair}
+use Rattle.cast_message.specs.Steps.{own_items, frame_count, frames_in, held}
+use Rattle.cast_message.specs.OwnSteps.{own_live, own_given, own_taken, own_acked, own_owed, own_is_ready, own_log, message_in, message_at, IsOwnAccepted}
+use Rattle.cast_link.specs.Links.{Link}
+use Rattle.cast_fifo.specs.Held.{nothing_held}
+use Rattle.cast_fifo.proofs.Stands.{Stands as HoldsBack}
+use Rattle.cast_node.specs.Kept.{nothing_kept}
+use Rattle.cast_node.specs.Stands.{item_at, newest_first, StandsOut, Stands}
+use Rattle.cast_node.proofs.Places.{at_replicate, length-replicated}
+
+nothing_out : (me q : ℕ) → StandsOut me [] q (record { given = 0; owed = finite.empty })
+unfolding own_given held own_owed
+nothing_out me q = record {
+  given = refl;
+  owed = λ slot. get-empty nat_cmp slot ∙ sym (ap (λ b. if b && not (own_acked [] q slot) then Some (message_in [] slot) else None) (before_all slot));
+  count = len-empty nat_cmp Message;
+}
+  where
+    before_all : (slot : ℕ) → nat_lt slot 0 ≡ false
+    before_all slot = grind (arith, nat_tests)
+
+nothing_back : (config : Config) (me s : ℕ) → HoldsBack (item_at (held me []) s) (own_is_ready config me [] s) nothing_held
+unfolding held message_at own_is_ready has_pair
+nothing_back config me s = record {
+  below = λ i l. absurd (omega (arith, l));
+  stops = refl;
+  waits = λ i l. refl;
+  ascends = tt;
+  closed = refl;
+}
+
+pub stands_for_nothing : (config : Config) (me : ℕ) → me < config.nodes → Stands config me [] (nothing_kept config me)
+unfolding IsOwnAccepted own_live frame_count own_items own_taken frames_in own_log newest_first has_pair held
+stands_for_nothing config me place = record {
+  accepted = tt; place = place; same_config = refl; same_me = refl; live = refl; frames = refl; stream = refl; relay_me = refl;
+  relay_size = length-replicated 256 (set.empty {R = nat_cmp});
+  relay_holds = λ s i l. ap (λ numbers. set.contains numbers i) (at_replicate 256 s (set.empty {R = nat_cmp})) ∙ contains-empty nat_cmp i;
+  peers_out = length-replicated config.nodes (record { given = 0; owed = finite.empty });
+  out = λ q l e. subst (StandsOut me [] q) (sym (at_replicate config.nodes q (record { given = 0; owed = finite.empty }))) (nothing_out me q);
+  peers_in = length-replicated config.nodes (set.empty {R = nat_cmp});
+  taken = λ r slot l. ap (λ taken. set.contains taken slot) (at_replicate config.nodes r (set.empty {R = nat_cmp})) ∙ contains-empty nat_cmp slot;
+  senders_back = length-replicated config.nodes nothing_held;
+  holds_back = λ s l. subst (HoldsBack (item_at (held me []) s) (own_is_ready config me [] s)) (sym (at_replicate config.nodes s nothing_held)) (nothing_back config me s);
+  senders_known = length-replicated config.nodes [];
+  knows = λ s i r l. ap (λ row. set.contains (slice_index_or row i (set.empty {R = nat_cmp})) r) (at_replicate config.nodes s []) ∙ contains-empty nat_cmp r;
+  senders_delivered = length-replicated config.nodes [];
+  delivers = λ s l. at_replicate config.nodes s [];
+  agrees = refl;
+}
