@@ -18,7 +18,8 @@ use Rattle.cast_fifo.specs.Held.{Held as HeldBack, with_item, known_items, known
 use Rattle.cast_fifo.specs.Calls.{first_of}
 use Rattle.cast_fifo.proofs.Stands.{Stands as HoldsBack, same_stands, with_one, holds, Turned, knows, numbered-map}
 use Rattle.cast_message.proofs.OwnGrowth.{own_ready_kept}
-use Rattle.cast_node.specs.Stands.{item_of, item_at}
+use Rattle.cast_message.specs.Shown.{item_of}
+use Rattle.cast_node.specs.Stands.{item_at}
 use Rattle.cast_node.proofs.Places.{same_number, other_number}
 
 -- the message of a pair once one more is held

@@ -10,11 +10,11 @@ use Rattle.cast_message.specs.declared.message.Item.{Item}
 use Rattle.cast_message.specs.declared.message.Frame.{Frame}
 use Rattle.cast_message.specs.declared.message.FrameBody.{FrameBody}
 use Rattle.cast_message.specs.declared.message.FrameBody.TheVariants.{Carry, Took}
-use Rattle.cast_message.specs.Replies.{reply_by}
+use Rattle.cast_message.specs.Replies.{IsRefused, reply_by}
 use Rattle.cast_message.specs.Steps.{Step, Ordered, Sent, Acknowledged, Arrived, Stopped, Steps, own_items, frame_count}
 use Rattle.cast_message.specs.OwnSteps.{own_given, own_fault, own_answer, own_outcome, node_reply, node_after, nothing, is_ignored, is_possible, is_possible_body, IsOwnAccepted}
 use Rattle.cast_node.specs.Kept.{Kept, link_to}
-use Rattle.cast_node.specs.Turns.{Told, ordered, arrived, arrived_body, unmoved, may_arrive, may_bring, kept_fault, kept_answer, kept_after, IsRefused, Gives}
+use Rattle.cast_node.specs.Turns.{Told, ordered, arrived, arrived_body, unmoved, may_arrive, may_bring, kept_fault, kept_answer, kept_after, Gives}
 use Rattle.cast_node.specs.Stands.{Stands, Continues}
 use Rattle.cast_node.proofs.Refusals.{faults_are}
 use Rattle.cast_node.proofs.Telling.{ToldRight}

@@ -25,7 +25,8 @@ use Rattle.cast_fifo.proofs.Stands.{Stands as HoldsBack}
 use Rattle.cast_agree.specs.Proposals.{counted_of}
 use Rattle.cast_node.specs.Kept.{Kept, link_to, taken_from, knowers_of}
 use Rattle.cast_node.specs.Turns.{with_knower, spread, given_one, given_from}
-use Rattle.cast_node.specs.Stands.{item_of, item_at, newest_first, StandsOut, Stands}
+use Rattle.cast_message.specs.Shown.{item_of}
+use Rattle.cast_node.specs.Stands.{item_at, newest_first, StandsOut, Stands}
 use Rattle.cast_node.proofs.Places.{length-slice_set, at_set, same_number, other_number}
 use Rattle.cast_node.proofs.Links.{length-given_from, given_from-at, goes, out_same, out_given}
 use Rattle.cast_node.proofs.Known.{KnowsAll, ready_alike, same_pair, pair_more, pair_none, knows_pair}

@@ -19,7 +19,8 @@ use Rattle.cast_message.proofs.OwnFronts.{own_log-front}
 use Rattle.cast_agree.specs.Counted.{decision}
 use Rattle.cast_node.specs.Kept.{Kept, link_to, knowers_of}
 use Rattle.cast_node.specs.Turns.{carry_of, took_of, message_owed}
-use Rattle.cast_node.specs.Stands.{item_of, StandsOut, Stands, owed_in}
+use Rattle.cast_message.specs.Shown.{item_of}
+use Rattle.cast_node.specs.Stands.{StandsOut, Stands, owed_in}
 use Rattle.cast_node.proofs.Known.{known_by-is}
 use Rattle.cast_node.proofs.Counting.{decision_is}
 

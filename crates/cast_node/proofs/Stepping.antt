@@ -33,7 +33,8 @@ use Rattle.cast_fifo.proofs.Stands.{Stands as HoldsBack}
 use Rattle.cast_agree.specs.Proposals.{counted_of}
 use Rattle.cast_node.specs.Kept.{Kept, link_to, taken_from, knowers_of}
 use Rattle.cast_node.specs.Turns.{Told, told, ordered, unmoved, with_taken, with_acked, with_knower, own_taken_up, own_message, taken_up, carried, acknowledged, arrived_body}
-use Rattle.cast_node.specs.Stands.{item_of, item_at, newest_first, StandsOut, Stands}
+use Rattle.cast_message.specs.Shown.{item_of}
+use Rattle.cast_node.specs.Stands.{item_at, newest_first, StandsOut, Stands}
 use Rattle.cast_node.proofs.Places.{length-slice_set, at_set, same_number, other_number}
 use Rattle.cast_node.proofs.Links.{out_same, out_acked, out_acked_again, acked_given}
 use Rattle.cast_node.proofs.Tellers.{knows_more, told_by, untold, given_held}

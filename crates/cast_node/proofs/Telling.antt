@@ -24,7 +24,8 @@ use Rattle.cast_fifo.proofs.Stands.{Stands as HoldsBack, Turned}
 use Rattle.cast_agree.specs.Proposals.{counted_of}
 use Rattle.cast_node.specs.Kept.{Kept, link_to, taken_from, knowers_of, is_enough_in, is_enough}
 use Rattle.cast_node.specs.Turns.{Told, told, released, unmoved, news_of, counted_all, decisions_all}
-use Rattle.cast_node.specs.Stands.{item_of, item_at, newest_first, StandsOut, Stands}
+use Rattle.cast_message.specs.Shown.{item_of}
+use Rattle.cast_node.specs.Stands.{item_at, newest_first, StandsOut, Stands}
 use Rattle.cast_node.proofs.Places.{length-slice_set, at_set, same_number, other_number}
 use Rattle.cast_node.proofs.Known.{KnowsAll, enough-is}
 use Rattle.cast_node.proofs.Back.{next_is, turns_are, told_turn, told_still}

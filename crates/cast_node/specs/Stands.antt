@@ -14,7 +14,8 @@ use Rattle.cast_message.specs.declared.event.StepFault.{StepFault}
 use Rattle.cast_message.specs.declared.message.Item.{Item}
 use Rattle.cast_message.specs.declared.message.Message.{Message}
 use Rattle.cast_message.specs.History.{has_pair}
-use Rattle.cast_message.specs.Replies.{is_from}
+use Rattle.cast_message.specs.Shown.{item_of}
+use Rattle.cast_message.specs.Replies.{IsRefused, is_from}
 use Rattle.cast_message.specs.Steps.{Step, Steps, own_items, frame_count, Held, held}
 use Rattle.cast_message.specs.OwnSteps.{own_live, own_copies, own_given, own_taken, own_acked, own_owed, own_knows, own_is_ready, message_at, message_in, own_log, own_fault, node_reply, node_after, IsOwnAccepted}
 use Rattle.cast_link.specs.Links.{Link}
@@ -23,10 +24,6 @@ use Rattle.cast_fifo.specs.Held.{held_of}
 use Rattle.cast_fifo.proofs.Stands.{Stands as HoldsBack}
 use Rattle.cast_agree.specs.Proposals.{counted_of}
 use Rattle.cast_node.specs.Kept.{Kept, link_to, taken_from, knowers_of}
-use Rattle.cast_node.specs.Turns.{IsRefused}
-
-abbrev pub item_of : Message → Item
-item_of message = message.item
 
 -- the item of a held pair
 abbrev pub item_at : List Held → ℕ → ℕ → Option Item

@@ -15,7 +15,7 @@ use Rattle.cast_message.specs.declared.event.Outcome.{Outcome}
 use Rattle.cast_message.specs.declared.event.Answer.{Answer}
 use Rattle.cast_message.specs.declared.event.Answer.TheVariants.{Ordered as AnswerOrdered, Sent as AnswerSent, Arrived as AnswerArrived, Down}
 use Rattle.cast_message.specs.declared.event.StepFault.{StepFault}
-use Rattle.cast_message.specs.declared.event.StepFault.TheVariants.{SelfLink, Crashed, Closed, TooLong, AlreadyProposed, StreamFull, NoSlot, Acked, NotTaken, FramesFull, Memory}
+use Rattle.cast_message.specs.declared.event.StepFault.TheVariants.{SelfLink, Crashed, Closed, TooLong, AlreadyProposed, StreamFull, NoSlot, Acked, NotTaken, FramesFull}
 use Rattle.cast_message.specs.declared.message.Item.{Item}
 use Rattle.cast_message.specs.declared.message.Item.TheVariants.{Close}
 use Rattle.cast_message.specs.declared.message.Message.{Message}
@@ -24,7 +24,7 @@ use Rattle.cast_message.specs.declared.message.Frame.{Frame}
 use Rattle.cast_message.specs.declared.message.FrameBody.{FrameBody}
 use Rattle.cast_message.specs.declared.message.FrameBody.TheVariants.{Carry, Took}
 use Rattle.cast_message.specs.History.{numbered}
-use Rattle.cast_message.specs.Replies.{Cause, no_node, is_close, is_too_long, is_second_proposal, first_fault}
+use Rattle.cast_message.specs.Replies.{Cause, IsRefused, no_node, is_close, is_too_long, is_second_proposal, first_fault}
 use Rattle.cast_message.specs.Steps.{Step, Ordered, Sent, Acknowledged, Arrived, Stopped}
 use Rattle.cast_message.specs.OwnSteps.{nothing}
 use Rattle.cast_link.specs.Links.{Link}
@@ -213,11 +213,6 @@ carry_of kept to slot = record { from = kept.me; seq = kept.frames; to = to; bod
 
 abbrev pub took_of : Kept → ℕ → ℕ → Frame
 took_of kept to slot = record { from = kept.me; seq = kept.frames; to = to; body = Took slot }
-
--- refused for its cause or, where there is none, for want of memory
-abbrev pub IsRefused : Option StepFault → StepFault → Type 0
-IsRefused None refusal = refusal ≡ Memory
-IsRefused (Some cause) refusal = refusal ≡ cause
 
 -- what a step answers and leaves; a refused one leaves all as it was
 abbrev pub Gives : Kept → Step → Result Answer StepFault → Kept → Type 0

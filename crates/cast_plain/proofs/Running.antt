@@ -6,9 +6,9 @@ use Rattle.cast_message.specs.declared.event.Event.{Event}
 use Rattle.cast_message.specs.declared.event.Answer.{Answer}
 use Rattle.cast_message.specs.declared.event.StepFault.{StepFault}
 use Rattle.cast_message.specs.History.{History}
-use Rattle.cast_message.specs.Replies.{fault, answer, reply, reply_by, after, after_by, history, replies, history_from, replies_from}
+use Rattle.cast_message.specs.Replies.{IsRefused, is_want_of_memory, fault, answer, reply, reply_by, after, after_by, history, replies, history_from, replies_from}
 use Rattle.cast_message.proofs.Runs.{history_from-push, replies_from-push}
-use Rattle.cast_plain.specs.Lists.{State, Stands, Continues, IsRefused, is_want_of_memory}
+use Rattle.cast_plain.specs.Lists.{State, Stands, Continues}
 
 after_answer : (past : History) (event : Event) (a b : Answer) (refusal : Option StepFault) → reply_by refusal a ≡ Ok b → after_by refusal past event ≡ event ∷ past
 after_answer past event a b None e = refl

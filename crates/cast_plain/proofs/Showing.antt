@@ -13,7 +13,7 @@ use Rattle.cast_message.specs.Rounds.{owed}
 use Rattle.cast_message.proofs.Prefix.{delivered-take}
 use Rattle.cast_plain.specs.Lists.{Lists, State, nobody, node_at, lists_of, Stands}
 use Rattle.cast_plain.specs.Scans.{next_by, owed_in, decision_in, acked_in}
-use Rattle.cast_plain.specs.Shown.{item_of}
+use Rattle.cast_message.specs.Shown.{item_of}
 use Rattle.cast_plain.proofs.Standing.{next_is}
 
 items-numbered : (s i : ℕ) (items : List Item) → map item_of (numbered s i items) ≡ items

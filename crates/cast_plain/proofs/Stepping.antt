@@ -19,7 +19,7 @@ use Rattle.cast_message.specs.Replies.{Cause, no_node, causes, causes_of_arrival
 use Rattle.cast_message.proofs.Members.{here, there, Member-slice_get}
 use Rattle.cast_message.proofs.Accepted.{no_cause}
 use Rattle.cast_message.proofs.OwnReplies.{frame_ends}
-use Rattle.cast_plain.specs.Lists.{Lists, State, nobody, node_at, with_node, lists_of, Stands, IsRefused, Continues}
+use Rattle.cast_plain.specs.Lists.{Lists, State, nobody, node_at, with_node, lists_of, Stands, Continues}
 use Rattle.cast_plain.specs.Scans.{taken_in, acked_in, stream_at, carry_at, sender_by, outcome_in, order_causes, send_causes, ack_causes, arrival_causes, causes_at, fault_at, answer_at, answer_to_arrival, after_arrival, world_after, StepsTo, ordered, arrived, sent, stopped, news_ordered, news_arrived}
 use Rattle.cast_plain.proofs.Changes.{node_at_same, node_at_other}
 use Rattle.cast_plain.proofs.Standing.{order_news, arrive_news, order_own, order_other, send_own, send_other, ack_own, ack_other, crash_own, crash_other, arrive_own, arrive_other}

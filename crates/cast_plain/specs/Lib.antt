@@ -1,5 +1,4 @@
 pub mod Lists
 pub mod Scans
 pub mod Cuts
-pub mod Shown
 pub mod Plans

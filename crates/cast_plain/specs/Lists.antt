@@ -7,13 +7,12 @@ use Rattle.cast_message.specs.declared.config.Config.{Config}
 use Rattle.cast_message.specs.declared.event.Event.{Event}
 use Rattle.cast_message.specs.declared.event.Answer.{Answer}
 use Rattle.cast_message.specs.declared.event.StepFault.{StepFault}
-use Rattle.cast_message.specs.declared.event.StepFault.TheVariants.{Memory}
 use Rattle.cast_message.specs.declared.message.Item.{Item}
 use Rattle.cast_message.specs.declared.message.Message.{Message}
 use Rattle.cast_message.specs.declared.message.Frame.{Frame}
 use Rattle.cast_message.specs.History.{History, FirstCopy, stream, first, frames, arrivals, is_live}
 use Rattle.cast_message.specs.Delivery.{delivery_log}
-use Rattle.cast_message.specs.Replies.{IsAccepted, fault, reply}
+use Rattle.cast_message.specs.Replies.{IsAccepted, IsRefused, fault, reply}
 
 -- What is kept of a node: its items in order, the pairs that it holds, the frames that it made, those that arrived, all
 -- that it delivered, and whether it has not crashed.
@@ -57,17 +56,7 @@ pub record Stands (config : Config) (past : History) (world : State) : Type 0 wh
   pub size : length world.nodes ≡ config.nodes
   pub shown : (p : ℕ) → node_at world p ≡ lists_of config past p
 
--- refused for its cause or, where there is none, for want of memory
-abbrev pub IsRefused : Option StepFault → StepFault → Type 0
-IsRefused None refusal = refusal ≡ Memory
-IsRefused (Some cause) refusal = refusal ≡ cause
-
 -- what a world shows after a step
 abbrev pub Continues : Config → History → Event → Result Answer StepFault → State → Type 0
 Continues config past event (Ok answer) world = (reply config past event ≡ Ok answer) × Stands config (event ∷ past) world
 Continues config past event (Err refusal) world = IsRefused (fault config past event) refusal × Stands config past world
-
--- the step wanted memory
-abbrev pub is_want_of_memory : Result Answer StepFault → Bool
-is_want_of_memory (Err Memory) = true
-is_want_of_memory _ = false

@@ -24,7 +24,7 @@ use Rattle.cast_message.specs.declared.message.FrameBody.TheVariants.{Carry, Too
 use Rattle.cast_message.specs.History.{FirstCopy, numbered, has_pair, given_of, copy_at, message_of, copies_brought, is_carry_of, is_took_of}
 use Rattle.cast_message.specs.Delivery.{nodes_of, tells_of, sender_in, votes, least, decisions_of}
 use Rattle.cast_message.specs.Replies.{Cause, no_node, is_close, is_too_long, is_second_proposal, first_fault}
-use Rattle.cast_plain.specs.Lists.{Lists, State, node_at, with_node, IsRefused}
+use Rattle.cast_plain.specs.Lists.{Lists, State, node_at, with_node}
 
 -- a Carry of the slot that r gave this node is among the frames that came
 unfoldable pub taken_in : List Frame → ℕ → ℕ → Bool

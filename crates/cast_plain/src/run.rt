@@ -1,8 +1,8 @@
 //! A whole run: the replies to a list of events, and the world after them.
 ghost use Rattle.std.specs.Prelude.{◌≡◌, IfOk};
-ghost use Rattle.cast_message.specs.Replies.{history, replies};
+ghost use Rattle.cast_message.specs.Replies.{history, replies, is_want_of_memory};
 ghost use Rattle.cast_message.specs.Headline.{DeliversPrefixes, DeliversNothingAfterClose, DecidesProposals, DecidesFewValues};
-ghost use Rattle.cast_plain.specs.Lists.{Stands, is_want_of_memory};
+ghost use Rattle.cast_plain.specs.Lists.{Stands};
 
 use crate::world::World;
 use cast_message::{Config, Event, List, Reply, StepFault};

@@ -4,7 +4,7 @@ ghost use Rattle.cast_message.specs.declared.config.Config.{Config as Settings};
 ghost use Rattle.cast_message.specs.History.{History, copy_at, given_of, is_live};
 ghost use Rattle.cast_message.specs.Delivery.{decision};
 ghost use Rattle.cast_plain.specs.Lists.{Stands, Continues, node_at, with_node};
-ghost use Rattle.cast_plain.specs.Shown.{ShowsDelivered, ShowsStream, ShowsOwed};
+ghost use Rattle.cast_message.specs.Shown.{ShowsDelivered, ShowsStream, ShowsOwed};
 ghost use Rattle.cast_plain.specs.Cuts.{lengths_of, cut_to};
 ghost use Rattle.cast_plain.specs.Scans.{StepsTo, fault_at, stream_at, next_at, news_from, outcome_in, with_item, with_frame, with_news, carry_at, sender_by, acked_in};
 

@@ -8,8 +8,8 @@ use Rattle.cast_message.specs.declared.event.Event.{Event}
 use Rattle.cast_message.specs.declared.event.Answer.{Answer}
 use Rattle.cast_message.specs.declared.event.StepFault.{StepFault}
 use Rattle.cast_message.specs.History.{History}
-use Rattle.cast_message.specs.Replies.{fault, answer, reply, reply_by, after}
-use Rattle.cast_plain.specs.Lists.{State, Stands, Continues, is_want_of_memory}
+use Rattle.cast_message.specs.Replies.{is_want_of_memory, fault, answer, reply, reply_by, after}
+use Rattle.cast_plain.specs.Lists.{State, Stands, Continues}
 use Rattle.cast_plain.proofs.Running.{settled as settled_step}
 use Rattle.cast_record.specs.declared.line.Line.{Line}
 use Rattle.cast_record.specs.declared.line.Line.TheVariants.{End}

@@ -2,8 +2,8 @@
 ghost use Rattle.std.specs.Prelude.{◌≡◌, ◌++◌, ◌∷◌, [], false, OnOk};
 ghost use Rattle.cast_message.specs.declared.config.Config.{Config as Settings};
 ghost use Rattle.cast_message.specs.History.{History};
-ghost use Rattle.cast_message.specs.Replies.{fault, reply, after};
-ghost use Rattle.cast_plain.specs.Lists.{Stands, is_want_of_memory};
+ghost use Rattle.cast_message.specs.Replies.{fault, reply, after, is_want_of_memory};
+ghost use Rattle.cast_plain.specs.Lists.{Stands};
 ghost use Rattle.cast_record.specs.Lines.{head_of, lines_for};
 ghost use Rattle.cast_record.specs.Text.{record_text, line_text};
 ghost use Rattle.cast_text.specs.Rec.{tried, one_left, round_left, settled, left_by, record_of};

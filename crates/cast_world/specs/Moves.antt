@@ -1,0 +1,62 @@
+-- What a step changes of a world: one node takes a step, and may make a frame.
+--     TakesStep world p step made reply new     node p is asked for the step, and makes these frames where it takes it
+--     StepsTo world event reply new             the world answers the event so, and is this then
+--     IsSound world                             the nodes are those of the group, and frames go to them
+use Rattle.std.specs.Prelude.{◌≡◌, ◌⊎◌, ℕ, ◌<◌, ◌≤◌, nat_lt, Bool, if◌then◌else◌, List, [], ◌∷◌, ◌++◌, length, slice_get, slice_index_or, slice_set, Option, Some, None, Result, Ok, Err}
+use Rattle.cast_message.specs.declared.event.Event.{Event}
+use Rattle.cast_message.specs.declared.event.Event.TheVariants.{Order, Send, Ack, Arrive, Crash}
+use Rattle.cast_message.specs.declared.event.Answer.{Answer}
+use Rattle.cast_message.specs.declared.event.StepFault.{StepFault}
+use Rattle.cast_message.specs.declared.event.StepFault.TheVariants.{NoNode, NoFrame}
+use Rattle.cast_message.specs.declared.message.Frame.{Frame}
+use Rattle.cast_message.specs.Replies.{IsRefused}
+use Rattle.cast_message.specs.Steps.{Step, Ordered, Sent, Acknowledged, Arrived, Stopped}
+use Rattle.cast_node.specs.Kept.{Kept}
+use Rattle.cast_node.specs.Turns.{kept_fault, carry_of, took_of, Gives}
+use Rattle.cast_world.specs.Group.{State, node_at, frames_at}
+
+-- the frames with these more of node p
+abbrev pub frames_after : List (List Frame) → ℕ → List Frame → List (List Frame)
+frames_after all p [] = all
+frames_after all p (frame ∷ more) = slice_set all p (slice_index_or all p [] ++ frame ∷ more)
+
+abbrev pub moved : State → ℕ → Kept → List Frame → State
+moved world p kept made = record world { nodes = slice_set world.nodes p kept; frames = frames_after world.frames p made }
+
+-- node p took the step
+pub record Takes (world new : State) (p : ℕ) (step : Step) (made : List Frame) (answer : Answer) : Type 0 where
+  pub within : p < length world.nodes
+  pub gives : Gives (node_at world p) step (Ok answer) (node_at new p)
+  pub moves : new ≡ moved world p (node_at new p) made
+
+-- node p refused it, or there is no such node
+abbrev pub Refuses : State → ℕ → Step → StepFault → Type 0
+Refuses world p step refusal =
+    ((p < length world.nodes) × IsRefused (kept_fault (node_at world p) step) refusal) ⊎ ((length world.nodes ≤ p) × (refusal ≡ NoNode))
+
+abbrev pub TakesStep : State → ℕ → Step → List Frame → Result Answer StepFault → State → Type 0
+TakesStep world p step made (Ok answer) new = Takes world new p step made answer
+TakesStep world p step made (Err refusal) new = (new ≡ world) × Refuses world p step refusal
+
+-- no frame has the number
+abbrev pub misses : State → ℕ → StepFault
+misses world from = if nat_lt from (length world.nodes) then NoFrame else NoNode
+
+abbrev pub ArrivesBy : State → ℕ → Option Frame → Result Answer StepFault → State → Type 0
+ArrivesBy world from (Some frame) reply new = TakesStep world frame.to (Arrived frame) [] reply new
+ArrivesBy world from None (Ok answer) new = ⊥
+ArrivesBy world from None (Err refusal) new = (new ≡ world) × (refusal ≡ misses world from)
+
+abbrev pub StepsTo : State → Event → Result Answer StepFault → State → Type 0
+StepsTo world (Order node item) reply new = TakesStep world node (Ordered item) [] reply new
+StepsTo world (Send from to slot) reply new = TakesStep world from (Sent to slot) (carry_of (node_at world from) to slot ∷ []) reply new
+StepsTo world (Ack from to slot) reply new = TakesStep world from (Acknowledged to slot) (took_of (node_at world from) to slot ∷ []) reply new
+StepsTo world (Arrive from seq) reply new = ArrivesBy world from (slice_get (frames_at world from) seq) reply new
+StepsTo world (Crash node) reply new = TakesStep world node Stopped [] reply new
+
+pub record IsSound (world : State) : Type 0 where
+  pub size : length world.nodes ≡ world.config.nodes
+  pub rows : length world.frames ≡ world.config.nodes
+  pub places : (p : ℕ) → p < world.config.nodes → (node_at world p).me ≡ p
+  pub configs : (p : ℕ) → p < world.config.nodes → (node_at world p).config ≡ world.config
+  pub targets : (p seq : ℕ) (frame : Frame) → slice_get (frames_at world p) seq ≡ Some frame → frame.to < world.config.nodes

@@ -1,0 +1,2 @@
+//! The group as one value: nodes, and the frames that they made.
+#![tactic(auto)]
