@@ -15,7 +15,7 @@ use Rattle.cast_message.specs.declared.message.Frame.{Frame}
 use Rattle.cast_message.specs.declared.message.FrameBody.TheVariants.{Carry, Took}
 use Rattle.cast_message.specs.History.{History, FirstCopy, stream, copy_at, message_of, first, frames, given, arrivals, is_live, taken, acked, given_of}
 use Rattle.cast_message.specs.Delivery.{outcome, concerned, delivery_log}
-use Rattle.cast_message.specs.Replies.{Cause, no_node, causes, causes_of_arrival, first_fault, fault, answer, target_of, reply, IsAccepted}
+use Rattle.cast_message.specs.Replies.{IsRefused, Cause, no_node, causes, causes_of_arrival, first_fault, fault, answer, target_of, reply, IsAccepted}
 use Rattle.cast_message.proofs.Members.{here, there, Member-slice_get}
 use Rattle.cast_message.proofs.Accepted.{no_cause}
 use Rattle.cast_message.proofs.OwnReplies.{frame_ends}

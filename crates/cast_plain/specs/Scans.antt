@@ -23,7 +23,7 @@ use Rattle.cast_message.specs.declared.message.FrameBody.{FrameBody}
 use Rattle.cast_message.specs.declared.message.FrameBody.TheVariants.{Carry, Took}
 use Rattle.cast_message.specs.History.{FirstCopy, numbered, has_pair, given_of, copy_at, message_of, copies_brought, is_carry_of, is_took_of}
 use Rattle.cast_message.specs.Delivery.{nodes_of, tells_of, sender_in, votes, least, decisions_of}
-use Rattle.cast_message.specs.Replies.{Cause, no_node, is_close, is_too_long, is_second_proposal, first_fault}
+use Rattle.cast_message.specs.Replies.{IsRefused, Cause, no_node, is_close, is_too_long, is_second_proposal, first_fault}
 use Rattle.cast_plain.specs.Lists.{Lists, State, node_at, with_node}
 
 -- a Carry of the slot that r gave this node is among the frames that came

@@ -1,1 +1,5 @@
 pub mod Stepping
+pub mod Sounding
+pub mod Showing
+pub mod Running
+pub mod Beginning

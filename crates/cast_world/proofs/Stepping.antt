@@ -28,7 +28,7 @@ use Rattle.cast_node.proofs.Refusals.{faults_are}
 use Rattle.cast_node.proofs.Continuing.{continues}
 use Rattle.cast_node.proofs.Showing.{carries, tells_taken}
 use Rattle.cast_world.specs.Group.{State, node_at, frames_at, Stands, Continues}
-use Rattle.cast_world.specs.Moves.{frames_after, moved, Takes, Refuses, TakesStep, ArrivesBy, StepsTo, misses}
+use Rattle.cast_world.specs.Moves.{frames_after, moved, Takes, Refuses, TakesStep, ArrivesBy, StepsTo}
 
 -- an event is no step of another node
 other_steps : (past : History) (p : ℕ) (event : Event) (step : Step) → IsStep past p event step → (q : ℕ) → q ≢ p → steps_of (event ∷ past) q ≡ steps_of past q

@@ -1,2 +1,3 @@
 pub mod Group
 pub mod Moves
+pub mod Code

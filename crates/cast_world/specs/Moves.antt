@@ -15,6 +15,10 @@ use Rattle.cast_node.specs.Kept.{Kept}
 use Rattle.cast_node.specs.Turns.{kept_fault, carry_of, took_of, Gives}
 use Rattle.cast_world.specs.Group.{State, node_at, frames_at}
 
+-- the frames of node p
+abbrev pub row_at : List (List Frame) → ℕ → List Frame
+row_at all p = slice_index_or all p []
+
 -- the frames with these more of node p
 abbrev pub frames_after : List (List Frame) → ℕ → List Frame → List (List Frame)
 frames_after all p [] = all
@@ -38,14 +42,14 @@ abbrev pub TakesStep : State → ℕ → Step → List Frame → Result Answer S
 TakesStep world p step made (Ok answer) new = Takes world new p step made answer
 TakesStep world p step made (Err refusal) new = (new ≡ world) × Refuses world p step refusal
 
--- no frame has the number
-abbrev pub misses : State → ℕ → StepFault
-misses world from = if nat_lt from (length world.nodes) then NoFrame else NoNode
+-- why there is no frame, of this many nodes
+abbrev pub missing : ℕ → ℕ → StepFault
+missing nodes from = if nat_lt from nodes then NoFrame else NoNode
 
 abbrev pub ArrivesBy : State → ℕ → Option Frame → Result Answer StepFault → State → Type 0
 ArrivesBy world from (Some frame) reply new = TakesStep world frame.to (Arrived frame) [] reply new
 ArrivesBy world from None (Ok answer) new = ⊥
-ArrivesBy world from None (Err refusal) new = (new ≡ world) × (refusal ≡ misses world from)
+ArrivesBy world from None (Err refusal) new = (new ≡ world) × (refusal ≡ missing (length world.nodes) from)
 
 abbrev pub StepsTo : State → Event → Result Answer StepFault → State → Type 0
 StepsTo world (Order node item) reply new = TakesStep world node (Ordered item) [] reply new

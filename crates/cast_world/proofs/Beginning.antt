@@ -1,0 +1,64 @@
+-- A world in which nothing has happened.
+use Rattle.std.proofs.Common.{◌≡◌, ℕ, zero, suc, ◌+◌, ◌<◌, ◌≤◌, refl, sym, ◌∙◌, ap, subst, List, [], ◌∷◌, ◌++◌, length, map, replicate, Some, None, arith}
+use Rattle.std.specs.Prelude.{slice_get, slice_index_or}
+use Rattle.std.specs.List.{range_with_len}
+use Rattle.std.proofs.lemmas.List.FromFn.{length-map-range_with_len, get_or-map-range_with_len, map-range_with_len_more}
+use Rattle.cast_message.specs.declared.config.Config.{Config}
+use Rattle.cast_message.specs.declared.message.Frame.{Frame}
+use Rattle.cast_message.specs.History.{frames}
+use Rattle.cast_message.specs.Replies.{IsAccepted}
+use Rattle.cast_message.specs.Steps.{steps_of}
+use Rattle.cast_node.specs.Kept.{Kept, nothing_kept}
+use Rattle.cast_node.specs.Stands.{Stands as NodeStands}
+use Rattle.cast_node.proofs.Places.{at_replicate, length-replicated}
+use Rattle.cast_node.proofs.Beginning.{stands_for_nothing}
+use Rattle.cast_world.specs.Group.{State, node_at, frames_at, Stands}
+use Rattle.cast_world.specs.Moves.{IsSound}
+
+abbrev pub new_world : Config → State
+new_world config = record { config = config; nodes = map (nothing_kept config) (range_with_len 0 config.nodes); frames = replicate config.nodes [] }
+
+module _ (config : Config) where
+  new_node : (p : ℕ) → p < config.nodes → node_at (new_world config) p ≡ nothing_kept config p
+  new_node p l = get_or-map-range_with_len (nothing_kept config) 0 config.nodes p p (nothing_kept config 0) l (let z : 0 + p ≡ p = omega arith in z)
+
+  none_made : (p : ℕ) → frames_at (new_world config) p ≡ []
+  none_made p = at_replicate config.nodes p []
+
+  pub new_sound : IsSound (new_world config)
+  new_sound = record {
+    size = length-map-range_with_len (nothing_kept config) 0 config.nodes;
+    rows = length-replicated config.nodes [];
+    places = λ p l. ap (λ k. k.me) (new_node p l);
+    configs = λ p l. ap (λ k. k.config) (new_node p l);
+    targets = λ p seq frame e. absurd (let none : slice_get [] seq ≡ Some frame = sym (ap (λ row. slice_get row seq) (none_made p)) ∙ e in cc);
+  }
+
+  pub new_stands : Stands config [] (new_world config)
+  unfolding steps_of frames IsAccepted
+  new_stands = record {
+    accepted = tt;
+    same_config = refl;
+    size = length-map-range_with_len (nothing_kept config) 0 config.nodes;
+    rows = length-replicated config.nodes [];
+    nodes = λ p l. subst (NodeStands config p []) (sym (new_node p l)) (stands_for_nothing config p l);
+    made = λ p l. none_made p;
+  }
+
+-- one node more
+pub nodes_more : (config : Config) (i : ℕ) → map (nothing_kept config) (range_with_len 0 (i + 1)) ≡ map (nothing_kept config) (range_with_len 0 i) ++ nothing_kept config i ∷ []
+nodes_more config i = map-range_with_len_more (nothing_kept config) 0 i i (let z : 0 + i ≡ i = omega arith in z)
+
+pub rows_more : (i : ℕ) → replicate (i + 1) [] ≡ ◌++◌ {A = List Frame} (replicate i []) ([] ∷ [])
+rows_more zero = refl
+rows_more (suc i) = ap (λ n. replicate n []) (let z : suc i + 1 ≡ suc (i + 1) = omega arith in z) ∙ ap (λ rows. [] ∷ rows) (rows_more i)
+
+module _ (config : Config) (nodes : List Kept) (rows : List (List Frame)) (n : ℕ) (all : n ≡ config.nodes) (nodes_are : nodes ≡ map (nothing_kept config) (range_with_len 0 n)) (rows_are : rows ≡ replicate n []) where
+  is_new : new_world config ≡ record { config = config; nodes = nodes; frames = rows }
+  is_new = λ k. record { config = config; nodes = (ap (λ m. map (nothing_kept config) (range_with_len 0 m)) (sym all) ∙ sym nodes_are) k; frames = (ap (λ m. replicate m []) (sym all) ∙ sym rows_are) k }
+
+  pub begun_sound : IsSound (record { config = config; nodes = nodes; frames = rows })
+  begun_sound = subst IsSound is_new (new_sound config)
+
+  pub begun_stands : Stands config [] (record { config = config; nodes = nodes; frames = rows })
+  begun_stands = subst (Stands config []) is_new (new_stands config)

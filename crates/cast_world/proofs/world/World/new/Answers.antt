@@ -1,0 +1,11 @@
+use Rattle.std.proofs.Common.{arith, map}
+use Rattle.cast_world.proofs.Beginning.{begun_sound, begun_stands}
+use Rattle.cast_world.proofs.world.World.new.Goals as goal
+
+pub invariant_of-result : goal.invariant_of-result
+invariant_of-result c =
+    begun_sound c.args.config c.loop-id.nodes.items (map (λ row. row.items) c.loop-id.frames.items) c.loop-id.id (omega (arith, c.nodes-count.ensures, c.loop-id-test.false, c.loop-id.auto.id-end)) c.loop-id.invariant.nodes c.loop-id.invariant.rows
+
+pub returns : goal.returns
+returns c =
+    begun_stands c.args.config c.loop-id.nodes.items (map (λ row. row.items) c.loop-id.frames.items) c.loop-id.id (omega (arith, c.nodes-count.ensures, c.loop-id-test.false, c.loop-id.auto.id-end)) c.loop-id.invariant.nodes c.loop-id.invariant.rows

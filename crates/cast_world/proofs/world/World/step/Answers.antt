@@ -1,0 +1,18 @@
+use Rattle.cast_message.specs.declared.event.Event.TheVariants.{Order, Send, Ack, Arrive, Crash}
+use Rattle.cast_world.proofs.Stepping.{continues_to}
+use Rattle.cast_world.proofs.world.World.step.Goals as goal
+
+pub returns-in-Order-clause-stands : goal.returns-in-Order-clause-stands
+returns-in-Order-clause-stands c config past st = rw c.in-Order.is (continues_to config past c.args.self.now st (Order c.in-Order.node c.in-Order.item) c.order.result c.order.new.self c.order.ensures)
+
+pub returns-in-Send-clause-stands : goal.returns-in-Send-clause-stands
+returns-in-Send-clause-stands c config past st = rw c.in-Send.is (continues_to config past c.args.self.now st (Send c.in-Send.from c.in-Send.to c.in-Send.slot) c.send.result c.send.new.self c.send.ensures)
+
+pub returns-in-Ack-clause-stands : goal.returns-in-Ack-clause-stands
+returns-in-Ack-clause-stands c config past st = rw c.in-Ack.is (continues_to config past c.args.self.now st (Ack c.in-Ack.from c.in-Ack.to c.in-Ack.slot) c.ack.result c.ack.new.self c.ack.ensures)
+
+pub returns-in-Arrive-clause-stands : goal.returns-in-Arrive-clause-stands
+returns-in-Arrive-clause-stands c config past st = rw c.in-Arrive.is (continues_to config past c.args.self.now st (Arrive c.in-Arrive.from c.in-Arrive.seq) c.arrive.result c.arrive.new.self c.arrive.ensures)
+
+pub returns-in-Crash-clause-stands : goal.returns-in-Crash-clause-stands
+returns-in-Crash-clause-stands c config past st = rw c.in-Crash.is (continues_to config past c.args.self.now st (Crash c.in-Crash.node) c.crash.result c.crash.new.self c.crash.ensures)

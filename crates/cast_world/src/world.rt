@@ -1,0 +1,200 @@
+//! The group as one value: events go in, replies come out.
+ghost use Rattle.std.specs.Prelude.{◌≡◌, ◌<◌, ◌≤◌, IfOk, IfNone, OnErr, [], Some, None, length, slice_get, option_map, nat_lt, ◌&&◌, MatchOption, MatchResult};
+ghost use Rattle.std.specs.Option.{option_copied};
+ghost use Rattle.cast_message.specs.declared.config.Config.{Config as Settings};
+ghost use Rattle.cast_message.specs.History.{History, is_live};
+ghost use Rattle.cast_message.specs.Delivery.{decision};
+ghost use Rattle.cast_message.specs.Shown.{ShowsDelivered, ShowsStream, ShowsOwed};
+ghost use Rattle.cast_world.specs.Group.{Stands, Continues, node_at, frames_at};
+ghost use Rattle.cast_world.specs.Moves.{StepsTo};
+
+use crate::frames;
+use cast_message::{Answer, Config, Event, Frame, Item, NodeId, Reply, StepFault};
+use cast_node::Node;
+use std::alloc::{AllocError, Global};
+use std::marker::Model;
+
+/// All nodes of a group, and the frames that they made.
+#[derive(Debug, Drop)]
+pub struct World {
+    alloc: Global,
+    config: Config,
+    nodes: Vec<Node>,
+    // By the node that made them.
+    frames: Vec<Vec<Frame>>,
+}
+
+impl Model for World {
+    ghost use Rattle.std.specs.Prelude.{map};
+    ghost use Rattle.cast_world.specs.Group.{State};
+    ghost use Rattle.cast_world.specs.Moves.{IsSound};
+    ghost use Rattle.cast_world.specs.Code.{state_code};
+    ghost use Rattle.cast_message.specs.contracts.config.Config as settings;
+    ghost use Rattle.cast_message.specs.contracts.message.Frame as frame;
+    ghost use Rattle.cast_node.specs.contracts.node.Node as node;
+
+    ghost Value = { State };
+
+    ghost coded = { state_code settings.the_row.coded node.the_row.coded frame.the_row.coded };
+
+    ghost view = { λ w. record { config = w.config; nodes = w.nodes.items; frames = map (λ row. row.items) w.frames.items } };
+
+    ghost invariant = { λ w. IsSound (record { config = w.config; nodes = w.nodes.items; frames = map (λ row. row.items) w.frames.items }) };
+}
+
+impl World {
+    /// A group in which nothing has happened, or want of memory.
+    pub fn new(alloc: Global, config: Config) -> Result<World, AllocError>
+        ensures { IfOk result (λ world. Stands config [] world) }
+    {
+        let count = config.nodes();
+        let mut nodes = Vec::with_capacity(alloc, count as usize)?;
+        let mut frames = Vec::with_capacity(alloc, count as usize)?;
+        for id in 0..count as u8 {
+            match Node::new(alloc, &config, NodeId(id)) {
+                Ok(node) => nodes.push(node)?,
+                Err(_) => return Err(AllocError),
+            }
+            frames.push(Vec::new(alloc))?;
+        }
+        Ok(World {
+            alloc,
+            config,
+            nodes,
+            frames,
+        })
+    }
+
+    /// Takes one event. A refused event changes nothing.
+    pub fn step(&mut self, event: &Event) -> Reply
+        ensures stands { (config : Settings) (past : History) → Stands config past self.old → Continues config past event.now result self.new }
+        ensures err { OnErr result (self.new ≡ self.old) }
+    {
+        match event {
+            Event::Order { node, item } => self.order(*node, item),
+            Event::Send { from, to, slot } => self.send(*from, *to, *slot),
+            Event::Ack { from, to, slot } => self.ack(*from, *to, *slot),
+            Event::Arrive { from, seq } => self.arrive(*from, *seq),
+            Event::Crash { node } => self.crash(*node),
+        }
+    }
+
+    fn order(&mut self, node: NodeId, item: &Item) -> Reply
+        ensures { StepsTo self.old (Event.Order node item.now) result self.new }
+    {
+        let place = usize::from(node.0);
+        if place >= self.nodes.len() {
+            return Err(StepFault::NoNode);
+        }
+        if let Some(fault) = self.nodes[place].order_fault(item) {
+            return Err(fault);
+        }
+        let item = item.copy()?;
+        let (number, outcome) = self.nodes[place].order(item)?;
+        Ok(Answer::Ordered { number, outcome })
+    }
+
+    fn send(&mut self, from: NodeId, to: NodeId, slot: u64) -> Reply
+        ensures { StepsTo self.old (Event.Send from to slot) result self.new }
+    {
+        let place = usize::from(from.0);
+        if place >= self.nodes.len() {
+            return Err(StepFault::NoNode);
+        }
+        frames::send(
+            &mut self.nodes[place],
+            &mut self.frames[place],
+            to,
+            slot,
+        )
+    }
+
+    fn ack(&mut self, from: NodeId, to: NodeId, slot: u64) -> Reply
+        ensures { StepsTo self.old (Event.Ack from to slot) result self.new }
+    {
+        let place = usize::from(from.0);
+        if place >= self.nodes.len() {
+            return Err(StepFault::NoNode);
+        }
+        frames::acknowledge(
+            &mut self.nodes[place],
+            &mut self.frames[place],
+            to,
+            slot,
+        )
+    }
+
+    fn arrive(&mut self, from: NodeId, seq: u64) -> Reply
+        ensures { StepsTo self.old (Event.Arrive from seq) result self.new }
+    {
+        let frame = match frames::find(&self.frames, from, seq) {
+            Ok(frame) => frame,
+            Err(fault) => return Err(fault),
+        };
+        let target = frame.to;
+        frames::arrive(&mut self.nodes[usize::from(target.0)], frame)
+    }
+
+    fn crash(&mut self, node: NodeId) -> Reply
+        ensures { StepsTo self.old (Event.Crash node) result self.new }
+    {
+        let place = usize::from(node.0);
+        if place >= self.nodes.len() {
+            return Err(StepFault::NoNode);
+        }
+        self.nodes[place].crash()?;
+        Ok(Answer::Down)
+    }
+
+    /// The items that node `node` delivered from `sender`, in order, where both are nodes. It takes no memory.
+    pub fn delivered(&self, node: NodeId, sender: NodeId) -> Option<&[Item]>
+        ensures { (config : Settings) (past : History) → Stands config past self.now → ShowsDelivered config past node sender (option_map (λ items. items.now) result) }
+    {
+        self.find(node)?.delivered(sender)
+    }
+
+    /// The items that node `node` broadcast, in order, where it is a node. It takes no memory.
+    pub fn stream(&self, node: NodeId) -> Option<&[Item]>
+        ensures { (config : Settings) (past : History) → Stands config past self.now → ShowsStream config past node (option_map (λ items. items.now) result) }
+    {
+        Some(self.find(node)?.stream())
+    }
+
+    /// The value that node `node` decided in the instance, if it did. It takes no memory.
+    pub fn decision(&self, node: NodeId, instance: u64) -> Option<u64>
+        ensures { (config : Settings) (past : History) → Stands config past self.now → result ≡ decision config past node instance }
+    {
+        self.find(node)?.decision(instance)
+    }
+
+    /// How many slots of what `from` gives `to` are not acknowledged, where both are nodes and not the same. It takes no
+    /// memory.
+    pub fn owed(&self, from: NodeId, to: NodeId) -> Option<u64>
+        ensures { (config : Settings) (past : History) → Stands config past self.now → ShowsOwed config past from to result }
+    {
+        self.find(from)?.owed(to)
+    }
+
+    /// The node of this number, where it is one. It takes no memory.
+    pub fn node(&self, node: NodeId) -> Option<&Node>
+        ensures { MatchOption result (length self.now.nodes ≤ node) (λ found. (node < length self.now.nodes) × (found.now ≡ node_at self.now node)) }
+    {
+        self.find(node)
+    }
+
+    /// Whether node `node` is one of the group and has not crashed. It takes no memory.
+    pub fn live(&self, node: NodeId) -> bool
+        ensures { (config : Settings) (past : History) → Stands config past self.now → result ≡ (nat_lt node config.nodes && is_live past node) }
+    {
+        match self.find(node) {
+            Some(found) => found.live(),
+            None => false,
+        }
+    }
+
+    fn find(&self, node: NodeId) -> Option<&Node>
+        ensures { MatchOption result (length self.now.nodes ≤ node) (λ found. (node < length self.now.nodes) × (found.now ≡ node_at self.now node)) }
+    {
+        self.nodes.get(usize::from(node.0))
+    }
+}
