@@ -3,3 +3,5 @@ pub mod Sounding
 pub mod Showing
 pub mod Running
 pub mod Beginning
+pub mod Owing
+pub mod Planning

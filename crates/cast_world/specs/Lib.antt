@@ -1,3 +1,4 @@
 pub mod Group
 pub mod Moves
 pub mod Code
+pub mod Plans

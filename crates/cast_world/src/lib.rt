@@ -1,9 +1,11 @@
 //! The group as one value: its nodes, and the frames that they made.
 #![tactic(auto)]
 
+mod due;
 mod frames;
 mod run;
 mod world;
 
+pub use due::DueSlot;
 pub use run::run_events;
 pub use world::World;

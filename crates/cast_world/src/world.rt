@@ -192,6 +192,33 @@ impl World {
         }
     }
 
+    /// How many nodes there are, 1 to 64.
+    pub(crate) fn node_count(&self) -> u8
+        ensures value { result ≡ length self.now.nodes }
+        ensures config { result ≡ self.now.config.nodes }
+    {
+        self.nodes.len() as u8
+    }
+
+    /// Whether a node has not crashed.
+    pub(crate) fn is_up(&self, node: NodeId) -> bool
+        requires { node < length self.now.nodes }
+        ensures { result ≡ (node_at self.now node).live }
+    {
+        self.nodes[usize::from(node.0)].live()
+    }
+
+    /// The node of a number that is one.
+    pub(crate) fn node_of(&self, node: NodeId) -> &Node
+        requires { node < length self.now.nodes }
+        ensures node { result.now ≡ node_at self.now node }
+        ensures place { result.now.me ≡ node }
+        ensures config { result.now.config ≡ self.now.config }
+        ensures size { length self.now.nodes ≡ self.now.config.nodes }
+    {
+        &self.nodes[usize::from(node.0)]
+    }
+
     fn find(&self, node: NodeId) -> Option<&Node>
         ensures { MatchOption result (length self.now.nodes ≤ node) (λ found. (node < length self.now.nodes) × (found.now ≡ node_at self.now node)) }
     {

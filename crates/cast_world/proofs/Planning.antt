@@ -1,0 +1,53 @@
+-- The plan of a round is built as the definitions say.
+use Rattle.std.proofs.Common.{◌≡◌, ℕ, ◌+◌, ◌<◌, ◌≤◌, List, [], ◌∷◌, ◌++◌, length, take, get_or, map, Bool, true, false, refl, sym, ap, ◌∙◌, arith}
+use Rattle.std.specs.Prelude.{cond, ◌==◌}
+use Rattle.std.specs.List.{filter, flat_map, range_with_len}
+use Rattle.std.proofs.lemmas.List.{append-nil, append_assoc, map_push, take_more, take_all}
+use Rattle.std.proofs.lemmas.List.Elements.{filter-append}
+use Rattle.std.proofs.lemmas.List.Concat.{flat_map-append}
+use Rattle.cast_message.specs.declared.config.Config.{Config}
+use Rattle.cast_message.specs.declared.event.Event.{Event}
+use Rattle.cast_message.specs.History.{History, given, acked, is_live}
+use Rattle.cast_message.specs.Delivery.{nodes_of}
+use Rattle.cast_message.specs.Rounds.{Due, owed, due_between, live_nodes, due, events_for, plan_from, plan}
+use Rattle.cast_world.specs.Group.{State, node_at, frames_at, Stands}
+use Rattle.cast_world.specs.Plans.{live_at, due_of, due_between_at, due_at, events_at, plan_at}
+use Rattle.cast_node.proofs.Links.{range-more}
+
+range_more : (n : ℕ) → range_with_len 0 (n + 1) ≡ range_with_len 0 n ++ n ∷ []
+range_more n = range-more n 0 ∙ (let z : 0 + n ≡ n = omega arith in ap (λ k. range_with_len 0 n ++ k ∷ []) z)
+
+-- a filter of one more number
+filter_kept : (p : ℕ → Bool) (n : ℕ) → p n ≡ true → filter p (range_with_len 0 (n + 1)) ≡ filter p (range_with_len 0 n) ++ n ∷ []
+filter_kept p n pass = ap (filter p) (range_more n) ∙ filter-append p (range_with_len 0 n) (n ∷ []) ∙ ap (λ b. filter p (range_with_len 0 n) ++ cond b (n ∷ []) []) pass
+
+filter_dropped : (p : ℕ → Bool) (n : ℕ) → p n ≡ false → filter p (range_with_len 0 (n + 1)) ≡ filter p (range_with_len 0 n)
+filter_dropped p n out = ap (filter p) (range_more n) ∙ filter-append p (range_with_len 0 n) (n ∷ []) ∙ ap (λ b. filter p (range_with_len 0 n) ++ cond b (n ∷ []) []) out ∙ append-nil _
+
+-- what is found for each number that passes, one number on
+pub slots_more : (f : ℕ → Due) (p : ℕ → Bool) (n : ℕ) (old before now : List Due) → p n ≡ true → before ≡ old ++ map f (filter p (range_with_len 0 n)) → now ≡ before ++ f n ∷ [] → now ≡ old ++ map f (filter p (range_with_len 0 (n + 1)))
+slots_more f p n old before now pass so_far one =
+    one ∙ ap (λ ds. ds ++ f n ∷ []) so_far ∙ append_assoc old _ _ ∙ ap (λ ds. old ++ ds) (sym (map_push f (filter p (range_with_len 0 n)) n) ∙ ap (map f) (sym (filter_kept p n pass)))
+
+pub slots_same : (f : ℕ → Due) (p : ℕ → Bool) (n : ℕ) (old before now : List Due) → p n ≡ false → before ≡ old ++ map f (filter p (range_with_len 0 n)) → now ≡ before → now ≡ old ++ map f (filter p (range_with_len 0 (n + 1)))
+slots_same f p n old before now out so_far one = one ∙ so_far ∙ ap (λ xs. old ++ map f xs) (sym (filter_dropped p n out))
+
+pub nodes_more : (f : ℕ → List Due) (p : ℕ → Bool) (n : ℕ) (old before now : List Due) → p n ≡ true → before ≡ old ++ flat_map f (filter p (range_with_len 0 n)) → now ≡ before ++ f n → now ≡ old ++ flat_map f (filter p (range_with_len 0 (n + 1)))
+nodes_more f p n old before now pass so_far one =
+    one ∙ ap (λ ds. ds ++ f n) so_far ∙ append_assoc old _ _
+    ∙ ap (λ ds. old ++ ds) (ap (λ ds. flat_map f (filter p (range_with_len 0 n)) ++ ds) (sym (append-nil (f n))) ∙ sym (flat_map-append f (filter p (range_with_len 0 n)) (n ∷ [])) ∙ ap (flat_map f) (sym (filter_kept p n pass)))
+
+pub nodes_same : (f : ℕ → List Due) (p : ℕ → Bool) (n : ℕ) (old before now : List Due) → p n ≡ false → before ≡ old ++ flat_map f (filter p (range_with_len 0 n)) → now ≡ before → now ≡ old ++ flat_map f (filter p (range_with_len 0 (n + 1)))
+nodes_same f p n old before now out so_far one = one ∙ so_far ∙ ap (λ xs. old ++ flat_map f xs) (sym (filter_dropped p n out))
+
+-- a plan of one more slot
+plan_push : (w : State) (before ds : List Due) (d : Due) → plan_at w before (ds ++ d ∷ []) ≡ plan_at w before ds ++ events_at w (before ++ ds) d
+plan_push w before [] d = ap (λ x. events_at w x d) (sym (append-nil before))
+plan_push w before (x ∷ ds) d =
+    ap (λ es. events_at w before x ++ es) (plan_push w (before ++ x ∷ []) ds d ∙ ap (λ b. plan_at w (before ++ x ∷ []) ds ++ events_at w b d) (append_assoc before (x ∷ []) ds))
+    ∙ sym (append_assoc (events_at w before x) (plan_at w (before ++ x ∷ []) ds) (events_at w (before ++ x ∷ ds) d))
+
+pub plan_more : (w : State) (ds : List Due) (i : ℕ) (d : Due) (before now : List Event) → i < length ds → d ≡ get_or ds i d → before ≡ plan_at w [] (take i ds) → now ≡ before ++ events_at w (take i ds) d → now ≡ plan_at w [] (take (i + 1) ds)
+plan_more w ds i d before now within is so_far one =
+    one ∙ ap (λ es. es ++ events_at w (take i ds) d) so_far ∙ sym (plan_push w [] (take i ds) d) ∙ sym (ap (plan_at w []) (take_more ds i d within ∙ ap (λ x. take i ds ++ x ∷ []) (sym is)))
+

@@ -1,0 +1,13 @@
+use Rattle.std.proofs.Common.{◌∙◌, sym, ap}
+use Rattle.cast_world.specs.Plans.{due_between_at}
+use Rattle.cast_world.proofs.Planning.{nodes_more, nodes_same}
+use Rattle.cast_world.proofs.due.add_due_from.Goals.{then-is_up+in_ok-add_due_between, else-is_up}
+use Rattle.cast_world.proofs.due.add_due_from.Goals as goal
+
+pub loop-taker-preserved : goal.loop-taker-preserved
+loop-taker-preserved c bounded = elim c.if-is_up.branch [
+  | then-is_up+in_ok-add_due_between w ↦
+      nodes_more (due_between_at c.args.world.now c.args.giver) _ c.loop-taker.taker c.args.due.now.items c.loop-taker.due.items c.if-is_up.due.items (sym c.is_up.ensures ∙ w.if-is_up.true) (c.loop-taker.invariant bounded) (ap (λ v. v.items) w.due-is ∙ w.in_ok-add_due_between.ensures bounded)
+  | else-is_up w ↦
+      nodes_same (due_between_at c.args.world.now c.args.giver) _ c.loop-taker.taker c.args.due.now.items c.loop-taker.due.items c.if-is_up.due.items (sym c.is_up.ensures ∙ w.if-is_up.false) (c.loop-taker.invariant bounded) (ap (λ v. v.items) w.due-is)
+]

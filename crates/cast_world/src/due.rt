@@ -1,0 +1,98 @@
+//! What is due in a round: the slots that live nodes owe live nodes, and the events that settle them.
+ghost use Rattle.std.specs.Prelude.{◌≡◌, ℕ, true, false, ◌<◌, ◌≤◌, ◌^◌, ◌++◌, OnOk, IfOk, length, map};
+ghost use Rattle.std.specs.List.{flat_map};
+ghost use Rattle.std.specs.FinMap as finite;
+ghost use Rattle.cast_node.specs.Kept.{link_to};
+ghost use Rattle.cast_node.specs.Calls.{is_peer};
+ghost use Rattle.cast_world.specs.Group.{node_at};
+ghost use Rattle.cast_world.specs.Plans.{live_at, due_of, due_between_at, due_at, owed_below, IsBounded};
+
+use crate::world::World;
+use cast_message::NodeId;
+use cast_node::Node;
+use std::alloc::{AllocError, Global};
+use std::marker::Model;
+
+/// A slot that a live node owes another.
+#[derive(Clone, Copy, Debug)]
+pub struct DueSlot {
+    pub from: NodeId,
+    pub to: NodeId,
+    pub slot: u64,
+}
+
+impl Model for DueSlot {
+    ghost use Rattle.cast_message.specs.Rounds.{Due};
+
+    ghost Value = { Due };
+
+    ghost view = { λ d. record { from = d.from; to = d.to; slot = d.slot } };
+
+    ghost inverse = { λ d. record { from = d.from; to = d.to; slot = d.slot } };
+}
+
+/// The slots that live nodes owe live nodes, by the giver, then the taker, ascending, or want of memory.
+pub fn find_due(alloc: Global, world: &World) -> Result<Vec<DueSlot>, AllocError>
+    ensures { IsBounded world.now → IfOk result (λ due. due.items ≡ due_at world.now) }
+{
+    let mut due = Vec::new(alloc);
+    for giver in 0..world.node_count() {
+        if world.is_up(NodeId(giver)) {
+            add_due_from(world, NodeId(giver), &mut due)?;
+        }
+    }
+    Ok(due)
+}
+
+fn add_due_from(world: &World, giver: NodeId, due: &mut Vec<DueSlot>) -> Result<(), AllocError>
+    requires { giver < length world.now.nodes }
+    ensures { IsBounded world.now → OnOk result (due.new.items ≡ due.old.items ++ flat_map (due_between_at world.now giver) (live_at world.now)) }
+{
+    for taker in 0..world.node_count() {
+        if world.is_up(NodeId(taker)) {
+            add_due_between(world, giver, NodeId(taker), due)?;
+        }
+    }
+    Ok(())
+}
+
+fn add_due_between(
+    world: &World,
+    giver: NodeId,
+    taker: NodeId,
+    due: &mut Vec<DueSlot>,
+) -> Result<(), AllocError>
+    requires giver { giver < length world.now.nodes }
+    requires taker { taker < length world.now.nodes }
+    ensures { IsBounded world.now → OnOk result (due.new.items ≡ due.old.items ++ due_between_at world.now giver taker) }
+{
+    if giver == taker {
+        return Ok(());
+    }
+    add_owed(world.node_of(giver), giver, taker, due)
+}
+
+// The slots that a node owes a peer.
+fn add_owed(
+    node: &Node,
+    giver: NodeId,
+    taker: NodeId,
+    due: &mut Vec<DueSlot>,
+) -> Result<(), AllocError>
+    requires { is_peer node.now taker ≡ true }
+    ensures { (bound : ℕ) → bound < 2 ^ 64 → ((slot : ℕ) → bound ≤ slot → finite.contains_key (link_to node.now taker).owed slot ≡ false) → OnOk result (due.new.items ≡ due.old.items ++ map (due_of giver taker) (owed_below bound (link_to node.now taker))) }
+{
+    let mut from = 0;
+    while let Some(slot) = node.least_owed(taker, from) {
+        due.push(DueSlot {
+            from: giver,
+            to: taker,
+            slot,
+        })?;
+        let Some(next) = slot.checked_add(1) else {
+            break;
+        };
+        from = next;
+    }
+    Ok(())
+}
