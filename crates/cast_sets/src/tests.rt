@@ -10,6 +10,7 @@ fn keeps_nodes(rt: HostRuntime) {
         assert_eq!(rt; nodes.insert(NodeId(node)), new);
     }
     assert_eq!(rt; nodes.len(), 4);
+    assert!(rt; nodes.copy().contains(NodeId(255)));
     assert!(rt; nodes.contains(NodeId(255)));
     assert!(rt; !nodes.contains(NodeId(1)));
 }
