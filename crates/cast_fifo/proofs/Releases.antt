@@ -1,12 +1,13 @@
 -- A mark and the turns that it brings, where no memory is taken for them, and where they are only looked at.
-use Rattle.std.specs.Prelude.{◌≡◌, ◌≢◌, ℕ, suc, ◌+◌, ◌-◌, ◌^◌, ◌≤◌, ◌<◌, nat_eq, nat_lt, Bool, true, false, ◌||◌, cond, if◌then◌else◌, List, [], ◌∷◌, ◌++◌, map, length, slice_index_or, slice_set, Option, Some, None, is_some, refl}
+use Rattle.std.specs.Prelude.{◌≡◌, ◌≢◌, ℕ, suc, ◌+◌, ◌-◌, ◌^◌, ◌≤◌, ◌<◌, nat_eq, Bool, true, false, not, ◌||◌, cond, if◌then◌else◌, List, [], ◌∷◌, ◌++◌, map, length, slice_index_or, slice_set, Option, Some, None, is_some, refl}
 use Rattle.std.specs.List.{All, range_with_len}
+use Rattle.std.specs.Option.{option_copied}
 use Rattle.std.specs.List.Sorted.{IsStrictlySortedBy}
 use Rattle.std.specs.Map.{keys_of}
 use Rattle.std.specs.Ordering.{nat_cmp}
 use Rattle.std.specs.declared.cmp.Ordering.TheVariants.{Less}
 use Rattle.std.specs.BTreeMap.{is_at}
-use Rattle.std.proofs.Common.{sym, ap, ◌∙◌, subst, arith, inl, inr, append_assoc, true≢false}
+use Rattle.std.proofs.Common.{sym, ap, ◌∙◌, subst, arith, inl, inr, Bor, append_assoc, true≢false}
 use Rattle.std.proofs.lemmas.Bool.Decides.{nat_tests, eqb_tells}
 use Rattle.std.proofs.lemmas.List.Elements.{All-head, All-tail, All-weaker}
 use Rattle.std.proofs.lemmas.Map.Keys.{sorted_tail}
@@ -15,10 +16,10 @@ use Rattle.cast_message.specs.declared.message.Item.{Item}
 use Rattle.cast_message.specs.declared.message.Message.{Message}
 use Rattle.cast_message.specs.History.{numbered}
 use Rattle.cast_fifo.specs.declared.queue.Waiting.{Waiting}
-use Rattle.cast_fifo.specs.Held.{Held, waiting_at, came, marked, with_mark, item_due, run_from, advanced, known_items, known_after}
+use Rattle.cast_fifo.specs.Held.{Held, waiting_at, marked, with_mark, item_due, run_from, advanced, known_items, known_after}
 use Rattle.cast_fifo.specs.Windows.{entries_of, due_front, IsWindow}
 use Rattle.cast_fifo.proofs.Entries.{Places, Entries, seen, with_known, seen_marked_near, within_ring, no_run, past_ring, look_up, or_else}
-use Rattle.cast_fifo.proofs.Turns.{same_test, tells, marked_elsewhere, marked_before}
+use Rattle.cast_fifo.proofs.Turns.{same_test, tells, marked_elsewhere, marked_before, none_ready, advanced_none}
 use Rattle.cast_fifo.proofs.Stands.{Ascends, Ascends-set, lower, less_tells, look_changed, item_in, known_in, Released, released, numbered-map}
 
 some_none : (x : Item) → ◌≡◌ {A = Option Item} (Some x) None → ⊥
@@ -54,28 +55,19 @@ found_among P (x ∷ es) k h e = go (is_at (nat_cmp k) x.0) refl e (λ f. found_
     go true f g rest = subst P (tells k x.0 f) (All-head P x.0 (keys_of es) h)
     go false f g rest = rest g
 
-waits : (held : Held) (k : ℕ) → came held k ≡ true → held.next ≤ k → is_some (waiting_at held.waiting k) ≡ true
-waits held k e l = sym (ap (λ b. b || is_some (waiting_at held.waiting k)) not_less) ∙ e
-  where
-    not_less : nat_lt k held.next ≡ false
-    not_less = grind (arith, nat_tests)
-
--- a number that came, is not below the next, and is marked, where nothing waits farther away than the ring reaches
+-- a message that waits is marked, where nothing waits farther away than the ring reaches
 pub record MarkedHere (next : ℕ) (closed : Bool) (ring : Places) (far : Entries) (held : Held) (number i : ℕ) : Type 0 where
   pub none_far : far ≡ []
   pub inside : i < length ring
   pub items : (p : Option Waiting) → p ≡ with_known (slice_index_or ring i None) → run_from next (entries_of next (slice_set ring i p) []) ≡ known_items held number
   pub after : (p : Option Waiting) → p ≡ with_known (slice_index_or ring i None) → advanced (seen next closed (slice_set ring i p) []) ≡ known_after held number
 
-pub marked_here : (next : ℕ) (closed : Bool) (ring : Places) (far : Entries) (held : Held) (number i : ℕ) → IsWindow next ring far → seen next closed ring far ≡ held → number ≡ next + i → came held number ≡ true → All (λ other. other < held.next + 4096) (keys_of held.waiting) → MarkedHere next closed ring far held number i
-marked_here next closed ring far held number i h is at e near =
+pub marked_here : (next : ℕ) (closed : Bool) (ring : Places) (far : Entries) (held : Held) (number i : ℕ) → IsWindow next ring far → seen next closed ring far ≡ held → number ≡ next + i → is_some (waiting_at held.waiting number) ≡ true → All (λ other. other < held.next + 4096) (keys_of held.waiting) → MarkedHere next closed ring far held number i
+marked_here next closed ring far held number i h is at some near =
     record { none_far = none; inside = inside; items = λ p f. ap (λ (h : Held). run_from h.next h.waiting) (whole p f); after = λ p f. ap advanced (whole p f) }
   where
     next_is : next ≡ held.next
     next_is = ap (λ (h : Held). h.next) is
-
-    some : is_some (waiting_at held.waiting number) ≡ true
-    some = waits held number e (omega (arith, at, next_is))
 
     within : i < 4096
     within = let l : number < held.next + 4096 = found_among (λ other. other < held.next + 4096) held.waiting number near some in omega (arith, l, at, next_is)
@@ -96,6 +88,21 @@ pub marked_past : (next : ℕ) (closed : Bool) (ring : Places) (far : Entries) (
 marked_past next closed ring far held number h is l =
     let none = marked_elsewhere next closed ring far held number h is (λ e. absurd (omega (arith, l, e))) in
     (none.0, none.1 ∙ marked_before next closed ring far held number h is l)
+
+pub waits_some : (o : Option (Bor Waiting)) (w : Option Waiting) (b : Bool) → option_copied o ≡ w → is_some o ≡ not b → b ≡ false → is_some w ≡ true
+waits_some None w b e f g = absurd (true≢false (ap not (sym g) ∙ sym f))
+waits_some (Some x) w b e f g = ap is_some (sym e)
+
+pub waits_none : (o : Option (Bor Waiting)) (w : Option Waiting) (b : Bool) → option_copied o ≡ w → is_some o ≡ not b → b ≡ true → w ≡ None
+waits_none None w b e f g = sym e
+waits_none (Some x) w b e f g = absurd (true≢false (f ∙ ap not g))
+
+-- nor one at which nothing waits
+pub marked_nothing : (next : ℕ) (closed : Bool) (ring : Places) (far : Entries) (held : Held) (number : ℕ) → IsWindow next ring far → seen next closed ring far ≡ held → waiting_at held.waiting number ≡ None → (known_items held number ≡ []) × (known_after held number ≡ held)
+marked_nothing next closed ring far held number h is e =
+    let same : with_mark held number ≡ held = λ k. record { next = held.next; closed = held.closed; waiting = marked held.waiting number (e k) } in
+    let none : run_from held.next held.waiting ≡ [] = ap (λ (h : Held). run_from h.next h.waiting) (sym is) ∙ none_ready next ring far h in
+    (ap (λ (h : Held). run_from held.next h.waiting) same ∙ none, ap advanced same ∙ advanced_none held.next held.closed held.waiting none)
 
 -- ---- the turns that a mark would bring
 
@@ -134,8 +141,8 @@ due_other (Some w) = go w.known
     go false = refl
 
 -- what a mark makes due
-due_is : (es : Entries) (k q : ℕ) → is_some (waiting_at es k) ≡ true → item_due (waiting_at es q) (nat_eq q k) ≡ due_of (waiting_at (marked es k (waiting_at es k)) q)
-due_is es k q h = go (waiting_at es k) refl h
+due_is : (es : Entries) (k q : ℕ) → item_due (waiting_at es q) (nat_eq q k) ≡ due_of (waiting_at (marked es k (waiting_at es k)) q)
+due_is es k q = go (waiting_at es k) refl
   where
     test_true : q ≡ k → nat_eq q k ≡ true
     test_true e = grind (arith, nat_tests)
@@ -143,9 +150,12 @@ due_is es k q h = go (waiting_at es k) refl h
     test_false : q ≢ k → nat_eq q k ≡ false
     test_false e = grind (arith, nat_tests)
 
-    go : (o : Option Waiting) → waiting_at es k ≡ o → is_some o ≡ true → item_due (waiting_at es q) (nat_eq q k) ≡ due_of (waiting_at (marked es k o) q)
-    go None e f = absurd (true≢false (sym f))
-    go (Some w) e f =
+    go : (o : Option Waiting) → waiting_at es k ≡ o → item_due (waiting_at es q) (nat_eq q k) ≡ due_of (waiting_at (marked es k o) q)
+    go None e = elim (eqb_tells q k) [
+      | inl g ↦ ap (λ o. item_due o (nat_eq q k)) (ap (waiting_at es) g.1 ∙ e) ∙ sym (ap due_of (ap (waiting_at es) g.1 ∙ e))
+      | inr g ↦ ap (item_due (waiting_at es q)) (test_false g.1) ∙ due_other (waiting_at es q)
+    ]
+    go (Some w) e =
         let v : Waiting = record { item = w.item; known = true } in
         let there = look_changed k q v w es e in
         elim (eqb_tells q k) [
@@ -192,18 +202,15 @@ none_apart (e ∷ far) q l h =
     ap (λ b. cond b (Some e.1) (waiting_at far q)) (Rattle.cast_fifo.proofs.Entries.at_false q e.0 (let m : e.0 + 1 < 2 ^ 64 = All-head (λ number. number + 1 < 2 ^ 64) e.0 (keys_of far) h in omega (arith, m, l)))
     ∙ none_apart far q l (All-tail (λ number. number + 1 < 2 ^ 64) e.0 (keys_of far) h)
 
-module _ (next : ℕ) (closed : Bool) (ring : Places) (far : Entries) (held : Held) (h : IsWindow next ring far) (is : seen next closed ring far ≡ held) (sorted : IsStrictlySortedBy nat_cmp (keys_of far)) (number : ℕ) (at : number ≡ held.next) (here : came held number ≡ true) where
+module _ (next : ℕ) (closed : Bool) (ring : Places) (far : Entries) (held : Held) (h : IsWindow next ring far) (is : seen next closed ring far ≡ held) (sorted : IsStrictlySortedBy nat_cmp (keys_of far)) (number : ℕ) where
   abbrev pub es : Entries
   es = (with_mark held number).waiting
 
   next_is : next ≡ held.next
   next_is = ap (λ (h : Held). h.next) is
 
-  some : is_some (waiting_at held.waiting number) ≡ true
-  some = waits held number here (omega (arith, at))
-
   due : (q : ℕ) → item_due (waiting_at held.waiting q) (nat_eq q number) ≡ due_of (waiting_at es q)
-  due q = due_is held.waiting number q some
+  due q = due_is held.waiting number q
 
   ascends : Ascends held.next es
   ascends = go (waiting_at held.waiting number)

@@ -109,22 +109,20 @@ impl HoldBack {
         self.senders[usize::from(sender.0)].take_back(number);
     }
 
-    /// Copies of the messages that `known` of a pair that was held or offered would answer, in order. The sender is below
-    /// the number of nodes.
+    /// Copies of the messages that `known` of a pair would answer, in order: none where the pair was not held or offered. The
+    /// sender is below the number of nodes.
     pub fn ready(&self, sender: NodeId, number: u64) -> Result<Vec<Message>, AllocError>
-        requires sender { sender < length self.now }
-        requires came { came (held_of self.now sender) number ≡ true }
+        requires { sender < length self.now }
         ensures { IfOk result (λ messages. messages.items ≡ numbered sender (held_of self.now sender).next (known_items (held_of self.now sender) number)) }
     {
         self.senders[usize::from(sender.0)].ready(self.alloc, sender, number)
     }
 
-    /// Marks a pair as `known` does, and puts the items whose turn has come at the end of `items`, in order. The sender is
+    /// Marks a pair as `known` does, where it was held or offered, and puts the items whose turn has come at the end of `items`, in order. The sender is
     /// below the number of nodes, `items` has room for them, and no message waits 4,096 numbers or more past the next. It
     /// takes no memory.
     pub fn release(&mut self, sender: NodeId, number: u64, items: &mut Vec<Item>)
         requires sender { sender < length self.old }
-        requires came { came (held_of self.old sender) number ≡ true }
         requires near { All (λ other. other < (held_of self.old sender).next + 4096) (keys_of (held_of self.old sender).waiting) }
         requires room { vec_len items.old + length (known_items (held_of self.old sender) number) ≤ vec_capacity items.old }
         ensures items { items.new.items ≡ items.old.items ++ known_items (held_of self.old sender) number }

@@ -156,14 +156,13 @@ impl Queue {
         }
     }
 
-    /// Copies of the messages that a mark of a number that came would give their turn.
+    /// Copies of the messages that a mark of a number would give their turn.
     pub fn ready(
         &self,
         alloc: Global,
         sender: NodeId,
         number: u64,
     ) -> Result<Vec<Message>, AllocError>
-        requires { came self.now number ≡ true }
         ensures { IfOk result (λ messages. messages.items ≡ numbered sender self.now.next (known_items self.now number)) }
     {
         let mut messages = Vec::new(alloc);
@@ -184,10 +183,9 @@ impl Queue {
         Ok(messages)
     }
 
-    /// Marks a number that came, and puts the items whose turn has come at the end of others, which have room for them.
-    /// Nothing waits that the ring doesn't reach.
+    /// Marks a number, and puts the items whose turn has come at the end of others, which have room for them. Nothing waits
+    /// that the ring doesn't reach.
     pub fn release(&mut self, number: u64, items: &mut Vec<Item>)
-        requires came { came self.old number ≡ true }
         requires near { All (λ other. other < self.old.next + 4096) (keys_of self.old.waiting) }
         requires room { vec_len items.old + length (known_items self.old number) ≤ vec_capacity items.old }
         ensures items { items.new.items ≡ items.old.items ++ known_items self.old number }
@@ -195,6 +193,9 @@ impl Queue {
         ensures after { self.new ≡ known_after self.old number }
     {
         if number < self.next {
+            return;
+        }
+        if self.at(number).is_none() {
             return;
         }
         mark_place(&mut self.ring[(number - self.next) as usize]);

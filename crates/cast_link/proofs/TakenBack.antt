@@ -1,5 +1,5 @@
 -- For callers: a message that is given and taken back.
-use Rattle.std.specs.Prelude.{◌≡◌, ◌+◌, ◌-◌, true, Some, None, is_some, cond}
+use Rattle.std.specs.Prelude.{◌≡◌, ◌+◌, ◌-◌, true, Some, None, is_some, cond, if◌then◌else◌}
 use Rattle.std.specs.Ordering.{nat_cmp, eq_by_cmp}
 use Rattle.std.specs.Cmp.{nat_cmp_total}
 use Rattle.std.specs.FinMap as map
@@ -7,16 +7,8 @@ use Rattle.std.specs.FinMap.{get-insert}
 use Rattle.std.proofs.Common.{ap, ◌∙◌, arith}
 use Rattle.std.proofs.lemmas.Bool.Decides.{nat_tests}
 use Rattle.cast_message.specs.declared.message.Message.{Message}
-use Rattle.cast_link.specs.Links.{Link}
+use Rattle.cast_link.specs.Links.{Link, with_given, without_last}
 use Rattle.cast_link.proofs.Windows.{remove-inserted}
-
--- what a call of `give` leaves
-abbrev pub with_given : Link → Message → Link
-with_given link message = record { given = link.given + 1; owed = map.insert link.owed link.given message }
-
--- what a call of `take_back` leaves
-abbrev pub without_last : Link → Link
-without_last link = record { given = link.given - 1; owed = map.remove link.owed (link.given - 1) }
 
 pub last_owed : (link : Link) (message : Message) → map.contains_key (with_given link message).owed ((with_given link message).given - 1) ≡ true
 last_owed link message =
@@ -30,4 +22,7 @@ last_owed link message =
 pub taken_back : (link : Link) (message : Message) → map.get link.owed link.given ≡ None → without_last (with_given link message) ≡ link
 taken_back link message h =
     let at : link.given + 1 - 1 ≡ link.given = omega arith in
-    λ i. record { given = at i; owed = (ap (map.remove (map.insert link.owed link.given message)) at ∙ remove-inserted link.owed link.given message h) i }
+    let after = with_given link message in
+    let less : Link = record { given = after.given - 1; owed = map.remove after.owed (after.given - 1) } in
+    ap (λ b. if b then less else after) (last_owed link message)
+    ∙ (λ i. record { given = at i; owed = (ap (map.remove (map.insert link.owed link.given message)) at ∙ remove-inserted link.owed link.given message h) i })

@@ -14,7 +14,7 @@ use Rattle.cast_sets.specs.Bits.{is_set}
 use Rattle.cast_sets.proofs.Numbers.{no_bit}
 use Rattle.cast_link.specs.Taken.{bit_of}
 use Rattle.cast_link.proofs.Slots.{bit_stays}
-use Rattle.cast_link.specs.Links.{owed_from, owed_map, StartsOwed, KeepsOwed, Trimmed}
+use Rattle.cast_link.specs.Links.{Link, owed_from, owed_map, StartsOwed, KeepsOwed, Trimmed}
 
 -- the message owed at a slot
 abbrev pub owed_at : ℕ → List (Option Message) → ℕ → Option Message
@@ -312,14 +312,23 @@ owed_taken_back base places after message e =
     ∙ remove-inserted (owed_map base after) (base + length after) message (get-owed_map base after (base + length after) ∙ none_past base after (base + length after) (omega arith)))
 
 -- the last place, which is owed
-pub last_place : (base : ℕ) (places : List (Option Message)) (slot : ℕ) → map.contains_key (owed_map base places) slot ≡ true → slot + 1 ≡ base + length places → (0 < length places) × ((message : Message) × (slice_index_or places (length places - 1) None ≡ Some message))
-last_place base places slot h at = (omega (arith, inside.0, inside.1), go (slice_index_or places (length places - 1) None) some)
+pub last_place : (base : ℕ) (places : List (Option Message)) (link : Link) → (let l : Link = record { given = base + length places; owed = owed_map base places } in l) ≡ link → map.contains_key link.owed (link.given - 1) ≡ true → (0 < length places) × ((message : Message) × (slice_index_or places (length places - 1) None ≡ Some message))
+last_place base places link is h = (some_places, go (slice_index_or places (length places - 1) None) some)
   where
+    slot : ℕ
+    slot = base + length places - 1
+
+    hit : map.contains_key (owed_map base places) slot ≡ true
+    hit = ap (λ (l : Link). map.contains_key l.owed (l.given - 1)) is ∙ h
+
     inside : (base ≤ slot) × (slot - base < length places)
-    inside = owed_place base places slot h
+    inside = owed_place base places slot hit
+
+    some_places : 0 < length places
+    some_places = omega (arith, inside.1)
 
     some : is_some (slice_index_or places (length places - 1) None) ≡ true
-    some = sym (ap is_some (get-owed_map base places slot ∙ owed_inside base places slot (length places - 1) (omega (arith, at, inside.0, inside.1)))) ∙ h
+    some = sym (ap is_some (get-owed_map base places slot ∙ owed_inside base places slot (length places - 1) (omega (arith, some_places)))) ∙ hit
 
     go : (p : Option Message) → is_some p ≡ true → (message : Message) × (p ≡ Some message)
     go None g = absurd (true≢false (sym g))

@@ -1,7 +1,7 @@
 use Rattle.std.proofs.Common.{◌≡◌, ◌-◌, ◌++◌, ◌∷◌, [], sym, ap, ◌∙◌, arith}
 use Rattle.std.specs.Option.{option_copied}
 use Rattle.cast_message.specs.History.{numbered}
-use Rattle.cast_fifo.specs.Held.{Held, with_mark}
+use Rattle.cast_fifo.specs.Held.{with_mark}
 use Rattle.cast_fifo.proofs.Turns.{marked_elsewhere, numbered-none, append_none}
 use Rattle.cast_fifo.proofs.Releases.{messages_at, turns_end, turn_more, turn_none, turn_last, all_turns}
 use Rattle.cast_fifo.proofs.queue.Queue.ready.Goals as goal
@@ -15,9 +15,8 @@ returns-then-number-self c =
 pub loop-turn-preserved : goal.loop-turn-preserved
 loop-turn-preserved c =
     let i = c.loop-turn.invariant in
-    let at : c.args.number ≡ c.args.self.now.next = omega (arith, c.if-number-self.false, ap (λ (h : Held). h.next) c.self.view_is) in
     let pushed = c.in_ok-push.ensures.items ∙ ap (λ item. c.loop-turn.messages.items ++ record { sender = c.args.sender; number = c.loop-turn.turn; item = item } ∷ []) c.in_ok-copy.ensures in
-    let more = turn_more _ _ _ _ c.args.self.now c.self.invariant c.self.view_is c.len-most.ensures.ordered c.args.number at c.requires c.args.sender c.loop-turn.turn c.in-Some.item.now c.loop-turn.messages.items c.push.new.self.items i.from i.upto (sym c.in-Some.ensures) pushed in
+    let more = turn_more _ _ _ _ c.args.self.now c.self.invariant c.self.view_is c.len-most.ensures.ordered c.args.number c.args.sender c.loop-turn.turn c.in-Some.item.now c.loop-turn.messages.items c.push.new.self.items i.from i.upto (sym c.in-Some.ensures) pushed in
     record { from = omega (arith, i.from); upto = more.0; messages = more.1 ∙ i.messages }
 
 pub returns : goal.returns
@@ -25,13 +24,12 @@ returns c =
     let i = c.loop-turn.invariant in
     let held = c.args.self.now in
     let last = turns_end held c.args.number in
-    let at : c.args.number ≡ held.next = omega (arith, c.if-number-self.false, ap (λ (h : Held). h.next) c.self.view_is) in
     let over : c.loop-turn.turn ≡ last = elim c.loop-turn-test.branch [
-      | else-loop-turn-test w ↦ turn_last _ _ _ _ held c.self.invariant c.self.view_is c.len-most.ensures.ordered c.args.number at c.requires c.loop-turn.turn i.from i.upto (omega (arith, w.loop-turn-test.false))
-      | then-loop-turn-test+in_default w ↦ turn_none _ _ _ _ held c.self.invariant c.self.view_is c.len-most.ensures.ordered c.args.number at c.requires c.loop-turn.turn i.from i.upto (sym w.item_due.ensures ∙ ap option_copied w.in_default.is)
+      | else-loop-turn-test w ↦ turn_last _ _ _ _ held c.self.invariant c.self.view_is c.len-most.ensures.ordered c.args.number c.loop-turn.turn i.from i.upto (omega (arith, w.loop-turn-test.false))
+      | then-loop-turn-test+in_default w ↦ turn_none _ _ _ _ held c.self.invariant c.self.view_is c.len-most.ensures.ordered c.args.number c.loop-turn.turn i.from i.upto (sym w.item_due.ensures ∙ ap option_copied w.in_default.is)
     ] in
     let rest : last - c.loop-turn.turn ≡ 0 = omega (arith, over) in
     sym (append_none c.loop-turn.messages.items)
     ∙ ap (λ n. c.loop-turn.messages.items ++ messages_at c.args.sender (with_mark held c.args.number).waiting c.loop-turn.turn n) (sym rest)
     ∙ i.messages
-    ∙ all_turns _ _ _ _ held c.self.invariant c.self.view_is c.len-most.ensures.ordered c.args.number at c.requires c.args.sender
+    ∙ all_turns _ _ _ _ held c.self.invariant c.self.view_is c.len-most.ensures.ordered c.args.number c.args.sender
