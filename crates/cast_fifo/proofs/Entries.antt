@@ -240,7 +240,7 @@ keys_of-set_value test (e ∷ es) w = go (test e.0) (keys_of-set_value test es w
     go true h = refl
     go false h = ap (λ ks. e.0 ∷ ks) h
 
-keys_of-marked : (es : Entries) (k : ℕ) (o : Option Waiting) → keys_of (marked es k o) ≡ keys_of es
+pub keys_of-marked : (es : Entries) (k : ℕ) (o : Option Waiting) → keys_of (marked es k o) ≡ keys_of es
 keys_of-marked es k None = refl
 keys_of-marked es k (Some w) = keys_of-set_value (is_at (nat_cmp k)) es (record { item = w.item; known = true })
 

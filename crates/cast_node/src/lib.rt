@@ -1,6 +1,7 @@
 //! A node of a broadcast group. So far the entries of its log, which the threads that run a node write.
 #![tactic(auto)]
 
+mod deliveries;
 mod entry;
 
 pub use entry::{Entry, EntryKind, Origin};

@@ -1,0 +1,3 @@
+pub mod Parts
+pub mod Sound
+pub mod Tells

@@ -1,0 +1,4 @@
+pub mod Kept
+pub mod Turns
+pub mod Delivering
+pub mod Code
