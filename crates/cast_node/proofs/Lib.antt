@@ -1,3 +1,4 @@
 pub mod Parts
 pub mod Sound
 pub mod Tells
+pub mod Gifts

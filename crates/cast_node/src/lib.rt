@@ -3,5 +3,6 @@
 
 mod deliveries;
 mod entry;
+mod giving;
 
 pub use entry::{Entry, EntryKind, Origin};
