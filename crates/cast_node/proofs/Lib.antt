@@ -2,3 +2,4 @@ pub mod Parts
 pub mod Sound
 pub mod Tells
 pub mod Gifts
+pub mod Wholes

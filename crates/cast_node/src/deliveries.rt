@@ -263,8 +263,8 @@ fn is_enough(mode: Mode, faults: u64, members: &NodeSet) -> bool
     }
 }
 
-// Nothing is delivered or decided.
-fn no_news(alloc: Global) -> Outcome
+/// Nothing is delivered or decided.
+pub fn no_news(alloc: Global) -> Outcome
     ensures { result ≡ nothing }
 {
     Outcome {

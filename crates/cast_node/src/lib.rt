@@ -4,5 +4,8 @@
 mod deliveries;
 mod entry;
 mod giving;
+mod node;
+mod taking;
 
 pub use entry::{Entry, EntryKind, Origin};
+pub use node::Node;
