@@ -3,7 +3,6 @@ use Rattle.std.specs.Prelude.{◌≡◌, ℕ, ◌+◌, Bool, true, if◌then◌e
 use Rattle.std.proofs.Common.{sym, ap, ◌∙◌, arith}
 use Rattle.cast_message.specs.declared.message.Message.{Message}
 use Rattle.cast_link.specs.Links.{Link, with_given, without_last}
-use Rattle.cast_link.proofs.TakenBack.{taken_back}
 use Rattle.cast_relay.specs.Held.{Held, relays_to}
 use Rattle.cast_node.specs.Turns.{given_from}
 use Rattle.cast_node.specs.Giving.{taken_back_from}

@@ -3,3 +3,4 @@ pub mod Sound
 pub mod Tells
 pub mod Gifts
 pub mod Wholes
+pub mod Keeping

@@ -1,10 +1,9 @@
 -- Lists by sender, and rows in them.
-use Rattle.std.specs.Prelude.{◌≡◌, ℕ, zero, suc, ◌+◌, ◌-◌, ◌≤◌, ◌<◌, Bool, true, false, List, [], ◌∷◌, ◌++◌, length, map, replicate, slice_set, slice_index_or, Result, Ok, Err, OnErr, refl}
+use Rattle.std.specs.Prelude.{◌≡◌, ℕ, zero, suc, ◌+◌, ◌<◌, true, List, [], ◌∷◌, ◌++◌, length, map, replicate, slice_set, slice_index_or, Result, Ok, Err, OnErr, refl}
 use Rattle.std.specs.Result.{is_err}
 use Rattle.std.specs.List.{All}
 use Rattle.std.specs.Map.{keys_of}
 use Rattle.std.proofs.Common.{sym, ap, ◌∙◌, arith, true≢false}
-use Rattle.std.proofs.Math.ListN.{length-set}
 use Rattle.cast_message.specs.declared.message.Item.{Item}
 use Rattle.cast_message.specs.History.{numbered}
 use Rattle.cast_fifo.specs.Held.{Held as HeldBack, nothing_held, held_of}

@@ -4,10 +4,10 @@ use Rattle.std.specs.List.{All}
 use Rattle.std.specs.Map.{keys_of}
 use Rattle.std.specs.Ordering.{nat_cmp}
 use Rattle.std.specs.FinSet as set
-use Rattle.std.proofs.Common.{sym, ap, ◌∙◌, subst, arith}
+use Rattle.std.proofs.Common.{sym, ◌∙◌, subst}
 use Rattle.std.proofs.Math.ListN.{length-set}
 use Rattle.cast_message.specs.declared.message.Item.{Item}
-use Rattle.cast_fifo.specs.Held.{Held as HeldBack, held_of}
+use Rattle.cast_fifo.specs.Held.{Held as HeldBack}
 use Rattle.cast_node.specs.Code.{IsSound}
 use Rattle.cast_node.proofs.Parts.{near_set}
 

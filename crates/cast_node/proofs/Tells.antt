@@ -1,13 +1,13 @@
 -- What is told of a pair, at the rows of its sender.
-use Rattle.std.specs.Prelude.{◌≡◌, ℕ, ◌<◌, Bool, true, false, if◌then◌else◌, List, [], ◌++◌, length, map, slice_set, slice_index_or}
+use Rattle.std.specs.Prelude.{◌≡◌, ℕ, ◌<◌, true, false, if◌then◌else◌, List, [], ◌++◌, length, map, slice_set, slice_index_or}
 use Rattle.std.specs.Ordering.{nat_cmp}
 use Rattle.std.specs.FinSet as set
-use Rattle.std.proofs.Common.{sym, ap, ◌∙◌, arith}
+use Rattle.std.proofs.Common.{sym, ap, ◌∙◌}
 use Rattle.cast_message.specs.declared.config.Mode.{Mode}
 use Rattle.cast_message.specs.declared.message.Item.{Item}
 use Rattle.cast_message.specs.declared.message.Message.{Message}
 use Rattle.cast_message.specs.History.{numbered}
-use Rattle.cast_fifo.specs.Held.{Held as HeldBack, held_of, known_items, known_after, came, with_item, without_item}
+use Rattle.cast_fifo.specs.Held.{Held as HeldBack, held_of, known_items, known_after, came}
 use Rattle.cast_fifo.proofs.TakenBack.{all_taken_back}
 use Rattle.cast_agree.specs.Counted.{Counted}
 use Rattle.cast_agree.specs.Journal.{counted_all}

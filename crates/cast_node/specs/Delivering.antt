@@ -27,8 +27,8 @@ pub record Delivering : Type 0 where
   pub mode : Mode
   pub faults : ℕ
   pub knowers : List (List (set.FinSet nat_cmp))  -- by sender and number
-  pub hold_back : List HeldBack                   -- by sender
-  pub delivered : List (List Item)                -- by sender
+  pub hold_back : List HeldBack  -- by sender
+  pub delivered : List (List Item)  -- by sender
   pub agree : Counted
 
 abbrev pub nothing_delivered : Config → Delivering

@@ -35,21 +35,21 @@ pub record IsNode (config : Config) (me : ℕ) (stream : List Item) (closed : Bo
 abbrev pub kept_code : Coded Config → Coded Item → Coded Message → Coded Waiting → Coded Kept
 kept_code config item message waiting =
     code_by
-        (Config × (ℕ × (Bool × (ℕ × (List Item × (Held × (List Link × (List (set.FinSet nat_cmp) × (List HeldBack × (List (List (set.FinSet nat_cmp)) × (List (List Item) × Counted)))))))))))
-        (coded× config (coded× coded_ℕ (coded× coded_bool (coded× coded_ℕ (coded× (coded_list item) (coded× held_code (coded× (coded_list (link_code message)) (coded× (coded_list (set.code coded_ℕ)) (coded× (coded_list (held_back_code waiting)) (coded× sets_code (coded× (coded_list (coded_list item)) counted_code)))))))))))
-        (λ k. (k.config, (k.me, (k.live, (k.frames, (k.stream, (k.relay, (k.outgoing, (k.incoming, (k.hold_back, (k.knowers, (k.delivered, k.agree))))))))))))
-        (λ p. record {
-          config = p.0;
-          me = p.1.0;
-          live = p.1.1.0;
-          frames = p.1.1.1.0;
-          stream = p.1.1.1.1.0;
-          relay = p.1.1.1.1.1.0;
-          outgoing = p.1.1.1.1.1.1.0;
-          incoming = p.1.1.1.1.1.1.1.0;
-          hold_back = p.1.1.1.1.1.1.1.1.0;
-          knowers = p.1.1.1.1.1.1.1.1.1.0;
-          delivered = p.1.1.1.1.1.1.1.1.1.1.0;
-          agree = p.1.1.1.1.1.1.1.1.1.1.1;
-        })
-        (λ _. refl)
+    (Config × (ℕ × (Bool × (ℕ × (List Item × (Held × (List Link × (List (set.FinSet nat_cmp) × (List HeldBack × (List (List (set.FinSet nat_cmp)) × (List (List Item) × Counted)))))))))))
+    (coded× config (coded× coded_ℕ (coded× coded_bool (coded× coded_ℕ (coded× (coded_list item) (coded× held_code (coded× (coded_list (link_code message)) (coded× (coded_list (set.code coded_ℕ)) (coded× (coded_list (held_back_code waiting)) (coded× sets_code (coded× (coded_list (coded_list item)) counted_code)))))))))))
+    (λ k. (k.config, (k.me, (k.live, (k.frames, (k.stream, (k.relay, (k.outgoing, (k.incoming, (k.hold_back, (k.knowers, (k.delivered, k.agree))))))))))))
+    (λ p. record {
+      config = p.0;
+      me = p.1.0;
+      live = p.1.1.0;
+      frames = p.1.1.1.0;
+      stream = p.1.1.1.1.0;
+      relay = p.1.1.1.1.1.0;
+      outgoing = p.1.1.1.1.1.1.0;
+      incoming = p.1.1.1.1.1.1.1.0;
+      hold_back = p.1.1.1.1.1.1.1.1.0;
+      knowers = p.1.1.1.1.1.1.1.1.1.0;
+      delivered = p.1.1.1.1.1.1.1.1.1.1.0;
+      agree = p.1.1.1.1.1.1.1.1.1.1.1;
+    })
+    (λ _. refl)

@@ -49,10 +49,7 @@ pub fn take_back_all(
     let Some((link, rest)) = links.split_first_mut() else {
         return;
     };
-    take_back(
-        link,
-        relay.relays_to(sender, source, NodeId(first as u8)),
-    );
+    take_back(link, relay.relays_to(sender, source, NodeId(first as u8)));
     take_back_all(rest, first + 1, relay, source, sender);
 }
 

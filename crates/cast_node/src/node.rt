@@ -16,9 +16,7 @@ ghost use Rattle.cast_node.specs.Calls.{is_peer, may_carry, ordered_reply, sent_
 use crate::deliveries::{Deliveries, no_news};
 use crate::taking::{Fresh, first_members, take_up_carried, take_up_own};
 use cast_link::{LinkIn, LinkOut};
-use cast_message::{
-    Config, Frame, FrameBody, Item, Message, NodeId, Outcome, StepFault,
-};
+use cast_message::{Config, Frame, FrameBody, Item, Message, NodeId, Outcome, StepFault};
 use cast_relay::Relay;
 use cast_sets::NumberSet;
 use std::alloc::{AllocError, Global};
@@ -315,9 +313,11 @@ impl Node {
         ensures err { OnErr result (self.new ≡ self.old) }
     {
         let place = usize::from(from.0);
-        let Some((sender, number)) = self.outgoing[place].pair(slot) else {
+        let Some(pair) = self.outgoing[place].pair(slot) else {
             return Ok(no_news(self.alloc));
         };
+        let sender = pair.0;
+        let number = pair.1;
         // Never taken: what a node gives has a sender and a number within the limits.
         if u64::from(sender.0) >= self.config.nodes() || number >= self.config.item_limit() {
             return Err(AllocError);
@@ -478,7 +478,7 @@ impl Node {
                 Ok(outcome)
             }
             Err(refused) => {
-                withdraw(&mut self.proposed, &kept);
+                withdraw(&mut self.proposed, kept);
                 Err(refused)
             }
         }
@@ -512,10 +512,10 @@ fn propose(proposed: &mut NumberSet, item: &Item) -> Result<(), AllocError>
 }
 
 // Takes that back.
-fn withdraw(proposed: &mut NumberSet, item: &Item)
-    ensures { proposed.new ≡ without_proposal proposed.old item.now }
+fn withdraw(proposed: &mut NumberSet, item: Item)
+    ensures { proposed.new ≡ without_proposal proposed.old item }
 {
     if let Item::Propose { instance, .. } = item {
-        proposed.remove(*instance);
+        proposed.remove(instance);
     }
 }

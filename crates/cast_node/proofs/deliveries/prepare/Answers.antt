@@ -1,4 +1,4 @@
-use Rattle.std.proofs.Common.{◌≡◌, length, ap, ◌∙◌, arith}
+use Rattle.std.proofs.Common.{length, ap, ◌∙◌, arith}
 use Rattle.cast_fifo.specs.Held.{held_of, known_items}
 use Rattle.cast_node.proofs.Parts.{length-numbered}
 use Rattle.cast_node.proofs.deliveries.prepare.Goals as goal

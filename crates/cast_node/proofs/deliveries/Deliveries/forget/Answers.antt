@@ -1,10 +1,6 @@
-use Rattle.std.proofs.Common.{◌<◌, slice_set, length, ap, ◌∙◌, sym, subst, arith}
-use Rattle.std.proofs.Math.ListN.{length-set}
-use Rattle.std.specs.List.{All}
-use Rattle.std.specs.Map.{keys_of}
-use Rattle.cast_fifo.specs.Held.{Held as HeldBack, held_of, without_item}
+use Rattle.std.proofs.Common.{◌<◌}
+use Rattle.cast_fifo.specs.Held.{held_of, without_item}
 use Rattle.cast_fifo.proofs.Came.{All-without_item}
-use Rattle.cast_node.proofs.Parts.{near_set}
 use Rattle.cast_node.proofs.Sound.{sound_set}
 use Rattle.cast_node.proofs.deliveries.Deliveries.forget.Goals as goal
 

@@ -1,6 +1,5 @@
-use Rattle.std.proofs.Common.{◌≡◌, ◌<◌, ◌∙◌, Global, not, ap, sym, length, slice_index_or, slice_set, arith, Vec}
+use Rattle.std.proofs.Common.{◌<◌, ◌∙◌, Global, ap, sym, length, slice_set, arith, Vec}
 use Rattle.std.proofs.Math.ListN.{length-set}
-use Rattle.std.proofs.lemmas.List.{get_or_default}
 use Rattle.std.specs.FinSet as set
 use Rattle.std.specs.Ordering.{nat_cmp}
 use Rattle.cast_message.specs.declared.message.Item.{Item}
