@@ -24,3 +24,25 @@ fn decides_at_the_last_of_a_quorum(rt: HostRuntime) -> Result<(), Fail> {
     assert_eq!(rt; agree.decision(8), None);
     Ok(())
 }
+
+fn proposing(sender: u8, value: u64) -> Message {
+    Message {
+        sender: NodeId(sender),
+        number: 0,
+        item: propose(value),
+    }
+}
+
+#[test]
+fn takes_back_what_it_counted_at_one_go(rt: HostRuntime) -> Result<(), Fail> {
+    let mut agree = Agree::new(rt.alloc(), 2, 0);
+    assert_eq!(rt; agree.delivered(NodeId(0), &propose(4))?, None);
+    for _again in 0..2 {
+        let counting = agree.count_all(&[proposing(0, 1), proposing(1, 9)])?;
+        assert_eq!(rt; counting.decisions.len(), 1);
+        assert_eq!(rt; agree.decision(7), Some(4));
+        agree.take_back(counting);
+        assert_eq!(rt; agree.decision(7), None);
+    }
+    Ok(())
+}

@@ -1,13 +1,17 @@
 -- For callers: what came stays so, through every call.
 use Rattle.std.specs.Prelude.{◌≡◌, ◌⊎◌, ℕ, zero, suc, ◌+◌, ◌<◌, ◌==◌, nat_lt, Bool, true, false, ◌&&◌, ◌||◌, cond, if◌then◌else◌, List, [], ◌∷◌, length, slice_set, Option, Some, None, is_some, refl}
+use Rattle.std.specs.List.{All}
+use Rattle.std.specs.Map.{keys_of}
 use Rattle.std.specs.Ordering.{nat_cmp}
 use Rattle.std.specs.BTreeMap.{insert_entry, is_at}
 use Rattle.std.proofs.Common.{sym, ap, ◌∙◌, arith, inl, inr, true≢false}
 use Rattle.std.proofs.lemmas.Bool.Decides.{nat_tests}
+use Rattle.std.proofs.lemmas.List.Elements.{All-tail, All-same}
+use Rattle.std.proofs.lemmas.Map.Views.{All-keys-insert_entry, All-map-remove_entry}
 use Rattle.cast_message.specs.declared.message.Item.{Item}
 use Rattle.cast_fifo.specs.declared.queue.Waiting.{Waiting}
-use Rattle.cast_fifo.specs.Held.{Held, held_of, waiting_at, came, marked, with_item, with_mark, run_from, rest_from, known_after, offered_after}
-use Rattle.cast_fifo.proofs.Entries.{Entries}
+use Rattle.cast_fifo.specs.Held.{Held, held_of, waiting_at, came, marked, with_item, without_item, with_mark, run_from, rest_from, known_after, offered_after}
+use Rattle.cast_fifo.proofs.Entries.{Entries, keys_of-marked}
 use Rattle.cast_fifo.proofs.Turns.{found_inserted}
 use Rattle.cast_fifo.proofs.Stands.{look_inserted, look_changed}
 
@@ -105,3 +109,27 @@ came-offered_after held k item i h = came-known_after (with_item held k item) k 
 -- a message that is offered came
 pub came-offered : (held : Held) (k : ℕ) (item : Item) → came (offered_after held k item) k ≡ true
 came-offered held k item = came-known_after (with_item held k item) k k (came-with_item held k item)
+
+-- what is true of every number that waits stays so
+pub All-with_item : (P : ℕ → Type 0) (held : Held) (k : ℕ) (item : Item) → All P (keys_of held.waiting) → P k → All P (keys_of (with_item held k item).waiting)
+All-with_item P held k item h p = go (came held k)
+  where
+    go : (b : Bool) → All P (keys_of (if b then held else record held { waiting = insert_entry nat_cmp held.waiting k (record { item = item; known = false }) }).waiting)
+    go true = h
+    go false = All-keys-insert_entry nat_cmp k (record { item = item; known = false }) P held.waiting h p
+
+pub All-without_item : (P : ℕ → Type 0) (held : Held) (k : ℕ) → All P (keys_of held.waiting) → All P (keys_of (without_item held k).waiting)
+All-without_item P held k h = All-map-remove_entry (is_at (nat_cmp k)) (λ e. e.0) P held.waiting h
+
+All-rest : (P : ℕ → Type 0) (n : ℕ) (es : Entries) → All P (keys_of es) → All P (keys_of (rest_from n es))
+All-rest P n [] h = h
+All-rest P n (e ∷ es) h = go (e.0 == n && e.1.known) (All-rest P (n + 1) es (All-tail P e.0 (keys_of es) h))
+  where
+    go : (b : Bool) → All P (keys_of (rest_from (n + 1) es)) → All P (keys_of (if b then rest_from (n + 1) es else e ∷ es))
+    go true rest = rest
+    go false rest = h
+
+pub All-known_after : (P : ℕ → Type 0) (held : Held) (k : ℕ) → All P (keys_of held.waiting) → All P (keys_of (known_after held k).waiting)
+All-known_after P held k h =
+    let es = (with_mark held k).waiting in
+    All-rest P held.next es (All-same P (keys_of es) (keys_of held.waiting) (keys_of-marked held.waiting k (waiting_at held.waiting k)) h)

@@ -29,10 +29,10 @@ seen next closed ring far = record { next = next; closed = closed; waiting = ent
 pub past : (q m : ℕ) (keys : List ℕ) → q < m → All (λ number. m ≤ number) keys → All (λ number. q < number) keys
 past q m keys l h = All-weaker (λ number. m ≤ number) (λ number. q < number) (λ number k. omega (arith, k, l)) keys h
 
-at_true : (k n : ℕ) → k ≡ n → is_at (nat_cmp k) n ≡ true
+pub at_true : (k n : ℕ) → k ≡ n → is_at (nat_cmp k) n ≡ true
 at_true k n e = grind (arith, nat_tests)
 
-at_false : (k n : ℕ) → k ≢ n → is_at (nat_cmp k) n ≡ false
+pub at_false : (k n : ℕ) → k ≢ n → is_at (nat_cmp k) n ≡ false
 at_false k n e = grind (arith, nat_tests)
 
 less : (k n : ℕ) → k < n → nat_cmp k n ≡ Less
@@ -69,7 +69,7 @@ look_up n (None ∷ ring) far q (suc i) e = look_up (n + 1) ring far q i (omega 
 look_up n (Some w ∷ ring) far q zero e = ap (λ b. cond b (Some w) (waiting_at (entries_of (n + 1) ring far) q)) (at_true q n (omega (arith, e)))
 look_up n (Some w ∷ ring) far q (suc i) e = ap (λ b. cond b (Some w) (waiting_at (entries_of (n + 1) ring far) q)) (at_false q n (omega (arith, e))) ∙ look_up (n + 1) ring far q i (omega (arith, e))
 
-past_ring : (ring : Places) (i : ℕ) → length ring ≤ i → slice_index_or ring i None ≡ None
+pub past_ring : (ring : Places) (i : ℕ) → length ring ≤ i → slice_index_or ring i None ≡ None
 past_ring [] i l = refl
 past_ring (p ∷ ring) zero l = absurd (omega (arith, l))
 past_ring (p ∷ ring) (suc i) l = past_ring ring i (omega (arith, l))
@@ -240,7 +240,7 @@ keys_of-set_value test (e ∷ es) w = go (test e.0) (keys_of-set_value test es w
     go true h = refl
     go false h = ap (λ ks. e.0 ∷ ks) h
 
-keys_of-marked : (es : Entries) (k : ℕ) (o : Option Waiting) → keys_of (marked es k o) ≡ keys_of es
+pub keys_of-marked : (es : Entries) (k : ℕ) (o : Option Waiting) → keys_of (marked es k o) ≡ keys_of es
 keys_of-marked es k None = refl
 keys_of-marked es k (Some w) = keys_of-set_value (is_at (nat_cmp k)) es (record { item = w.item; known = true })
 

@@ -3,3 +3,5 @@ pub mod Turns
 pub mod Stands
 pub mod Law
 pub mod Came
+pub mod TakenBack
+pub mod Releases

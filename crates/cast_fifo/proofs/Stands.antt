@@ -29,7 +29,7 @@ at_true k n e = grind (arith, nat_tests)
 at_false : (k n : ℕ) → k ≢ n → is_at (nat_cmp k) n ≡ false
 at_false k n e = grind (arith, nat_tests)
 
-lower : (n m : ℕ) (es : Entries) → m ≤ n → Ascends n es → Ascends m es
+pub lower : (n m : ℕ) (es : Entries) → m ≤ n → Ascends n es → Ascends m es
 lower n m [] l h = tt
 lower n m (e ∷ es) l h = (omega (arith, l, h.0), h.1)
 
@@ -38,7 +38,7 @@ none_below n q [] h l = refl
 none_below n q (e ∷ es) h l =
     ap (λ b. cond b (Some e.1) (waiting_at es q)) (at_false q e.0 (omega (arith, l, h.0))) ∙ none_below (e.0 + 1) q es h.1 (omega (arith, l, h.0))
 
-less_tells : (k q : ℕ) → nat_cmp k q ≡ Less → k < q
+pub less_tells : (k q : ℕ) → nat_cmp k q ≡ Less → k < q
 less_tells k q e = grind (arith, nat_tests)
 
 equal_tells : (k q : ℕ) → nat_cmp k q ≡ Equal → k ≡ q
@@ -56,7 +56,7 @@ Ascends-insert n k w (e ∷ es) h l = go (nat_cmp k e.0) refl (λ m. Ascends-ins
     go Equal f rest = h
     go Greater f rest = (h.0, rest (let m = greater_tells k e.0 f in omega (arith, m)))
 
-Ascends-set : (n : ℕ) (test : ℕ → Bool) (w : Waiting) (es : Entries) → Ascends n es → Ascends n (set_value test es w)
+pub Ascends-set : (n : ℕ) (test : ℕ → Bool) (w : Waiting) (es : Entries) → Ascends n es → Ascends n (set_value test es w)
 Ascends-set n test w [] h = tt
 Ascends-set n test w (e ∷ es) h = go (test e.0) (Ascends-set (e.0 + 1) test w es h.1)
   where
@@ -127,11 +127,11 @@ look_changed k q w v (e ∷ es) h = go (is_at (nat_cmp k) e.0) refl (λ f. look_
         ap (cond (is_at (nat_cmp q) e.0) (Some e.1)) (rest later) ∙ swap (is_at (nat_cmp q) e.0) (q == k) (Some e.1) (Some w) (waiting_at es q) (apart q k e.0 f)
 
 -- the item that waits, and whether it is known
-abbrev item_in : Option Waiting → Item
+abbrev pub item_in : Option Waiting → Item
 item_in None = Close
 item_in (Some w) = w.item
 
-abbrev known_in : Option Waiting → Bool
+abbrev pub known_in : Option Waiting → Bool
 known_in None = false
 known_in (Some w) = w.known
 

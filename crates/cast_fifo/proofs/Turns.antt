@@ -25,7 +25,7 @@ pub numbered-none : (s n : ℕ) → numbered s n [] ≡ []
 unfolding numbered
 numbered-none s n = refl
 
-same_test : (n : ℕ) (b : Bool) → (n == n && b) ≡ b
+pub same_test : (n : ℕ) (b : Bool) → (n == n && b) ≡ b
 same_test n b = grind (arith, nat_tests)
 
 -- the first of what waits, marked
@@ -64,10 +64,10 @@ advanced_none n closed es e = λ i. record {
   waiting = rest_none n es e i;
 }
 
-at_self : (n : ℕ) → is_at (nat_cmp n) n ≡ true
+pub at_self : (n : ℕ) → is_at (nat_cmp n) n ≡ true
 at_self n = grind (arith, nat_tests)
 
-not_below : (n : ℕ) → nat_lt n n ≡ false
+pub not_below : (n : ℕ) → nat_lt n n ≡ false
 not_below n = grind (arith, nat_tests)
 
 -- a mark at the first of what waits
@@ -341,7 +341,7 @@ none_ready n ring far h = go ring h.starts
 other_number : (k n : ℕ) (b : Bool) → k ≢ n → (k == n && b) ≡ false
 other_number k n b e = grind (arith, nat_tests)
 
-tells : (k q : ℕ) → is_at (nat_cmp k) q ≡ true → q ≡ k
+pub tells : (k q : ℕ) → is_at (nat_cmp k) q ≡ true → q ≡ k
 tells k q e = grind (arith, nat_tests)
 
 cons_nil : (i : Item) (is : List Item) → ◌≡◌ {A = List Item} (i ∷ is) [] → ⊥
@@ -370,13 +370,13 @@ pub none_by_mark : (n k : ℕ) (es : Entries) (o : Option Waiting) → k ≢ n �
 none_by_mark n k es None e h = h
 none_by_mark n k es (Some w) e h = none_by_change n k es (marked_item w.item) e h
 
-equal_tells : (k q : ℕ) → nat_cmp k q ≡ Equal → q ≡ k
+pub equal_tells : (k q : ℕ) → nat_cmp k q ≡ Equal → q ≡ k
 equal_tells k q e = grind (arith, nat_tests)
 
-greater_tells : (k q : ℕ) → nat_cmp k q ≡ Greater → is_at (nat_cmp k) q ≡ false
+pub greater_tells : (k q : ℕ) → nat_cmp k q ≡ Greater → is_at (nat_cmp k) q ≡ false
 greater_tells k q e = grind (arith, nat_tests)
 
-at_same : (k q : ℕ) → q ≡ k → is_at (nat_cmp k) q ≡ true
+pub at_same : (k q : ℕ) → q ≡ k → is_at (nat_cmp k) q ≡ true
 at_same k q e = grind (arith, nat_tests)
 
 -- a message that is kept at another number brings no turn

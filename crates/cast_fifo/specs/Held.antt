@@ -3,6 +3,7 @@
 --     waiting_at waiting i          what waits at a number
 --     came held i                   the number had its turn or waits
 --     with_item held i item         a message is kept, of two of one number the first
+--     without_item held i           what waits at a number is taken back
 --     with_mark held i              a message that waits is marked
 --     run_from i waiting            the items marked from a number on, without a gap
 --     advanced held                 they had their turn
@@ -12,7 +13,7 @@
 use Rattle.std.specs.Prelude.{ℕ, ◌+◌, ◌==◌, nat_lt, Bool, true, false, ◌&&◌, ◌||◌, if◌then◌else◌, List, [], ◌∷◌, length, slice_index_or, Option, Some, None, is_some}
 use Rattle.std.specs.List.{list_any}
 use Rattle.std.specs.Ordering.{nat_cmp}
-use Rattle.std.specs.Map.{lookup, set_value}
+use Rattle.std.specs.Map.{lookup, set_value, remove_entry}
 use Rattle.std.specs.BTreeMap.{insert_entry, is_at}
 use Rattle.cast_message.specs.declared.message.Item.{Item}
 use Rattle.cast_message.specs.declared.message.Item.TheVariants.{Data, Propose, Close}
@@ -40,6 +41,14 @@ with_item held number item =
     if came held number
     then held
     else record held { waiting = insert_entry nat_cmp held.waiting number (record { item = item; known = false }) }
+
+abbrev pub without_item : Held → ℕ → Held
+without_item held number = record held { waiting = remove_entry (is_at (nat_cmp number)) held.waiting }
+
+-- the item of a message that waits and is marked, or is about to be
+abbrev pub item_due : Option Waiting → Bool → Option Item
+item_due None marked = None
+item_due (Some w) marked = if w.known || marked then Some w.item else None
 
 abbrev pub marked : List (ℕ × Waiting) → ℕ → Option Waiting → List (ℕ × Waiting)
 marked waiting number None = waiting

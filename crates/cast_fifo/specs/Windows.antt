@@ -38,6 +38,11 @@ abbrev pub marked_front : List (Option Waiting) → ℕ
 marked_front [] = 0
 marked_front (place ∷ places) = if is_marked place then marked_front places + 1 else 0
 
+-- the item of the first place, where it is marked
+abbrev pub due_front : List (Option Waiting) → Option Item
+due_front (Some w ∷ places) = if w.known then Some w.item else None
+due_front places = None
+
 -- the item of the first place, or the one that is offered. One of them is there where it is asked for
 abbrev pub front_item : List (Option Waiting) → Option Item → Item
 front_item (Some w ∷ places) offered = w.item

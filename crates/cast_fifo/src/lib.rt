@@ -3,16 +3,18 @@
 //! first and marked later, so that it goes only once its node knows enough of it.
 #![tactic(auto)]
 
-ghost use Rattle.std.specs.Prelude.{◌≡◌, ◌+◌, ◌<◌, ◌^◌, true, length, replicate, slice_set, IfOk, OnOk, OnErr};
+ghost use Rattle.std.specs.Prelude.{◌≡◌, ◌+◌, ◌<◌, ◌≤◌, ◌^◌, ◌++◌, true, length, replicate, slice_set, vec_len, vec_capacity, IfOk, OnOk, OnErr};
+ghost use Rattle.std.specs.List.{All};
+ghost use Rattle.std.specs.Map.{keys_of};
 ghost use Rattle.cast_message.specs.History.{numbered};
-ghost use Rattle.cast_fifo.specs.Held.{nothing_held, held_of, came, with_item, known_items, known_after, offered_items, offered_after};
+ghost use Rattle.cast_fifo.specs.Held.{nothing_held, held_of, came, with_item, without_item, known_items, known_after, offered_items, offered_after};
 ghost use Rattle.cast_fifo.specs.Calls.{GivesInOrder};
 
 mod queue;
 #[cfg(test)]
 mod tests;
 
-use cast_message::{Message, NodeId};
+use cast_message::{Item, Message, NodeId};
 use queue::Queue;
 use std::alloc::{AllocError, Global};
 use std::marker::Model;
@@ -88,6 +90,46 @@ impl HoldBack {
         ensures err { OnErr result (self.new ≡ self.old) }
     {
         self.senders[usize::from(sender.0)].known(self.alloc, sender, number)
+    }
+
+    /// Whether a pair was held or offered. The sender is below the number of nodes. It takes no memory.
+    pub fn came(&self, sender: NodeId, number: u64) -> bool
+        requires { sender < length self.now }
+        ensures { result ≡ came (held_of self.now sender) number }
+    {
+        self.senders[usize::from(sender.0)].came(number)
+    }
+
+    /// Takes back a message that waits for its turn: just after `hold` kept it, the state is again that before `hold`. The
+    /// sender is below the number of nodes. It takes no memory.
+    pub fn take_back(&mut self, sender: NodeId, number: u64)
+        requires { sender < length self.old }
+        ensures { self.new ≡ slice_set self.old sender (without_item (held_of self.old sender) number) }
+    {
+        self.senders[usize::from(sender.0)].take_back(number);
+    }
+
+    /// Copies of the messages that `known` of a pair would answer, in order: none where the pair was not held or offered. The
+    /// sender is below the number of nodes.
+    pub fn ready(&self, sender: NodeId, number: u64) -> Result<Vec<Message>, AllocError>
+        requires { sender < length self.now }
+        ensures { IfOk result (λ messages. messages.items ≡ numbered sender (held_of self.now sender).next (known_items (held_of self.now sender) number)) }
+    {
+        self.senders[usize::from(sender.0)].ready(self.alloc, sender, number)
+    }
+
+    /// Marks a pair as `known` does, where it was held or offered, and puts the items whose turn has come at the end of `items`, in order. The sender is
+    /// below the number of nodes, `items` has room for them, and no message waits 4,096 numbers or more past the next. It
+    /// takes no memory.
+    pub fn release(&mut self, sender: NodeId, number: u64, items: &mut Vec<Item>)
+        requires sender { sender < length self.old }
+        requires near { All (λ other. other < (held_of self.old sender).next + 4096) (keys_of (held_of self.old sender).waiting) }
+        requires room { vec_len items.old + length (known_items (held_of self.old sender) number) ≤ vec_capacity items.old }
+        ensures items { items.new.items ≡ items.old.items ++ known_items (held_of self.old sender) number }
+        ensures room { vec_capacity items.new ≡ vec_capacity items.old }
+        ensures after { self.new ≡ slice_set self.old sender (known_after (held_of self.old sender) number) }
+    {
+        self.senders[usize::from(sender.0)].release(number, items);
     }
 
     /// Keeps a message and marks its pair in one, and answers the messages whose turn has come, in order: none where the

@@ -1,15 +1,15 @@
 //! What is held back of one sender: a ring of places for the numbers from the next on, and an ordered map for those
 //! farther away.
-ghost use Rattle.std.specs.Prelude.{◌≡◌, ◌≢◌, ℕ, ◌+◌, ◌-◌, ◌*◌, ◌<◌, ◌≤◌, ◌^◌, ◌∷◌, ◌++◌, ◌||◌, length, [], replicate, drop, true, false, None, Some, is_some, IsSome, IfOk, OnOk, OnErr, option_map, vec_len, vec_capacity, ◌⊎◌};
+ghost use Rattle.std.specs.Prelude.{◌≡◌, ◌≢◌, ℕ, ◌+◌, ◌-◌, ◌*◌, ◌<◌, ◌≤◌, ◌^◌, ◌∷◌, ◌++◌, ◌||◌, length, [], replicate, drop, true, false, None, Some, is_some, IsSome, IfOk, OnOk, OnErr, option_map, vec_len, vec_capacity, ◌⊎◌, nat_eq, if◌then◌else◌};
 ghost use Rattle.std.specs.Option.{option_copied};
 ghost use Rattle.std.specs.List.{All, list_any};
-ghost use Rattle.std.specs.Map.{keys_of, set_value};
+ghost use Rattle.std.specs.Map.{keys_of, set_value, remove_entry};
 ghost use Rattle.std.specs.Ordering.{nat_cmp};
 ghost use Rattle.std.specs.BTreeMap.{insert_entry, is_at, IsOrdered};
 ghost use Rattle.std.specs.VecDeque.{deque_capacity, deque_len};
 ghost use Rattle.cast_message.specs.History.{numbered};
-ghost use Rattle.cast_fifo.specs.Held.{nothing_held, waiting_at, came, marked, with_item, with_mark, run_from, rest_from, is_close, known_items, known_after, offered_items, offered_after, turned_items, turned_after};
-ghost use Rattle.cast_fifo.specs.Windows.{entries_from, entries_of, is_marked, marked_front, front_item, HasFront, next_item, next_far, HasNext};
+ghost use Rattle.cast_fifo.specs.Held.{nothing_held, waiting_at, came, marked, with_item, with_mark, run_from, rest_from, is_close, known_items, known_after, offered_items, offered_after, turned_items, turned_after, advanced, without_item, item_due};
+ghost use Rattle.cast_fifo.specs.Windows.{entries_from, entries_of, is_marked, marked_front, due_front, front_item, HasFront, next_item, next_far, HasNext, IsWindow};
 
 use cast_message::{Item, Message, NodeId};
 use std::alloc::{AllocError, Global};
@@ -134,11 +134,85 @@ impl Queue {
         Ok(Vec::new(alloc))
     }
 
-    // Whether the number had its turn or waits.
-    fn came(&self, number: u64) -> bool
+    /// Whether the number had its turn or waits.
+    pub fn came(&self, number: u64) -> bool
         ensures { result ≡ came self.now number }
     {
         number < self.next || self.at(number).is_some()
+    }
+
+    /// Takes back what waits at a number.
+    pub fn take_back(&mut self, number: u64)
+        ensures { self.new ≡ without_item self.old number }
+    {
+        if number < self.next {
+            return;
+        }
+        let place = number - self.next;
+        if place >= REACH {
+            clear_far(&mut self.far, number);
+        } else if place < self.ring.len() as u64 {
+            clear_place(&mut self.ring[place as usize]);
+        }
+    }
+
+    /// Copies of the messages that a mark of a number would give their turn.
+    pub fn ready(
+        &self,
+        alloc: Global,
+        sender: NodeId,
+        number: u64,
+    ) -> Result<Vec<Message>, AllocError>
+        ensures { IfOk result (λ messages. messages.items ≡ numbered sender self.now.next (known_items self.now number)) }
+    {
+        let mut messages = Vec::new(alloc);
+        if number != self.next {
+            return Ok(messages);
+        }
+        let _most = self.far.len();
+        for turn in number..u64::MAX {
+            let Some(item) = self.item_due(number, turn) else {
+                break;
+            };
+            messages.push(Message {
+                sender,
+                number: turn,
+                item: item.copy()?,
+            })?;
+        }
+        Ok(messages)
+    }
+
+    /// Marks a number, and puts the items whose turn has come at the end of others, which have room for them. Nothing waits
+    /// that the ring doesn't reach.
+    pub fn release(&mut self, number: u64, items: &mut Vec<Item>)
+        requires near { All (λ other. other < self.old.next + 4096) (keys_of self.old.waiting) }
+        requires room { vec_len items.old + length (known_items self.old number) ≤ vec_capacity items.old }
+        ensures items { items.new.items ≡ items.old.items ++ known_items self.old number }
+        ensures room { vec_capacity items.new ≡ vec_capacity items.old }
+        ensures after { self.new ≡ known_after self.old number }
+    {
+        if number < self.next {
+            return;
+        }
+        if self.at(number).is_none() {
+            return;
+        }
+        mark_place(&mut self.ring[(number - self.next) as usize]);
+        release_front(&mut self.next, &mut self.closed, &mut self.ring, items);
+    }
+
+    // The item at a number that is marked, or would be by a mark at the next number.
+    fn item_due(&self, marked: u64, number: u64) -> Option<&Item>
+        requires { self.now.next ≤ number }
+        ensures { option_copied result ≡ item_due (waiting_at self.now.waiting number) (nat_eq number marked) }
+    {
+        let waiting = self.at(number)?;
+        if waiting.known || number == marked {
+            Some(&waiting.item)
+        } else {
+            None
+        }
     }
 
     // What waits at a number.
@@ -250,6 +324,40 @@ fn is_close(item: &Item) -> bool
         Item::Data(_) | Item::Propose { .. } => false,
         Item::Close => true,
     }
+}
+
+// The turn of the messages that are marked from the first place on.
+fn release_front(
+    next: &mut u64,
+    closed: &mut bool,
+    ring: &mut VecDeque<Option<Waiting>>,
+    items: &mut Vec<Item>,
+)
+    requires short { length ring.old.items ≤ 4096 }
+    requires fits { next.old + length ring.old.items < 2 ^ 64 }
+    requires room { vec_len items.old + length (run_from next.old (entries_of next.old ring.old.items [])) ≤ vec_capacity items.old }
+    ensures items { items.new.items ≡ items.old.items ++ run_from next.old (entries_of next.old ring.old.items []) }
+    ensures room { vec_capacity items.new ≡ vec_capacity items.old }
+    ensures after { record { next = next.new; closed = closed.new; waiting = entries_of next.new ring.new.items [] } ≡ advanced (record { next = next.old; closed = closed.old; waiting = entries_of next.old ring.old.items [] }) }
+    ensures window { IsWindow next.new ring.new.items [] }
+{
+    while let Some(item) = take_marked(ring) {
+        *closed = *closed || is_close(&item);
+        items.push_reserved(item);
+        *next += 1;
+    }
+}
+
+// The first place goes, where it is marked, and its item.
+fn take_marked(ring: &mut VecDeque<Option<Waiting>>) -> Option<Item>
+    ensures item { result ≡ due_front ring.old.items }
+    ensures ring { ring.new.items ≡ (if is_some result then drop 1 ring.old.items else ring.old.items) }
+{
+    if !is_marked(ring.front()?) {
+        return None;
+    }
+    let waiting = ring.pop_front()??;
+    Some(waiting.item)
 }
 
 // How many numbers have their turn right after the next one.
@@ -405,6 +513,20 @@ fn mark_far(far: &mut BTreeMap<u64, Waiting>, number: u64)
     if let Some(waiting) = far.get_mut(&number) {
         waiting.known = true;
     }
+}
+
+// Takes away what waits at a place.
+fn clear_place(place: &mut Option<Waiting>)
+    ensures { place.new ≡ None }
+{
+    *place = None;
+}
+
+// Takes away what waits at a number.
+fn clear_far(far: &mut BTreeMap<u64, Waiting>, number: u64)
+    ensures { far.new.entries ≡ remove_entry (is_at (nat_cmp number)) far.old.entries }
+{
+    far.remove(&number);
 }
 
 // Places up to this one, the new ones empty.

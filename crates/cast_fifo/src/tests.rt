@@ -1,5 +1,6 @@
 //! The hold-back by hand: rows of the worked examples, and the ring's edge.
 ghost use Rattle.std.specs.Prelude.{◌≡◌, ◌+◌, ◌<◌, ◌^◌, length};
+ghost use Rattle.cast_message.specs.declared.message.Item.TheVariants.{Close};
 
 use super::*;
 use cast_message::Item;
@@ -78,4 +79,32 @@ fn gives_a_run_longer_than_the_ring(rt: HostRuntime) -> Result<(), Fail> {
     assert_eq!(rt; offer(&mut held, 0, 0, Item::Close)?, 6000);
     assert_eq!(rt; held.next(NodeId(0)), 6000);
     Ok(())
+}
+
+#[test]
+fn releases_what_it_showed_as_ready(rt: HostRuntime) -> Result<(), Fail> {
+    let mut held = HoldBack::new(rt.alloc(), 1)?;
+    held.hold(closing())?;
+    assert!(rt; held.came(NodeId(0), 0));
+    held.take_back(NodeId(0), 0);
+    assert!(rt; !held.came(NodeId(0), 0));
+    held.hold(closing())?;
+    assert_eq!(rt; held.ready(NodeId(0), 0)?.len(), 1);
+    assert_eq!(rt; held.next(NodeId(0)), 0);
+    let mut items = Vec::with_capacity(rt.alloc(), 1)?;
+    held.release(NodeId(0), 0, &mut items);
+    assert_eq!(rt; items.len(), 1);
+    assert_eq!(rt; held.next(NodeId(0)), 1);
+    assert!(rt; held.closed(NodeId(0)));
+    Ok(())
+}
+
+fn closing() -> Message
+    ensures { result ≡ record { sender = 0; number = 0; item = Close } }
+{
+    Message {
+        sender: NodeId(0),
+        number: 0,
+        item: Item::Close,
+    }
 }

@@ -14,7 +14,7 @@ use Rattle.cast_sets.specs.Bits.{is_set}
 use Rattle.cast_sets.proofs.Numbers.{no_bit}
 use Rattle.cast_link.specs.Taken.{bit_of}
 use Rattle.cast_link.proofs.Slots.{bit_stays}
-use Rattle.cast_link.specs.Links.{owed_from, owed_map, StartsOwed, KeepsOwed, Trimmed}
+use Rattle.cast_link.specs.Links.{Link, owed_from, owed_map, StartsOwed, KeepsOwed, Trimmed}
 
 -- the message owed at a slot
 abbrev pub owed_at : ℕ → List (Option Message) → ℕ → Option Message
@@ -169,6 +169,13 @@ remove-absent m k h = same_map nat_cmp_total nat_cmp-IsAntisymmetric _ _ (λ q. 
 pub len-put_new : (m : map.FinMap nat_cmp Message) (k : ℕ) (v : Message) → map.get m k ≡ None → map.len (map.insert m k v) ≡ map.len m + 1
 len-put_new m k v h = len-insert nat_cmp_total m k v ∙ ap (λ o. cond (is_some o) (map.len m) (map.len m + 1)) h
 
+-- a slot that is new, put in and taken out again
+pub remove-inserted : (m : map.FinMap nat_cmp Message) (k : ℕ) (v : Message) → map.get m k ≡ None → map.remove (map.insert m k v) k ≡ m
+remove-inserted m k v h = same_map nat_cmp_total nat_cmp-IsAntisymmetric _ _ (λ q. get-remove nat_cmp_total (map.insert m k v) k q ∙ elim (eqb_tells q k) [
+  | inl e ↦ ap (λ b. cond b None (map.get (map.insert m k v) q)) (find_here q k e.1) ∙ sym (ap (map.get m) e.1 ∙ h)
+  | inr e ↦ ap (λ b. cond b None (map.get (map.insert m k v) q)) (find_apart q k e.1) ∙ get-insert nat_cmp_total m k v q ∙ ap (λ b. cond b (Some v) (map.get m q)) (find_apart q k e.1)
+])
+
 pub len-taken : (m : map.FinMap nat_cmp Message) (k : ℕ) → map.contains_key m k ≡ true → map.len (map.remove m k) ≡ map.len m - 1
 len-taken m k h = len-remove nat_cmp_total m k ∙ ap (λ b. cond b (map.len m - 1) (map.len m)) h
 
@@ -262,6 +269,70 @@ one_given base places after marks owed message h e fits room =
 
     not_same : (a b : ℕ) → a < b → nat_eq a b ≡ false
     not_same a b l = grind (arith, nat_tests)
+
+StartsOwed-front : (places : List (Option Message)) (p : Option Message) → StartsOwed (places ++ p ∷ []) → StartsOwed places
+StartsOwed-front [] p h = tt
+StartsOwed-front (None ∷ places) p h = h
+StartsOwed-front (Some m ∷ places) p h = tt
+
+-- the last slot fewer, which is owed
+pub one_taken_back : (base : ℕ) (places after : List (Option Message)) (marks : List ℕ) (owed : ℕ) (message : Message) → KeepsOwed base places marks owed → places ≡ after ++ Some message ∷ [] → KeepsOwed base after marks (owed - 1)
+one_taken_back base places after marks owed message h e = record {
+  fits = omega (arith, h.fits, long);
+  starts = StartsOwed-front after (Some message) (subst StartsOwed e h.starts);
+  count = omega (arith, h.count, fewer);
+  sound = λ slot l f. let s = h.sound slot l f in go slot l (nat_eq (slot - base) (length after)) refl s.0 (sym (ap (λ ps. slice_index_or ps (slot - base) None) e ∙ at_end after (Some message) (slot - base)) ∙ s.1);
+  room = omega (arith, h.room, long);
+}
+  where
+    long : length places ≡ length after + 1
+    long = ap length e ∙ length-append after (Some message ∷ [])
+
+    absent : map.get (owed_map base after) (base + length after) ≡ None
+    absent = get-owed_map base after (base + length after) ∙ none_past base after (base + length after) (omega arith)
+
+    fewer : map.len (owed_map base places) ≡ map.len (owed_map base after) + 1
+    fewer = ap (λ ps. map.len (owed_map base ps)) e ∙ ap map.len (owed_map-push base after message) ∙ len-put_new (owed_map base after) (base + length after) message absent
+
+    some_none : ◌≡◌ {A = Option Message} (Some message) None → ⊥
+    some_none e = cc
+
+    apart : (a b : ℕ) → nat_eq a b ≡ false → a ≢ b
+    apart a b e = grind (arith, nat_tests)
+
+    go : (slot : ℕ) → base ≤ slot → (b : Bool) → nat_eq (slot - base) (length after) ≡ b → slot < base + length places → cond b (Some message) (slice_index_or after (slot - base) None) ≡ None → (slot < base + length after) × (slice_index_or after (slot - base) None ≡ None)
+    go slot l true f m g = absurd (some_none g)
+    go slot l false f m g = (let n = apart (slot - base) (length after) f in omega (arith, n, m, long, l), g)
+
+-- what is owed then
+pub owed_taken_back : (base : ℕ) (places after : List (Option Message)) (message : Message) → places ≡ after ++ Some message ∷ [] → owed_map base after ≡ map.remove (owed_map base places) (base + length after)
+owed_taken_back base places after message e =
+    sym (ap (λ ps. map.remove (owed_map base ps) (base + length after)) e
+    ∙ ap (λ m. map.remove m (base + length after)) (owed_map-push base after message)
+    ∙ remove-inserted (owed_map base after) (base + length after) message (get-owed_map base after (base + length after) ∙ none_past base after (base + length after) (omega arith)))
+
+-- the last place, which is owed
+pub last_place : (base : ℕ) (places : List (Option Message)) (link : Link) → (let l : Link = record { given = base + length places; owed = owed_map base places } in l) ≡ link → map.contains_key link.owed (link.given - 1) ≡ true → (0 < length places) × ((message : Message) × (slice_index_or places (length places - 1) None ≡ Some message))
+last_place base places link is h = (some_places, go (slice_index_or places (length places - 1) None) some)
+  where
+    slot : ℕ
+    slot = base + length places - 1
+
+    hit : map.contains_key (owed_map base places) slot ≡ true
+    hit = ap (λ (l : Link). map.contains_key l.owed (l.given - 1)) is ∙ h
+
+    inside : (base ≤ slot) × (slot - base < length places)
+    inside = owed_place base places slot hit
+
+    some_places : 0 < length places
+    some_places = omega (arith, inside.1)
+
+    some : is_some (slice_index_or places (length places - 1) None) ≡ true
+    some = sym (ap is_some (get-owed_map base places slot ∙ owed_inside base places slot (length places - 1) (omega (arith, some_places)))) ∙ hit
+
+    go : (p : Option Message) → is_some p ≡ true → (message : Message) × (p ≡ Some message)
+    go None g = absurd (true≢false (sym g))
+    go (Some m) g = (m, refl)
 
 -- a slot that is acknowledged is marked
 pub marked_slot : (base : ℕ) (places : List (Option Message)) (marks after : List ℕ) (owed slot i : ℕ) → KeepsOwed base places marks owed → slot ≡ base + i → i < length places → ((other : ℕ) → is_set after other ≡ (nat_eq other (bit_of base slot) || is_set marks other)) → (q : ℕ) → base ≤ q → is_set after (bit_of base q) ≡ true → (q < base + length (slice_set places i None)) × (slice_index_or (slice_set places i None) (q - base) None ≡ None)

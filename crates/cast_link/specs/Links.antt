@@ -1,9 +1,11 @@
 -- What a node gave another, as callers see it.
 --     Link                       how many slots were given, and the owed ones with their messages
+--     with_given link message    a slot more is given
+--     without_last link          the slot given last is taken back, where it is owed
 --     IsLeastFrom owed at slot   the least slot owed from `at` on
 --     owed_map base places       the owed slots, where places stand for the slots from base on
 --     KeepsOwed base places ..   how they are kept
-use Rattle.std.specs.Prelude.{◌≡◌, ℕ, ◌+◌, ◌-◌, ◌*◌, ◌%◌, ◌^◌, ◌≤◌, ◌<◌, true, List, [], ◌∷◌, length, slice_index_or, Option, Some, None, MatchOption, refl}
+use Rattle.std.specs.Prelude.{◌≡◌, ℕ, ◌+◌, ◌-◌, ◌*◌, ◌%◌, ◌^◌, ◌≤◌, ◌<◌, true, List, [], ◌∷◌, length, slice_index_or, Option, Some, None, MatchOption, if◌then◌else◌, refl}
 use Rattle.std.specs.Ordering.{nat_cmp}
 use Rattle.std.specs.FinMap as map
 use Rattle.std.specs.Coded.{Coded, code_by, coded×, coded_ℕ}
@@ -14,6 +16,15 @@ use Rattle.cast_link.specs.Taken.{bit_of}
 pub record Link : Type 0 where
   pub given : ℕ
   pub owed : map.FinMap nat_cmp Message
+
+abbrev pub with_given : Link → Message → Link
+with_given link message = record { given = link.given + 1; owed = map.insert link.owed link.given message }
+
+abbrev pub without_last : Link → Link
+without_last link =
+    if map.contains_key link.owed (link.given - 1)
+    then record { given = link.given - 1; owed = map.remove link.owed (link.given - 1) }
+    else link
 
 -- slot is the least one owed that isn't below `at`, or `None` where there is none
 abbrev pub IsLeastFrom : map.FinMap nat_cmp Message → ℕ → Option ℕ → Type 0

@@ -1,6 +1,9 @@
 //! The two ends of a link by hand: rows of the worked examples, and the edges of both windows.
+ghost use Rattle.std.specs.Prelude.{◌≡◌, ◌+◌, ◌<◌, ◌^◌, OnOk};
+
 use super::*;
 use cast_message::{Item, Message, NodeId};
+use std::alloc::AllocError;
 use std::test::Fail;
 
 const MOST: u64 = 18446744073709551615;
@@ -43,6 +46,28 @@ fn drops_what_lies_below_the_least_slot_owed(rt: HostRuntime) -> Result<(), Fail
     assert_eq!(rt; link.pair(1), None);
     assert_eq!(rt; link.owed(), 1);
     assert_eq!(rt; link.given(), 3);
+    Ok(())
+}
+
+// Gives a message, takes it back, and says which slot it had.
+fn give_and_take_back(link: &mut LinkOut, number: u64) -> Result<u64, AllocError>
+    requires { link.old.given + 1 < 2 ^ 64 }
+    ensures { OnOk result (link.new ≡ link.old) }
+{
+    let slot = link.give(message(number))?;
+    link.take_back();
+    Ok(slot)
+}
+
+#[test]
+fn gives_a_slot_again_after_taking_it_back(rt: HostRuntime) -> Result<(), Fail> {
+    let mut link = LinkOut::new(rt.alloc());
+    assert_eq!(rt; link.give(message(0))?, 0);
+    assert_eq!(rt; give_and_take_back(&mut link, 1)?, 1);
+    assert_eq!(rt; link.given(), 1);
+    assert_eq!(rt; link.owed(), 1);
+    assert_eq!(rt; link.give(message(2))?, 1);
+    assert_eq!(rt; link.carry(1), Ok(message(2)));
     Ok(())
 }
 

@@ -16,7 +16,7 @@ use Rattle.cast_message.specs.OwnSteps.{is_first_vote, first_votes, own_decision
 use Rattle.cast_agree.specs.Counted.{Counted, counted_after, decision as decision_counted, decision_by as decision_counted_by}
 use Rattle.cast_agree.specs.Proposals.{has_proposed, with_item, proposals, counted_of, values, settled, settled_by, least as least_of}
 use Rattle.cast_agree.proofs.Law.{decides_least, values-push, length-values, proposed-push}
-use Rattle.cast_node.specs.Turns.{counted_all, decisions_all}
+use Rattle.cast_agree.specs.Journal.{counted_all, decisions_all}
 use Rattle.cast_node.specs.Stands.{newest_first}
 
 pub newest_first-append : (before : List (ℕ × Item)) (xs ys : List Message) → newest_first before (xs ++ ys) ≡ newest_first (newest_first before xs) ys

@@ -11,3 +11,9 @@ pub mod Stepping
 pub mod Continuing
 pub mod Beginning
 pub mod Showing
+pub mod Parts
+pub mod Sound
+pub mod Tells
+pub mod Gifts
+pub mod Wholes
+pub mod Keeping

@@ -21,9 +21,10 @@ use Rattle.cast_message.proofs.OwnFronts.{messages_sender, no_messages}
 use Rattle.cast_relay.specs.Held.{holds}
 use Rattle.cast_fifo.specs.Held.{Held as HeldBack, held_of, nothing_held, known_items, known_after}
 use Rattle.cast_fifo.proofs.Stands.{Stands as HoldsBack, Turned}
+use Rattle.cast_agree.specs.Journal.{counted_all, decisions_all}
 use Rattle.cast_agree.specs.Proposals.{counted_of}
 use Rattle.cast_node.specs.Kept.{Kept, link_to, taken_from, knowers_of, is_enough_in, is_enough}
-use Rattle.cast_node.specs.Turns.{Told, told, released, unmoved, news_of, counted_all, decisions_all}
+use Rattle.cast_node.specs.Turns.{Told, told, released, unmoved, news_of}
 use Rattle.cast_message.specs.Shown.{item_of}
 use Rattle.cast_node.specs.Stands.{item_at, newest_first, StandsOut, Stands}
 use Rattle.cast_node.proofs.Places.{length-slice_set, at_set, same_number, other_number}

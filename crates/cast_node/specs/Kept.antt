@@ -22,14 +22,14 @@ pub record Kept : Type 0 where
   pub config : Config
   pub me : ℕ
   pub live : Bool
-  pub frames : ℕ                                -- how many it made
-  pub stream : List Item                        -- the items that it ordered
+  pub frames : ℕ  -- how many it made
+  pub stream : List Item  -- the items that it ordered
   pub relay : Held
-  pub outgoing : List Link                      -- by peer
-  pub incoming : List (set.FinSet nat_cmp)      -- by peer
-  pub hold_back : List HeldBack                 -- by sender
+  pub outgoing : List Link  -- by peer
+  pub incoming : List (set.FinSet nat_cmp)  -- by peer
+  pub hold_back : List HeldBack  -- by sender
   pub knowers : List (List (set.FinSet nat_cmp))  -- by sender and number
-  pub delivered : List (List Item)              -- by sender
+  pub delivered : List (List Item)  -- by sender
   pub agree : Counted
 
 abbrev pub link_to : Kept → ℕ → Link

@@ -1,3 +1,9 @@
 pub mod Kept
 pub mod Turns
 pub mod Stands
+pub mod Delivering
+pub mod Code
+pub mod Giving
+pub mod Taking
+pub mod Sound
+pub mod Calls

@@ -5,7 +5,7 @@
 --     kept_fault kept step           why a step is refused
 --     kept_answer, kept_after        else the answer, and what is kept then
 --     Gives kept step reply new      both: a step answered by this reply leaves this
-use Rattle.std.specs.Prelude.{◌≡◌, ℕ, suc, ◌+◌, ◌-◌, ◌*◌, ◌==◌, nat_lt, nat_le, Bool, true, false, not, ◌&&◌, if◌then◌else◌, List, [], ◌∷◌, ◌++◌, length, map, replicate, slice_index_or, slice_set, Option, Some, None, is_some, unwrap_or, option_to_list, Result, Ok, Err}
+use Rattle.std.specs.Prelude.{◌≡◌, ℕ, suc, ◌+◌, ◌-◌, ◌*◌, ◌==◌, nat_lt, nat_le, Bool, false, not, ◌&&◌, if◌then◌else◌, List, [], ◌∷◌, ◌++◌, length, replicate, slice_index_or, slice_set, Option, Some, None, unwrap_or, Result, Ok, Err}
 use Rattle.std.specs.List.{list_any}
 use Rattle.std.specs.Ordering.{nat_cmp}
 use Rattle.std.specs.FinSet as set
@@ -19,7 +19,6 @@ use Rattle.cast_message.specs.declared.event.StepFault.TheVariants.{SelfLink, Cr
 use Rattle.cast_message.specs.declared.message.Item.{Item}
 use Rattle.cast_message.specs.declared.message.Item.TheVariants.{Close}
 use Rattle.cast_message.specs.declared.message.Message.{Message}
-use Rattle.cast_message.specs.declared.message.Decision.{Decision}
 use Rattle.cast_message.specs.declared.message.Frame.{Frame}
 use Rattle.cast_message.specs.declared.message.FrameBody.{FrameBody}
 use Rattle.cast_message.specs.declared.message.FrameBody.TheVariants.{Carry, Took}
@@ -29,8 +28,8 @@ use Rattle.cast_message.specs.Steps.{Step, Ordered, Sent, Acknowledged, Arrived,
 use Rattle.cast_message.specs.OwnSteps.{nothing}
 use Rattle.cast_link.specs.Links.{Link}
 use Rattle.cast_relay.specs.Held.{Held, holds, with_pair, relays_to}
-use Rattle.cast_fifo.specs.Held.{Held as HeldBack, held_of, with_item, known_items, known_after}
-use Rattle.cast_agree.specs.Counted.{Counted, counted_after, decision_by}
+use Rattle.cast_fifo.specs.Held.{held_of, with_item, known_items, known_after}
+use Rattle.cast_agree.specs.Journal.{counted_all, decisions_all}
 use Rattle.cast_node.specs.Kept.{Kept, link_to, taken_from, knowers_of, is_enough}
 
 -- a row in which the place has these members; places before it that weren't there are empty
@@ -56,11 +55,11 @@ given_from q relay source message (link ∷ links) =
 abbrev pub spread : Kept → Message → ℕ → Kept
 spread kept message source =
     with_knowers
-        (record kept {
-          outgoing = given_from 0 kept.relay source message kept.outgoing;
-          hold_back = slice_set kept.hold_back message.sender (with_item (held_of kept.hold_back message.sender) message.number message.item);
-        })
-        message.sender message.number (set.insert (set.insert (set.insert set.empty kept.me) message.sender) source)
+    (record kept {
+      outgoing = given_from 0 kept.relay source message kept.outgoing;
+      hold_back = slice_set kept.hold_back message.sender (with_item (held_of kept.hold_back message.sender) message.number message.item);
+    })
+    message.sender message.number (set.insert (set.insert (set.insert set.empty kept.me) message.sender) source)
 
 -- another node's message, by the peer that brought it
 abbrev pub taken_up : Kept → Message → ℕ → Kept
@@ -73,20 +72,11 @@ own_message kept item = record { sender = kept.me; number = length kept.stream; 
 abbrev pub own_taken_up : Kept → Item → Kept
 own_taken_up kept item =
     spread
-        (record kept {
-          stream = kept.stream ++ item ∷ [];
-          relay = record (with_pair kept.relay kept.me (length kept.stream)) { own = kept.relay.own + 1 };
-        })
-        (own_message kept item) kept.me
-
-unfoldable pub counted_all : Counted → List Message → Counted
-counted_all counted [] = counted
-counted_all counted (message ∷ messages) = counted_all (counted_after counted message.sender message.item) messages
-
-unfoldable pub decisions_all : Counted → List Message → List Decision
-decisions_all counted [] = []
-decisions_all counted (message ∷ messages) =
-    option_to_list (decision_by counted message.sender message.item) ++ decisions_all (counted_after counted message.sender message.item) messages
+    (record kept {
+      stream = kept.stream ++ item ∷ [];
+      relay = record (with_pair kept.relay kept.me (length kept.stream)) { own = kept.relay.own + 1 };
+    })
+    (own_message kept item) kept.me
 
 -- what is delivered and decided, and what is kept then
 pub record Told : Type 0 where
@@ -213,8 +203,3 @@ carry_of kept to slot = record { from = kept.me; seq = kept.frames; to = to; bod
 
 abbrev pub took_of : Kept → ℕ → ℕ → Frame
 took_of kept to slot = record { from = kept.me; seq = kept.frames; to = to; body = Took slot }
-
--- what a step answers and leaves; a refused one leaves all as it was
-abbrev pub Gives : Kept → Step → Result Answer StepFault → Kept → Type 0
-Gives kept step (Ok answer) new = (kept_fault kept step ≡ None) × (answer ≡ kept_answer kept step) × (new ≡ kept_after kept step)
-Gives kept step (Err refusal) new = IsRefused (kept_fault kept step) refusal × (new ≡ kept)

@@ -1,1 +1,2 @@
 pub mod Senders
+pub mod TakenBack

@@ -2,9 +2,10 @@
 --     Held                     the node, how many messages are its own, and the numbers held of each sender
 --     holds held s i           the node holds the pair
 --     with_pair held s i       the same with one pair more
+--     without_pair held s i    the same without a pair
 --     relays_to held s r q     a pair of s that first came from r goes on to q
 --     by_sender sets           sets for the first senders, as a list for all 256 that a `NodeId` can name
-use Rattle.std.specs.Prelude.{ℕ, ◌-◌, ◌==◌, Bool, not, ◌&&◌, List, ◌++◌, length, replicate, slice_index_or, slice_set, refl}
+use Rattle.std.specs.Prelude.{◌≡◌, ℕ, ◌-◌, ◌≤◌, ◌==◌, Bool, false, not, ◌&&◌, List, ◌++◌, length, replicate, slice_index_or, slice_set, refl}
 use Rattle.std.specs.Ordering.{nat_cmp}
 use Rattle.std.specs.FinSet as set
 use Rattle.std.specs.Coded.{Coded, code_by, coded×, coded_ℕ, coded_list}
@@ -25,6 +26,13 @@ holds held sender number = set.contains (numbers_of held.numbers sender) number
 
 abbrev pub with_pair : Held → ℕ → ℕ → Held
 with_pair held sender number = record held { numbers = slice_set held.numbers sender (set.insert (numbers_of held.numbers sender) number) }
+
+abbrev pub without_pair : Held → ℕ → ℕ → Held
+without_pair held sender number = record held { numbers = slice_set held.numbers sender (set.remove (numbers_of held.numbers sender) number) }
+
+-- the numbers held of the node itself are those of its own messages
+abbrev pub HoldsOwnBelow : ℕ → ℕ → List (set.FinSet nat_cmp) → Type 0
+HoldsOwnBelow me own sets = (i : ℕ) → own ≤ i → set.contains (numbers_of sets me) i ≡ false
 
 -- not to the node itself, nor to the sender, nor to the peer that brought it
 abbrev pub relays_to : Held → ℕ → ℕ → ℕ → Bool

@@ -3,9 +3,9 @@
 //! but its sender and the peer that brought it.
 #![tactic(auto)]
 
-ghost use Rattle.std.specs.Prelude.{◌≡◌, ◌≢◌, ◌+◌, ◌<◌, ◌≤◌, ◌^◌, length, replicate, IfOk, OnOk, OnErr};
+ghost use Rattle.std.specs.Prelude.{◌≡◌, ◌≢◌, ◌+◌, ◌-◌, ◌<◌, false, ◌≤◌, ◌^◌, length, replicate, IfOk, OnOk, OnErr};
 ghost use Rattle.std.specs.FinSet as set;
-ghost use Rattle.cast_relay.specs.Held.{by_sender, holds, with_pair, relays_to};
+ghost use Rattle.cast_relay.specs.Held.{by_sender, holds, with_pair, without_pair, relays_to};
 ghost use Rattle.cast_relay.specs.Answers.{taken_of};
 
 use cast_message::{Item, Message, NodeId};
@@ -46,7 +46,9 @@ impl Model for Relay {
 
     ghost view = { λ r. record { me = r.me; own = r.own; numbers = by_sender r.numbers.items } };
 
-    ghost invariant = { λ r. (r.me < length r.numbers.items) × (length r.numbers.items ≤ 256) };
+    ghost use Rattle.cast_relay.specs.Held.{HoldsOwnBelow};
+
+    ghost invariant = { λ r. (r.me < length r.numbers.items) × (length r.numbers.items ≤ 256) × HoldsOwnBelow r.me r.own r.numbers.items };
 }
 
 impl Relay {
@@ -74,6 +76,7 @@ impl Relay {
         ensures message { IfOk result (λ message. message ≡ record { sender = self.old.me; number = self.old.own; item = item }) }
         ensures ok { OnOk result (self.new ≡ record (with_pair self.old self.old.me self.old.own) { own = self.old.own + 1 }) }
         ensures err { OnErr result (self.new ≡ self.old) }
+        ensures fresh { holds self.old self.old.me self.old.own ≡ false }
     {
         let number = self.own;
         let place = place_of(self.me);
@@ -101,6 +104,28 @@ impl Relay {
             return Ok(Taken::Known);
         }
         Ok(Taken::New)
+    }
+
+    /// Takes back the last item of the node's own: just after `own`, the state is again that before it. There is such an
+    /// item. It takes no memory.
+    pub fn disown(&mut self)
+        requires { 0 < self.old.own }
+        ensures { self.new ≡ record (without_pair self.old self.old.me (self.old.own - 1)) { own = self.old.own - 1 } }
+    {
+        self.own -= 1;
+        let place = place_of(self.me);
+        self.numbers[place].remove(self.own);
+    }
+
+    /// Forgets a pair of another node: just after `arrive` was `New`, the state is again that before it. It takes no memory.
+    pub fn forget(&mut self, sender: NodeId, number: u64)
+        requires { sender ≢ self.old.me }
+        ensures { self.new ≡ without_pair self.old sender number }
+    {
+        let place = place_of(sender);
+        if place < self.numbers.len() {
+            self.numbers[place].remove(number);
+        }
     }
 
     /// Whether the node holds the pair. It takes no memory.

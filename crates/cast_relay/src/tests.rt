@@ -38,3 +38,17 @@ fn holds_pairs_of_senders_beyond_the_group(rt: HostRuntime) -> Result<(), Fail> 
     assert!(rt; !relay.holds(NodeId(254), 0));
     Ok(())
 }
+
+#[test]
+fn holds_a_pair_again_after_forgetting_it(rt: HostRuntime) -> Result<(), Fail> {
+    let mut relay = Relay::new(rt.alloc(), NodeId(1), 4)?;
+    assert_eq!(rt; relay.arrive(&closing(0), NodeId(2))?, Taken::New);
+    relay.forget(NodeId(0), 0);
+    assert!(rt; !relay.holds(NodeId(0), 0));
+    assert_eq!(rt; relay.arrive(&closing(0), NodeId(2))?, Taken::New);
+    assert_eq!(rt; relay.own(Item::Close)?, closing(1));
+    relay.disown();
+    assert!(rt; !relay.holds(NodeId(1), 0));
+    assert_eq!(rt; relay.own(Item::Close)?, closing(1));
+    Ok(())
+}

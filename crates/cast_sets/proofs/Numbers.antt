@@ -1,19 +1,19 @@
 -- A set of numbers, as bits and an ordered set.
-use Rattle.std.specs.Prelude.{◌≡◌, ℕ, zero, suc, ◌*◌, ◌/◌, ◌%◌, ◌^◌, ◌≤◌, ◌<◌, nat_eq, nat_lt, Bool, true, false, cond, ◌&&◌, ◌||◌, List, [], ◌∷◌, ◌++◌, length, slice_index, slice_index_or, slice_set, bit_or, replicate, refl}
+use Rattle.std.specs.Prelude.{◌≡◌, ℕ, zero, suc, ◌*◌, ◌/◌, ◌%◌, ◌^◌, ◌≤◌, ◌<◌, nat_eq, nat_lt, Bool, true, false, cond, not, ◌&&◌, ◌||◌, List, [], ◌∷◌, ◌++◌, length, slice_index, slice_index_or, slice_set, bit_or, replicate, refl}
 use Rattle.std.specs.List.{All, list_any}
 use Rattle.std.specs.Int.{bit_at}
 use Rattle.std.specs.Ordering.{nat_cmp}
 use Rattle.std.specs.BTreeMap.{is_at}
 use Rattle.std.specs.FinSet as set
-use Rattle.std.proofs.Common.{sym, ap, ◌∙◌, arith}
-use Rattle.std.proofs.lemmas.Bool.Decides.{nat_tests}
+use Rattle.std.proofs.Common.{sym, ap, ◌∙◌, arith, inl, inr, true≢false}
+use Rattle.std.proofs.lemmas.Bool.Decides.{nat_tests, leb_tells}
 use Rattle.std.proofs.lemmas.List.{get_or_past}
 use Rattle.std.proofs.lemmas.List.Folds.{list_any_none}
 use Rattle.std.proofs.lemmas.Nat.Bits.{bit_at-zero}
 use Rattle.cast_sets.specs.Bits.{is_set}
 use Rattle.cast_sets.specs.Numbers.{is_number, number_set}
-use Rattle.cast_sets.specs.Members.{contains-members_below, members_below-insert, members_below-same}
-use Rattle.cast_sets.proofs.Places.{is_set-with_place, with_place}
+use Rattle.cast_sets.specs.Members.{contains-members_below, members_below-insert, members_below-remove, members_below-same}
+use Rattle.cast_sets.proofs.Places.{is_set-with_place, with_place, is_set-without_place, without_place}
 
 no_bits : (k i : ℕ) → slice_index (replicate k 0) i ≡ 0
 no_bits zero i = refl
@@ -76,6 +76,43 @@ near_added words room far s k place e l same at within =
     ap (λ b. b || list_any (is_at (nat_cmp q)) far) (is_set-with_place room k q (omega (arith, within, at)) ∙ ap (λ w. nat_eq q k || nat_eq (bit_at w (q % 64)) 1) (same (q / 64)))
     ∙ or_or (nat_eq q k) (is_set words q) (list_any (is_at (nat_cmp q)) far))
     ∙ ap (λ s. set.insert s k) e
+
+no_far : (words : List ℕ) (k : ℕ) → length words ≤ 64 → 4096 ≤ k → (q : ℕ) → nat_eq q k ≡ true → is_set words q ≡ false
+no_far words k l m q e = no_bit words q (omega (arith, l, m, eq_tells q k e))
+  where
+    eq_tells : (q k : ℕ) → nat_eq q k ≡ true → q ≡ k
+    eq_tells q k e = grind (arith, nat_tests)
+
+pub far_removed : (words far fewer : List ℕ) (s : set.FinSet nat_cmp) (k : ℕ) → number_set words far ≡ s → length words ≤ 64 → 4096 ≤ k → ((q : ℕ) → list_any (is_at (nat_cmp q)) fewer ≡ cond (is_at (nat_cmp k) q) false (list_any (is_at (nat_cmp q)) far)) → number_set words fewer ≡ set.remove s k
+far_removed words far fewer s k e short l h =
+    members_below-remove (2 ^ 64) (is_number words far) (is_number words fewer) k (λ q _. ap (λ b. is_set words q || b) (h q) ∙ ap (λ b. is_set words q || cond b false (list_any (is_at (nat_cmp q)) far)) (tie q k) ∙ left (nat_eq q k) (is_set words q) (list_any (is_at (nat_cmp q)) far) (no_far words k short l q))
+    ∙ ap (λ s. set.remove s k) e
+  where
+    left : (a b c : Bool) → (a ≡ true → b ≡ false) → (b || cond a false c) ≡ (not a && (b || c))
+    left true b c f = ap (λ b. b || false) (f refl)
+    left false b c f = refl
+
+pub near_removed : (words far : List ℕ) (s : set.FinSet nat_cmp) (k : ℕ) → number_set words far ≡ s → k < 4096 → k < 64 * length words → All (λ number. 4096 ≤ number) far → number_set (without_place words k) far ≡ set.remove s k
+near_removed words far s k e near l h =
+    members_below-remove (2 ^ 64) (is_number words far) (is_number (without_place words k) far) k (λ q _. ap (λ b. b || list_any (is_at (nat_cmp q)) far) (is_set-without_place words k q l) ∙ left (nat_eq q k) (is_set words q) (list_any (is_at (nat_cmp q)) far) (none q))
+    ∙ ap (λ s. set.remove s k) e
+  where
+    eq_tells : (q k : ℕ) → nat_eq q k ≡ true → q ≡ k
+    eq_tells q k e = grind (arith, nat_tests)
+
+    none : (q : ℕ) → nat_eq q k ≡ true → list_any (is_at (nat_cmp q)) far ≡ false
+    none q f = list_any_none (is_at (nat_cmp q)) far (All-apart far q (omega (arith, near, eq_tells q k f)) h)
+
+    left : (a b c : Bool) → (a ≡ true → c ≡ false) → ((not a && b) || c) ≡ (not a && (b || c))
+    left true b c f = f refl
+    left false b c f = refl
+
+-- a member below the bits' end has a bit
+pub has_word : (words far : List ℕ) (s : set.FinSet nat_cmp) (k : ℕ) → number_set words far ≡ s → k < 4096 → All (λ number. 4096 ≤ number) far → set.contains s k ≡ true → k / 64 < length words
+has_word words far s k e near h hit = elim (leb_tells (length words) (k / 64)) [
+  | inl l ↦ absurd (true≢false (sym hit ∙ sym (is_number-in words far s e k (omega (arith, near))) ∙ near_number words far k near h ∙ no_bit words k l.1))
+  | inr l ↦ l.1
+]
 
 pub same_words : (words room far : List ℕ) → ((i : ℕ) → slice_index room i ≡ slice_index words i) → number_set room far ≡ number_set words far
 same_words words room far same = members_below-same (2 ^ 64) (is_number room far) (is_number words far) (λ q _. ap (λ w. nat_eq (bit_at w (q % 64)) 1 || list_any (is_at (nat_cmp q)) far) (same (q / 64)))

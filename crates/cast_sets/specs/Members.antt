@@ -3,13 +3,15 @@
 --     contains-members_below       what it contains
 --     members_below-same           two tests that agree make one set
 --     members_below-insert         one number more
+--     members_below-remove         one number fewer
 --     members_below-len            it has at most n
-use Rattle.std.specs.Prelude.{◌≡◌, ℕ, zero, suc, ◌+◌, ◌≤◌, ◌<◌, nat_lt, nat_le, nat_eq, Bool, true, false, cond, ◌&&◌, ◌||◌, List, [], ◌∷◌, length, refl}
+--     remove-inserted              a new number that is taken out again
+use Rattle.std.specs.Prelude.{◌≡◌, ℕ, zero, suc, ◌+◌, ◌≤◌, ◌<◌, nat_lt, nat_le, nat_eq, Bool, true, false, cond, not, ◌&&◌, ◌||◌, List, [], ◌∷◌, length, refl}
 use Rattle.std.specs.List.{list_any, filter, range_with_len}
 use Rattle.std.specs.Ordering.{nat_cmp, eq_by_cmp}
 use Rattle.std.specs.Cmp.{nat_cmp_total}
 use Rattle.std.specs.FinSet as set
-use Rattle.std.specs.FinSet.{nat_cmp-IsAntisymmetric, contains-from_list_nat, contains-insert, contains-empty, len-insert, len-empty, same_set}
+use Rattle.std.specs.FinSet.{nat_cmp-IsAntisymmetric, contains-from_list_nat, contains-insert, contains-remove, contains-empty, len-insert, len-empty, same_set}
 use Rattle.std.proofs.Common.{sym, ap, ◌∙◌, arith}
 use Rattle.std.proofs.lemmas.Bool.Decides.{nat_tests, leb_tells}
 use Rattle.std.proofs.Common.{inl, inr}
@@ -72,6 +74,28 @@ members_below-insert n p t k l h = same_set nat_cmp_total nat_cmp-IsAntisymmetri
         with_tie : (q : ℕ) → eq_by_cmp nat_cmp q k ≡ nat_eq q k → (nat_lt q n && t q) ≡ (eq_by_cmp nat_cmp q k || (nat_lt q n && p q))
         with_tie q e = elim (leb_tells (suc q) n) [ inl f ↦ simp (e, f.0, h q f.1) | inr f ↦ simp (e, f.0) (eq_false q k (omega arith)) ]
 
+pub members_below-remove : (n : ℕ) (p t : ℕ → Bool) (k : ℕ) → ((q : ℕ) → q < n → t q ≡ (not (nat_eq q k) && p q)) → members_below n t ≡ set.remove (members_below n p) k
+members_below-remove n p t k h = same_set nat_cmp_total nat_cmp-IsAntisymmetric _ _ (λ q. contains-members_below n t q ∙ guarded q ∙ sym (contains-remove nat_cmp_total (members_below n p) k q ∙ ap (λ b. not (eq_by_cmp nat_cmp q k) && b) (contains-members_below n p q)))
+  where
+    both : (a b : Bool) → (true && (not a && b)) ≡ (not a && (true && b))
+    both a b = refl
+
+    none : (a b : Bool) → false ≡ (not a && (false && b))
+    none true b = refl
+    none false b = refl
+
+    with_tie : (q : ℕ) → eq_by_cmp nat_cmp q k ≡ nat_eq q k → (nat_lt q n && t q) ≡ (not (eq_by_cmp nat_cmp q k) && (nat_lt q n && p q))
+    with_tie q e = elim (leb_tells (suc q) n) [
+      | inl f ↦ (λ i. f.0 i && h q f.1 i) ∙ both (nat_eq q k) (p q) ∙ sym (λ i. not (e i) && (f.0 i && p q))
+      | inr f ↦ ap (λ b. b && t q) f.0 ∙ none (eq_by_cmp nat_cmp q k) (p q) ∙ sym (ap (λ b. not (eq_by_cmp nat_cmp q k) && (b && p q)) f.0)
+    ]
+
+    guarded : (q : ℕ) → (nat_lt q n && t q) ≡ (not (eq_by_cmp nat_cmp q k) && (nat_lt q n && p q))
+    guarded q = with_tie q (tie q)
+      where
+        tie : (q : ℕ) → eq_by_cmp nat_cmp q k ≡ nat_eq q k
+        tie q = grind (arith, nat_tests)
+
 len-from_list : (ks : List ℕ) → set.len (set.from_list {R = nat_cmp} ks) ≤ length ks
 len-from_list [] = omega (arith, len-empty nat_cmp)
 len-from_list (k ∷ ks) = grind (arith, len-from_list ks, len-insert nat_cmp_total (set.from_list {R = nat_cmp} ks) k)
@@ -110,3 +134,31 @@ insert-member s k h = same_set nat_cmp_total nat_cmp-IsAntisymmetric _ _ (λ q. 
 
 pub len-new_member : (s : set.FinSet nat_cmp) (k : ℕ) → set.contains s k ≡ false → set.len (set.insert s k) ≡ set.len s + 1
 len-new_member s k h = len-insert nat_cmp_total s k ∙ ap (λ b. cond b (set.len s) (set.len s + 1)) h
+
+-- a number that is no member is taken out in vain
+pub remove-absent : (s : set.FinSet nat_cmp) (k : ℕ) → set.contains s k ≡ false → set.remove s k ≡ s
+remove-absent s k h = same_set nat_cmp_total nat_cmp-IsAntisymmetric _ _ (λ q. contains-remove nat_cmp_total s k q ∙ left q)
+  where
+    tie : (q : ℕ) → eq_by_cmp nat_cmp q k ≡ true → q ≡ k
+    tie q e = grind (arith, nat_tests)
+
+    kept : (b c : Bool) → (b ≡ true → c ≡ false) → (not b && c) ≡ c
+    kept true c f = sym (f refl)
+    kept false c f = refl
+
+    left : (q : ℕ) → (not (eq_by_cmp nat_cmp q k) && set.contains s q) ≡ set.contains s q
+    left q = kept (eq_by_cmp nat_cmp q k) (set.contains s q) (λ e. ap (set.contains s) (tie q e) ∙ h)
+
+-- a new number that is put in and taken out again
+pub remove-inserted : (s : set.FinSet nat_cmp) (k : ℕ) → set.contains s k ≡ false → set.remove (set.insert s k) k ≡ s
+remove-inserted s k h = same_set nat_cmp_total nat_cmp-IsAntisymmetric _ _ (λ q. contains-remove nat_cmp_total (set.insert s k) k q ∙ ap (λ b. not (eq_by_cmp nat_cmp q k) && b) (contains-insert nat_cmp_total s k q) ∙ left q)
+  where
+    tie : (q : ℕ) → eq_by_cmp nat_cmp q k ≡ true → q ≡ k
+    tie q e = grind (arith, nat_tests)
+
+    kept : (b c : Bool) → (b ≡ true → c ≡ false) → (not b && (b || c)) ≡ c
+    kept true c f = sym (f refl)
+    kept false c f = refl
+
+    left : (q : ℕ) → (not (eq_by_cmp nat_cmp q k) && (eq_by_cmp nat_cmp q k || set.contains s q)) ≡ set.contains s q
+    left q = kept (eq_by_cmp nat_cmp q k) (set.contains s q) (λ e. ap (set.contains s) (tie q e) ∙ h)

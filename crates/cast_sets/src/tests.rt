@@ -10,6 +10,7 @@ fn keeps_nodes(rt: HostRuntime) {
         assert_eq!(rt; nodes.insert(NodeId(node)), new);
     }
     assert_eq!(rt; nodes.len(), 4);
+    assert!(rt; nodes.copy().contains(NodeId(255)));
     assert!(rt; nodes.contains(NodeId(255)));
     assert!(rt; !nodes.contains(NodeId(1)));
 }
@@ -26,6 +27,10 @@ fn keeps_numbers(rt: HostRuntime) -> Result<(), Fail> {
     ] {
         assert_eq!(rt; numbers.insert(number)?, new);
     }
+    for (number, there) in [(4095, true), (4096, true), (4096, false), (64, false)] {
+        assert_eq!(rt; numbers.remove(number), there);
+    }
+    assert!(rt; !numbers.contains(4095));
     assert!(rt; numbers.contains(0));
     assert!(rt; !numbers.contains(1));
     assert!(rt; !numbers.contains(18446744073709551615));

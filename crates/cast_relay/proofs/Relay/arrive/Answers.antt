@@ -1,8 +1,10 @@
-use Rattle.std.proofs.Common.{◌<◌, length, not, sym, ap, ◌∙◌, if◌then◌else◌}
+use Rattle.std.proofs.Math.ListN.{length-set}
+use Rattle.std.proofs.Common.{◌≢◌, ◌<◌, arith, length, not, sym, ap, ◌∙◌, if◌then◌else◌}
 use Rattle.std.specs.FinSet as set
 use Rattle.std.proofs.lemmas.List.{get_or_default}
 use Rattle.cast_relay.specs.declared.Taken.TheVariants.{New, Known}
-use Rattle.cast_relay.proofs.Senders.{put, answer}
+use Rattle.cast_relay.specs.Held.{Held}
+use Rattle.cast_relay.proofs.Senders.{put, answer, own_grown, own_other}
 use Rattle.cast_relay.proofs.Relay.arrive.Goals as goal
 
 pub returns-clause-ok : goal.returns-clause-ok
@@ -38,3 +40,43 @@ returns-then-not-added-clause-taken c =
     let held = answer c.args.self.now c.args.message.now.sender c.args.message.now.number c.self.inside.numbers.items room c.self.inside.me c.self.inside.own place c.in_ok-added.added c.self.view_is c.make_places.ensures.same c.place_of-place.ensures.value
     (c.in_ok-added.ensures.test ∙ ap (λ n. not (set.contains n c.args.message.now.number)) (c.index_mut.ensures.value ∙ get_or_default room place _ set.empty within)) in
     sym (ap (λ b. if b then Known else New) (held ∙ ap not c.if-not-added.true))
+
+pub invariant_of-self : goal.invariant_of-self
+invariant_of-self c = (
+  omega (arith, c.self.invariant.0, c.make_places.ensures.more),
+  c.make_places.ensures.few,
+  own_grown c.self.inside.numbers.items c.make_places.new.numbers.items c.self.inside.me c.self.inside.own c.make_places.ensures.same c.self.invariant.2,
+)
+
+pub invariant_of-self-in_err-added : goal.invariant_of-self-in_err-added
+invariant_of-self-in_err-added c =
+    let room = c.make_places.new.numbers.items in
+    let place = c.place_of-place.result in
+    let long = length-set room place c.insert.new.self in
+    let other : place ≢ c.self.inside.me = λ e. c.requires (sym c.place_of-place.ensures.value ∙ e ∙ ap (λ (h : Held). h.me) c.self.view_is) in (
+      omega (arith, long, c.self.invariant.0, c.make_places.ensures.more),
+      omega (arith, long, c.make_places.ensures.few),
+      own_other room c.self.inside.me c.self.inside.own place c.insert.new.self other (own_grown c.self.inside.numbers.items room c.self.inside.me c.self.inside.own c.make_places.ensures.same c.self.invariant.2),
+    )
+
+pub invariant_of-self-then-not-added : goal.invariant_of-self-then-not-added
+invariant_of-self-then-not-added c =
+    let room = c.make_places.new.numbers.items in
+    let place = c.place_of-place.result in
+    let long = length-set room place c.insert.new.self in
+    let other : place ≢ c.self.inside.me = λ e. c.requires (sym c.place_of-place.ensures.value ∙ e ∙ ap (λ (h : Held). h.me) c.self.view_is) in (
+      omega (arith, long, c.self.invariant.0, c.make_places.ensures.more),
+      omega (arith, long, c.make_places.ensures.few),
+      own_other room c.self.inside.me c.self.inside.own place c.insert.new.self other (own_grown c.self.inside.numbers.items room c.self.inside.me c.self.inside.own c.make_places.ensures.same c.self.invariant.2),
+    )
+
+pub invariant_of-self-2 : goal.invariant_of-self-2
+invariant_of-self-2 c =
+    let room = c.make_places.new.numbers.items in
+    let place = c.place_of-place.result in
+    let long = length-set room place c.insert.new.self in
+    let other : place ≢ c.self.inside.me = λ e. c.requires (sym c.place_of-place.ensures.value ∙ e ∙ ap (λ (h : Held). h.me) c.self.view_is) in (
+      omega (arith, long, c.self.invariant.0, c.make_places.ensures.more),
+      omega (arith, long, c.make_places.ensures.few),
+      own_other room c.self.inside.me c.self.inside.own place c.insert.new.self other (own_grown c.self.inside.numbers.items room c.self.inside.me c.self.inside.own c.make_places.ensures.same c.self.invariant.2),
+    )

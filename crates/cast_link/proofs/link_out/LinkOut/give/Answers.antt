@@ -3,7 +3,7 @@ use Rattle.std.specs.FinMap as map
 use Rattle.cast_message.specs.declared.message.Message.{Message}
 use Rattle.cast_link.specs.Taken.{bit_of}
 use Rattle.cast_link.specs.Links.{Link, owed_map}
-use Rattle.cast_link.proofs.Windows.{owed_map-push, len-owed_map, more_room, one_given}
+use Rattle.cast_link.proofs.Windows.{owed_map-push, len-owed_map, more_room, one_given, get-owed_map, none_past}
 use Rattle.cast_link.proofs.link_out.LinkOut.give.Goals as goal
 
 pub overflow_add-self : goal.overflow_add-self
@@ -29,3 +29,12 @@ returns-clause-ok c =
     let given : base + length (places ++ Some c.args.message ∷ []) ≡ c.args.self.now.given + 1 = omega (arith, length-append places (Some c.args.message ∷ []), ap (λ (l : Link). l.given) view) in
     ap (λ (ps : List (Option Message)). let link : Link = record { given = base + length ps; owed = owed_map base ps } in link) c.in_ok-push_back.ensures.items
     ∙ (λ i. record { given = given i; owed = (owed_map-push base places c.args.message ∙ (λ k. map.insert (view k).owed (view k).given c.args.message)) i })
+
+pub returns-in_err-make_room-clause-fresh : goal.returns-in_err-make_room-clause-fresh
+returns-in_err-make_room-clause-fresh c = sym (λ i. map.get (c.self.view_is i).owed (c.self.view_is i).given) ∙ get-owed_map c.self.inside.base c.self.inside.places.items _ ∙ none_past c.self.inside.base c.self.inside.places.items _ (omega arith)
+
+pub returns-in_err-push_back-clause-fresh : goal.returns-in_err-push_back-clause-fresh
+returns-in_err-push_back-clause-fresh c = sym (λ i. map.get (c.self.view_is i).owed (c.self.view_is i).given) ∙ get-owed_map c.self.inside.base c.self.inside.places.items _ ∙ none_past c.self.inside.base c.self.inside.places.items _ (omega arith)
+
+pub returns-clause-fresh : goal.returns-clause-fresh
+returns-clause-fresh c = sym (λ i. map.get (c.self.view_is i).owed (c.self.view_is i).given) ∙ get-owed_map c.self.inside.base c.self.inside.places.items _ ∙ none_past c.self.inside.base c.self.inside.places.items _ (omega arith)

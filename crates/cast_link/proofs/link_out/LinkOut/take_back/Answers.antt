@@ -1,0 +1,52 @@
+use Rattle.std.proofs.Common.{◌≡◌, ◌+◌, ◌-◌, ◌<◌, ◌++◌, ◌∷◌, [], length, Bor, Option, Some, None, is_some, true, if◌then◌else◌, length-append, refl, sym, ap, ◌∙◌, subst, arith}
+use Rattle.std.specs.Option.{option_copied}
+use Rattle.std.specs.FinMap as map
+use Rattle.cast_message.specs.declared.message.Message.{Message}
+use Rattle.cast_link.specs.Links.{Link, owed_map, KeepsOwed}
+use Rattle.cast_link.proofs.Windows.{last_place, one_taken_back, owed_taken_back, len-some}
+use Rattle.cast_link.proofs.link_out.LinkOut.take_back.Goals as goal
+
+there : (o : Option (Bor Message)) → is_some (option_copied o) ≡ is_some o
+there None = refl
+there (Some m) = refl
+
+pub drop_last-requires : goal.drop_last-requires
+drop_last-requires c =
+    let at = ap (λ n. n - 1) (sym c.given.ensures) in
+    let owes = ap (map.contains_key c.args.self.now.owed) (at ∙ sym c.saturating_sub-last.ensures) ∙ ap is_some (sym c.message.ensures) ∙ there c.message.result ∙ sym c.is_some.ensures ∙ c.if-is_some.true in
+    let last = last_place c.self.inside.base c.self.inside.places.items c.args.self.now c.self.view_is owes in
+    let some = len-some c.args.self.now.owed (c.args.self.now.given - 1) owes in
+    record { some = last.0; owed = omega (arith, some, c.self.invariant.count ∙ ap (λ (l : Link). map.len l.owed) c.self.view_is) }
+
+pub invariant_of-self : goal.invariant_of-self
+invariant_of-self c =
+    let at = ap (λ n. n - 1) (sym c.given.ensures) in
+    let owes = ap (map.contains_key c.args.self.now.owed) (at ∙ sym c.saturating_sub-last.ensures) ∙ ap is_some (sym c.message.ensures) ∙ there c.message.result ∙ sym c.is_some.ensures ∙ c.if-is_some.true in
+    let last = last_place c.self.inside.base c.self.inside.places.items c.args.self.now c.self.view_is owes in
+    let places = c.drop_last.ensures.places ∙ ap (λ p. c.drop_last.new.places.items ++ p ∷ []) last.1.1 in
+    subst (KeepsOwed c.self.inside.base c.drop_last.new.places.items c.self.inside.marks.items) (sym c.drop_last.ensures.owed) (one_taken_back c.self.inside.base c.self.inside.places.items c.drop_last.new.places.items c.self.inside.marks.items c.self.inside.owed last.1.0 c.self.invariant places)
+
+pub returns-then-is_some : goal.returns-then-is_some
+returns-then-is_some c =
+    let at = ap (λ n. n - 1) (sym c.given.ensures) in
+    let owes = ap (map.contains_key c.args.self.now.owed) (at ∙ sym c.saturating_sub-last.ensures) ∙ ap is_some (sym c.message.ensures) ∙ there c.message.result ∙ sym c.is_some.ensures ∙ c.if-is_some.true in
+    let link = c.args.self.now in
+    let less : Link = record { given = link.given - 1; owed = map.remove link.owed (link.given - 1) } in
+    let given = ap (λ (l : Link). l.given) c.self.view_is in
+    let last = last_place c.self.inside.base c.self.inside.places.items link c.self.view_is owes in
+    let places = c.drop_last.ensures.places ∙ ap (λ p. c.drop_last.new.places.items ++ p ∷ []) last.1.1 in
+    let long = ap length places ∙ length-append c.drop_last.new.places.items (Some last.1.0 ∷ []) in
+    let now : c.self.inside.base + length c.drop_last.new.places.items ≡ link.given - 1 = omega (arith, long, given) in
+    (λ i. record {
+      given = now i;
+      owed = (owed_taken_back c.self.inside.base c.self.inside.places.items c.drop_last.new.places.items last.1.0 places ∙ (λ k. map.remove (c.self.view_is k).owed (now k))) i;
+    })
+    ∙ sym (ap (λ b. if b then less else link) owes)
+
+pub returns-else-is_some : goal.returns-else-is_some
+returns-else-is_some c =
+    let at = ap (λ n. n - 1) (sym c.given.ensures) in
+    let link = c.args.self.now in
+    let less : Link = record { given = link.given - 1; owed = map.remove link.owed (link.given - 1) } in
+    let not_owed = ap (map.contains_key c.args.self.now.owed) (at ∙ sym c.saturating_sub-last.ensures) ∙ ap is_some (sym c.message.ensures) ∙ there c.message.result ∙ sym c.is_some.ensures ∙ c.if-is_some.false in
+    sym (ap (λ b. if b then less else link) not_owed)

@@ -1,0 +1,113 @@
+-- What a node's fields keep, through its steps.
+use Rattle.std.specs.Prelude.{◌≡◌, ℕ, ◌+◌, ◌-◌, ◌≤◌, ◌==◌, nat_le, Bool, true, false, not, ◌&&◌, ◌||◌, List, [], ◌∷◌, ◌++◌, length, refl}
+use Rattle.std.specs.List.{list_any}
+use Rattle.std.specs.Ordering.{nat_cmp, eq_by_cmp}
+use Rattle.std.specs.Cmp.{nat_cmp_total}
+use Rattle.std.specs.FinSet as set
+use Rattle.std.specs.FinSet.{contains-insert}
+use Rattle.std.proofs.Common.{sym, ap, ◌∙◌, subst, arith, length-append}
+use Rattle.std.proofs.lemmas.Bool.Decides.{nat_tests}
+use Rattle.cast_message.specs.declared.config.Config.{Config}
+use Rattle.cast_message.specs.declared.message.Item.{Item}
+use Rattle.cast_message.specs.declared.message.Item.TheVariants.{Data, Propose, Close}
+use Rattle.cast_message.specs.Replies.{is_close, proposes, is_second_proposal}
+use Rattle.cast_link.specs.Links.{Link}
+use Rattle.cast_relay.specs.Held.{Held}
+use Rattle.cast_sets.specs.Members.{remove-inserted}
+use Rattle.cast_node.specs.Delivering.{Delivering}
+use Rattle.cast_node.specs.Taking.{with_proposal, without_proposal}
+use Rattle.cast_node.specs.Sound.{IsNode}
+
+any_end : (f : Item → Bool) (items : List Item) (item : Item) → list_any f (items ++ item ∷ []) ≡ (list_any f items || f item)
+any_end f [] item = go (f item)
+  where
+    go : (b : Bool) → (b || false) ≡ b
+    go true = refl
+    go false = refl
+any_end f (x ∷ items) item = ap (λ b. f x || b) (any_end f items item) ∙ or_or (f x) (list_any f items) (f item)
+  where
+    or_or : (a b c : Bool) → (a || (b || c)) ≡ ((a || b) || c)
+    or_or true b c = refl
+    or_or false b c = refl
+
+or_false : (b : Bool) → b ≡ (b || false)
+or_false true = refl
+or_false false = refl
+
+proposed_more : (proposed : set.FinSet nat_cmp) (items : List Item) (item : Item) (j : ℕ) → set.contains proposed j ≡ list_any (proposes j) items → set.contains (with_proposal proposed item) j ≡ list_any (proposes j) (items ++ item ∷ [])
+proposed_more proposed items (Data payload) j h = h ∙ or_false (list_any (proposes j) items) ∙ sym (any_end (proposes j) items (Data payload))
+proposed_more proposed items Close j h = h ∙ or_false (list_any (proposes j) items) ∙ sym (any_end (proposes j) items Close)
+proposed_more proposed items (Propose k value) j h =
+    contains-insert nat_cmp_total proposed k j
+    ∙ (λ i. tie i || h i)
+    ∙ swap (k == j) (list_any (proposes j) items)
+    ∙ sym (any_end (proposes j) items (Propose k value))
+  where
+    tie : eq_by_cmp nat_cmp j k ≡ (k == j)
+    tie = grind (arith, nat_tests)
+
+    swap : (a b : Bool) → (a || b) ≡ (b || a)
+    swap true true = refl
+    swap true false = refl
+    swap false true = refl
+    swap false false = refl
+
+-- a proposal that is noted and withdrawn
+pub withdrawn : (proposed : set.FinSet nat_cmp) (items : List Item) (item : Item) → ((j : ℕ) → set.contains proposed j ≡ list_any (proposes j) items) → is_second_proposal items item ≡ false → without_proposal (with_proposal proposed item) item ≡ proposed
+withdrawn proposed items (Data payload) h e = refl
+withdrawn proposed items Close h e = refl
+withdrawn proposed items (Propose j value) h e = remove-inserted proposed j (h j ∙ e)
+
+-- nothing changes
+pub keeps_all : (config : Config) (me : ℕ) (stream stream' : List Item) (closed : Bool) (proposed proposed' : set.FinSet nat_cmp) (relay relay' : Held) (outgoing outgoing' : List Link) (incoming : List (set.FinSet nat_cmp)) (ds ds' : Delivering) →
+    IsNode config me stream closed proposed relay outgoing incoming ds → stream' ≡ stream → proposed' ≡ proposed → relay' ≡ relay → outgoing' ≡ outgoing → ds' ≡ ds → IsNode config me stream' closed proposed' relay' outgoing' incoming ds'
+keeps_all config me stream stream' closed proposed proposed' relay relay' outgoing outgoing' incoming ds ds' h s p r o d =
+    subst (λ x. IsNode config me x closed proposed' relay' outgoing' incoming ds') (sym s)
+    (subst (λ x. IsNode config me stream closed x relay' outgoing' incoming ds') (sym p)
+    (subst (λ x. IsNode config me stream closed proposed x outgoing' incoming ds') (sym r)
+    (subst (λ x. IsNode config me stream closed proposed relay x incoming ds') (sym o)
+    (subst (λ x. IsNode config me stream closed proposed relay outgoing incoming x) (sym d) h))))
+
+-- lists of the same length
+pub keeps_rows : (config : Config) (me : ℕ) (stream : List Item) (closed : Bool) (proposed : set.FinSet nat_cmp) (relay relay' : Held) (outgoing outgoing' : List Link) (incoming incoming' : List (set.FinSet nat_cmp)) (ds ds' : Delivering) →
+    IsNode config me stream closed proposed relay outgoing incoming ds → relay'.me ≡ relay.me → relay'.own ≡ relay.own → length outgoing' ≡ length outgoing → length incoming' ≡ length incoming →
+    ds'.mode ≡ ds.mode → ds'.faults ≡ ds.faults → length ds'.hold_back ≡ length ds.hold_back → length ds'.knowers ≡ length ds.knowers → IsNode config me stream closed proposed relay' outgoing' incoming' ds'
+keeps_rows config me stream closed proposed relay relay' outgoing outgoing' incoming incoming' ds ds' h m w o i a b c d = record {
+  place = h.place;
+  relay_me = m ∙ h.relay_me;
+  relay_own = w ∙ h.relay_own;
+  room = h.room;
+  closes = h.closes;
+  proposals = h.proposals;
+  mode = a ∙ h.mode;
+  faults = b ∙ h.faults;
+  peers_out = o ∙ h.peers_out;
+  peers_in = i ∙ h.peers_in;
+  senders = c ∙ h.senders;
+  rows = d ∙ h.rows;
+}
+
+below : (n m : ℕ) (b : Bool) → (not b && nat_le (n - 1) m) ≡ false → b ≡ false → m + 2 ≤ n
+below n m b e f = grind (arith, nat_tests)
+
+-- an item of its own
+pub keeps_own : (config : Config) (me : ℕ) (stream stream' : List Item) (closed closed' : Bool) (proposed proposed' : set.FinSet nat_cmp) (relay relay' : Held) (outgoing outgoing' : List Link) (incoming : List (set.FinSet nat_cmp)) (ds ds' : Delivering) (item : Item) →
+    IsNode config me stream closed proposed relay outgoing incoming ds → list_any is_close stream ≡ false → (not (is_close item) && nat_le (config.item_limit - 1) (length stream)) ≡ false →
+    stream' ≡ stream ++ item ∷ [] → closed' ≡ is_close item → proposed' ≡ with_proposal proposed item → relay'.me ≡ relay.me → relay'.own ≡ relay.own + 1 → length outgoing' ≡ length outgoing →
+    ds'.mode ≡ ds.mode → ds'.faults ≡ ds.faults → length ds'.hold_back ≡ length ds.hold_back → length ds'.knowers ≡ length ds.knowers → IsNode config me stream' closed' proposed' relay' outgoing' incoming ds'
+keeps_own config me stream stream' closed closed' proposed proposed' relay relay' outgoing outgoing' incoming ds ds' item h unclosed full s cl p m w o a b c d =
+    let long : length stream' ≡ length stream + 1 = ap length s ∙ length-append stream (item ∷ []) in
+    record {
+      place = h.place;
+      relay_me = m ∙ h.relay_me;
+      relay_own = omega (arith, w, h.relay_own, long);
+      room = λ e. let l = below config.item_limit (length stream) (is_close item) full (sym cl ∙ e) in omega (arith, l, long);
+      closes = cl ∙ sym (ap (list_any is_close) s ∙ any_end is_close stream item ∙ ap (λ b. b || is_close item) unclosed);
+      proposals = λ j. ap (λ x. set.contains x j) p ∙ proposed_more proposed stream item j (h.proposals j) ∙ ap (list_any (proposes j)) (sym s);
+      mode = a ∙ h.mode;
+      faults = b ∙ h.faults;
+      peers_out = o ∙ h.peers_out;
+      peers_in = h.peers_in;
+      senders = c ∙ h.senders;
+      rows = d ∙ h.rows;
+    }

@@ -1,0 +1,99 @@
+-- Lists by sender, and rows in them.
+use Rattle.std.specs.Prelude.{◌≡◌, ℕ, zero, suc, ◌+◌, ◌<◌, true, List, [], ◌∷◌, ◌++◌, length, map, replicate, slice_set, slice_index_or, Result, Ok, Err, OnErr, refl}
+use Rattle.std.specs.Result.{is_err}
+use Rattle.std.specs.List.{All}
+use Rattle.std.specs.Map.{keys_of}
+use Rattle.std.proofs.Common.{sym, ap, ◌∙◌, arith, true≢false}
+use Rattle.cast_message.specs.declared.message.Item.{Item}
+use Rattle.cast_message.specs.History.{numbered}
+use Rattle.cast_fifo.specs.Held.{Held as HeldBack, nothing_held, held_of}
+use Rattle.cast_fifo.proofs.Turns.{numbered-cons, numbered-none}
+
+pub length-numbered : (s n : ℕ) (xs : List Item) → length (numbered s n xs) ≡ length xs
+length-numbered s n [] = ap length (numbered-none s n)
+length-numbered s n (x ∷ xs) = ap length (numbered-cons s n x xs) ∙ ap suc (length-numbered s (n + 1) xs)
+
+pub on_err : {X E P : Type 0} (r : Result X E) → P → OnErr r P
+on_err (Ok x) p = tt
+on_err (Err e) p = p
+
+pub is_err_of : {X E P : Type 0} (r : Result X E) → is_err r ≡ true → OnErr r P → P
+is_err_of (Ok x) e p = absurd (true≢false (sym e))
+is_err_of (Err x) e p = p
+
+module _ {X Y : Type 0} where
+  pub rows-length : (f : X → Y) (xs : List X) → length (map f xs) ≡ length xs
+  rows-length f [] = refl
+  rows-length f (x ∷ xs) = ap suc (rows-length f xs)
+
+  rows-set : (f : X → Y) (xs : List X) (i : ℕ) (x : X) → map f (slice_set xs i x) ≡ slice_set (map f xs) i (f x)
+  rows-set f [] i x = refl
+  rows-set f (y ∷ xs) zero x = refl
+  rows-set f (y ∷ xs) (suc i) x = ap (λ ys. f y ∷ ys) (rows-set f xs i x)
+
+  rows-at : (f : X → Y) (xs : List X) (i : ℕ) (d : X) (e : Y) → i < length xs → slice_index_or (map f xs) i e ≡ f (slice_index_or xs i d)
+  rows-at f [] i d e l = absurd (omega (arith, l))
+  rows-at f (x ∷ xs) zero d e l = refl
+  rows-at f (x ∷ xs) (suc i) d e l = rows-at f xs i d e (omega (arith, l))
+
+  -- a row is replaced by one that shows the same
+  pub same_rows : (f : X → Y) (xs : List X) (i : ℕ) (r x : X) → i < length xs → r ≡ slice_index_or xs i r → f x ≡ f r → map f (slice_set xs i x) ≡ map f xs
+  same_rows f [] i r x l e g = absurd (omega (arith, l))
+  same_rows f (y ∷ xs) zero r x l e g = ap (λ z. z ∷ map f xs) (g ∙ ap f e)
+  same_rows f (y ∷ xs) (suc i) r x l e g = ap (λ ys. f y ∷ ys) (same_rows f xs i r x (omega (arith, l)) e g)
+
+module _ {X : Type 0} where
+  set_again : (xs : List X) (i : ℕ) (x y : X) → slice_set (slice_set xs i x) i y ≡ slice_set xs i y
+  set_again [] i x y = refl
+  set_again (z ∷ xs) zero x y = refl
+  set_again (z ∷ xs) (suc i) x y = ap (λ ys. z ∷ ys) (set_again xs i x y)
+
+  at_set : (xs : List X) (i : ℕ) (x d : X) → i < length xs → slice_index_or (slice_set xs i x) i d ≡ x
+  at_set [] i x d l = absurd (omega (arith, l))
+  at_set (z ∷ xs) zero x d l = refl
+  at_set (z ∷ xs) (suc i) x d l = at_set xs i x d (omega (arith, l))
+
+  pub set_back : (xs : List X) (i : ℕ) (v d : X) → v ≡ slice_index_or xs i d → slice_set xs i v ≡ xs
+  set_back [] i v d e = refl
+  set_back (x ∷ xs) zero v d e = ap (λ y. y ∷ xs) e
+  set_back (x ∷ xs) (suc i) v d e = ap (λ ys. x ∷ ys) (set_back xs i v d e)
+
+-- a row is replaced by one that shows the same, and then changed
+pub changed_rows : {X Y : Type 0} (f : X → Y) (g : Y → Y) (xs : List X) (place s : ℕ) (r x q y : X) (d : Y) → place ≡ s → place < length xs → r ≡ slice_index_or xs place r → f x ≡ f r → q ≡ slice_index_or (slice_set xs place x) place q → f y ≡ g (f q) → map f (slice_set (slice_set xs place x) place y) ≡ slice_set (map f xs) s (g (slice_index_or (map f xs) s d))
+changed_rows f g xs place s r x q y d at l e same e2 change =
+    ap (map f) (set_again xs place x y)
+    ∙ rows-set f xs place y
+    ∙ ap (slice_set (map f xs) place) (change ∙ ap g (ap f (e2 ∙ at_set xs place x q l) ∙ same ∙ ap f e ∙ sym (rows-at f xs place r d l)))
+    ∙ ap (λ k. slice_set (map f xs) k (g (slice_index_or (map f xs) k d))) at
+
+rows-append : {X Y : Type 0} (f : X → Y) (xs : List X) (x : X) → map f (xs ++ x ∷ []) ≡ map f xs ++ f x ∷ []
+rows-append f [] x = refl
+rows-append f (y ∷ xs) x = ap (λ ys. f y ∷ ys) (rows-append f xs x)
+
+replicate-end : {Y : Type 0} (n : ℕ) (y : Y) → replicate n y ++ y ∷ [] ≡ replicate (n + 1) y
+replicate-end zero y = refl
+replicate-end (suc n) y = ap (λ ys. y ∷ ys) (replicate-end n y) ∙ ap (λ k. replicate k y) (let e : suc (n + 1) ≡ suc n + 1 = omega arith in e)
+
+-- a row more
+pub more_rows : {X Y : Type 0} (f : X → Y) (xs after : List X) (x : X) (n : ℕ) (y : Y) → map f xs ≡ replicate n y → after ≡ xs ++ x ∷ [] → f x ≡ y → map f after ≡ replicate (n + 1) y
+more_rows f xs after x n y h e g = ap (map f) e ∙ rows-append f xs x ∙ (λ i. h i ++ g i ∷ []) ∙ replicate-end n y
+
+-- what is true of what is held of each sender
+pub near_set : (P : HeldBack → Type 0) (all : List HeldBack) (k : ℕ) (v : HeldBack) → ((s : ℕ) → P (held_of all s)) → P v → (s : ℕ) → P (held_of (slice_set all k v) s)
+near_set P [] k v h p s = h s
+near_set P (x ∷ all) zero v h p zero = p
+near_set P (x ∷ all) zero v h p (suc s) = h (suc s)
+near_set P (x ∷ all) (suc k) v h p zero = h zero
+near_set P (x ∷ all) (suc k) v h p (suc s) = near_set P all k v (λ s. h (suc s)) p s
+
+nothing_of : (n s : ℕ) → held_of (replicate n nothing_held) s ≡ nothing_held
+nothing_of zero s = refl
+nothing_of (suc n) zero = refl
+nothing_of (suc n) (suc s) = nothing_of n s
+
+pub near_none : (P : ℕ → Type 0) (n s : ℕ) → All P (keys_of (held_of (replicate n nothing_held) s).waiting)
+near_none P n s = Rattle.std.proofs.Common.subst (λ (h : HeldBack). All P (keys_of h.waiting)) (sym (nothing_of n s)) (λ k d l. absurd (omega (arith, l)))
+
+pub length-replicate : {Y : Type 0} (n : ℕ) (y : Y) → length (replicate n y) ≡ n
+length-replicate zero y = refl
+length-replicate (suc n) y = ap suc (length-replicate n y)

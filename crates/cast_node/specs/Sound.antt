@@ -1,0 +1,55 @@
+-- What a node's fields keep, and how what it keeps is told apart.
+--     IsNode        the lists have a place for each node, and what is cached of the stream is so
+use Rattle.std.specs.Prelude.{◌≡◌, ℕ, ◌+◌, ◌≤◌, ◌<◌, Bool, false, List, length, refl}
+use Rattle.std.specs.List.{list_any}
+use Rattle.std.specs.Ordering.{nat_cmp}
+use Rattle.std.specs.FinSet as set
+use Rattle.std.specs.Coded.{Coded, code_by, coded×, coded_ℕ, coded_list, coded_bool}
+use Rattle.cast_message.specs.declared.config.Config.{Config}
+use Rattle.cast_message.specs.declared.message.Item.{Item}
+use Rattle.cast_message.specs.declared.message.Message.{Message}
+use Rattle.cast_message.specs.Replies.{is_close, proposes}
+use Rattle.cast_link.specs.Links.{Link, link_code}
+use Rattle.cast_relay.specs.Held.{Held, held_code}
+use Rattle.cast_fifo.specs.declared.queue.Waiting.{Waiting}
+use Rattle.cast_fifo.specs.Held.{Held as HeldBack}
+use Rattle.cast_agree.specs.Counted.{Counted, counted_code}
+use Rattle.cast_node.specs.Kept.{Kept}
+use Rattle.cast_node.specs.Delivering.{Delivering}
+use Rattle.cast_node.specs.Code.{sets_code, held_back_code}
+
+pub record IsNode (config : Config) (me : ℕ) (stream : List Item) (closed : Bool) (proposed : set.FinSet nat_cmp) (relay : Held) (outgoing : List Link) (incoming : List (set.FinSet nat_cmp)) (deliveries : Delivering) : Type 0 where
+  pub place : me < config.nodes
+  pub relay_me : relay.me ≡ me
+  pub relay_own : relay.own ≡ length stream
+  pub room : closed ≡ false → length stream + 1 ≤ config.item_limit
+  pub closes : closed ≡ list_any is_close stream
+  pub proposals : (j : ℕ) → set.contains proposed j ≡ list_any (proposes j) stream
+  pub mode : deliveries.mode ≡ config.mode
+  pub faults : deliveries.faults ≡ config.faults
+  pub peers_out : length outgoing ≡ config.nodes
+  pub peers_in : length incoming ≡ config.nodes
+  pub senders : length deliveries.hold_back ≡ config.nodes
+  pub rows : length deliveries.knowers ≡ config.nodes
+
+abbrev pub kept_code : Coded Config → Coded Item → Coded Message → Coded Waiting → Coded Kept
+kept_code config item message waiting =
+    code_by
+    (Config × (ℕ × (Bool × (ℕ × (List Item × (Held × (List Link × (List (set.FinSet nat_cmp) × (List HeldBack × (List (List (set.FinSet nat_cmp)) × (List (List Item) × Counted)))))))))))
+    (coded× config (coded× coded_ℕ (coded× coded_bool (coded× coded_ℕ (coded× (coded_list item) (coded× held_code (coded× (coded_list (link_code message)) (coded× (coded_list (set.code coded_ℕ)) (coded× (coded_list (held_back_code waiting)) (coded× sets_code (coded× (coded_list (coded_list item)) counted_code)))))))))))
+    (λ k. (k.config, (k.me, (k.live, (k.frames, (k.stream, (k.relay, (k.outgoing, (k.incoming, (k.hold_back, (k.knowers, (k.delivered, k.agree))))))))))))
+    (λ p. record {
+      config = p.0;
+      me = p.1.0;
+      live = p.1.1.0;
+      frames = p.1.1.1.0;
+      stream = p.1.1.1.1.0;
+      relay = p.1.1.1.1.1.0;
+      outgoing = p.1.1.1.1.1.1.0;
+      incoming = p.1.1.1.1.1.1.1.0;
+      hold_back = p.1.1.1.1.1.1.1.1.0;
+      knowers = p.1.1.1.1.1.1.1.1.1.0;
+      delivered = p.1.1.1.1.1.1.1.1.1.1.0;
+      agree = p.1.1.1.1.1.1.1.1.1.1.1;
+    })
+    (λ _. refl)

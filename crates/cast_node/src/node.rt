@@ -1,0 +1,521 @@
+//! A node of a broadcast group: what it holds, gives, waits for, delivers and decides.
+ghost use Rattle.std.specs.Prelude.{◌≡◌, ◌≢◌, ◌<◌, ◌≤◌, ◌+◌, ◌∷◌, ◌++◌, [], false, true, length, nat_lt, Some, None, option_map, slice_get, MatchOption, if◌then◌else◌, IfOk, IfErr, OnOk, OnErr};
+ghost use Rattle.std.specs.FinMap as finite;
+ghost use Rattle.std.specs.FinSet as set;
+ghost use Rattle.cast_message.specs.Steps.{Ordered, Sent, Acknowledged, Arrived, Stopped};
+ghost use Rattle.cast_message.specs.declared.event.StepFault.TheVariants.{NoNode, Memory};
+ghost use Rattle.cast_agree.specs.Counted.{decision};
+ghost use Rattle.cast_link.specs.Links.{IsLeastFrom};
+ghost use Rattle.cast_relay.specs.Held.{holds};
+ghost use Rattle.cast_node.specs.Kept.{nothing_kept, link_to, knowers_of};
+ghost use Rattle.cast_node.specs.Turns.{Gives, kept_fault, carry_of, took_of, ordered, carried, acknowledged, with_taken, may_arrive};
+ghost use Rattle.cast_message.specs.Replies.{is_close, is_too_long, is_second_proposal};
+ghost use Rattle.cast_node.specs.Taking.{with_proposal, without_proposal};
+ghost use Rattle.cast_node.specs.Calls.{is_peer, may_carry, ordered_reply, sent_reply, arrived_reply, crashed_reply};
+
+use crate::deliveries::{Deliveries, no_news};
+use crate::taking::{Fresh, first_members, take_up_carried, take_up_own};
+use cast_link::{LinkIn, LinkOut};
+use cast_message::{Config, Frame, FrameBody, Item, Message, NodeId, Outcome, StepFault};
+use cast_relay::Relay;
+use cast_sets::NumberSet;
+use std::alloc::{AllocError, Global};
+use std::marker::Model;
+
+// The most bytes in a payload.
+const PAYLOAD_LIMIT: usize = 1_024;
+
+// The most frames that a node makes.
+const FRAME_LIMIT: u64 = 1_048_576;
+
+/// A node of a group.
+#[derive(Debug, Drop)]
+pub struct Node {
+    alloc: Global,
+    config: Config,
+    me: NodeId,
+    // It has not crashed.
+    live: bool,
+    // How many frames it made.
+    frames: u64,
+    // The items that it ordered.
+    stream: Vec<Item>,
+    // One of them is a close.
+    closed: bool,
+    // The instances in which they propose.
+    proposed: NumberSet,
+    relay: Relay,
+    // What it gives each peer.
+    outgoing: Vec<LinkOut>,
+    // What it took of each peer.
+    incoming: Vec<LinkIn>,
+    deliveries: Deliveries,
+}
+
+impl Model for Node {
+    ghost use Rattle.cast_node.specs.Kept.{Kept};
+    ghost use Rattle.cast_node.specs.Sound.{IsNode, kept_code};
+    ghost use Rattle.cast_message.specs.contracts.config.Config as configs;
+    ghost use Rattle.cast_message.specs.contracts.message.Item as items;
+    ghost use Rattle.cast_message.specs.contracts.message.Message as messages;
+    ghost use Rattle.cast_fifo.specs.contracts.queue.Waiting as waits;
+
+    ghost Value = { Kept };
+
+    ghost coded = { kept_code configs.the_row.coded items.the_row.coded messages.the_row.coded waits.the_row.coded };
+
+    ghost view = { λ n. record { config = n.config; me = n.me; live = n.live; frames = n.frames; stream = n.stream.items; relay = n.relay; outgoing = n.outgoing.items; incoming = n.incoming.items; hold_back = n.deliveries.hold_back; knowers = n.deliveries.knowers; delivered = n.deliveries.delivered; agree = n.deliveries.agree } };
+
+    ghost invariant = { λ n. IsNode n.config n.me n.stream.items n.closed n.proposed n.relay n.outgoing.items n.incoming.items n.deliveries };
+}
+
+impl Node {
+    /// The node of this number, which has done nothing. Refused is a number that is no node's.
+    pub fn new(alloc: Global, config: &Config, id: NodeId) -> Result<Node, StepFault>
+        ensures ok { IfOk result (λ node. node ≡ nothing_kept config.now id) }
+        ensures refusal { IfErr result (λ refusal. refusal ≡ (if nat_lt id config.now.nodes then Memory else NoNode)) }
+        ensures place { OnOk result (id < config.now.nodes) }
+    {
+        if u64::from(id.0) >= config.nodes() {
+            return Err(StepFault::NoNode);
+        }
+        Ok(Node::make(alloc, config, id)?)
+    }
+
+    /// Takes up an item of the node's own, and answers its number in the node's stream with what is delivered and decided.
+    /// Refused is an order of a crashed node, after a close, of a payload that is too long, of a second proposal in an
+    /// instance, or where the stream is full; the first of these that holds is answered. A refusal changes nothing.
+    pub fn order(&mut self, item: Item) -> Result<(u64, Outcome), StepFault>
+        ensures exact { Gives self.old (Ordered item) (ordered_reply result) self.new }
+    {
+        if let Some(refusal) = self.order_fault(&item) {
+            return Err(refusal);
+        }
+        let number = self.stream.len() as u64;
+        let outcome = self.take_own(item)?;
+        Ok((number, outcome))
+    }
+
+    /// Makes a frame that carries to a peer the message in a slot of what the node gives it. Refused is a peer that is no
+    /// node, or this node, a send of a crashed node, of a slot that was not given, or was acknowledged, or where the node has
+    /// made all frames that it can. A refusal changes nothing.
+    pub fn send(&mut self, to: NodeId, slot: u64) -> Result<Frame, StepFault>
+        ensures exact { Gives self.old (Sent to slot) (sent_reply result) self.new }
+        ensures frame { IfOk result (λ frame. frame ≡ carry_of self.old to slot) }
+    {
+        if let Some(refusal) = self.send_fault(to, slot) {
+            return Err(refusal);
+        }
+        let Ok(message) = self.outgoing[usize::from(to.0)].carry(slot) else {
+            return Err(StepFault::Memory);
+        };
+        Ok(self.make_frame(to, FrameBody::Carry { slot, message }))
+    }
+
+    /// Makes a frame that tells a peer that the node took a slot of what the peer gave it. Refused is a peer that is no node,
+    /// or this node, an acknowledgement of a crashed node, of a slot that was not taken, or where the node has made all frames
+    /// that it can. A refusal changes nothing.
+    pub fn ack(&mut self, to: NodeId, slot: u64) -> Result<Frame, StepFault>
+        ensures exact { Gives self.old (Acknowledged to slot) (sent_reply result) self.new }
+        ensures frame { IfOk result (λ frame. frame ≡ took_of self.old to slot) }
+    {
+        if let Some(refusal) = self.ack_fault(to, slot) {
+            return Err(refusal);
+        }
+        Ok(self.make_frame(to, FrameBody::Took { slot }))
+    }
+
+    /// Takes a frame that arrives, and answers what is delivered and decided. The frame is for this node. Refused is an arrival
+    /// at a crashed node. A frame that no node of the group could have made for this node changes nothing, and nothing comes of
+    /// it.
+    #[tactic(auto, using(std::proofs::lemmas::Bool::Decides::nat_tests), unfolding(cast_message::specs::Replies::first_fault, crate::specs::Turns::kept_causes, crate::specs::Turns::kept_fault))]
+    pub fn arrive(&mut self, frame: &Frame) -> Result<Outcome, StepFault>
+        requires { frame.now.to ≡ self.old.me }
+        ensures exact { Gives self.old (Arrived frame.now) (arrived_reply self.old.me result) self.new }
+    {
+        if !self.live {
+            return Err(StepFault::Crashed);
+        }
+        if !self.may_arrive(frame) {
+            return Ok(no_news(self.alloc));
+        }
+        let outcome = match &frame.body {
+            FrameBody::Carry { slot, message } => self.take_carried(frame.from, *slot, message)?,
+            FrameBody::Took { slot } => self.take_acknowledged(frame.from, *slot)?,
+        };
+        Ok(outcome)
+    }
+
+    /// Stops for good. Refused is a second crash.
+    #[tactic(auto, using(std::proofs::lemmas::Bool::Decides::nat_tests), unfolding(cast_message::specs::Replies::first_fault, crate::specs::Turns::kept_causes, crate::specs::Turns::kept_fault))]
+    pub fn crash(&mut self) -> Result<(), StepFault>
+        ensures exact { Gives self.old Stopped (crashed_reply result) self.new }
+        ensures refused { OnErr result (self.old.live ≡ false) }
+    {
+        if !self.live {
+            return Err(StepFault::Crashed);
+        }
+        self.live = false;
+        Ok(())
+    }
+
+    /// The node's number.
+    pub fn id(&self) -> NodeId
+        ensures { result ≡ self.now.me }
+    {
+        self.me
+    }
+
+    /// Whether it has not crashed.
+    pub fn live(&self) -> bool
+        ensures { result ≡ self.now.live }
+    {
+        self.live
+    }
+
+    /// How many frames it made.
+    pub fn frames(&self) -> u64
+        ensures { result ≡ self.now.frames }
+    {
+        self.frames
+    }
+
+    /// The items that it ordered, in order.
+    pub fn stream(&self) -> &[Item]
+        ensures { result.now ≡ self.now.stream }
+    {
+        self.stream.as_slice()
+    }
+
+    /// The items that it delivered from a sender, in order, where that is a node.
+    pub fn delivered(&self, sender: NodeId) -> Option<&[Item]>
+        ensures { option_map (λ items. items.now) result ≡ slice_get self.now.delivered sender }
+    {
+        self.deliveries.delivered(sender)
+    }
+
+    /// The value that it decided in an instance, if it did.
+    pub fn decision(&self, instance: u64) -> Option<u64>
+        ensures { result ≡ decision self.now.agree instance }
+    {
+        self.deliveries.decision(instance)
+    }
+
+    /// How many slots of what it gives a peer are not acknowledged, where that is another node.
+    pub fn owed(&self, to: NodeId) -> Option<u64>
+        ensures { result ≡ (if is_peer self.now to then Some (finite.len (link_to self.now to).owed) else None) }
+    {
+        if !self.is_peer(to) {
+            return None;
+        }
+        Some(self.outgoing[usize::from(to.0)].owed())
+    }
+
+    /// The least slot not below `from` of what it gives a peer that is not acknowledged, where there is one, and that is
+    /// another node.
+    pub fn least_owed(&self, to: NodeId, from: u64) -> Option<u64>
+        ensures peer { is_peer self.now to ≡ true → IsLeastFrom (link_to self.now to).owed from result }
+        ensures none { is_peer self.now to ≡ false → result ≡ None }
+    {
+        if !self.is_peer(to) {
+            return None;
+        }
+        self.outgoing[usize::from(to.0)].least_owed(from)
+    }
+
+    /// How many nodes it knows to hold a pair: none where it doesn't hold it itself.
+    pub fn known_by(&self, sender: NodeId, number: u64) -> u64
+        ensures { result ≡ set.len (knowers_of self.now sender number) }
+    {
+        if u64::from(sender.0) >= self.config.nodes() {
+            return 0;
+        }
+        self.deliveries.members(sender, number).len()
+    }
+
+    // Whether a number is another node's.
+    fn is_peer(&self, node: NodeId) -> bool
+        ensures { result ≡ is_peer self.now node }
+    {
+        u64::from(node.0) < self.config.nodes() && node.0 != self.me.0
+    }
+
+    // Whether some node of a group could have made the frame for this one.
+    #[tactic(auto, using(std::proofs::lemmas::Bool::Decides::nat_tests))]
+    fn may_arrive(&self, frame: &Frame) -> bool
+        ensures { result ≡ may_arrive self.now frame.now }
+    {
+        if !self.is_peer(frame.from) {
+            return false;
+        }
+        match &frame.body {
+            FrameBody::Carry { slot, message } => self.may_carry(*slot, message),
+            FrameBody::Took { slot } => *slot < self.outgoing[usize::from(frame.from.0)].given(),
+        }
+    }
+
+    // Whether a peer could carry this message in this slot.
+    #[tactic(auto, using(std::proofs::lemmas::Bool::Decides::nat_tests))]
+    fn may_carry(&self, slot: u64, message: &Message) -> bool
+        ensures { result ≡ may_carry self.now slot message.now }
+    {
+        self.is_peer(message.sender)
+            && message.number < self.config.item_limit()
+            && slot < self.config.nodes() * self.config.item_limit()
+    }
+
+    // Takes a slot of a peer with the message in it.
+    fn take_carried(
+        &mut self,
+        from: NodeId,
+        slot: u64,
+        message: &Message,
+    ) -> Result<Outcome, AllocError>
+        requires from { from < self.old.config.nodes }
+        requires sender { is_peer self.old message.now.sender ≡ true }
+        requires number { message.now.number < self.old.config.item_limit }
+        ensures outcome { IfOk result (λ outcome. outcome ≡ (carried (with_taken self.old from slot) from message.now).outcome) }
+        ensures ok { OnOk result (self.new ≡ (carried (with_taken self.old from slot) from message.now).kept) }
+        ensures err { OnErr result (self.new ≡ self.old) }
+    {
+        let place = usize::from(from.0);
+        if self.relay.holds(message.sender, message.number) {
+            let mut members = self.deliveries.members(message.sender, message.number);
+            members.insert(from);
+            return self.deliveries.tell_carried(
+                message.sender,
+                message.number,
+                members,
+                &mut self.incoming[place],
+                slot,
+            );
+        }
+        let fresh = Fresh {
+            message: message.copy()?,
+            source: from,
+            members: first_members(self.me, message.sender, from),
+        };
+        take_up_carried(
+            &mut self.relay,
+            self.outgoing.as_mut_slice(),
+            &mut self.deliveries,
+            &mut self.incoming[place],
+            slot,
+            fresh,
+        )
+    }
+
+    // Takes a peer's word that it took a slot.
+    fn take_acknowledged(&mut self, from: NodeId, slot: u64) -> Result<Outcome, AllocError>
+        requires { from < self.old.config.nodes }
+        ensures outcome { IfOk result (λ outcome. outcome ≡ (acknowledged self.old from slot (finite.get (link_to self.old from).owed slot)).outcome) }
+        ensures ok { OnOk result (self.new ≡ (acknowledged self.old from slot (finite.get (link_to self.old from).owed slot)).kept) }
+        ensures err { OnErr result (self.new ≡ self.old) }
+    {
+        let place = usize::from(from.0);
+        let Some(pair) = self.outgoing[place].pair(slot) else {
+            return Ok(no_news(self.alloc));
+        };
+        let sender = pair.0;
+        let number = pair.1;
+        // Never taken: what a node gives has a sender and a number within the limits.
+        if u64::from(sender.0) >= self.config.nodes() || number >= self.config.item_limit() {
+            return Err(AllocError);
+        }
+        let mut members = self.deliveries.members(sender, number);
+        members.insert(from);
+        let outcome = self.deliveries.tell(sender, number, members)?;
+        self.outgoing[place].acked(slot);
+        Ok(outcome)
+    }
+
+    // The node of this number, which has done nothing, or want of memory.
+    fn make(alloc: Global, config: &Config, id: NodeId) -> Result<Node, AllocError>
+        requires { id < config.now.nodes }
+        ensures { IfOk result (λ node. node ≡ nothing_kept config.now id) }
+    {
+        let mut outgoing = Vec::new(alloc);
+        let mut incoming = Vec::new(alloc);
+        for _peer in 0..config.nodes() {
+            outgoing.push(LinkOut::new(alloc))?;
+            incoming.push(LinkIn::new(alloc))?;
+        }
+        Ok(Node {
+            alloc,
+            config: config.copy(),
+            me: id,
+            live: true,
+            frames: 0,
+            stream: Vec::new(alloc),
+            closed: false,
+            proposed: NumberSet::new(alloc),
+            relay: Relay::new(alloc, id, config.nodes())?,
+            outgoing,
+            incoming,
+            deliveries: Deliveries::new(alloc, config)?,
+        })
+    }
+
+    // Makes a frame for a peer.
+    fn make_frame(&mut self, to: NodeId, body: FrameBody) -> Frame
+        requires { self.old.frames < 1048576 }
+        ensures frame { result ≡ record { from = self.old.me; seq = self.old.frames; to = to; body = body } }
+        ensures after { self.new ≡ record self.old { frames = self.old.frames + 1 } }
+    {
+        let seq = self.frames;
+        self.frames += 1;
+        Frame {
+            from: self.me,
+            seq,
+            to,
+            body,
+        }
+    }
+
+    // Why an order is refused.
+    #[tactic(auto, using(std::proofs::lemmas::Bool::Decides::nat_tests), unfolding(cast_message::specs::Replies::first_fault, crate::specs::Turns::kept_causes, crate::specs::Turns::kept_fault))]
+    fn order_fault(&self, item: &Item) -> Option<StepFault>
+        ensures { result ≡ kept_fault self.now (Ordered item.now) }
+    {
+        if !self.live {
+            return Some(StepFault::Crashed);
+        }
+        if self.closed {
+            return Some(StepFault::Closed);
+        }
+        if is_too_long(item) {
+            return Some(StepFault::TooLong);
+        }
+        if self.has_proposed(item) {
+            return Some(StepFault::AlreadyProposed);
+        }
+        if !is_close(item) && self.config.item_limit() - 1 <= self.stream.len() as u64 {
+            return Some(StepFault::StreamFull);
+        }
+        None
+    }
+
+    // Why a send is refused.
+    #[tactic(auto, using(std::proofs::lemmas::Bool::Decides::nat_tests), unfolding(cast_message::specs::Replies::first_fault, crate::specs::Turns::kept_causes, crate::specs::Turns::kept_fault))]
+    fn send_fault(&self, to: NodeId, slot: u64) -> Option<StepFault>
+        ensures { result ≡ kept_fault self.now (Sent to slot) }
+    {
+        if u64::from(to.0) >= self.config.nodes() {
+            return Some(StepFault::NoNode);
+        }
+        if self.me.0 == to.0 {
+            return Some(StepFault::SelfLink);
+        }
+        if !self.live {
+            return Some(StepFault::Crashed);
+        }
+        let link = &self.outgoing[usize::from(to.0)];
+        if link.given() <= slot {
+            return Some(StepFault::NoSlot);
+        }
+        if link.pair(slot).is_none() {
+            return Some(StepFault::Acked);
+        }
+        if self.frames >= FRAME_LIMIT {
+            return Some(StepFault::FramesFull);
+        }
+        None
+    }
+
+    // Why an acknowledgement is refused.
+    #[tactic(auto, using(std::proofs::lemmas::Bool::Decides::nat_tests), unfolding(cast_message::specs::Replies::first_fault, crate::specs::Turns::kept_causes, crate::specs::Turns::kept_fault))]
+    fn ack_fault(&self, to: NodeId, slot: u64) -> Option<StepFault>
+        ensures { result ≡ kept_fault self.now (Acknowledged to slot) }
+    {
+        if u64::from(to.0) >= self.config.nodes() {
+            return Some(StepFault::NoNode);
+        }
+        if self.me.0 == to.0 {
+            return Some(StepFault::SelfLink);
+        }
+        if !self.live {
+            return Some(StepFault::Crashed);
+        }
+        if !self.incoming[usize::from(to.0)].may_ack(slot) {
+            return Some(StepFault::NotTaken);
+        }
+        if self.frames >= FRAME_LIMIT {
+            return Some(StepFault::FramesFull);
+        }
+        None
+    }
+
+    // Whether an item proposes in an instance in which the node proposed before.
+    fn has_proposed(&self, item: &Item) -> bool
+        ensures { result ≡ is_second_proposal self.now.stream item.now }
+    {
+        match item {
+            Item::Propose { instance, .. } => self.proposed.contains(*instance),
+            _ => false,
+        }
+    }
+
+    // Takes up an item of the node's own, which is not refused.
+    fn take_own(&mut self, item: Item) -> Result<Outcome, AllocError>
+        requires { kept_fault self.old (Ordered item) ≡ None }
+        ensures outcome { IfOk result (λ outcome. outcome ≡ (ordered self.old item).outcome) }
+        ensures ok { OnOk result (self.new ≡ (ordered self.old item).kept) }
+        ensures err { OnErr result (self.new ≡ self.old) }
+    {
+        self.stream.reserve(1)?;
+        let kept = item.copy()?;
+        propose(&mut self.proposed, &kept)?;
+        match take_up_own(
+            &mut self.relay,
+            self.outgoing.as_mut_slice(),
+            &mut self.deliveries,
+            self.me,
+            item,
+        ) {
+            Ok(outcome) => {
+                self.closed = is_close(&kept);
+                self.stream.push_reserved(kept);
+                Ok(outcome)
+            }
+            Err(refused) => {
+                withdraw(&mut self.proposed, kept);
+                Err(refused)
+            }
+        }
+    }
+}
+
+fn is_close(item: &Item) -> bool
+    ensures { result ≡ is_close item.now }
+{
+    matches!(item, Item::Close)
+}
+
+fn is_too_long(item: &Item) -> bool
+    ensures { result ≡ is_too_long item.now }
+{
+    match item {
+        Item::Data(payload) => payload.as_slice().len() > PAYLOAD_LIMIT,
+        _ => false,
+    }
+}
+
+// Notes the instance in which an item proposes, if it does.
+fn propose(proposed: &mut NumberSet, item: &Item) -> Result<(), AllocError>
+    ensures ok { OnOk result (proposed.new ≡ with_proposal proposed.old item.now) }
+    ensures err { OnErr result (proposed.new ≡ proposed.old) }
+{
+    if let Item::Propose { instance, .. } = item {
+        proposed.insert(*instance)?;
+    }
+    Ok(())
+}
+
+// Takes that back.
+fn withdraw(proposed: &mut NumberSet, item: Item)
+    ensures { proposed.new ≡ without_proposal proposed.old item }
+{
+    if let Item::Propose { instance, .. } = item {
+        proposed.remove(instance);
+    }
+}

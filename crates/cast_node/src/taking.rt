@@ -1,0 +1,176 @@
+//! A message that a node did not hold: it goes to the peers, waits for its turn, and is known to be held. All of it is done, or
+//! none where memory is wanting.
+ghost use Rattle.std.specs.Prelude.{◌≡◌, ◌≢◌, ◌≤◌, ◌<◌, ◌+◌, false, length, IfOk, OnOk, OnErr};
+ghost use Rattle.std.specs.FinSet as set;
+ghost use Rattle.cast_relay.specs.Held.{with_pair, holds};
+ghost use Rattle.cast_node.specs.Turns.{given_from};
+ghost use Rattle.cast_node.specs.Delivering.{told_in, outcome_in, waiting_in};
+ghost use Rattle.cast_node.specs.Taking.{with_own, message_of, first_members};
+
+use crate::deliveries::Deliveries;
+use crate::giving::{give_all, take_back_all};
+use cast_link::{LinkIn, LinkOut};
+use cast_message::{Item, Message, NodeId, Outcome};
+use cast_relay::Relay;
+use cast_sets::NodeSet;
+use std::alloc::AllocError;
+
+/// A message that a node did not hold, the node that it came from, and those that are known to hold it.
+#[derive(Debug, Drop)]
+pub struct Fresh {
+    pub message: Message,
+    pub source: NodeId,
+    pub members: NodeSet,
+}
+
+/// Those that are known to hold a message once the node `me` does: itself, the sender, and where it came from.
+pub fn first_members(me: NodeId, sender: NodeId, source: NodeId) -> NodeSet
+    ensures { result ≡ first_members me sender source }
+{
+    let mut members = NodeSet::new();
+    members.insert(me);
+    members.insert(sender);
+    members.insert(source);
+    members
+}
+
+/// Takes up an item of the node's own.
+pub fn take_up_own(
+    relay: &mut Relay,
+    links: &mut [LinkOut],
+    deliveries: &mut Deliveries,
+    me: NodeId,
+    item: Item,
+) -> Result<Outcome, AllocError>
+    requires links { length links.old ≤ 256 }
+    requires me { relay.old.me ≡ me }
+    requires number { relay.old.own < 4096 }
+    requires sender { me < length deliveries.old.hold_back }
+    ensures relay { OnOk result (relay.new ≡ with_own relay.old) }
+    ensures links { OnOk result (links.new ≡ given_from 0 (with_own relay.old) me (message_of relay.old item) links.old) }
+    ensures deliveries { OnOk result (deliveries.new ≡ told_in (waiting_in deliveries.old (message_of relay.old item)) me relay.old.own (first_members me me me)) }
+    ensures outcome { IfOk result (λ outcome. outcome ≡ outcome_in (waiting_in deliveries.old (message_of relay.old item)) me relay.old.own (first_members me me me)) }
+    ensures err { OnErr result (relay.new ≡ relay.old) }
+    ensures same_links { OnErr result (links.new ≡ links.old) }
+    ensures same_deliveries { OnErr result (deliveries.new ≡ deliveries.old) }
+{
+    let message = relay.own(item)?;
+    let fresh = Fresh {
+        message,
+        source: me,
+        members: first_members(me, me, me),
+    };
+    let told = take_up(relay, links, deliveries, fresh);
+    if told.is_err() {
+        relay.disown();
+    }
+    told
+}
+
+/// Takes up another node's message, as a peer's slot brings it, which is taken.
+pub fn take_up_carried(
+    relay: &mut Relay,
+    links: &mut [LinkOut],
+    deliveries: &mut Deliveries,
+    link: &mut LinkIn,
+    slot: u64,
+    fresh: Fresh,
+) -> Result<Outcome, AllocError>
+    requires links { length links.old ≤ 256 }
+    requires other { fresh.message.sender ≢ relay.old.me }
+    requires new { holds relay.old fresh.message.sender fresh.message.number ≡ false }
+    requires sender { fresh.message.sender < length deliveries.old.hold_back }
+    requires number { fresh.message.number < 4096 }
+    ensures relay { OnOk result (relay.new ≡ with_pair relay.old fresh.message.sender fresh.message.number) }
+    ensures links { OnOk result (links.new ≡ given_from 0 (with_pair relay.old fresh.message.sender fresh.message.number) fresh.source fresh.message links.old) }
+    ensures deliveries { OnOk result (deliveries.new ≡ told_in (waiting_in deliveries.old fresh.message) fresh.message.sender fresh.message.number fresh.members) }
+    ensures outcome { IfOk result (λ outcome. outcome ≡ outcome_in (waiting_in deliveries.old fresh.message) fresh.message.sender fresh.message.number fresh.members) }
+    ensures taken { OnOk result (link.new ≡ set.insert link.old slot) }
+    ensures err { OnErr result (relay.new ≡ relay.old) }
+    ensures same_links { OnErr result (links.new ≡ links.old) }
+    ensures same_deliveries { OnErr result (deliveries.new ≡ deliveries.old) }
+    ensures as_before { OnErr result (link.new ≡ link.old) }
+{
+    let Fresh {
+        message,
+        source,
+        members,
+    } = fresh;
+    let sender = message.sender;
+    let number = message.number;
+    relay.arrive(&message, source)?;
+    let again = Fresh {
+        message,
+        source,
+        members,
+    };
+    let told = spread_carried(relay, links, deliveries, link, slot, again);
+    if told.is_err() {
+        relay.forget(sender, number);
+    }
+    told
+}
+
+// Gives a message to the peers and keeps it back.
+fn take_up(
+    relay: &Relay,
+    links: &mut [LinkOut],
+    deliveries: &mut Deliveries,
+    fresh: Fresh,
+) -> Result<Outcome, AllocError>
+    requires links { length links.old ≤ 256 }
+    requires sender { fresh.message.sender < length deliveries.old.hold_back }
+    requires number { fresh.message.number < 4096 }
+    ensures links { OnOk result (links.new ≡ given_from 0 relay.now fresh.source fresh.message links.old) }
+    ensures deliveries { OnOk result (deliveries.new ≡ told_in (waiting_in deliveries.old fresh.message) fresh.message.sender fresh.message.number fresh.members) }
+    ensures outcome { IfOk result (λ outcome. outcome ≡ outcome_in (waiting_in deliveries.old fresh.message) fresh.message.sender fresh.message.number fresh.members) }
+    ensures same_links { OnErr result (links.new ≡ links.old) }
+    ensures same_deliveries { OnErr result (deliveries.new ≡ deliveries.old) }
+{
+    let Fresh {
+        message,
+        source,
+        members,
+    } = fresh;
+    let sender = message.sender;
+    give_all(links, 0, relay, source, &message)?;
+    let told = deliveries.take_up(message, members);
+    if told.is_err() {
+        take_back_all(links, 0, relay, source, sender);
+    }
+    told
+}
+
+// The same, as a peer's slot brings it, which is taken.
+fn spread_carried(
+    relay: &Relay,
+    links: &mut [LinkOut],
+    deliveries: &mut Deliveries,
+    link: &mut LinkIn,
+    slot: u64,
+    fresh: Fresh,
+) -> Result<Outcome, AllocError>
+    requires links { length links.old ≤ 256 }
+    requires sender { fresh.message.sender < length deliveries.old.hold_back }
+    requires number { fresh.message.number < 4096 }
+    ensures links { OnOk result (links.new ≡ given_from 0 relay.now fresh.source fresh.message links.old) }
+    ensures deliveries { OnOk result (deliveries.new ≡ told_in (waiting_in deliveries.old fresh.message) fresh.message.sender fresh.message.number fresh.members) }
+    ensures outcome { IfOk result (λ outcome. outcome ≡ outcome_in (waiting_in deliveries.old fresh.message) fresh.message.sender fresh.message.number fresh.members) }
+    ensures taken { OnOk result (link.new ≡ set.insert link.old slot) }
+    ensures same_links { OnErr result (links.new ≡ links.old) }
+    ensures same_deliveries { OnErr result (deliveries.new ≡ deliveries.old) }
+    ensures as_before { OnErr result (link.new ≡ link.old) }
+{
+    let Fresh {
+        message,
+        source,
+        members,
+    } = fresh;
+    let sender = message.sender;
+    give_all(links, 0, relay, source, &message)?;
+    let told = deliveries.take_up_carried(message, members, link, slot);
+    if told.is_err() {
+        take_back_all(links, 0, relay, source, sender);
+    }
+    told
+}
