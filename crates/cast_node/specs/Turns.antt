@@ -203,3 +203,8 @@ carry_of kept to slot = record { from = kept.me; seq = kept.frames; to = to; bod
 
 abbrev pub took_of : Kept → ℕ → ℕ → Frame
 took_of kept to slot = record { from = kept.me; seq = kept.frames; to = to; body = Took slot }
+
+-- what a step answers and leaves; a refused one leaves all as it was
+abbrev pub Gives : Kept → Step → Result Answer StepFault → Kept → Type 0
+Gives kept step (Ok answer) new = (kept_fault kept step ≡ None) × (answer ≡ kept_answer kept step) × (new ≡ kept_after kept step)
+Gives kept step (Err refusal) new = IsRefused (kept_fault kept step) refusal × (new ≡ kept)
