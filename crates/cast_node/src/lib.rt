@@ -1,4 +1,4 @@
-//! A node of a broadcast group. So far the entries of its log, which the threads that run a node write.
+//! A node of a broadcast group, and the entries of its log.
 #![tactic(auto)]
 
 mod deliveries;
