@@ -7,3 +7,4 @@ pub mod Giving
 pub mod Taking
 pub mod Sound
 pub mod Calls
+pub mod Promise

@@ -1,5 +1,7 @@
-//! A node of a broadcast group, and the entries of its log.
+//! A node of a broadcast group: what it holds, gives, waits for, delivers and decides; and the entries of its log.
 #![tactic(auto)]
+
+ghost use Rattle.cast_node.specs.Promise.{BeginsWithNothing, GoesOnBySteps, DeliversAsItsSteps, DecidesAsItsSteps, OwesAsItsSteps, KnowsAsItsSteps, MakesTheFrames};
 
 mod deliveries;
 mod entry;
@@ -9,3 +11,17 @@ mod taking;
 
 pub use entry::{Entry, EntryKind, Origin};
 pub use node::Node;
+
+/// A law of every node, whatever steps it took and whatever frames came to it: a new node stands for no steps; a node that
+/// stands for its steps answers the next as the definitions say of them, or wants memory in the place of an answer, and
+/// then stands for one step more, or for the same where it was refused or the frame could not have been made; and what it
+/// delivered, decided, owes, knows to be held and sends is what they say.
+pub fn answers_by_its_steps()
+    ensures begins { BeginsWithNothing }
+    ensures goes_on { GoesOnBySteps }
+    ensures delivered { DeliversAsItsSteps }
+    ensures decided { DecidesAsItsSteps }
+    ensures owed { OwesAsItsSteps }
+    ensures known { KnowsAsItsSteps }
+    ensures frames { MakesTheFrames }
+{}

@@ -372,9 +372,9 @@ impl Node {
         }
     }
 
-    // Why an order is refused.
+    /// Why an order of this item is refused, if it is, want of memory aside. It takes no memory.
     #[tactic(auto, using(std::proofs::lemmas::Bool::Decides::nat_tests), unfolding(cast_message::specs::Replies::first_fault, crate::specs::Turns::kept_causes, crate::specs::Turns::kept_fault))]
-    fn order_fault(&self, item: &Item) -> Option<StepFault>
+    pub fn order_fault(&self, item: &Item) -> Option<StepFault>
         ensures { result ≡ kept_fault self.now (Ordered item.now) }
     {
         if !self.live {
@@ -395,9 +395,9 @@ impl Node {
         None
     }
 
-    // Why a send is refused.
+    /// Why a send of this slot to a peer is refused, if it is, want of memory aside. It takes no memory.
     #[tactic(auto, using(std::proofs::lemmas::Bool::Decides::nat_tests), unfolding(cast_message::specs::Replies::first_fault, crate::specs::Turns::kept_causes, crate::specs::Turns::kept_fault))]
-    fn send_fault(&self, to: NodeId, slot: u64) -> Option<StepFault>
+    pub fn send_fault(&self, to: NodeId, slot: u64) -> Option<StepFault>
         ensures { result ≡ kept_fault self.now (Sent to slot) }
     {
         if u64::from(to.0) >= self.config.nodes() {
@@ -422,9 +422,9 @@ impl Node {
         None
     }
 
-    // Why an acknowledgement is refused.
+    /// Why an acknowledgement of this slot of a peer is refused, if it is, want of memory aside. It takes no memory.
     #[tactic(auto, using(std::proofs::lemmas::Bool::Decides::nat_tests), unfolding(cast_message::specs::Replies::first_fault, crate::specs::Turns::kept_causes, crate::specs::Turns::kept_fault))]
-    fn ack_fault(&self, to: NodeId, slot: u64) -> Option<StepFault>
+    pub fn ack_fault(&self, to: NodeId, slot: u64) -> Option<StepFault>
         ensures { result ≡ kept_fault self.now (Acknowledged to slot) }
     {
         if u64::from(to.0) >= self.config.nodes() {
