@@ -2,6 +2,7 @@
 use Rattle.std.proofs.Common.{◌≡◌, ℕ, zero, suc, ◌+◌, ◌<◌, ◌≤◌, refl, sym, ◌∙◌, ap, subst, List, [], ◌∷◌, ◌++◌, length, map, replicate, Some, None, arith}
 use Rattle.std.specs.Prelude.{slice_get, slice_index_or}
 use Rattle.std.specs.List.{range_with_len}
+use Rattle.std.proofs.lemmas.List.{map-append}
 use Rattle.std.proofs.lemmas.List.FromFn.{length-map-range_with_len, get_or-map-range_with_len, map-range_with_len_more}
 use Rattle.cast_message.specs.declared.config.Config.{Config}
 use Rattle.cast_message.specs.declared.message.Frame.{Frame}
@@ -62,3 +63,10 @@ module _ (config : Config) (nodes : List Kept) (rows : List (List Frame)) (n : �
 
   pub begun_stands : Stands config [] (record { config = config; nodes = nodes; frames = rows })
   begun_stands = subst (Stands config []) is_new (new_stands config)
+
+pub nodes_next : (config : Config) (before after : List Kept) (i : ℕ) (node : Kept) → after ≡ before ++ node ∷ [] → before ≡ map (nothing_kept config) (range_with_len 0 i) → node ≡ nothing_kept config i → after ≡ map (nothing_kept config) (range_with_len 0 (i + 1))
+nodes_next config before after i node one so_far new = one ∙ (λ k. so_far k ++ new k ∷ []) ∙ sym (nodes_more config i)
+
+pub rows_next : {A : Type 0} (items : A → List Frame) (before after : List A) (i : ℕ) (row : A) → after ≡ before ++ row ∷ [] → map items before ≡ replicate i [] → items row ≡ [] → map items after ≡ replicate (i + 1) []
+rows_next items before after i row one so_far none =
+    ap (map items) one ∙ map-append items before (row ∷ []) ∙ (λ k. so_far k ++ none k ∷ []) ∙ sym (rows_more i)
