@@ -16,7 +16,7 @@ use Rattle.cast_relay.specs.Held.{Held}
 use Rattle.cast_sets.specs.Members.{remove-inserted}
 use Rattle.cast_node.specs.Delivering.{Delivering}
 use Rattle.cast_node.specs.Taking.{with_proposal, without_proposal}
-use Rattle.cast_node.specs.Sound.{IsNode}
+use Rattle.cast_node.specs.Sound.{IsNode, Owes}
 
 any_end : (f : Item → Bool) (items : List Item) (item : Item) → list_any f (items ++ item ∷ []) ≡ (list_any f items || f item)
 any_end f [] item = go (f item)
@@ -71,8 +71,8 @@ keeps_all config me stream stream' closed proposed proposed' relay relay' outgoi
 -- lists of the same length
 pub keeps_rows : (config : Config) (me : ℕ) (stream : List Item) (closed : Bool) (proposed : set.FinSet nat_cmp) (relay relay' : Held) (outgoing outgoing' : List Link) (incoming incoming' : List (set.FinSet nat_cmp)) (ds ds' : Delivering) →
     IsNode config me stream closed proposed relay outgoing incoming ds → relay'.me ≡ relay.me → relay'.own ≡ relay.own → length outgoing' ≡ length outgoing → length incoming' ≡ length incoming →
-    ds'.mode ≡ ds.mode → ds'.faults ≡ ds.faults → length ds'.hold_back ≡ length ds.hold_back → length ds'.knowers ≡ length ds.knowers → IsNode config me stream closed proposed relay' outgoing' incoming' ds'
-keeps_rows config me stream closed proposed relay relay' outgoing outgoing' incoming incoming' ds ds' h m w o i a b c d = record {
+    ds'.mode ≡ ds.mode → ds'.faults ≡ ds.faults → length ds'.hold_back ≡ length ds.hold_back → length ds'.knowers ≡ length ds.knowers → Owes config.nodes config.item_limit outgoing' → IsNode config me stream closed proposed relay' outgoing' incoming' ds'
+keeps_rows config me stream closed proposed relay relay' outgoing outgoing' incoming incoming' ds ds' h m w o i a b c d owes = record {
   place = h.place;
   relay_me = m ∙ h.relay_me;
   relay_own = w ∙ h.relay_own;
@@ -85,6 +85,7 @@ keeps_rows config me stream closed proposed relay relay' outgoing outgoing' inco
   peers_in = i ∙ h.peers_in;
   senders = c ∙ h.senders;
   rows = d ∙ h.rows;
+  owes = owes;
 }
 
 below : (n m : ℕ) (b : Bool) → (not b && nat_le (n - 1) m) ≡ false → b ≡ false → m + 2 ≤ n
@@ -94,8 +95,8 @@ below n m b e f = grind (arith, nat_tests)
 pub keeps_own : (config : Config) (me : ℕ) (stream stream' : List Item) (closed closed' : Bool) (proposed proposed' : set.FinSet nat_cmp) (relay relay' : Held) (outgoing outgoing' : List Link) (incoming : List (set.FinSet nat_cmp)) (ds ds' : Delivering) (item : Item) →
     IsNode config me stream closed proposed relay outgoing incoming ds → list_any is_close stream ≡ false → (not (is_close item) && nat_le (config.item_limit - 1) (length stream)) ≡ false →
     stream' ≡ stream ++ item ∷ [] → closed' ≡ is_close item → proposed' ≡ with_proposal proposed item → relay'.me ≡ relay.me → relay'.own ≡ relay.own + 1 → length outgoing' ≡ length outgoing →
-    ds'.mode ≡ ds.mode → ds'.faults ≡ ds.faults → length ds'.hold_back ≡ length ds.hold_back → length ds'.knowers ≡ length ds.knowers → IsNode config me stream' closed' proposed' relay' outgoing' incoming ds'
-keeps_own config me stream stream' closed closed' proposed proposed' relay relay' outgoing outgoing' incoming ds ds' item h unclosed full s cl p m w o a b c d =
+    ds'.mode ≡ ds.mode → ds'.faults ≡ ds.faults → length ds'.hold_back ≡ length ds.hold_back → length ds'.knowers ≡ length ds.knowers → Owes config.nodes config.item_limit outgoing' → IsNode config me stream' closed' proposed' relay' outgoing' incoming ds'
+keeps_own config me stream stream' closed closed' proposed proposed' relay relay' outgoing outgoing' incoming ds ds' item h unclosed full s cl p m w o a b c d owes =
     let long : length stream' ≡ length stream + 1 = ap length s ∙ length-append stream (item ∷ []) in
     record {
       place = h.place;
@@ -110,4 +111,5 @@ keeps_own config me stream stream' closed closed' proposed proposed' relay relay
       peers_in = h.peers_in;
       senders = c ∙ h.senders;
       rows = d ∙ h.rows;
+      owes = owes;
     }

@@ -17,3 +17,4 @@ pub mod Tells
 pub mod Gifts
 pub mod Wholes
 pub mod Keeping
+pub mod Owing

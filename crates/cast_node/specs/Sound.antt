@@ -1,9 +1,11 @@
 -- What a node's fields keep, and how what it keeps is told apart.
+--     Owes          what is owed to peers has a sender and a number within the limits
 --     IsNode        the lists have a place for each node, and what is cached of the stream is so
-use Rattle.std.specs.Prelude.{◌≡◌, ℕ, ◌+◌, ◌≤◌, ◌<◌, Bool, false, List, length, refl}
+use Rattle.std.specs.Prelude.{◌≡◌, ℕ, ◌+◌, ◌≤◌, ◌<◌, Bool, false, List, length, slice_index_or, Some, refl}
 use Rattle.std.specs.List.{list_any}
 use Rattle.std.specs.Ordering.{nat_cmp}
 use Rattle.std.specs.FinSet as set
+use Rattle.std.specs.FinMap as finite
 use Rattle.std.specs.Coded.{Coded, code_by, coded×, coded_ℕ, coded_list, coded_bool}
 use Rattle.cast_message.specs.declared.config.Config.{Config}
 use Rattle.cast_message.specs.declared.message.Item.{Item}
@@ -18,6 +20,9 @@ use Rattle.cast_node.specs.Kept.{Kept}
 use Rattle.cast_node.specs.Delivering.{Delivering}
 use Rattle.cast_node.specs.Code.{sets_code, held_back_code}
 
+abbrev pub Owes : ℕ → ℕ → List Link → Type 0
+Owes nodes limit links = (q slot : ℕ) (message : Message) → finite.get (slice_index_or links q (record { given = 0; owed = finite.empty })).owed slot ≡ Some message → (message.sender < nodes) × (message.number < limit)
+
 pub record IsNode (config : Config) (me : ℕ) (stream : List Item) (closed : Bool) (proposed : set.FinSet nat_cmp) (relay : Held) (outgoing : List Link) (incoming : List (set.FinSet nat_cmp)) (deliveries : Delivering) : Type 0 where
   pub place : me < config.nodes
   pub relay_me : relay.me ≡ me
@@ -31,6 +36,7 @@ pub record IsNode (config : Config) (me : ℕ) (stream : List Item) (closed : Bo
   pub peers_in : length incoming ≡ config.nodes
   pub senders : length deliveries.hold_back ≡ config.nodes
   pub rows : length deliveries.knowers ≡ config.nodes
+  pub owes : Owes config.nodes config.item_limit outgoing
 
 abbrev pub kept_code : Coded Config → Coded Item → Coded Message → Coded Waiting → Coded Kept
 kept_code config item message waiting =

@@ -318,10 +318,6 @@ impl Node {
         };
         let sender = pair.0;
         let number = pair.1;
-        // Never taken: what a node gives has a sender and a number within the limits.
-        if u64::from(sender.0) >= self.config.nodes() || number >= self.config.item_limit() {
-            return Err(AllocError);
-        }
         let mut members = self.deliveries.members(sender, number);
         members.insert(from);
         let outcome = self.deliveries.tell(sender, number, members)?;

@@ -1,4 +1,4 @@
-use Rattle.std.proofs.Common.{◌≡◌, ◌∙◌, ap, length, sym, arith}
+use Rattle.std.proofs.Common.{◌≡◌, List, subst, ◌∙◌, ap, length, sym, arith}
 use Rattle.std.specs.FinSet as set
 use Rattle.std.specs.FinSet.{contains-empty}
 use Rattle.std.specs.Ordering.{nat_cmp}
@@ -7,6 +7,9 @@ use Rattle.cast_message.specs.Replies.{is_close, proposes}
 use Rattle.std.specs.List.{list_any}
 use Rattle.cast_relay.specs.Held.{Held}
 use Rattle.cast_node.specs.Delivering.{Delivering}
+use Rattle.cast_link.specs.Links.{Link}
+use Rattle.cast_node.specs.Sound.{Owes}
+use Rattle.cast_node.proofs.Owing.{owes_none}
 use Rattle.cast_node.proofs.Parts.{length-replicate}
 use Rattle.cast_node.proofs.node.Node.make.Goals as goal
 
@@ -31,4 +34,5 @@ invariant_of-result c =
       peers_in = ap length c.loop-peer.invariant.incoming ∙ length-replicate _ _ ∙ peers;
       senders = ap (λ (d : Delivering). length d.hold_back) ds ∙ length-replicate _ _ ∙ sym count;
       rows = ap (λ (d : Delivering). length d.knowers) ds ∙ length-replicate _ _ ∙ sym count;
+      owes = subst (λ (links : List Link). Owes c.copy.result.nodes c.copy.result.item_limit links) (sym c.loop-peer.invariant.outgoing) (owes_none c.copy.result.nodes c.copy.result.item_limit c.loop-peer._peer);
     }

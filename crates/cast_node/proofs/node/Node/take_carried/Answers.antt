@@ -1,4 +1,4 @@
-use Rattle.std.proofs.Common.{◌≡◌, ◌<◌, ◌∙◌, List, refl, ap, sym, length, slice_index_or, slice_set, arith}
+use Rattle.std.proofs.Common.{◌≡◌, ◌<◌, ◌∙◌, List, refl, ap, sym, subst, length, slice_index_or, slice_set, arith}
 use Rattle.std.specs.FinSet as set
 use Rattle.std.proofs.Math.ListN.{length-set}
 use Rattle.std.proofs.lemmas.List.{get_or_default}
@@ -8,6 +8,8 @@ use Rattle.cast_relay.specs.Held.{Held, with_pair}
 use Rattle.cast_node.specs.Kept.{Kept}
 use Rattle.cast_node.specs.Delivering.{Delivering, outcome_in, waiting_in, told_in}
 use Rattle.cast_node.proofs.Wholes.{ok_both, ok_four, if_ok, slice_back, length-given, told_keeps, held_again, held_again_gives, fresh, fresh_gives, peer_below, done_or_not, given_at}
+use Rattle.cast_node.specs.Sound.{Owes}
+use Rattle.cast_node.proofs.Owing.{owes_given}
 use Rattle.cast_node.proofs.Keeping.{keeps_rows}
 use Rattle.cast_node.specs.Turns.{given_from}
 use Rattle.cast_node.proofs.node.Node.take_carried.Goals as goal
@@ -47,10 +49,22 @@ invariant_of-self-2 c =
     let long = done_or_not c.take_up_carried.result (λ (ls : List Link). length ls ≡ length all) c.as_mut_slice.result.now gave c.take_up_carried.new.links ends.links ends.same_links
     was (length-given 0 (with_pair relay message.sender message.number) c.args.from message c.as_mut_slice.result.now ∙ was) in
     let relays = done_or_not c.take_up_carried.result (λ (h : Held). (h.me ≡ relay.me) × (h.own ≡ relay.own)) relay (with_pair relay message.sender message.number) c.take_up_carried.new.relay ends.relay ends.err (refl, refl) (refl, refl) in
+    let same = c.in_ok-copy.ensures in
+    let nodes = ap (λ (k : Kept). k.config.nodes) c.self.view_is in
+    let limit = ap (λ (k : Kept). k.config.item_limit) c.self.view_is in
+    let within : (message.sender < c.self.inside.config.nodes) × (message.number < c.self.inside.config.item_limit) = (
+      omega (arith, peer_below c.args.self.now c.args.message.now.sender c.requires.sender, nodes, ap (λ (m : Message). m.sender) same),
+      omega (arith, c.requires.number, limit, ap (λ (m : Message). m.number) same),
+    ) in
+    let Limits = λ (ls : List Link). Owes c.self.inside.config.nodes c.self.inside.config.item_limit ls in
+    let before = subst Limits (sym c.as_mut_slice.ensures.value) c.self.invariant.owes in
+    let owes = done_or_not c.take_up_carried.result Limits c.as_mut_slice.result.now gave c.take_up_carried.new.links ends.links ends.same_links before
+    (owes_given c.self.inside.config.nodes c.self.inside.config.item_limit 0 (with_pair relay message.sender message.number) c.args.from message c.as_mut_slice.result.now within before) in
     keeps_rows c.self.inside.config c.self.inside.me c.self.inside.stream.items c.self.inside.closed c.self.inside.proposed relay _ all _ c.self.inside.incoming.items _ ds c.take_up_carried.new.deliveries c.self.invariant relays.0 relays.1
     (ap length (slice_back c.self.inside.outgoing.len c.take_up_carried.new.links all long c.self.inside.outgoing.ok.0) ∙ long)
     (length-set c.self.inside.incoming.items c.from-place.result c.take_up_carried.new.link)
     told_ds.0 told_ds.1 told_ds.2 told_ds.3
+    (subst Limits (sym (slice_back c.self.inside.outgoing.len c.take_up_carried.new.links all long c.self.inside.outgoing.ok.0)) owes)
 
 pub returns-clause-outcome : goal.returns-clause-outcome
 returns-clause-outcome c =

@@ -1,10 +1,13 @@
-use Rattle.std.proofs.Common.{◌<◌, ◌∙◌, ◌++◌, ◌∷◌, [], ap, sym, subst, length, arith}
+use Rattle.std.proofs.Common.{◌<◌, ◌∙◌, ◌++◌, ◌∷◌, [], ap, sym, subst, List, length, arith}
 use Rattle.cast_relay.specs.Held.{Held}
 use Rattle.cast_node.specs.Delivering.{Delivering, waiting_in}
 use Rattle.cast_node.specs.Taking.{with_own, message_of, first_members, with_proposal, without_proposal}
 use Rattle.cast_node.proofs.Wholes.{OrderFine, order_fine, own_item, slice_back, length-given, told_keeps, given_at}
 use Rattle.std.proofs.Math.ListN.{length-set}
 use Rattle.cast_message.specs.Replies.{is_close}
+use Rattle.cast_link.specs.Links.{Link}
+use Rattle.cast_node.specs.Sound.{Owes}
+use Rattle.cast_node.proofs.Owing.{owes_given}
 use Rattle.cast_node.proofs.Keeping.{keeps_all, keeps_own, withdrawn}
 use Rattle.cast_node.proofs.node.Node.take_own.Goals as goal
 
@@ -22,6 +25,8 @@ invariant_of-self-in-Ok c =
     let relay = c.self.inside.relay in
     let told = told_keeps (waiting_in ds (message_of relay c.args.item)) c.self.inside.me relay.own (first_members c.self.inside.me c.self.inside.me c.self.inside.me) in
     let links = given_at c.self.inside.outgoing.len c.take_up_own.new.links c.self.inside.outgoing.items c.as_mut_slice.result.now 0 (with_own relay) c.self.inside.me (message_of relay c.args.item) done.links c.as_mut_slice.ensures.value c.self.inside.outgoing.ok.0 in
+    let room = c.self.invariant.room (c.self.invariant.closes ∙ fine.unclosed) in
+    let within : (relay.me < c.self.inside.config.nodes) × (relay.own < c.self.inside.config.item_limit) = (omega (arith, c.self.invariant.place, c.self.invariant.relay_me), omega (arith, room, c.self.invariant.relay_own)) in
     keeps_own c.self.inside.config c.self.inside.me c.self.inside.stream.items _ c.self.inside.closed _ c.self.inside.proposed _ relay _ c.self.inside.outgoing.items _ c.self.inside.incoming.items ds c.take_up_own.new.deliveries c.args.item c.self.invariant fine.unclosed fine.room
     (c.push_reserved.ensures.items ∙ (λ k. c.reserve.ensures.items k ++ c.in_ok-kept.ensures k ∷ []))
     (c.is_close-self-inside.ensures ∙ ap is_close c.in_ok-kept.ensures)
@@ -33,6 +38,7 @@ invariant_of-self-in-Ok c =
     (ap (λ (d : Delivering). d.faults) done.deliveries ∙ told.1)
     (ap (λ (d : Delivering). length d.hold_back) done.deliveries ∙ told.2 ∙ length-set ds.hold_back relay.me _)
     (ap (λ (d : Delivering). length d.knowers) done.deliveries ∙ told.3)
+    (subst (λ (ls : List Link). Owes c.self.inside.config.nodes c.self.inside.config.item_limit ls) (sym links) (owes_given c.self.inside.config.nodes c.self.inside.config.item_limit 0 (with_own relay) c.self.inside.me (message_of relay c.args.item) c.self.inside.outgoing.items within c.self.invariant.owes))
 
 pub returns-in-Ok-clause-outcome : goal.returns-in-Ok-clause-outcome
 returns-in-Ok-clause-outcome c =
