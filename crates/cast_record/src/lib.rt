@@ -4,15 +4,22 @@
 
 mod digits;
 mod hex;
+mod laws;
 mod line;
 mod lines;
 mod meter;
+mod number;
+mod parts;
+mod payload;
+mod reading;
 mod words;
 mod writing;
 
+pub use laws::has_text_of_its_own;
 pub use line::Line;
 pub use lines::lines_of;
 pub use meter::{Failed, Meter};
+pub use reading::read_line;
 pub use writing::{WriteFault, write_line, write_record};
 
 #[cfg(test)]

@@ -1,0 +1,5 @@
+use Rattle.cast_record.proofs.ReadLemmas.{one_text}
+use Rattle.cast_record.proofs.laws.has_text_of_its_own.Goals as goal
+
+pub returns : goal.returns
+returns c = one_text
