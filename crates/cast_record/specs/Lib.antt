@@ -10,3 +10,5 @@ pub mod Ranges
 pub mod Reading
 pub mod Parts
 pub mod Laws
+pub mod Rules
+pub mod Verdicts

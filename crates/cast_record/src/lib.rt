@@ -12,6 +12,7 @@ mod number;
 mod parts;
 mod payload;
 mod reading;
+mod verdict;
 mod words;
 mod writing;
 
@@ -20,6 +21,7 @@ pub use line::Line;
 pub use lines::lines_of;
 pub use meter::{Failed, Meter};
 pub use reading::read_line;
+pub use verdict::Verdict;
 pub use writing::{WriteFault, write_line, write_record};
 
 #[cfg(test)]
