@@ -87,8 +87,8 @@ item_without c out (Data payload) f = All-append (Differs c) (codes "data:") (he
 item_without c out (Propose j v) f =
     All-append (Differs c) (codes "prop:" ++ decimal j ++ codes ":") (decimal v)
     (All-append (Differs c) (codes "prop:" ++ decimal j) (codes ":")
-        (All-append (Differs c) (codes "prop:") (decimal j) (plain c out (codes "prop:") refl) (decimal_without c out j f.0))
-        (plain c out (codes ":") refl))
+    (All-append (Differs c) (codes "prop:") (decimal j) (plain c out (codes "prop:") refl) (decimal_without c out j f.0))
+    (plain c out (codes ":") refl))
     (decimal_without c out v f.1)
 item_without c out Close f = plain c out (codes "close") refl
 

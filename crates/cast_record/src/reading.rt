@@ -97,7 +97,12 @@ fn broadcast(alloc: Global, rest: &[u8]) -> Result<Option<Line>, AllocError>
     Ok(message.map(|message| Line::Broadcast(message)))
 }
 
-fn message(alloc: Global, sender: &[u8], place: &[u8], word: &[u8]) -> Result<Option<Message>, AllocError>
+fn message(
+    alloc: Global,
+    sender: &[u8],
+    place: &[u8],
+    word: &[u8],
+) -> Result<Option<Message>, AllocError>
     ensures { IfOk result (λ message. message ≡ message_of sender.now place.now word.now) }
 {
     let Some((sender, number)) = pair(sender, place) else {

@@ -8,5 +8,5 @@ pub returns-in_default-Some : goal.returns-in_default-Some
 returns-in_default-Some c =
     let part = c.split_part.result.0.now in
     sym (ap one_of c.split_part.ensures
-        ∙ ap (λ rest. one_of (part ∷ parts_of c.args.separator (option_map (λ r. r.now) rest))) c.in_default-Some.is-1
-        ∙ more_than_one part (λ b. nat_eq b c.args.separator) c.in_default-Some.field-0-1.now)
+    ∙ ap (λ rest. one_of (part ∷ parts_of c.args.separator (option_map (λ r. r.now) rest))) c.in_default-Some.is-1
+    ∙ more_than_one part (λ b. nat_eq b c.args.separator) c.in_default-Some.field-0-1.now)
