@@ -304,7 +304,7 @@ group_again most n f k h =
     let a : 1 ≤ n = h.0 in let b : n ≤ most = h.1 in let c : f < n = h.2 in let d : 1 ≤ k = h.3 in let e : k ≤ n = h.4 in
     grind (arith, nat_tests)
 
-head_takes : (ws : read.Words) (line : Line) → option_and_then read.head_by (read.three_of ws) ≡ Some line → IsLineIn (codes "cast/1" ∷ ws) line
+pub head_takes : (ws : read.Words) (line : Line) → option_and_then read.head_by (read.three_of ws) ≡ Some line → IsLineIn (codes "cast/1" ∷ ws) line
 head_takes ws line e =
     let words = both (read.three_of ws) read.head_by line e in
     let row = three_takes ws words.first words.was in
@@ -406,7 +406,7 @@ end_takes name line e = go (bytes_eq name (codes "end")) refl e
     go true test h = let is : End ≡ line = cc in subst (IsLineIn (name ∷ [])) is (renamed name (codes "end") [] End test (record { same = refl; within = tt }))
     go false test h = absurd (cc)
 
-words_take : (ws : read.Words) (line : Line) → read.line_of_words ws ≡ Some line → IsLineIn ws line
+pub words_take : (ws : read.Words) (line : Line) → read.line_of_words ws ≡ Some line → IsLineIn ws line
 words_take [] line e = absurd (cc)
 words_take (name ∷ []) line e = end_takes name line e
 words_take (name ∷ w ∷ ws) line e = line_takes name (w ∷ ws) line e

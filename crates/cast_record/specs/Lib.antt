@@ -12,3 +12,5 @@ pub mod Parts
 pub mod Laws
 pub mod Rules
 pub mod Verdicts
+pub mod Migration
+pub mod VerdictText

@@ -8,6 +8,7 @@ mod laws;
 mod line;
 mod lines;
 mod meter;
+mod migration;
 mod number;
 mod parts;
 mod payload;
@@ -20,8 +21,9 @@ pub use laws::has_text_of_its_own;
 pub use line::Line;
 pub use lines::lines_of;
 pub use meter::{Failed, Meter};
+pub use migration::{MigrateFault, migrate};
 pub use reading::read_line;
-pub use verdict::Verdict;
+pub use verdict::{Verdict, write_verdict};
 pub use writing::{WriteFault, write_line, write_record};
 
 #[cfg(test)]

@@ -213,7 +213,7 @@ fn refusal_within(index: u64, code: u64) -> Option<Line>
     Some(Line::Refused { index, code })
 }
 
-fn head(rest: &[u8]) -> Option<Line>
+pub fn head(rest: &[u8]) -> Option<Line>
     ensures { result ≡ option_and_then head_by (three_of (slice_split (λ b. b == 32) rest.now)) }
 {
     let (nodes, faults, choices) = three_parts(rest, BLANK)?;

@@ -104,7 +104,7 @@ pub fn write_line<W: Write>(line: &Line, writer: &mut Meter<W>) -> Result<(), Wr
 }
 
 // Writes the name and the words, parted by one blank, and a line feed.
-fn write_words<W: Write>(
+pub fn write_words<W: Write>(
     name: &[u8],
     words: &[Word<'_>],
     writer: &mut Meter<W>,

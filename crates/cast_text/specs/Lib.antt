@@ -1,3 +1,4 @@
 pub mod Rec
 pub mod Text
 pub mod Recorded
+pub mod Judging
