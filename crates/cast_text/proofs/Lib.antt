@@ -1,3 +1,4 @@
 pub mod InputLemmas
 pub mod Recording
 pub mod Whole
+pub mod JudgingLemmas
