@@ -24,7 +24,7 @@ pub use meter::{Failed, Meter};
 pub use migration::{MigrateFault, migrate};
 pub use reading::read_line;
 pub use verdict::{Verdict, write_verdict};
-pub use writing::{WriteFault, write_line, write_record};
+pub use writing::{WriteFault, write_bytes, write_line, write_record};
 
 #[cfg(test)]
 mod tests;

@@ -2,3 +2,4 @@ pub mod InputLemmas
 pub mod Recording
 pub mod Whole
 pub mod JudgingLemmas
+pub mod MigratingLemmas

@@ -2,3 +2,4 @@ pub mod Rec
 pub mod Text
 pub mod Recorded
 pub mod Judging
+pub mod Migrating

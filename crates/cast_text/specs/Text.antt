@@ -48,6 +48,7 @@ Fails input read_failed old new failed faults.TooLong = IfSome input (λ bytes. 
 Fails input read_failed old new failed (faults.Script fault) = IfSome input (λ bytes. (length bytes ≤ input_limit) × Reads (Err fault) bytes) × Keeps old new
 Fails input read_failed old new failed faults.Write = RecordBreaksOff faults.Write input old new failed
 Fails input read_failed old new failed faults.Memory = Keeps old new ⊎ RecordBreaksOff faults.Memory input old new failed
+Fails input read_failed old new failed faults.NotV1 = ⊥
 
 -- the faults of reading alone
 abbrev pub IsOfReading : TextFault → Type 0
@@ -56,3 +57,4 @@ IsOfReading faults.TooLong = Unit {0}
 IsOfReading (faults.Script fault) = ⊥
 IsOfReading faults.Write = ⊥
 IsOfReading faults.Memory = Unit {0}
+IsOfReading faults.NotV1 = ⊥

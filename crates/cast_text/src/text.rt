@@ -28,6 +28,9 @@ pub enum TextFault {
     /// A growth was refused.
     #[error("out of memory")]
     Memory,
+    /// The input does not begin with a head `cast/1`.
+    #[error("the input is no record cast/1")]
+    NotV1,
 }
 
 impl From<AllocError> for TextFault {
