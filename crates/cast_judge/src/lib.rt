@@ -11,3 +11,6 @@ mod lines;
 
 pub use cast_record::Verdict;
 pub use judging::{Judging, judge};
+
+#[cfg(test)]
+mod tests;
