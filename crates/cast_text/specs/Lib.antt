@@ -3,3 +3,4 @@ pub mod Text
 pub mod Recorded
 pub mod Judging
 pub mod Migrating
+pub mod Ranges
