@@ -1,14 +1,10 @@
 -- What a judging stands for, as it takes lines and parts of lines.
-use Rattle.std.proofs.Common.{◌≡◌, ℕ, ◌+◌, ◌^◌, ◌<◌, ◌≤◌, ◌&&◌, Bool, true, false, cond, nat_eq, nat_lt, List, [], ◌∷◌, ◌++◌, append_assoc, append-nil, length, length-append, Option, Some, None, Result, Ok, Err, refl, sym, ap, subst, ◌∙◌, arith}
-use Rattle.std.specs.List.{All}
+use Rattle.std.proofs.Common.{◌≡◌, ℕ, ◌+◌, ◌^◌, ◌<◌, ◌&&◌, Bool, true, false, cond, nat_eq, List, [], ◌∷◌, ◌++◌, append_assoc, append-nil, length, length-append, Option, Some, None, Err, refl, sym, ap, subst, ◌∙◌, arith}
 use Rattle.std.proofs.lemmas.List.Elements.{All-nil}
-use Rattle.std.proofs.lemmas.Bool.Decides.{nat_tests}
 use Rattle.cast_record.specs.declared.line.Line.{Line}
-use Rattle.cast_record.specs.declared.verdict.Verdict.{Verdict}
 use Rattle.cast_record.specs.declared.verdict.Verdict.TheVariants.{Good, Bad}
-use Rattle.cast_record.specs.Ranges.{IsWithin}
-use Rattle.cast_record.specs.Reading.{line_of, IsReadOf}
-use Rattle.cast_record.specs.Rules.{is_end, is_ended, broken}
+use Rattle.cast_record.specs.Reading.{line_of}
+use Rattle.cast_record.specs.Rules.{is_end, is_ended}
 use Rattle.cast_record.specs.Verdicts.{with_line, kept_by, verdict}
 use Rattle.cast_record.proofs.ReadLemmas.{line_takes_text}
 use Rattle.cast_judge.specs.declared.judging.State.{State}

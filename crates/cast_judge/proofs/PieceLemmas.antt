@@ -1,5 +1,5 @@
 -- How much of a piece was read.
-use Rattle.std.proofs.Common.{◌≡◌, ℕ, ◌+◌, ◌<◌, false, nat_eq, List, [], ◌∷◌, ◌++◌, append_assoc, append-nil, length, get_or, take, drop, position, Some, refl, sym, ap, subst, ◌∙◌}
+use Rattle.std.proofs.Common.{◌≡◌, ℕ, ◌+◌, false, nat_eq, List, [], ◌∷◌, ◌++◌, append_assoc, append-nil, get_or, take, drop, position, Some, refl, sym, ap, subst, ◌∙◌}
 use Rattle.std.proofs.lemmas.List.Quantifiers.{position-Some}
 use Rattle.cast_record.proofs.PartLemmas.{at_place}
 use Rattle.cast_judge.specs.declared.judging.Judging.{Judging}

@@ -1,6 +1,6 @@
 -- What is kept after a line stands for the lines with that line.
-use Rattle.std.proofs.Common.{◌≡◌, ◌≢◌, ℕ, ◌+◌, ◌^◌, ◌<◌, ◌≤◌, ◌&&◌, ◌||◌, not, Bool, true, false, cond, nat_eq, nat_lt, min, List, [], ◌∷◌, ◌++◌, length, get_or, slice_set, slice_get, slice_index, replicate, Option, Some, None, refl, sym, ap, subst, ◌∙◌, arith, append-nil, length-append, length-set, get_or-set_same, get_or-set_other, inl, inr, ◌⊎◌}
-use Rattle.std.specs.List.{list_any, filter, filter_map}
+use Rattle.std.proofs.Common.{◌≡◌, ◌≢◌, ℕ, ◌+◌, ◌^◌, ◌<◌, ◌≤◌, ◌&&◌, ◌||◌, not, Bool, true, false, cond, nat_eq, List, [], ◌∷◌, ◌++◌, length, slice_set, slice_get, slice_index, replicate, Option, Some, None, refl, sym, ap, subst, ◌∙◌, arith, append-nil, length-append, length-set, get_or-set_other, inl, inr}
+use Rattle.std.specs.List.{list_any, filter}
 use Rattle.std.proofs.lemmas.List.Sums.{length-filter, count_by-le-length}
 use Rattle.std.proofs.lemmas.Bool.Decides.{nat_tests, leb_tells}
 use Rattle.std.proofs.lemmas.Option.{slice_get_past, slice_get-get_or}
@@ -17,16 +17,14 @@ use Rattle.cast_record.specs.Ranges.{IsWithin}
 use Rattle.cast_record.specs.Rules as said
 use Rattle.cast_judge.specs.declared.instances.Proposal.{Proposal}
 use Rattle.cast_judge.specs.declared.instances.Instance.{Instance}
-use Rattle.cast_judge.specs.declared.instances.Addition.{Addition}
 use Rattle.cast_judge.specs.declared.instances.Addition.TheVariants as adds
-use Rattle.cast_judge.specs.declared.kept.Place.{Place}
-use Rattle.cast_judge.specs.declared.kept.Place.TheVariants.{Start, Body, Ended}
+use Rattle.cast_judge.specs.declared.kept.Place.TheVariants.{Body, Ended}
 use Rattle.cast_judge.specs.declared.kept.Sender.{Sender}
 use Rattle.cast_judge.specs.declared.kept.Kept.{Kept}
 use Rattle.cast_judge.specs.Kept as kept
-use Rattle.cast_judge.specs.Stands.{place_of, items_in, items_of, StandsFor, StandsForNode, StandsForInstance}
-use Rattle.cast_judge.proofs.NodeLemmas.{past_all, none_counted}
-use Rattle.cast_judge.proofs.RuleLemmas.{items_counted, in_range, head_first, rule_same}
+use Rattle.cast_judge.specs.Stands.{items_in, items_of, StandsFor, StandsForNode, StandsForInstance}
+use Rattle.cast_judge.proofs.NodeLemmas.{none_counted}
+use Rattle.cast_judge.proofs.RuleLemmas.{items_counted, head_first}
 
 -- equal numbers, by their test
 pub same_number : (m n : ℕ) → nat_eq m n ≡ true → m ≡ n

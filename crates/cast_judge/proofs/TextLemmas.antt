@@ -1,6 +1,6 @@
 -- How the verdict on a text goes on as more of it is read.
-use Rattle.std.proofs.Common.{◌≡◌, ℕ, ◌+◌, ◌*◌, ◌^◌, ◌<◌, ◌≤◌, ◌&&◌, Bool, true, false, cond, nat_eq, nat_lt, List, [], ◌∷◌, ◌++◌, append_assoc, append-nil, length, length-append, decimal, codes, Option, Some, None, Result, Ok, Err, refl, sym, ap, subst, ◌∙◌, arith}
-use Rattle.std.specs.List.{slice_split, onto_first, All, join_with_byte}
+use Rattle.std.proofs.Common.{◌≡◌, ℕ, ◌+◌, ◌^◌, ◌<◌, ◌≤◌, ◌&&◌, Bool, true, false, cond, nat_eq, List, [], ◌∷◌, ◌++◌, append-nil, length, length-append, decimal, codes, Option, Some, None, Ok, Err, refl, sym, ap, subst, ◌∙◌, arith}
+use Rattle.std.specs.List.{slice_split, onto_first}
 use Rattle.std.proofs.lemmas.Fmt.{length-decimal-le}
 use Rattle.std.proofs.lemmas.List.Elements.{All-head, All-tail, All-append}
 use Rattle.std.proofs.lemmas.List.Splits.{slice_split_at, slice_split_none, slice_split-cons_no}
@@ -11,14 +11,12 @@ use Rattle.cast_message.specs.declared.message.Message.{Message}
 use Rattle.cast_message.specs.declared.config.Mode.TheVariants.{Basic, Uniform}
 use Rattle.cast_record.specs.declared.line.Line.{Line}
 use Rattle.cast_record.specs.declared.line.Line.TheVariants.{Head, Head2, Broadcast, Delivered, Decided, Crashed, Refused, End}
-use Rattle.cast_record.specs.declared.verdict.Verdict.{Verdict}
 use Rattle.cast_record.specs.declared.verdict.Verdict.TheVariants.{Good, Bad}
-use Rattle.cast_record.specs.Hex.{hex}
 use Rattle.cast_record.specs.Text.{item_word, line_text}
 use Rattle.cast_record.specs.Ranges.{IsItemWithin, IsMessageWithin, IsWithin}
 use Rattle.cast_record.specs.Reading.{line_of}
-use Rattle.cast_record.specs.Rules.{is_end, is_ended, broken}
-use Rattle.cast_record.specs.Verdicts.{with_line, kept_by, verdict_at_end, verdict_after, verdict}
+use Rattle.cast_record.specs.Rules.{is_ended, broken}
+use Rattle.cast_record.specs.Verdicts.{with_line, verdict_at_end, verdict_after}
 use Rattle.cast_record.proofs.PartLemmas.{has_first}
 use Rattle.cast_record.proofs.UnhexLemmas.{length-hex}
 use Rattle.cast_record.proofs.ReadLemmas.{line_takes_text}

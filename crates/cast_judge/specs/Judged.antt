@@ -1,12 +1,11 @@
 -- What a judging stands for: the text that was fed.
 --     Stands text judging     the judging is that of this text
-use Rattle.std.specs.Prelude.{◌≡◌, ℕ, ◌+◌, ◌==◌, Bool, true, false, List, [], ◌∷◌, ◌++◌, length, Option, Some, None, Ok, Err}
+use Rattle.std.specs.Prelude.{◌≡◌, ℕ, ◌+◌, ◌==◌, Bool, true, false, List, ◌++◌, length, Option, Some, None}
 use Rattle.std.specs.List.{slice_split, All}
 use Rattle.cast_record.specs.declared.line.Line.{Line}
 use Rattle.cast_record.specs.declared.verdict.Verdict.{Verdict}
-use Rattle.cast_record.specs.declared.verdict.Verdict.TheVariants.{Good, Bad}
-use Rattle.cast_record.specs.Reading.{line_of}
-use Rattle.cast_record.specs.Verdicts.{verdict, verdict_after, with_line}
+use Rattle.cast_record.specs.declared.verdict.Verdict.TheVariants.{Bad}
+use Rattle.cast_record.specs.Verdicts.{verdict, verdict_after}
 use Rattle.cast_judge.specs.declared.judging.State.{State}
 use Rattle.cast_judge.specs.declared.judging.State.TheVariants.{Reading, Offended, Refused}
 use Rattle.cast_judge.specs.declared.judging.Judging.{Judging}

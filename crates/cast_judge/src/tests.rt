@@ -4,7 +4,8 @@ use std::alloc::{AllocError, Global};
 use std::process::Abort;
 use std::test::Fail;
 
-const TWO_VALUES_RECORD: &str = "cast/1 3 1 2\nb 0 0 prop:7:3\nd 0 0 0 prop:7:3\nb 1 0 prop:7:1\nd 1 1 0 prop:7:1\nb 2 0 prop:7:2\nd 2 2 0 prop:7:2\nd 0 2 0 prop:7:2\nv 0 7 2\nd 1 0 0 prop:7:3\nv 1 7 1\nd 2 1 0 prop:7:1\nv 2 7 1\nend\n";
+const TWO_VALUES_RECORD: &str =
+    "cast/1 3 1 2\nb 0 0 prop:7:3\nd 0 0 0 prop:7:3\nb 1 0 prop:7:1\nd 1 1 0 prop:7:1\nb 2 0 prop:7:2\nd 2 2 0 prop:7:2\nd 0 2 0 prop:7:2\nv 0 7 2\nd 1 0 0 prop:7:3\nv 1 7 1\nd 2 1 0 prop:7:1\nv 2 7 1\nend\n";
 
 fn bad(line: u64, rule: u64) -> Verdict {
     Verdict::Bad { line, rule }
@@ -22,11 +23,19 @@ fn judge_in_pieces(alloc: Global, text: &[u8], size: usize) -> Result<Verdict, A
     judging.finish()
 }
 
-fn expect_verdict(rt: &(impl Abort + AllocGlobal), text: &str, wanted: Verdict) -> Result<(), Fail> {
+fn expect_verdict(
+    rt: &(impl Abort + AllocGlobal),
+    text: &str,
+    wanted: Verdict,
+) -> Result<(), Fail> {
     let bytes = text.as_bytes();
     assert_eq!(rt; judge(rt.alloc(), bytes)?, wanted, "{text}");
     for size in [1, 7, bytes.len()] {
-        assert_eq!(rt; judge_in_pieces(rt.alloc(), bytes, size)?, wanted, "{text} by {size}");
+        assert_eq!(rt;
+            judge_in_pieces(rt.alloc(), bytes, size)?,
+            wanted,
+            "{text} by {size}"
+        );
     }
     Ok(())
 }
@@ -51,10 +60,7 @@ fn tells_the_least_rule(rt: HostRuntime) -> Result<(), Fail> {
             Verdict::Good,
         ),
         ("cast/1 1 0 1\nx 0\nb 0 0 data:61\nend\n", bad(3, 5)),
-        (
-            "cast/2 1 0 1 basic\nx 0\nb 0 0 data:61\nend\n",
-            bad(3, 5),
-        ),
+        ("cast/2 1 0 1 basic\nx 0\nb 0 0 data:61\nend\n", bad(3, 5)),
         (
             "cast/1 1 0 1\nb 0 0 prop:7:1\nb 0 1 prop:7:2\nend\n",
             bad(3, 6),
@@ -122,7 +128,11 @@ fn each_front_of_a_record_stops_early(rt: HostRuntime) -> Result<(), Fail> {
     let record = TWO_VALUES_RECORD.as_bytes();
     let mut line = 1u64;
     for end in 0..record.len() {
-        assert_eq!(&rt; judge(rt.alloc(), &record[..end])?, bad(line, 0), "{end} bytes");
+        assert_eq!(&rt;
+            judge(rt.alloc(), &record[..end])?,
+            bad(line, 0),
+            "{end} bytes"
+        );
         if record[end] == b'\n' {
             line = line.saturating_add(1);
         }

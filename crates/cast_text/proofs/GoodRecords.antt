@@ -1,5 +1,5 @@
 -- The record of a script is good.
-use Rattle.std.proofs.Common.{◌≡◌, ℕ, ◌+◌, ◌*◌, ◌^◌, ◌<◌, ◌≤◌, ◌||◌, Bool, true, false, cond, nat_le, List, [], ◌∷◌, ◌++◌, append_assoc, append-nil, length, Option, Some, None, is_some, refl, sym, ap, subst, ◌∙◌, arith}
+use Rattle.std.proofs.Common.{◌≡◌, ℕ, ◌+◌, ◌*◌, ◌^◌, ◌<◌, ◌≤◌, Bool, true, false, cond, nat_le, List, [], ◌∷◌, ◌++◌, append_assoc, append-nil, length, Option, Some, None, refl, sym, ap, subst, ◌∙◌, arith}
 use Rattle.std.specs.List.{AllByRecursion}
 use Rattle.std.proofs.lemmas.Bool.Decides.{nat_tests}
 use Rattle.std.proofs.lemmas.List.Elements.{recursion_from_All}
@@ -8,12 +8,10 @@ use Rattle.cast_message.specs.declared.config.Mode.{Mode}
 use Rattle.cast_message.specs.declared.config.Mode.TheVariants.{Basic, Uniform}
 use Rattle.cast_message.specs.declared.event.Event.{Event}
 use Rattle.cast_message.specs.declared.event.StepFault.{StepFault}
-use Rattle.cast_message.specs.declared.message.Item.{Item}
-use Rattle.cast_message.specs.declared.message.Message.{Message}
 use Rattle.cast_message.specs.Limits.{fault_factor}
 use Rattle.cast_message.specs.History.{History, stream, is_live}
 use Rattle.cast_message.specs.Delivery.{delivery_log}
-use Rattle.cast_message.specs.Replies.{fault, reply, after, after_by, history, history_from, replies, replies_from, decided}
+use Rattle.cast_message.specs.Replies.{fault, reply, after, after_by, history_from, replies, replies_from, decided}
 use Rattle.cast_message.specs.Rounds.{Due, due, events_for, plan_from, plan}
 use Rattle.cast_record.specs.declared.line.Line.{Line}
 use Rattle.cast_record.specs.declared.line.Line.TheVariants.{Head, Head2, End}
@@ -29,10 +27,10 @@ use Rattle.cast_script.specs.declared.script.Script.{Script}
 use Rattle.cast_script.specs.declared.script.ScriptEvent.{ScriptEvent}
 use Rattle.cast_script.specs.declared.script.ScriptEvent.TheVariants.{Core, Settle}
 use Rattle.cast_text.specs.Ranges.{HasEventRange, HasScriptRange, HaveScriptRanges}
-use Rattle.cast_text.specs.Rec.{Left, tried, tried_by, round_left, settled, settled_by, left_by, lines_from, record_of}
+use Rattle.cast_text.specs.Rec.{Left, tried, tried_by, round_left, settled, left_by, lines_from, record_of}
 use Rattle.cast_text.proofs.Recording.{record_text-append}
-use Rattle.cast_text.proofs.Sayings.{Says, end_sound}
-use Rattle.cast_text.proofs.Tellings.{Goes, goes_none, goes_one, goes_then}
+use Rattle.cast_text.proofs.Sayings.{end_sound}
+use Rattle.cast_text.proofs.Tellings.{goes_none, goes_one, goes_then}
 use Rattle.cast_text.proofs.Goodness.{counts, Told, Grown}
 use Rattle.cast_text.proofs.Records.{event_grows}
 

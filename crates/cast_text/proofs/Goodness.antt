@@ -1,55 +1,33 @@
 -- The record of a script is good: each of its lines breaks no rule after the lines before.
-use Rattle.std.proofs.Common.{◌≡◌, ℕ, zero, suc, ◌+◌, ◌-◌, ◌*◌, ◌^◌, ◌<◌, ◌≤◌, ◌&&◌, ◌||◌, not, Bool, true, false, cond, nat_eq, nat_lt, nat_le, List, [], ◌∷◌, ◌++◌, append_assoc, append-nil, length, length-append, map, take, drop, Option, Some, None, Result, Ok, Err, refl, sym, ap, subst, ◌∙◌, arith, inl, inr}
-use Rattle.std.specs.Prelude.{slice_get, slice_range}
+use Rattle.std.proofs.Common.{◌≡◌, ℕ, zero, suc, ◌+◌, ◌-◌, ◌<◌, ◌&&◌, Bool, true, false, cond, nat_eq, List, [], ◌∷◌, ◌++◌, append_assoc, append-nil, length, length-append, map, take, drop, Some, None, Result, refl, sym, ap, subst, ◌∙◌, arith}
+use Rattle.std.specs.Prelude.{slice_range}
 use Rattle.std.specs.List.{filter, filter_map}
-use Rattle.std.proofs.lemmas.Bool.{not-false}
 use Rattle.std.proofs.lemmas.Bool.Decides.{nat_tests}
 use Rattle.std.proofs.lemmas.List.{length-take-le}
 use Rattle.std.proofs.lemmas.List.Elements.{filter-append}
 use Rattle.std.proofs.lemmas.List.Sums.{prefix_len-le-length}
 use Rattle.cast_message.specs.declared.config.Config.{Config}
-use Rattle.cast_message.specs.declared.config.Mode.{Mode}
-use Rattle.cast_message.specs.declared.config.Mode.TheVariants.{Basic, Uniform}
 use Rattle.cast_message.specs.declared.event.Event.{Event}
-use Rattle.cast_message.specs.declared.event.Event.TheVariants.{Order, Send, Ack, Arrive, Crash}
 use Rattle.cast_message.specs.declared.event.StepFault.{StepFault}
-use Rattle.cast_message.specs.declared.event.StepFault.TheVariants as refusals
 use Rattle.cast_message.specs.declared.message.Item.{Item}
-use Rattle.cast_message.specs.declared.message.Item.TheVariants.{Data, Propose, Close}
+use Rattle.cast_message.specs.declared.message.Item.TheVariants.{Propose}
 use Rattle.cast_message.specs.declared.message.Message.{Message}
 use Rattle.cast_message.specs.declared.message.Decision.{Decision}
-use Rattle.cast_message.specs.declared.message.Frame.{Frame}
-use Rattle.cast_message.specs.History.{History, stream, is_live, broadcast, numbered, frames, items_ordered}
-use Rattle.cast_message.specs.Delivery.{concerned, concerned_by, Concerned, sender_in, turns, deliveries, is_node, delivery_log, delivered, next, outcome, decisions_of, log_of}
-use Rattle.cast_message.specs.History.{given}
-use Rattle.cast_message.specs.Replies.{fault, causes, causes_of_arrival, first_fault, answer, reply, reply_by, after, after_by, history, history_from, replies, replies_from, IsAccepted, is_from, is_close, is_second_proposal, decided, decisions_in, decisions_in_answer, value_for, target_of, AtMost}
-use Rattle.cast_message.specs.Rounds.{Due, due, events_for, plan_from, plan}
-use Rattle.cast_message.specs.StepCode.{step_code}
-use Rattle.cast_message.proofs.Members.{Member, here, there, Member-append, Member-append_left, Member-append_right, Member-slice_get, Member-when, Member-one}
-use Rattle.cast_message.proofs.Accepted.{no_cause, Order-node}
+use Rattle.cast_message.specs.History.{History, stream, is_live, broadcast, numbered}
+use Rattle.cast_message.specs.Delivery.{concerned, turns, deliveries, is_node, delivery_log, next, outcome}
+use Rattle.cast_message.specs.Replies.{reply, after, history, replies, IsAccepted, is_from, decided, decisions_in, value_for}
+use Rattle.cast_message.proofs.Members.{Member, Member-append_left, Member-append_right}
 use Rattle.cast_message.proofs.Agreement.{node_in, filter_map-Member, decided_at_most_choices, decided_in_stream}
 use Rattle.cast_message.proofs.Answered.{IsAccepted-history_from}
-use Rattle.cast_message.proofs.OwnReplies.{frame_ends}
 use Rattle.cast_message.proofs.Possible.{stream_room}
 use Rattle.cast_message.proofs.Prefix.{delivery_log-front, delivered-take}
 use Rattle.cast_message.proofs.Runs.{history_from-push, replies_from-push}
 use Rattle.cast_record.specs.declared.line.Line.{Line}
-use Rattle.cast_record.specs.declared.line.Line.TheVariants.{Head, Head2, Broadcast, Delivered, Decided, Crashed, Refused, End}
-use Rattle.cast_record.specs.declared.verdict.Verdict.TheVariants.{Good}
-use Rattle.cast_record.specs.Lines.{head_of, head_by, outcome_lines, refusal_lines, lines_for}
-use Rattle.cast_record.specs.Ranges.{IsItemWithin, IsWithin}
-use Rattle.cast_record.specs.Rules as said
-use Rattle.cast_record.specs.Text.{record_text}
-use Rattle.cast_record.specs.Verdicts.{verdict, verdict_after}
-use Rattle.cast_judge.specs.Judged.{verdict_of}
-use Rattle.cast_judge.specs.Stands.{items_in, items_of}
-use Rattle.cast_script.specs.declared.script.Script.{Script}
-use Rattle.cast_script.specs.declared.script.ScriptEvent.{ScriptEvent}
-use Rattle.cast_script.specs.declared.script.ScriptEvent.TheVariants.{Core, Settle}
-use Rattle.cast_text.specs.Ranges.{HasItemRange, HasEventRange, HasScriptRange, HaveScriptRanges}
-use Rattle.cast_text.specs.Rec.{Left, tried, tried_by, round_left, settled, settled_by, left_by, lines_from, record_of}
-use Rattle.cast_text.proofs.Sayings.{Says, broadcast_sound, crash_sound, refusal_sound, end_sound}
-use Rattle.cast_text.proofs.Tellings.{Goes, goes_none, goes_one, goes_then, says_as, says_broadcast, says_crash, says_refusal, one_if, AreWithin, Follows, AreNext, deliver_all, range_is_next, filter_next, IsDue, decide_all}
+use Rattle.cast_record.specs.declared.line.Line.TheVariants.{Delivered, Decided}
+use Rattle.cast_record.specs.Lines.{outcome_lines}
+use Rattle.cast_record.specs.Ranges.{IsItemWithin}
+use Rattle.cast_text.proofs.Sayings.{Says}
+use Rattle.cast_text.proofs.Tellings.{Goes, goes_none, goes_then, says_as, one_if, AreWithin, Follows, AreNext, deliver_all, range_is_next, filter_next, IsDue, decide_all}
 
 -- how many messages of s are in what q delivered
 abbrev pub counts : Config → History → ℕ → ℕ → ℕ
@@ -96,7 +74,7 @@ pub decided_new : (config : Config) (events : List Event) (past : History) (even
 decided_new config events past event is d m =
     subst (Member d.value) (sym (ap (λ rs. decided rs d.instance) (replies_on config events past event is) ∙ decided_on (replies config events) (reply config past event) d.instance))
     (Member-append_right d.value (decided (replies config events) d.instance) (filter_map (value_for d.instance) (decisions_in (reply config past event)))
-        (filter_map-Member (value_for d.instance) d d.value (decisions_in (reply config past event)) m (ap (λ b. cond b (Some d.value) None) (same_test d.instance))))
+    (filter_map-Member (value_for d.instance) d d.value (decisions_in (reply config past event)) m (ap (λ b. cond b (Some d.value) None) (same_test d.instance))))
 
 -- ---- what an accepted event delivers
 
@@ -182,7 +160,7 @@ outcome_follows config events past event node s xs is accepted accepted_on on tu
     let first = deliver_some config st (counts config past) (is_live past) v xs node s a news w in_group sender up (next_is config past accepted node s) next_news h in
     let says = says_as config st st _ (counts config (event ∷ past)) (is_live past) (is_live past) v v first.lines (λ p. refl) (counts_on config past event node s (stream (event ∷ past) s) a turn next_news) (λ p. refl) (λ j w m. m) first.says in
     let due = λ (d : Decision) (m : Member d (outcome config past event).decisions).
-        due_of config events past event is on d (decided_new config events past event is d (subst (Member d) (sym says_so) m)) in
+    due_of config events past event is on d (decided_new config events past event is d (subst (Member d) (sym says_so) m)) in
     let second = decide_all config st (counts config (event ∷ past)) (is_live past) v first.lines node (outcome config past event).decisions w in_group up (λ j l. decided_at_most_choices config l (events ++ event ∷ []) j) due says in
     record {
       lines = second.lines;

@@ -1,13 +1,10 @@
 -- The record of a script is good, event by event.
-use Rattle.std.proofs.Common.{◌≡◌, ℕ, suc, ◌+◌, ◌^◌, ◌<◌, ◌≤◌, ◌&&◌, ◌||◌, not, Bool, true, false, cond, nat_eq, nat_le, nat_lt, List, [], ◌∷◌, ◌++◌, append_assoc, append-nil, length, Option, Some, None, is_some, Result, Ok, Err, refl, sym, ap, subst, ◌∙◌, arith, inl, inr}
+use Rattle.std.proofs.Common.{◌≡◌, ℕ, ◌^◌, ◌<◌, ◌≤◌, ◌||◌, not, Bool, true, false, cond, nat_eq, nat_le, nat_lt, List, [], ◌∷◌, ◌++◌, append-nil, length, Option, Some, None, Ok, refl, sym, ap, subst, ◌∙◌, arith, inl, inr}
 use Rattle.std.specs.Prelude.{slice_get}
-use Rattle.std.specs.List.{filter, list_any}
+use Rattle.std.specs.List.{filter}
 use Rattle.std.proofs.lemmas.Bool.{not-false}
 use Rattle.std.proofs.lemmas.Bool.Decides.{nat_tests}
 use Rattle.cast_message.specs.declared.config.Config.{Config}
-use Rattle.cast_message.specs.declared.config.Mode.{Mode}
-use Rattle.cast_message.specs.declared.config.Mode.TheVariants.{Basic, Uniform}
-use Rattle.cast_message.specs.declared.event.Answer.{Answer}
 use Rattle.cast_message.specs.declared.event.Event.{Event}
 use Rattle.cast_message.specs.declared.event.Event.TheVariants.{Order, Send, Ack, Arrive, Crash}
 use Rattle.cast_message.specs.declared.event.StepFault.{StepFault}
@@ -16,34 +13,21 @@ use Rattle.cast_message.specs.declared.message.Item.{Item}
 use Rattle.cast_message.specs.declared.message.Item.TheVariants.{Data, Propose, Close}
 use Rattle.cast_message.specs.declared.message.Message.{Message}
 use Rattle.cast_message.specs.declared.message.Frame.{Frame}
-use Rattle.cast_message.specs.Limits.{fault_factor}
 use Rattle.cast_message.specs.History.{History, stream, is_live, frames, items_ordered, given}
 use Rattle.cast_message.specs.Delivery.{concerned, concerned_by, sender_in, delivery_log, outcome}
-use Rattle.cast_message.specs.Replies.{Cause, no_node, fault, causes, causes_of_arrival, first_fault, answer, reply, reply_by, after, after_by, history, history_from, replies, replies_from, IsAccepted, is_from, is_close, is_too_long, is_second_proposal, decided, decisions_in, target_of}
-use Rattle.cast_message.specs.Rounds.{Due, due, events_for, plan_from, plan}
+use Rattle.cast_message.specs.Replies.{Cause, no_node, fault, causes, causes_of_arrival, first_fault, answer, reply, reply_by, after, after_by, replies, IsAccepted, is_from, is_too_long, decided, decisions_in, target_of}
 use Rattle.cast_message.specs.StepCode.{step_code}
 use Rattle.cast_message.proofs.Members.{Member, here, there, Member-append, Member-slice_get, Member-when, Member-one}
 use Rattle.cast_message.proofs.Accepted.{no_cause, Order-node}
 use Rattle.cast_message.proofs.OwnReplies.{frame_ends}
 use Rattle.cast_message.proofs.Possible.{stream_room}
 use Rattle.cast_record.specs.declared.line.Line.{Line}
-use Rattle.cast_record.specs.declared.line.Line.TheVariants.{Head, Head2, Broadcast, Delivered, Decided, Crashed, Refused, End}
-use Rattle.cast_record.specs.declared.verdict.Verdict.TheVariants.{Good}
-use Rattle.cast_record.specs.Lines.{head_of, head_by, outcome_lines, refusal_lines, lines_for}
+use Rattle.cast_record.specs.declared.line.Line.TheVariants.{Broadcast, Crashed, Refused}
+use Rattle.cast_record.specs.Lines.{outcome_lines, refusal_lines, lines_for}
 use Rattle.cast_record.specs.Ranges.{IsItemWithin, IsWithin}
-use Rattle.cast_record.specs.Rules as said
-use Rattle.cast_record.specs.Text.{line_text, record_text}
-use Rattle.cast_record.specs.Verdicts.{verdict, verdict_after}
-use Rattle.cast_judge.specs.Judged.{verdict_of}
-use Rattle.cast_judge.specs.Stands.{items_in, items_of}
-use Rattle.cast_script.specs.declared.script.Script.{Script}
-use Rattle.cast_script.specs.declared.script.ScriptEvent.{ScriptEvent}
-use Rattle.cast_script.specs.declared.script.ScriptEvent.TheVariants.{Core, Settle}
-use Rattle.cast_text.specs.Ranges.{HasItemRange, HasEventRange, HasScriptRange, HaveScriptRanges}
-use Rattle.cast_text.specs.Rec.{Left, tried, tried_by, round_left, settled, settled_by, left_by, lines_from, record_of}
-use Rattle.cast_text.proofs.Recording.{record_text-append}
-use Rattle.cast_text.proofs.Sayings.{Says, broadcast_sound, crash_sound, refusal_sound, end_sound}
-use Rattle.cast_text.proofs.Tellings.{Goes, goes_none, goes_one, goes_then, says_as, says_broadcast, says_crash, says_refusal, Follows}
+use Rattle.cast_text.specs.Ranges.{HasItemRange, HasEventRange}
+use Rattle.cast_text.proofs.Sayings.{Says, broadcast_sound, crash_sound, refusal_sound}
+use Rattle.cast_text.proofs.Tellings.{goes_none, goes_one, goes_then, says_as, says_broadcast, says_crash, says_refusal}
 use Rattle.cast_text.proofs.Goodness.{counts, Told, Grown, accepted_of, history_on, decided_kept, outcome_follows}
 
 -- ---- what a refused event leaves
@@ -200,7 +184,7 @@ order_leaves config events past xs index p item range e on t =
     ] in
     let so : decisions_in (reply config past event) ≡ (outcome config past event).decisions = ap decisions_in (reply_ok config past event e) in
     let rest = outcome_follows config events past event p p (Broadcast m ∷ xs) t.is accepted (accepted_on config past event accepted e) (history_on config events past event t.is ∙ on) refl so node up grown
-        (says_broadcast config (stream past) (counts config past) (is_live past) v xs m sound before) in
+    (says_broadcast config (stream past) (counts config past) (is_live past) v xs m sound before) in
     record {
       events = events ++ event ∷ [];
       lines = rest.lines;

@@ -1,8 +1,7 @@
 -- What the lines of a record say so far, and which line breaks no rule after them.
-use Rattle.std.proofs.Common.{◌≡◌, ◌≢◌, ℕ, zero, suc, ◌+◌, ◌^◌, ◌<◌, ◌≤◌, ◌&&◌, ◌||◌, not, Bool, true, false, cond, nat_eq, nat_lt, List, [], ◌∷◌, ◌++◌, length, append-nil, length-append, Option, Some, None, refl, sym, ap, subst, ◌∙◌, arith, inl, inr, ◌⊎◌}
+use Rattle.std.proofs.Common.{◌≡◌, ℕ, ◌<◌, ◌≤◌, ◌&&◌, ◌||◌, not, Bool, true, false, cond, nat_eq, nat_lt, List, [], ◌∷◌, ◌++◌, length, Option, Some, None, refl, sym, ap, subst, ◌∙◌, arith, inl, inr}
 use Rattle.std.specs.Prelude.{slice_get}
-use Rattle.std.specs.List.{list_any, filter, filter_map, IsDistinct, AllByRecursion, All, Contains}
-use Rattle.std.specs.Str.{bytes_eq}
+use Rattle.std.specs.List.{list_any, IsDistinct, AllByRecursion, Contains}
 use Rattle.std.proofs.lemmas.Slice.Eq.{bytes_eq-Decides}
 use Rattle.std.proofs.lemmas.Bool.Decides.{nat_tests}
 use Rattle.std.proofs.lemmas.List.Elements.{All-from_recursion}
@@ -12,14 +11,13 @@ use Rattle.cast_message.specs.declared.message.Item.TheVariants.{Data, Propose, 
 use Rattle.cast_message.specs.declared.message.Message.{Message}
 use Rattle.cast_message.specs.declared.message.Decision.{Decision}
 use Rattle.cast_message.specs.Replies as replies
-use Rattle.cast_message.proofs.Members.{Member, here, there, Member-append, Member-append_left, Member-append_right, Member-uncons, Member-Contains, list_any-Member}
+use Rattle.cast_message.proofs.Members.{Member, here, there, Member-uncons, Member-Contains, list_any-Member}
 use Rattle.cast_record.specs.declared.line.Line.{Line}
 use Rattle.cast_record.specs.declared.line.Line.TheVariants.{Head, Head2, Broadcast, Delivered, Decided, Crashed, Refused, End}
 use Rattle.cast_record.specs.Rules as said
 use Rattle.cast_judge.specs.Kept.{has_item, is_same}
 use Rattle.cast_judge.specs.Stands.{items_in, items_of}
 use Rattle.cast_judge.proofs.RuleLemmas.{items_counted}
-use Rattle.cast_judge.proofs.StandingLemmas.{numbered_on, same_number, other_number}
 
 -- ---- the items of the broadcasts tell what the lines tell
 
@@ -265,9 +263,9 @@ module _ (config : Config) (streams : ℕ → List Item) (counts : ℕ → ℕ �
   decision_sound q d s node up proposed decided few =
       let line = Decided q d in
       let bound : (w : ℕ) → Member w (d.value ∷ said.values_in xs d.instance) → Member w (values d.instance) =
-          (λ w m. elim (Member-uncons w d.value (said.values_in xs d.instance) m) [ inl same ↦ subst (λ y. Member y (values d.instance)) (sym same) decided | inr later ↦ h.decided d.instance w later ]) in
+      (λ w m. elim (Member-uncons w d.value (said.values_in xs d.instance) m) [ inl same ↦ subst (λ y. Member y (values d.instance)) (sym same) decided | inr later ↦ h.decided d.instance w later ]) in
       none_broken xs line (placed config streams counts live values xs h line refl (below_test q config.nodes node)) refl refl
       (ap not (proposed_by xs s d.instance d.value (subst (Member (Propose d.instance d.value)) (sym (h.items s)) proposed)))
       (ap (λ (g : said.Group). nat_lt g.faults g.choices && nat_lt g.choices (length (said.different (d.value ∷ said.values_in xs d.instance)))) h.group
-          ∙ not_many config.faults config.choices (length (said.different (d.value ∷ said.values_in xs d.instance))) (λ l. few_different config.choices (values d.instance) (d.value ∷ said.values_in xs d.instance) (few l) bound))
+      ∙ not_many config.faults config.choices (length (said.different (d.value ∷ said.values_in xs d.instance))) (λ l. few_different config.choices (values d.instance) (d.value ∷ said.values_in xs d.instance) (few l) bound))
       (alive config streams counts live values xs h q up) refl

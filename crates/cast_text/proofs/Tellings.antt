@@ -13,7 +13,7 @@ use Rattle.cast_message.specs.History.{numbered}
 use Rattle.cast_message.specs.Replies as replies
 use Rattle.cast_message.proofs.Members.{Member, here, there, Member-uncons, Member-slice_get}
 use Rattle.cast_record.specs.declared.line.Line.{Line}
-use Rattle.cast_record.specs.declared.line.Line.TheVariants.{Broadcast, Delivered, Decided, Crashed, Refused, End}
+use Rattle.cast_record.specs.declared.line.Line.TheVariants.{Broadcast, Delivered, Decided, Crashed, Refused}
 use Rattle.cast_record.specs.Ranges.{IsItemWithin, IsWithin}
 use Rattle.cast_record.specs.Rules as said
 use Rattle.cast_record.specs.Text.{line_text, record_text}
@@ -25,7 +25,7 @@ use Rattle.cast_judge.specs.Stands.{items_in, items_of}
 use Rattle.cast_judge.proofs.StandingLemmas.{numbered_on, same_number}
 use Rattle.cast_judge.proofs.TextLemmas.{line_goes}
 use Rattle.cast_text.proofs.Recording.{record_text-append}
-use Rattle.cast_text.proofs.Sayings.{Says, broadcast_sound, delivery_sound, decision_sound, crash_sound, refusal_sound}
+use Rattle.cast_text.proofs.Sayings.{Says, delivery_sound, decision_sound}
 
 -- ---- lines that break no rule
 

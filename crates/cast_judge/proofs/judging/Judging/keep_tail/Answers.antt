@@ -1,7 +1,6 @@
-use Rattle.std.proofs.Common.{◌≡◌, ◌+◌, ◌^◌, ◌<◌, true, List, [], ◌∷◌, ◌++◌, append-nil, ℕ, nat_lt, Some, length, ap, sym, ◌∙◌, subst, arith}
+use Rattle.std.proofs.Common.{◌+◌, ◌<◌, [], ◌++◌, append-nil, Some, length, ap, sym, ◌∙◌, subst, arith}
 use Rattle.std.proofs.lemmas.Bool.Decides.{nat_tests}
 use Rattle.std.proofs.lemmas.Grind.{common_steps}
-use Rattle.cast_judge.specs.Kept.{is_ended_at}
 use Rattle.cast_judge.specs.Judged.{Offends, state_with}
 use Rattle.cast_judge.specs.declared.judging.State.TheVariants.{Reading}
 use Rattle.cast_judge.proofs.JudgedLemmas.{was_reading, moved, too_long, after_end}

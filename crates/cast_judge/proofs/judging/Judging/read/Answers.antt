@@ -1,4 +1,4 @@
-use Rattle.std.proofs.Common.{◌≡◌, ◌+◌, ◌-◌, ◌≤◌, ◌++◌, ◌∷◌, length, take, drop, nat_eq, sym, ap, ◌∙◌, subst, arith, List, ℕ, position, None}
+use Rattle.std.proofs.Common.{◌≡◌, ◌+◌, ◌-◌, ◌++◌, length, take, drop, nat_eq, sym, ◌∙◌, subst, arith, List, ℕ, position, None}
 use Rattle.std.proofs.lemmas.List.Quantifiers.{position-Some}
 use Rattle.std.proofs.lemmas.Grind.{common_steps}
 use Rattle.cast_record.proofs.PartLemmas.{none_before, none_passes}
