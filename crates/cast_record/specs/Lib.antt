@@ -4,3 +4,13 @@ pub mod Text
 pub mod Words
 pub mod Written
 pub use Rattle.cast_message.specs.StepCode
+pub mod Numbers
+pub mod Unhex
+pub mod Ranges
+pub mod Reading
+pub mod Parts
+pub mod Laws
+pub mod Rules
+pub mod Verdicts
+pub mod Migration
+pub mod VerdictText

@@ -4,16 +4,27 @@
 
 mod digits;
 mod hex;
+mod laws;
 mod line;
 mod lines;
 mod meter;
+mod migration;
+mod number;
+mod parts;
+mod payload;
+mod reading;
+mod verdict;
 mod words;
 mod writing;
 
+pub use laws::has_text_of_its_own;
 pub use line::Line;
 pub use lines::lines_of;
 pub use meter::{Failed, Meter};
-pub use writing::{WriteFault, write_line, write_record};
+pub use migration::{MigrateFault, migrate};
+pub use reading::read_line;
+pub use verdict::{Verdict, write_verdict};
+pub use writing::{WriteFault, write_bytes, write_line, write_record};
 
 #[cfg(test)]
 mod tests;

@@ -104,7 +104,7 @@ pub fn write_line<W: Write>(line: &Line, writer: &mut Meter<W>) -> Result<(), Wr
 }
 
 // Writes the name and the words, parted by one blank, and a line feed.
-fn write_words<W: Write>(
+pub fn write_words<W: Write>(
     name: &[u8],
     words: &[Word<'_>],
     writer: &mut Meter<W>,
@@ -182,8 +182,9 @@ fn write_hex<W: Write>(bytes: &[u8], writer: &mut Meter<W>) -> Result<(), WriteF
     Ok(())
 }
 
-// Writes all the bytes.
-fn write_bytes<W: Write>(bytes: &[u8], writer: &mut Meter<W>) -> Result<(), WriteFault>
+/// Writes all the bytes. It takes no memory. A refusal comes only where the writer failed or took no byte; the meter tells
+/// so from then on, and a front of the bytes stands.
+pub fn write_bytes<W: Write>(bytes: &[u8], writer: &mut Meter<W>) -> Result<(), WriteFault>
     requires { writer.old.failed ≡ false }
     ensures { Writes (W.contents writer.old.inner) (W.contents writer.new.inner) writer.new.failed result bytes.now }
 {

@@ -1,3 +1,10 @@
 pub mod InputLemmas
 pub mod Recording
 pub mod Whole
+pub mod JudgingLemmas
+pub mod MigratingLemmas
+pub mod Sayings
+pub mod Tellings
+pub mod Goodness
+pub mod Records
+pub mod GoodRecords

@@ -1,7 +1,9 @@
 -- From the bytes of a script to those of its record.
 use Rattle.std.proofs.Common.{◌≡◌, ◌≤◌, ℕ, List, length, Bool, Option, Some, None, Result, Ok, Err, IfSome, subst, inr}
 use Rattle.std.specs.Prelude.{OnOk, IfErr}
+use Rattle.cast_record.specs.declared.verdict.Verdict.TheVariants.{Good}
 use Rattle.cast_record.specs.Text.{record_text}
+use Rattle.cast_record.specs.Verdicts.{verdict}
 use Rattle.cast_script.specs.declared.script.Script.{Script}
 use Rattle.cast_script.specs.Script.{Reads}
 use Rattle.cast_text.specs.declared.text.TextFault.{TextFault}
@@ -15,9 +17,9 @@ pub script_in : (input : Option (List ℕ)) (bytes : List ℕ) (script : Script)
 script_in None bytes script same short read = tt
 script_in (Some whole) bytes script same short read = subst (λ b. (length b ≤ input_limit) × Reads (Ok script) b) same (short, read)
 
-pub text_done : (input old new : Option (List ℕ)) (failed : Bool) (script : Script) (result : Result (Unit {0}) TextFault) → IsScriptIn input script → Writes old new failed result (record_text (record_of script)) → OnOk result (WritesRecord input old new)
-text_done input old new failed script (Ok done) read wrote = record { script = script; read = read; appends = wrote.appends }
-text_done input old new failed script (Err broken) read wrote = tt
+pub text_done : (input old new : Option (List ℕ)) (failed : Bool) (script : Script) (result : Result (Unit {0}) TextFault) → IsScriptIn input script → verdict (record_text (record_of script)) ≡ Good → Writes old new failed result (record_text (record_of script)) → OnOk result (WritesRecord input old new)
+text_done input old new failed script (Ok done) read good wrote = record { script = script; read = read; good = good; appends = wrote.appends }
+text_done input old new failed script (Err broken) read good wrote = tt
 
 pub text_fails : (input old new : Option (List ℕ)) (read_failed failed : Bool) (script : Script) (result : Result (Unit {0}) TextFault) → IsScriptIn input script → Writes old new failed result (record_text (record_of script)) → IfErr result (Fails input read_failed old new failed)
 text_fails input old new read_failed failed script (Ok done) read wrote = tt
@@ -26,3 +28,4 @@ text_fails input old new read_failed failed script (Err faults.TooLong) read bre
 text_fails input old new read_failed failed script (Err (faults.Script why)) read breaks = absurd breaks
 text_fails input old new read_failed failed script (Err faults.Write) read breaks = record { script = script; read = read; breaks = breaks }
 text_fails input old new read_failed failed script (Err faults.Memory) read breaks = inr (record { script = script; read = read; breaks = breaks })
+text_fails input old new read_failed failed script (Err faults.NotV1) read breaks = absurd breaks

@@ -1,7 +1,9 @@
 -- The bytes of a script, and those of its record.
 use Rattle.std.specs.Prelude.{◌≡◌, ℕ, ◌<◌, ◌≤◌, ◌++◌, ◌⊎◌, List, length, Bool, true, false, Option, Ok, Err, IfSome}
 use Rattle.std.specs.Io.KnownBytes.{Appends, Keeps}
+use Rattle.cast_record.specs.declared.verdict.Verdict.TheVariants.{Good}
 use Rattle.cast_record.specs.Text.{record_text}
+use Rattle.cast_record.specs.Verdicts.{verdict}
 use Rattle.cast_script.specs.declared.script.Script.{Script}
 use Rattle.cast_script.specs.Script.{Reads}
 use Rattle.cast_text.specs.declared.text.TextFault.{TextFault}
@@ -29,10 +31,11 @@ BreaksOff _ old new failed text = ⊥
 abbrev pub IsScriptIn : Option (List ℕ) → Script → Type 0
 IsScriptIn input script = IfSome input (λ bytes. (length bytes ≤ input_limit) × Reads (Ok script) bytes)
 
--- the writer has the record of the script that was read, and nothing else
+-- the writer has the record of the script that was read, and nothing else, and that record is good
 pub record WritesRecord (input old new : Option (List ℕ)) : Type 0 where
   pub script : Script
   pub read : IsScriptIn input script
+  pub good : verdict (record_text (record_of script)) ≡ Good
   pub appends : Appends old new (record_text (record_of script))
 
 -- the record of the script that was read broke off
@@ -48,6 +51,7 @@ Fails input read_failed old new failed faults.TooLong = IfSome input (λ bytes. 
 Fails input read_failed old new failed (faults.Script fault) = IfSome input (λ bytes. (length bytes ≤ input_limit) × Reads (Err fault) bytes) × Keeps old new
 Fails input read_failed old new failed faults.Write = RecordBreaksOff faults.Write input old new failed
 Fails input read_failed old new failed faults.Memory = Keeps old new ⊎ RecordBreaksOff faults.Memory input old new failed
+Fails input read_failed old new failed faults.NotV1 = ⊥
 
 -- the faults of reading alone
 abbrev pub IsOfReading : TextFault → Type 0
@@ -56,3 +60,4 @@ IsOfReading faults.TooLong = Unit {0}
 IsOfReading (faults.Script fault) = ⊥
 IsOfReading faults.Write = ⊥
 IsOfReading faults.Memory = Unit {0}
+IsOfReading faults.NotV1 = ⊥

@@ -8,7 +8,7 @@ use std::alloc::Global;
 use std::io::Read;
 
 /// The most bytes of an input.
-const INPUT_LIMIT: usize = 67_108_864;
+pub const INPUT_LIMIT: usize = 67_108_864;
 
 /// All that the reader has left.
 pub fn read_input<R: Read>(alloc: Global, reader: &mut Meter<R>) -> Result<Vec<u8>, TextFault>

@@ -3,6 +3,7 @@ ghost use Rattle.std.specs.Prelude.{◌≡◌, false, IfErr, OnOk};
 ghost use Rattle.cast_text.specs.Text.{Fails, WritesRecord};
 
 use crate::input::read_input;
+use crate::ranges::tell_ranges;
 use crate::record::write_script_record;
 use cast_record::{Meter, WriteFault};
 use cast_script::{ScriptFault, read_script};
@@ -28,6 +29,9 @@ pub enum TextFault {
     /// A growth was refused.
     #[error("out of memory")]
     Memory,
+    /// The input does not begin with a head `cast/1`.
+    #[error("the input is no record cast/1")]
+    NotV1,
 }
 
 impl From<AllocError> for TextFault {
@@ -61,7 +65,7 @@ pub fn run_text<R: Read, W: Write>(
 ) -> Result<(), TextFault>
     requires reader { reader.old.failed ≡ false }
     requires writer { writer.old.failed ≡ false }
-    // The bytes are a script's, and the writer has its record and nothing else.
+    // The bytes are a script's, and the writer has its record, which is good, and nothing else.
     ensures ok { OnOk result (WritesRecord (R.remaining reader.old.inner) (W.contents writer.old.inner) (W.contents writer.new.inner)) }
     ensures err { IfErr result (Fails (R.remaining reader.old.inner) reader.new.failed (W.contents writer.old.inner) (W.contents writer.new.inner) writer.new.failed) }
 {
@@ -71,5 +75,6 @@ pub fn run_text<R: Read, W: Write>(
         Err(ScriptFault::Memory) => return Err(TextFault::Memory),
         Err(fault) => return Err(TextFault::Script(fault)),
     };
+    tell_ranges(script.events.as_slice());
     write_script_record(alloc, &script, writer)
 }

@@ -3,7 +3,7 @@
 
 use cast_record::Meter;
 use cast_script::ScriptFault;
-use cast_text::{TextFault, run_text};
+use cast_text::{TextFault, Verdict, judge_text, migrate_text, run_text};
 use clap::error::ErrorKind;
 use clap::{Arg, ArgMatches, Command, Error};
 use std::alloc::{AllocError, Global};
@@ -21,6 +21,8 @@ enum Status {
     Usage,
     /// The input was refused.
     Refused,
+    /// The record is bad.
+    Bad,
     /// Memory was wanted.
     Resources,
     /// A read or a write failed.
@@ -33,6 +35,7 @@ impl Status {
             Status::Good => 0,
             Status::Usage => 1,
             Status::Refused => 2,
+            Status::Bad => 3,
             Status::Resources => 5,
             Status::Channel => 6,
         }
@@ -66,16 +69,28 @@ fn castgroup_command<'a>(alloc: Global) -> Result<Command<'a>, AllocError> {
     let run = Command::new(alloc, "run")
         .about("Writes the record of a script's events")
         .arg(script)?;
+    let record = Arg::new(alloc, "RECORD").help("The record; standard input if absent");
+    let judge = Command::new(alloc, "judge")
+        .about("Says whether a record is good, or which line breaks which rule")
+        .arg(record)?;
+    let old_record = Arg::new(alloc, "RECORD").help("The record; standard input if absent");
+    let migrate = Command::new(alloc, "migrate")
+        .about("Writes a cast/1 record with the head of cast/2")
+        .arg(old_record)?;
     Command::new(alloc, "castgroup")
         .about("A FIFO broadcast group with k-set agreement")
         .version("0.1.0")
         .subcommand_required(true)
-        .subcommand(run)
+        .subcommand(run)?
+        .subcommand(judge)?
+        .subcommand(migrate)
 }
 
 fn run_matches<R: Runtime + AllocGlobal>(rt: &R, matches: &ArgMatches<'_>) -> Status {
     match matches.subcommand() {
         Some(("run", inner)) => run_script(rt, inner.get_str("SCRIPT")),
+        Some(("judge", inner)) => judge_record(rt, inner.get_str("RECORD")),
+        Some(("migrate", inner)) => migrate_record(rt, inner.get_str("RECORD")),
         _ => Status::Usage,
     }
 }
@@ -114,12 +129,56 @@ fn run_script<R: Runtime + AllocGlobal>(rt: &R, path: Option<&str>) -> Status {
     }
 }
 
+/// Judges the record in the file, or that on standard input, and writes the verdict.
+fn judge_record<R: Runtime + AllocGlobal>(rt: &R, path: Option<&str>) -> Status {
+    let Ok(mut output) = BufWriter::new(rt.alloc(), io::writer(rt)) else {
+        return refuse(rt, TextFault::Memory);
+    };
+    let mut writer = Meter::new(&mut output);
+    let outcome = match path {
+        Some(path) => match fs::open(rt, path) {
+            Ok(file) => judge_text(rt.alloc(), &mut Meter::new(file), &mut writer),
+            Err(_) => Err(TextFault::Read),
+        },
+        None => judge_text(rt.alloc(), &mut Meter::new(rt.reader()), &mut writer),
+    };
+    let flushed = output.flush();
+    match (outcome, flushed) {
+        (Ok(Verdict::Good), Ok(())) => Status::Good,
+        (Ok(Verdict::Bad { .. }), Ok(())) => Status::Bad,
+        (Ok(_), Err(_)) => refuse(rt, TextFault::Write),
+        (Err(fault), _) => refuse(rt, fault),
+    }
+}
+
+/// Writes the record in the file, or that on standard input, with the new head.
+fn migrate_record<R: Runtime + AllocGlobal>(rt: &R, path: Option<&str>) -> Status {
+    let Ok(mut output) = BufWriter::new(rt.alloc(), io::writer(rt)) else {
+        return refuse(rt, TextFault::Memory);
+    };
+    let mut writer = Meter::new(&mut output);
+    let outcome = match path {
+        Some(path) => match fs::open(rt, path) {
+            Ok(file) => migrate_text(rt.alloc(), &mut Meter::new(file), &mut writer),
+            Err(_) => Err(TextFault::Read),
+        },
+        None => migrate_text(rt.alloc(), &mut Meter::new(rt.reader()), &mut writer),
+    };
+    let flushed = output.flush();
+    match (outcome, flushed) {
+        (Ok(()), Ok(())) => Status::Good,
+        (Ok(()), Err(_)) => refuse(rt, TextFault::Write),
+        (Err(fault), _) => refuse(rt, fault),
+    }
+}
+
 /// Says on standard error why nothing more was done.
 fn refuse<R: Eprint>(rt: &R, fault: TextFault) -> Status {
     let (said, status) = match fault {
         TextFault::Read => (eprintln!(rt; "castgroup: read fault"), Status::Channel),
         TextFault::Write => (eprintln!(rt; "castgroup: write fault"), Status::Channel),
         TextFault::TooLong => (eprintln!(rt; "castgroup: input too long"), Status::Refused),
+        TextFault::NotV1 => (eprintln!(rt; "castgroup: not a cast/1 record"), Status::Refused),
         TextFault::Memory | TextFault::Script(ScriptFault::Memory) => {
             (eprintln!(rt; "castgroup: out of memory"), Status::Resources)
         }

@@ -1,0 +1,42 @@
+-- How much of a piece was read.
+use Rattle.std.proofs.Common.{◌≡◌, ℕ, ◌+◌, false, nat_eq, List, [], ◌∷◌, ◌++◌, append_assoc, append-nil, get_or, take, drop, position, Some, refl, sym, ap, subst, ◌∙◌}
+use Rattle.std.proofs.lemmas.List.Quantifiers.{position-Some}
+use Rattle.cast_record.proofs.PartLemmas.{at_place}
+use Rattle.cast_judge.specs.declared.judging.Judging.{Judging}
+use Rattle.cast_judge.specs.Judged.{Stands, is_reading, is_refused}
+use Rattle.cast_judge.proofs.StandingLemmas.{same_number}
+use Rattle.cast_judge.proofs.JudgedLemmas.{done_on}
+
+-- the piece is what was read of it and the rest
+pub record Reads (text piece rest : List ℕ) (judging : Judging) : Type 0 where
+  pub front : List ℕ
+  pub parts : piece ≡ front ++ rest
+  pub stands : Stands (text ++ front) judging
+
+pub reads_none : (text piece : List ℕ) (judging : Judging) → Stands text judging → Reads text piece piece judging
+reads_none text piece judging h = record { front = []; parts = refl; stands = subst (λ t. Stands t judging) (sym (append-nil text)) h }
+
+-- a line and its line feed were read
+pub reads_line : (text piece rest line after : List ℕ) (old new : Judging) → rest ≡ line ++ 10 ∷ after → (r : Reads text piece rest old) → Stands ((text ++ r.front) ++ (line ++ 10 ∷ [])) new → Reads text piece after new
+reads_line text piece rest line after old new cut r h = record {
+  front = r.front ++ (line ++ 10 ∷ []);
+  parts = r.parts ∙ ap (λ bytes. r.front ++ bytes) (cut ∙ sym (append_assoc line (10 ∷ []) after)) ∙ sym (append_assoc r.front (line ++ 10 ∷ []) after);
+  stands = subst (λ t. Stands t new) (append_assoc text r.front (line ++ 10 ∷ [])) h;
+}
+
+-- the rest was read
+pub reads_all : (text piece rest : List ℕ) (old new : Judging) → (r : Reads text piece rest old) → Stands ((text ++ r.front) ++ rest) new → Stands (text ++ piece) new
+reads_all text piece rest old new r h = subst (λ t. Stands t new) (append_assoc text r.front rest ∙ ap (λ bytes. text ++ bytes) (sym r.parts)) h
+
+-- the rest begins with a line and its line feed
+pub line_at : (rest : List ℕ) (at : ℕ) → position (λ b. nat_eq b 10) rest ≡ Some at → rest ≡ take at rest ++ 10 ∷ drop (at + 1) rest
+line_at rest at e =
+    let feed = same_number (get_or rest at 0) 10 (position-Some (λ b. nat_eq b 10) rest at 0 e).1 in
+    at_place (λ b. nat_eq b 10) rest at e ∙ ap (λ b. take at rest ++ b ∷ drop (at + 1) rest) feed
+
+-- nothing more of the piece is read
+pub reads_done : (text piece rest line after : List ℕ) (old new : Judging) → rest ≡ line ++ 10 ∷ after → (r : Reads text piece rest old) → is_reading new ≡ false → is_refused new ≡ false → Stands ((text ++ r.front) ++ (line ++ 10 ∷ [])) new → Stands (text ++ piece) new
+reads_done text piece rest line after old new cut r e f h =
+    let next = reads_line text piece rest line after old new cut r h in
+    subst (λ t. Stands t new) (append_assoc text next.front after ∙ ap (λ bytes. text ++ bytes) (sym next.parts))
+    (done_on new.state (text ++ next.front) after new.kept new.tail.items new.lines e f next.stands)

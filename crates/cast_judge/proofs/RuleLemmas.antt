@@ -1,0 +1,199 @@
+-- What is kept tells the rules as the lines before do.
+use Rattle.std.proofs.Common.{◌≡◌, ℕ, ◌+◌, ◌<◌, ◌&&◌, ◌||◌, not, Bool, true, false, cond, nat_eq, nat_lt, List, [], ◌∷◌, length, Option, Some, None, refl, sym, ap, ◌∙◌, arith, length-append}
+use Rattle.std.specs.List.{filter}
+use Rattle.std.proofs.lemmas.Bool.Decides.{nat_tests}
+use Rattle.cast_message.specs.declared.message.Item.{Item}
+use Rattle.cast_message.specs.declared.message.Item.TheVariants.{Data, Propose, Close}
+use Rattle.cast_message.specs.declared.message.Message.{Message}
+use Rattle.cast_record.specs.declared.line.Line.{Line}
+use Rattle.cast_record.specs.declared.line.Line.TheVariants.{Head, Head2, Broadcast, Delivered, Decided, Crashed, Refused, End}
+use Rattle.cast_record.specs.Rules as said
+use Rattle.cast_judge.specs.declared.kept.Place.TheVariants.{Body, Ended}
+use Rattle.cast_judge.specs.declared.kept.Kept.{Kept}
+use Rattle.cast_judge.specs.Kept as kept
+use Rattle.cast_judge.specs.Stands.{items_in, items_of, StandsFor, StandsForNode}
+
+-- ---- as many items as broadcasts
+
+one_in : (p : ℕ) (line : Line) (lines : List Line) → length (cond (said.is_broadcast (λ m. nat_eq m.sender p) line) (line ∷ lines) lines) ≡ length lines + length (items_in line p)
+one_in p (Head n f k) lines = omega arith
+one_in p (Head2 n f k mode) lines = omega arith
+one_in p (Broadcast m) lines = go (nat_eq m.sender p)
+  where
+    go : (b : Bool) → length (cond b (Broadcast m ∷ lines) lines) ≡ length lines + length (cond b (m.item ∷ []) [])
+    go true = omega arith
+    go false = omega arith
+one_in p (Delivered q m) lines = omega arith
+one_in p (Decided q d) lines = omega arith
+one_in p (Crashed q) lines = omega arith
+one_in p (Refused i c) lines = omega arith
+one_in p End lines = omega arith
+
+pub items_counted : (past : List Line) (p : ℕ) → length (items_of past p) ≡ said.broadcasts_of past p
+unfolding items_of said.broadcasts_of
+items_counted [] p = refl
+items_counted (line ∷ past) p =
+    length-append (items_of past p) (items_in line p) ∙ ap (λ n. n + length (items_in line p)) (items_counted past p)
+    ∙ sym (one_in p line (filter (said.is_broadcast (λ m. nat_eq m.sender p)) past))
+
+-- ---- a line in its place names nodes of the group
+
+or_false : (a b : Bool) → (a || b) ≡ false → (a ≡ false) × (b ≡ false)
+or_false true b e = absurd (cc)
+or_false false b e = (refl, e)
+
+not_false : (b : Bool) → not b ≡ false → b ≡ true
+not_false true e = refl
+not_false false e = absurd (cc)
+
+head_names : (n : ℕ) (line : Line) → said.is_head line ≡ true → said.names_below n line ≡ true
+head_names n (Head a b c) e = refl
+head_names n (Head2 a b c d) e = refl
+head_names n (Broadcast m) e = absurd (cc)
+head_names n (Delivered q m) e = absurd (cc)
+head_names n (Decided q d) e = absurd (cc)
+head_names n (Crashed q) e = absurd (cc)
+head_names n (Refused i c) e = absurd (cc)
+head_names n End e = absurd (cc)
+
+pub in_range : (past : List Line) (line : Line) → said.is_out_of_place past line ≡ false → said.names_below (said.group_of past).nodes line ≡ true
+in_range [] line e = head_names (said.group_of []).nodes line (not_false (said.is_head line) e)
+in_range (last ∷ past) line e = not_false (said.names_below (said.group_of (last ∷ past)).nodes line) (or_false (said.is_end last || said.is_head line) (not (said.names_below (said.group_of (last ∷ past)).nodes line)) e).1
+
+-- a head stands first
+pub head_first : (past : List Line) (line : Line) → said.is_out_of_place past line ≡ false → said.is_head line ≡ true → past ≡ []
+head_first [] line e h = refl
+head_first (last ∷ past) line e h =
+    let parts = or_false (said.is_end last || said.is_head line) (not (said.names_below (said.group_of (last ∷ past)).nodes line)) e in
+    let none = or_false (said.is_end last) (said.is_head line) parts.0 in
+    absurd (cc (none.1, h))
+
+-- ---- rule 0
+
+out_at : (b h : Bool) (n : ℕ) (line : Line) → kept.is_out_at (cond b Ended Body) n line ≡ (b || said.is_head line || not (said.names_below n line))
+out_at true h n line = refl
+out_at false h n line = refl
+
+place_same : (past : List Line) (k : Kept) (line : Line) → StandsFor past k → kept.is_out_of_place k line ≡ said.is_out_of_place past line
+place_same [] k line s = ap (λ place. kept.is_out_at place (length k.nodes.items) line) s.place
+place_same (last ∷ past) k line s =
+    ap (λ place. kept.is_out_at place (length k.nodes.items) line) s.place
+    ∙ out_at (said.is_end last) (said.is_head line) (length k.nodes.items) line
+    ∙ ap (λ n. said.is_end last || said.is_head line || not (said.names_below n line)) s.size
+
+-- ---- the other rules
+
+and_true : (a b : Bool) → (a && b) ≡ true → (a ≡ true) × (b ≡ true)
+and_true true b e = (refl, e)
+and_true false b e = absurd (cc)
+
+below : (p n : ℕ) → nat_lt p n ≡ true → p < n
+below p n e = grind (arith, nat_tests)
+
+module _ (past : List Line) (k : Kept) (s : StandsFor past k) where
+  node : (p : ℕ) → nat_lt p (length k.nodes.items) ≡ true → StandsForNode past p (kept.node_at k.nodes.items p)
+  node p e = s.nodes p (below p (length k.nodes.items) e)
+
+  crash_same : (p : ℕ) → nat_lt p (length k.nodes.items) ≡ true → (kept.node_at k.nodes.items p).crashed ≡ said.has_crashed past p
+  crash_same p e = (node p e).crashed
+
+  item_same : (m : Message) → nat_lt m.sender (length k.nodes.items) ≡ true → kept.has_item (kept.node_at k.nodes.items m.sender).items m.number m.item ≡ said.has_broadcast past m
+  item_same m e = ap (λ items. kept.has_item items m.number m.item) (node m.sender e).items ∙ sym (s.numbered m)
+
+  prefix_same : (line : Line) → said.names_below (length k.nodes.items) line ≡ true → kept.breaks_prefix k line ≡ said.breaks_prefix past line
+  prefix_same (Head n f c) e = refl
+  prefix_same (Head2 n f c d) e = refl
+  prefix_same (Broadcast m) e = ap (λ n. not (nat_eq m.number n)) (ap length (node m.sender e).items ∙ items_counted past m.sender)
+  prefix_same (Delivered q m) e =
+      let both = and_true (nat_lt q (length k.nodes.items)) (nat_lt m.sender (length k.nodes.items)) e in
+      let small : m.sender < 64 = far m.sender (below m.sender (length k.nodes.items) both.1) in
+      ap (λ n. not (nat_eq m.number n) || not (kept.has_item (kept.node_at k.nodes.items m.sender).items m.number m.item)) ((node q both.0).delivered m.sender small)
+      ∙ ap (λ b. not (nat_eq m.number (said.deliveries_of past q m.sender)) || not b) (item_same m both.1)
+    where
+      far : (p : ℕ) → p < length k.nodes.items → p < 64
+      far p h = omega (arith, s.few)
+  prefix_same (Decided q d) e = refl
+  prefix_same (Crashed q) e = refl
+  prefix_same (Refused i c) e = refl
+  prefix_same End e = refl
+
+  close_same : (line : Line) → said.names_below (length k.nodes.items) line ≡ true → kept.is_after_close k line ≡ said.is_after_close past line
+  close_same (Head n f c) e = refl
+  close_same (Head2 n f c d) e = refl
+  close_same (Broadcast m) e = (node m.sender e).closed
+  close_same (Delivered q m) e = refl
+  close_same (Decided q d) e = refl
+  close_same (Crashed q) e = refl
+  close_same (Refused i c) e = refl
+  close_same End e = refl
+
+  proposed_same : (line : Line) → kept.is_not_proposed k line ≡ said.is_not_proposed past line
+  proposed_same (Head n f c) = refl
+  proposed_same (Head2 n f c d) = refl
+  proposed_same (Broadcast m) = refl
+  proposed_same (Delivered q m) = refl
+  proposed_same (Decided q d) = ap not ((s.instances d.instance).values d.value)
+  proposed_same (Crashed q) = refl
+  proposed_same (Refused i c) = refl
+  proposed_same End = refl
+
+  counted : (b c : Bool) (m n : ℕ) (x : ℕ) (xs : List ℕ) → b ≡ c → m ≡ length xs → cond b m (m + 1) ≡ length (cond c xs (x ∷ xs))
+  counted true true m n x xs e f = f
+  counted true false m n x xs e f = absurd (cc)
+  counted false true m n x xs e f = absurd (cc)
+  counted false false m n x xs e f = omega arith
+
+  many_same : (line : Line) → kept.is_of_too_many k line ≡ said.is_of_too_many past line
+  many_same (Head n f c) = refl
+  many_same (Head2 n f c d) = refl
+  many_same (Broadcast m) = refl
+  many_same (Delivered q m) = refl
+  many_same (Decided q d) =
+      let instance = s.instances d.instance in
+      let count = counted (kept.has_value (kept.instance_at k.instances.entries d.instance).decided d.value) (kept.has_value (said.values_in past d.instance) d.value) (length (kept.instance_at k.instances.entries d.instance).decided) 0 d.value (said.different (said.values_in past d.instance)) (instance.decided d.value) instance.count in
+      (λ i. nat_lt (s.faults i) (s.choices i) && nat_lt (s.choices i) (count i))
+  many_same (Crashed q) = refl
+  many_same (Refused i c) = refl
+  many_same End = refl
+
+  after_crash_same : (line : Line) → said.names_below (length k.nodes.items) line ≡ true → kept.is_after_crash k line ≡ said.is_after_crash past line
+  after_crash_same (Head n f c) e = refl
+  after_crash_same (Head2 n f c d) e = refl
+  after_crash_same (Broadcast m) e = crash_same m.sender e
+  after_crash_same (Delivered q m) e = crash_same q (and_true (nat_lt q (length k.nodes.items)) (nat_lt m.sender (length k.nodes.items)) e).0
+  after_crash_same (Decided q d) e = crash_same q e
+  after_crash_same (Crashed q) e = crash_same q e
+  after_crash_same (Refused i c) e = refl
+  after_crash_same End e = refl
+
+  second_same : (p : ℕ) (item : Item) → kept.is_second_proposal k p item ≡ said.is_second_proposal past p item
+  second_same p (Data payload) = refl
+  second_same p (Propose j w) = (s.instances j).proposed p
+  second_same p Close = refl
+
+  twice_same : (line : Line) → kept.is_proposed_twice k line ≡ said.is_proposed_twice past line
+  twice_same (Head n f c) = refl
+  twice_same (Head2 n f c d) = refl
+  twice_same (Broadcast m) = second_same m.sender m.item
+  twice_same (Delivered q m) = refl
+  twice_same (Decided q d) = refl
+  twice_same (Crashed q) = refl
+  twice_same (Refused i c) = refl
+  twice_same End = refl
+
+-- the least of seven rules
+abbrev least_of : Bool → Bool → Bool → Bool → Bool → Bool → Bool → Option ℕ
+least_of a b c d e f g = cond a (Some 0) (cond b (Some 1) (cond c (Some 2) (cond d (Some 3) (cond e (Some 4) (cond f (Some 5) (cond g (Some 6) None))))))
+
+-- what is kept tells the least rule that a line breaks
+pub rule_same : (past : List Line) (k : Kept) (line : Line) → StandsFor past k → kept.rule_by k line ≡ said.broken past line
+unfolding said.broken
+rule_same past k line s = go (said.is_out_of_place past line) refl
+  where
+    go : (b : Bool) → said.is_out_of_place past line ≡ b → kept.rule_by k line ≡ said.first_broken (said.rules past line)
+    go true e = let both = place_same past k line s ∙ e in
+        ap (λ b. least_of b (kept.breaks_prefix k line) (kept.is_after_close k line) (kept.is_not_proposed k line) (kept.is_of_too_many k line) (kept.is_after_crash k line) (kept.is_proposed_twice k line)) both
+        ∙ sym (ap (λ b. least_of b (said.breaks_prefix past line) (said.is_after_close past line) (said.is_not_proposed past line) (said.is_of_too_many past line) (said.is_after_crash past line) (said.is_proposed_twice past line)) e)
+    go false e =
+        let range : said.names_below (length k.nodes.items) line ≡ true = ap (λ n. said.names_below n line) s.size ∙ in_range past line e in
+        (λ i. least_of (place_same past k line s i) (prefix_same past k s line range i) (close_same past k s line range i) (proposed_same past k s line i) (many_same past k s line i) (after_crash_same past k s line range i) (twice_same past k s line i))

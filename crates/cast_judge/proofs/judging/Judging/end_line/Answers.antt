@@ -1,0 +1,43 @@
+use Rattle.std.proofs.Common.{◌≡◌, ◌+◌, ◌^◌, ◌<◌, List, [], ◌∷◌, ◌++◌, ℕ, Some, length, ap, ◌∙◌, subst, arith}
+use Rattle.std.proofs.lemmas.Bool.Decides.{nat_tests}
+use Rattle.std.proofs.lemmas.Grind.{common_steps}
+use Rattle.cast_judge.specs.Judges.{Judges}
+use Rattle.cast_judge.specs.Judged.{IsReading, state_with, lines_with}
+use Rattle.cast_judge.specs.declared.judging.State.TheVariants.{Reading}
+use Rattle.cast_judge.proofs.JudgedLemmas.{was_reading, reading_state, moved, line_counted, too_long}
+use Rattle.cast_judge.proofs.judging.Judging.end_line.Goals as goal
+
+pub returns-then-is_empty-clause-stands : goal.returns-then-is_empty-clause-stands
+returns-then-is_empty-clause-stands c text st =
+    let self = c.args.self.now in
+    let part = c.args.part.now in
+    let none : c.args.self.now.tail.items ≡ [] = grind (arith, nat_tests, common_steps) in
+    let short : c.args.self.now.lines < 2 ^ 63 = omega arith in
+    let h = subst (λ (tail : List ℕ). IsReading text self.kept tail self.lines) none (was_reading self.state text self.kept self.tail.items self.lines c.requires.reading st) in
+    let counted = line_counted text [] part self.kept c.judge_line.new.kept self.lines c.in_ok-broken.broken h c.requires.clean short c.in_ok-broken.ensures in
+    moved (state_with c.in_ok-broken.broken Reading) c.count.new.self.state (text ++ (part ++ 10 ∷ [])) c.judge_line.new.kept c.count.new.self.kept [] c.count.new.self.tail.items (lines_with c.in_ok-broken.broken self.lines) c.count.new.self.lines
+    (c.count.ensures.state ∙ ap (state_with c.in_ok-broken.broken) (reading_state self.state c.requires.reading)) c.count.ensures.kept (ap (λ t. t.items) c.count.ensures.tail ∙ none) c.count.ensures.lines counted
+
+pub returns-then-is_too_long-clause-stands : goal.returns-then-is_too_long-clause-stands
+returns-then-is_too_long-clause-stands c text st =
+    let self = c.args.self.now in
+    let part = c.args.part.now in
+    let long : 4096 < length c.args.self.now.tail.items + length c.args.part.now = grind (arith, nat_tests) in
+    let h = was_reading self.state text self.kept self.tail.items self.lines c.requires.reading st in
+    let new = c.count-then-is_too_long.new.self in
+    moved (state_with (Some 0) Reading) new.state (text ++ (part ++ 10 ∷ [])) self.kept new.kept self.tail.items new.tail.items self.lines new.lines
+    (c.count-then-is_too_long.ensures.state) c.count-then-is_too_long.ensures.kept (ap (λ t. t.items) c.count-then-is_too_long.ensures.tail) c.count-then-is_too_long.ensures.lines
+    (too_long text self.tail.items part (10 ∷ []) self.kept self.lines h c.requires.clean long)
+
+pub returns-clause-stands : goal.returns-clause-stands
+returns-clause-stands c text st =
+    let self = c.args.self.now in
+    let part = c.args.part.now in
+    let short : c.args.self.now.lines < 2 ^ 63 = omega arith in
+    let h = was_reading self.state text self.kept self.tail.items self.lines c.requires.reading st in
+    let new = c.count-2.new.self in
+    let whole : c.as_slice.result.now ≡ self.tail.items ++ part = c.as_slice.ensures.value ∙ c.in_ok-extend_from_slice.ensures.items in
+    let counted = line_counted text self.tail.items part self.kept c.judge_line-2.new.kept self.lines c.in_ok-broken-2.broken h c.requires.clean short
+    (λ past s few. subst (λ (bytes : List ℕ). Judges past bytes c.in_ok-broken-2.broken c.judge_line-2.new.kept) whole (c.in_ok-broken-2.ensures past s few)) in
+    moved (state_with c.in_ok-broken-2.broken Reading) new.state (text ++ (part ++ 10 ∷ [])) c.judge_line-2.new.kept new.kept [] new.tail.items (lines_with c.in_ok-broken-2.broken self.lines) new.lines
+    (c.count-2.ensures.state ∙ ap (state_with c.in_ok-broken-2.broken) (reading_state self.state c.requires.reading)) c.count-2.ensures.kept (ap (λ t. t.items) c.count-2.ensures.tail ∙ c.clear.ensures.items) c.count-2.ensures.lines counted

@@ -1,0 +1,73 @@
+-- What a judging stands for: the text that was fed.
+--     Stands text judging     the judging is that of this text
+use Rattle.std.specs.Prelude.{◌≡◌, ℕ, ◌+◌, ◌==◌, Bool, true, false, List, ◌++◌, length, Option, Some, None}
+use Rattle.std.specs.List.{slice_split, All}
+use Rattle.cast_record.specs.declared.line.Line.{Line}
+use Rattle.cast_record.specs.declared.verdict.Verdict.{Verdict}
+use Rattle.cast_record.specs.declared.verdict.Verdict.TheVariants.{Bad}
+use Rattle.cast_record.specs.Verdicts.{verdict, verdict_after}
+use Rattle.cast_judge.specs.declared.judging.State.{State}
+use Rattle.cast_judge.specs.declared.judging.State.TheVariants.{Reading, Offended, Refused}
+use Rattle.cast_judge.specs.declared.judging.Judging.{Judging}
+use Rattle.cast_judge.specs.declared.kept.Kept.{Kept}
+use Rattle.cast_judge.specs.Stands.{StandsFor}
+
+abbrev pub is_reading_state : State → Bool
+is_reading_state Reading = true
+is_reading_state _ = false
+
+abbrev pub is_offended_state : State → Bool
+is_offended_state (Offended rule) = true
+is_offended_state _ = false
+
+abbrev pub is_refused_state : State → Bool
+is_refused_state Refused = true
+is_refused_state _ = false
+
+-- no line offended so far, and no growth was refused
+abbrev pub is_reading : Judging → Bool
+is_reading judging = is_reading_state judging.state
+
+abbrev pub is_offended : Judging → Bool
+is_offended judging = is_offended_state judging.state
+
+abbrev pub is_refused : Judging → Bool
+is_refused judging = is_refused_state judging.state
+
+-- a line is counted that broke no rule, and else the rule is told
+abbrev pub lines_with : Option ℕ → ℕ → ℕ
+lines_with None lines = lines + 1
+lines_with (Some rule) lines = lines
+
+abbrev pub state_with : Option ℕ → State → State
+state_with None state = state
+state_with (Some rule) state = Offended rule
+
+-- the byte stands nowhere in the bytes
+abbrev pub HasNone : ℕ → List ℕ → Type 0
+HasNone byte bytes = All (λ b. (b == byte) ≡ false) bytes
+
+-- the verdict on a text, where these lines stood before it
+abbrev pub verdict_of : List Line → List ℕ → Verdict
+verdict_of past text = verdict_after past (slice_split (λ b. b == 10) text)
+
+-- The lines of the text broke no rule, and their beginnings stand in what is kept: whatever follows, the verdict is that on
+-- the unfinished line and what follows, after those lines.
+pub record IsReading (text : List ℕ) (kept : Kept) (tail : List ℕ) (lines : ℕ) : Type 0 where
+  pub past : List Line
+  pub stands : StandsFor past kept
+  pub count : length past ≡ lines
+  pub clean : HasNone 10 tail
+  pub same : (more : List ℕ) → verdict (text ++ more) ≡ verdict_of past (tail ++ more)
+
+-- whatever follows, the text offends there
+abbrev pub Offends : List ℕ → ℕ → ℕ → Type 0
+Offends text lines rule = (more : List ℕ) → verdict (text ++ more) ≡ Bad (lines + 1) rule
+
+abbrev pub StandsAs : State → List ℕ → Kept → List ℕ → ℕ → Type 0
+StandsAs Reading text kept tail lines = IsReading text kept tail lines
+StandsAs (Offended rule) text kept tail lines = Offends text lines rule
+StandsAs Refused text kept tail lines = Unit {0}
+
+abbrev pub Stands : List ℕ → Judging → Type 0
+Stands text judging = StandsAs judging.state text judging.kept judging.tail.items judging.lines

@@ -1,0 +1,4 @@
+pub mod Kept
+pub mod Stands
+pub mod Judges
+pub mod Judged

@@ -1,0 +1,210 @@
+//! Reading a text piece by piece.
+ghost use Rattle.std.specs.Prelude.{◌≡◌, ℕ, ◌+◌, ◌^◌, ◌<◌, ◌≤◌, ◌++◌, [], ◌∷◌, List, length, nat_lt, true, false, IfOk, OnOk, OnErr, IsOk, IsErr};
+ghost use Rattle.cast_record.specs.Verdicts.{verdict};
+
+use crate::kept::Kept;
+use crate::lines::{find_line_feed, judge_line};
+use cast_record::Verdict;
+use std::alloc::{AllocError, Global};
+
+/// The most bytes of a line that is not whole yet. The longest line of the grammar has 2,084.
+const LONGEST_LINE: usize = 4_096;
+
+/// Whether the judge goes on.
+#[derive(Clone, Copy, Debug)]
+enum State {
+    /// No line offended so far.
+    Reading,
+    /// The line after those counted broke this rule.
+    Offended { rule: u64 },
+    /// A growth was refused.
+    Refused,
+}
+
+/// A text that is being judged. It keeps no more of the text than an unfinished line of 4,096 bytes.
+#[derive(Debug, Drop)]
+pub struct Judging {
+    alloc: Global,
+    state: State,
+    kept: Kept,
+    /// How many lines broke no rule.
+    lines: u64,
+    /// How many bytes were fed.
+    fed: u64,
+    /// What was read of a line that is not whole yet.
+    tail: Vec<u8>,
+    ghost short: { length tail.items ≤ 4096 },
+    ghost counted: { lines ≤ fed },
+    ghost within: { fed < 2 ^ 63 },
+}
+
+/// The verdict on the text, or want of memory.
+pub fn judge(alloc: Global, text: &[u8]) -> Result<Verdict, AllocError>
+    ensures { IfOk result (λ said. said ≡ verdict text.now) }
+{
+    let mut judging = Judging::new(alloc);
+    judging.feed(text)?;
+    judging.finish()
+}
+
+impl Judging {
+    ghost use Rattle.cast_judge.specs.Judged.{Stands, HasNone, lines_with, state_with, is_reading, is_offended, is_refused};
+
+    /// Nothing was fed. It takes no memory.
+    pub fn new(alloc: Global) -> Judging
+        ensures fed { result.fed ≡ 0 }
+        ensures stands { Stands [] result }
+        ensures reading { is_reading result ≡ true }
+    {
+        Judging {
+            alloc,
+            state: State::Reading,
+            kept: Kept::new(alloc),
+            lines: 0,
+            fed: 0,
+            tail: Vec::new(alloc),
+        }
+    }
+
+    /// Takes the next piece of the text. All pieces together have fewer than 2^63 bytes. After the first line that offends
+    /// the rest is skipped, and takes no memory. Once a piece was refused, every later one is, and so is the verdict.
+    pub fn feed(&mut self, piece: &[u8]) -> Result<(), AllocError>
+        requires { self.old.fed + length piece.now < 2 ^ 63 }
+        ensures fed { self.new.fed ≡ self.old.fed + length piece.now }
+        ensures stands { (text : List ℕ) → Stands text self.old → OnOk result (Stands (text ++ piece.now) self.new) }
+        ensures refused { is_refused self.old ≡ true → IsErr result }
+        ensures skipped { is_offended self.old ≡ true → IsOk result }
+        ensures err { OnErr result (is_refused self.new ≡ true) }
+        ensures ok { OnOk result (is_refused self.new ≡ false) }
+    {
+        self.fed += piece.len() as u64;
+        match self.state {
+            State::Reading => match self.read(piece) {
+                Ok(()) => Ok(()),
+                Err(refused) => {
+                    self.state = State::Refused;
+                    Err(refused)
+                }
+            },
+            State::Offended { .. } => Ok(()),
+            State::Refused => Err(AllocError),
+        }
+    }
+
+    /// The verdict on all pieces joined. It takes no memory, and answers want of memory only where a piece was refused.
+    pub fn finish(self) -> Result<Verdict, AllocError>
+        ensures said { (text : List ℕ) → Stands text self → IfOk result (λ said. said ≡ verdict text) }
+        ensures refused { is_refused self ≡ true → IsErr result }
+        ensures ok { is_refused self ≡ false → IsOk result }
+    {
+        match self.state {
+            State::Reading => {
+                if self.kept.is_ended() && self.tail.is_empty() {
+                    Ok(Verdict::Good)
+                } else {
+                    Ok(Verdict::Bad {
+                        line: self.lines + 1,
+                        rule: 0,
+                    })
+                }
+            }
+            State::Offended { rule } => Ok(Verdict::Bad {
+                line: self.lines + 1,
+                rule,
+            }),
+            State::Refused => Err(AllocError),
+        }
+    }
+
+    // Takes a piece while no line offended.
+    fn read(&mut self, piece: &[u8]) -> Result<(), AllocError>
+        requires reading { is_reading self.old ≡ true }
+        requires room { self.old.lines + length piece.now ≤ self.old.fed }
+        ensures fed { self.new.fed ≡ self.old.fed }
+        ensures stands { (text : List ℕ) → Stands text self.old → OnOk result (Stands (text ++ piece.now) self.new) }
+        ensures ok { OnOk result (is_refused self.new ≡ false) }
+    {
+        let mut rest = piece;
+        while let Some(at) = find_line_feed(rest) {
+            self.end_line(&rest[..at])?;
+            if !self.is_reading() {
+                return Ok(());
+            }
+            rest = &rest[at + 1..];
+        }
+        self.keep_tail(rest)
+    }
+
+    fn is_reading(&self) -> bool
+        ensures { result ≡ is_reading self.now }
+    {
+        matches!(self.state, State::Reading)
+    }
+
+    // Takes what stands before a line feed, and the line feed.
+    fn end_line(&mut self, part: &[u8]) -> Result<(), AllocError>
+        requires reading { is_reading self.old ≡ true }
+        requires clean { HasNone 10 part.now }
+        requires room { self.old.lines + length part.now + 1 ≤ self.old.fed }
+        ensures fed { self.new.fed ≡ self.old.fed }
+        ensures lines { self.new.lines ≤ self.old.lines + 1 }
+        ensures stands { (text : List ℕ) → Stands text self.old → OnOk result (Stands (text ++ (part.now ++ 10 ∷ [])) self.new) }
+        ensures ok { OnOk result (is_refused self.new ≡ false) }
+    {
+        if self.tail.is_empty() {
+            let broken = judge_line(self.alloc, &mut self.kept, part)?;
+            self.count(broken);
+            return Ok(());
+        }
+        if self.is_too_long(part) {
+            self.count(Some(0));
+            return Ok(());
+        }
+        self.tail.extend_from_slice(part)?;
+        let broken = judge_line(self.alloc, &mut self.kept, self.tail.as_slice())?;
+        self.tail.clear();
+        self.count(broken);
+        Ok(())
+    }
+
+    // Whether the unfinished line would be too long with this part.
+    fn is_too_long(&self, part: &[u8]) -> bool
+        ensures { result ≡ nat_lt 4096 (length self.now.tail.items + length part.now) }
+    {
+        part.len() > LONGEST_LINE || self.tail.len() > LONGEST_LINE - part.len()
+    }
+
+    // Counts a line that broke no rule, or tells the rule that it broke.
+    fn count(&mut self, broken: Option<u64>)
+        requires { self.old.lines < self.old.fed }
+        ensures kept { self.new.kept ≡ self.old.kept }
+        ensures tail { self.new.tail ≡ self.old.tail }
+        ensures fed { self.new.fed ≡ self.old.fed }
+        ensures lines { self.new.lines ≡ lines_with broken self.old.lines }
+        ensures state { self.new.state ≡ state_with broken self.old.state }
+    {
+        match broken {
+            None => self.lines += 1,
+            Some(rule) => self.state = State::Offended { rule },
+        }
+    }
+
+    // Keeps the front of a line that is not whole.
+    fn keep_tail(&mut self, part: &[u8]) -> Result<(), AllocError>
+        requires reading { is_reading self.old ≡ true }
+        requires clean { HasNone 10 part.now }
+        requires room { self.old.lines + length part.now ≤ self.old.fed }
+        ensures fed { self.new.fed ≡ self.old.fed }
+        ensures stands { (text : List ℕ) → Stands text self.old → OnOk result (Stands (text ++ part.now) self.new) }
+        ensures ok { OnOk result (is_refused self.new ≡ false) }
+    {
+        if part.is_empty() {
+            return Ok(());
+        }
+        if self.kept.is_ended() || self.is_too_long(part) {
+            self.count(Some(0));
+            return Ok(());
+        }
+        self.tail.extend_from_slice(part)
+    }
+}

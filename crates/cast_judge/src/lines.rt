@@ -1,0 +1,30 @@
+//! One line of a text.
+ghost use Rattle.std.specs.Prelude.{◌≡◌, ◌^◌, ◌<◌, ◌==◌, List, length, position, IfOk};
+ghost use Rattle.cast_record.specs.declared.line.Line.{Line as Said};
+ghost use Rattle.cast_judge.specs.Stands.{StandsFor};
+ghost use Rattle.cast_judge.specs.Judges.{Judges};
+
+use crate::kept::Kept;
+use cast_record::read_line;
+use std::alloc::{AllocError, Global};
+
+/// The place of the first line feed.
+pub fn find_line_feed(bytes: &[u8]) -> Option<usize>
+    ensures { result ≡ position (λ b. b == 10) bytes.now }
+{
+    bytes.iter().position(|byte| *byte == b'\n')
+}
+
+/// Takes the line that these bytes spell, or tells the least rule that it breaks.
+pub fn judge_line(alloc: Global, kept: &mut Kept, bytes: &[u8]) -> Result<Option<u64>, AllocError>
+    ensures { (past : List Said) → StandsFor past kept.old → length past < 2 ^ 63 → IfOk result (λ broken. Judges past bytes.now broken kept.new) }
+{
+    let Some(line) = read_line(alloc, bytes)? else {
+        return Ok(Some(0));
+    };
+    if let Some(rule) = kept.broken(&line) {
+        return Ok(Some(rule));
+    }
+    kept.keep(line)?;
+    Ok(None)
+}

@@ -1,0 +1,44 @@
+-- A record under the new head.
+--     Migrates text result     the text with its head changed, or a refusal where it begins with no head `cast/1`
+use Rattle.std.specs.Prelude.{◌≡◌, ℕ, List, [], ◌∷◌, ◌++◌, codes, drop, Option, Some, None, Result, Ok, Err}
+use Rattle.std.specs.Global.{Vec}
+use Rattle.cast_message.specs.declared.config.Mode.TheVariants.{Basic}
+use Rattle.cast_record.specs.declared.line.Line.TheVariants.{Head, Head2}
+use Rattle.cast_record.specs.declared.migration.MigrateFault.{MigrateFault}
+use Rattle.cast_record.specs.declared.migration.MigrateFault.TheVariants.{NotV1, Memory}
+use Rattle.cast_record.specs.Ranges.{IsWithin}
+use Rattle.cast_record.specs.Text.{line_text}
+
+-- the bytes are the text of a head `cast/1` within its ranges
+pub record IsHeadIn (bytes : List ℕ) : Type 0 where
+  pub nodes : ℕ
+  pub faults : ℕ
+  pub choices : ℕ
+  pub within : IsWithin (Head nodes faults choices)
+  pub same : line_text (Head nodes faults choices) ≡ bytes
+
+abbrev pub IsNoHead : List ℕ → Type 0
+IsNoHead bytes = IsHeadIn bytes → ⊥
+
+-- a head `cast/1` and its line feed, and the same with the new head
+pub record IsMigrated (text new : List ℕ) : Type 0 where
+  pub nodes : ℕ
+  pub faults : ℕ
+  pub choices : ℕ
+  pub rest : List ℕ
+  pub within : IsWithin (Head nodes faults choices)
+  pub before : text ≡ line_text (Head nodes faults choices) ++ 10 ∷ rest
+  pub after : new ≡ line_text (Head2 nodes faults choices Basic) ++ 10 ∷ rest
+
+-- the text begins with no head `cast/1` and its line feed
+abbrev pub HasNoHead : List ℕ → Type 0
+HasNoHead text = (nodes faults choices : ℕ) (rest : List ℕ) → IsWithin (Head nodes faults choices) → text ≡ line_text (Head nodes faults choices) ++ 10 ∷ rest → ⊥
+
+abbrev pub Migrates : List ℕ → Result (Vec ℕ) MigrateFault → Type 0
+Migrates text (Ok new) = IsMigrated text new.items
+Migrates text (Err NotV1) = HasNoHead text
+Migrates text (Err Memory) = Unit {0}
+
+-- the bytes of a head `cast/1`, changed, and what stands after its line feed
+abbrev pub new_text : List ℕ → List ℕ → List ℕ
+new_text first rest = codes "cast/2" ++ drop 6 first ++ codes " basic" ++ 10 ∷ rest

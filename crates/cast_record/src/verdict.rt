@@ -1,0 +1,32 @@
+//! What is said of a record.
+ghost use Rattle.std.specs.Prelude.{◌≡◌, ◌++◌, [], ◌∷◌, false};
+ghost use Rattle.cast_record.specs.VerdictText.{verdict_text};
+ghost use Rattle.cast_record.specs.Written.{Writes};
+
+use crate::meter::Meter;
+use crate::words::Word::Number;
+use crate::writing::{WriteFault, write_words};
+use std::io::Write;
+
+/// What a judge says of a text.
+#[derive(Clone, Copy, Debug, PartialEq, Eq)]
+pub enum Verdict {
+    /// It is a record, and no line breaks a rule.
+    Good,
+    /// This line, counted from 1, is the first that offends, and this is the least rule that it breaks, 0 to 6.
+    Bad { line: u64, rule: u64 },
+}
+
+/// Writes the verdict as a line: `good`, or `bad` with the line and the rule. It takes no memory. A refusal comes only where
+/// the writer failed or took no byte; the meter tells so from then on, and a front of the text stands.
+pub fn write_verdict<W: Write>(verdict: Verdict, writer: &mut Meter<W>) -> Result<(), WriteFault>
+    requires { writer.old.failed ≡ false }
+    ensures { Writes (W.contents writer.old.inner) (W.contents writer.new.inner) writer.new.failed result (verdict_text verdict ++ 10 ∷ []) }
+{
+    match verdict {
+        Verdict::Good => write_words(b"good", &[], writer),
+        Verdict::Bad { line, rule } => {
+            write_words(b"bad", &[Number(line), Number(rule)], writer)
+        }
+    }
+}

@@ -1,0 +1,14 @@
+-- What was read so far was fed.
+use Rattle.std.proofs.Common.{◌≡◌, ◌≤◌, ◌-◌, length}
+use Rattle.cast_text.proofs.JudgingLemmas.{IsJudging}
+use Rattle.cast_text.proofs.judge.judge_input.Given as goal
+
+abbrev pub invariant-loop-count : goal.invariant-loop-count
+invariant-loop-count g l = record {
+  room : length l.chunk ≡ 16384;
+  short : l.length ≤ 67108864;
+  judging : IsJudging (g.R.Read.remaining l.fn.reader.inner) (g.R.Read.remaining l.reader.inner) l.reader.failed l.length l.judging;
+}
+
+abbrev pub decreases-loop-count : goal.decreases-loop-count
+decreases-loop-count g l = 67108865 - l.length

@@ -1,0 +1,33 @@
+-- The bytes of a record, and the same with the new head.
+use Rattle.std.specs.Prelude.{◌≡◌, ◌<◌, ◌≤◌, List, ℕ, length, Bool, true, Option, IfSome}
+use Rattle.std.specs.Io.KnownBytes.{Appends, Keeps}
+use Rattle.cast_record.specs.Migration.{IsMigrated, HasNoHead}
+use Rattle.cast_text.specs.declared.text.TextFault.{TextFault}
+use Rattle.cast_text.specs.declared.text.TextFault.TheVariants as faults
+use Rattle.cast_text.specs.Text.{input_limit, WroteFront}
+
+-- these are the bytes with their head changed, where they are known
+abbrev pub IsInputMigrated : Option (List ℕ) → List ℕ → Type 0
+IsInputMigrated input migrated = IfSome input (λ bytes. (length bytes ≤ input_limit) × IsMigrated bytes migrated)
+
+-- the writer has the bytes that were read with their head changed, and nothing else
+pub record WritesMigrated (input old new : Option (List ℕ)) : Type 0 where
+  pub migrated : List ℕ
+  pub read : IsInputMigrated input migrated
+  pub appends : Appends old new migrated
+
+-- the writing broke off
+pub record MigratedBreaksOff (input old new : Option (List ℕ)) (failed : Bool) : Type 0 where
+  pub migrated : List ℕ
+  pub read : IsInputMigrated input migrated
+  pub broken : failed ≡ true
+  pub front : WroteFront old new migrated
+
+-- Each fault has its cause, and nothing was written but where the writing broke off.
+abbrev pub MigratingFails : Option (List ℕ) → Bool → Option (List ℕ) → Option (List ℕ) → Bool → TextFault → Type 0
+MigratingFails input read_failed old new failed faults.Read = (read_failed ≡ true) × Keeps old new
+MigratingFails input read_failed old new failed faults.TooLong = IfSome input (λ bytes. input_limit < length bytes) × Keeps old new
+MigratingFails input read_failed old new failed faults.NotV1 = IfSome input (λ bytes. (length bytes ≤ input_limit) × HasNoHead bytes) × Keeps old new
+MigratingFails input read_failed old new failed faults.Write = MigratedBreaksOff input old new failed
+MigratingFails input read_failed old new failed faults.Memory = Keeps old new
+MigratingFails input read_failed old new failed (faults.Script fault) = ⊥

@@ -1,0 +1,53 @@
+//! Judging the text of a record as it is read.
+ghost use Rattle.std.specs.Prelude.{◌≡◌, false, IfOk, IfErr};
+ghost use Rattle.cast_text.specs.Judging.{JudgesInput, IsOfJudging, SaysVerdict, JudgingFails};
+
+use crate::input::INPUT_LIMIT;
+use crate::text::TextFault;
+use cast_judge::{Judging, Verdict};
+use cast_record::{Meter, write_verdict};
+use std::alloc::Global;
+use std::io::{Read, Write};
+
+/// Reads a text to its end, judges it as a record, and writes the verdict as a line. No more of the text is kept than an
+/// unfinished line. After a fault of reading, or want of memory, nothing was written, after `Write` a front of the line, or
+/// nothing.
+pub fn judge_text<R: Read, W: Write>(
+    alloc: Global,
+    reader: &mut Meter<R>,
+    writer: &mut Meter<W>,
+) -> Result<Verdict, TextFault>
+    requires reader { reader.old.failed ≡ false }
+    requires writer { writer.old.failed ≡ false }
+    // The verdict is that on the bytes, and the writer has its line and nothing else.
+    ensures ok { IfOk result (SaysVerdict (R.remaining reader.old.inner) (W.contents writer.old.inner) (W.contents writer.new.inner)) }
+    ensures err { IfErr result (JudgingFails (R.remaining reader.old.inner) reader.new.failed (W.contents writer.old.inner) (W.contents writer.new.inner) writer.new.failed) }
+{
+    let verdict = judge_input(alloc, reader)?;
+    write_verdict(verdict, writer)?;
+    Ok(verdict)
+}
+
+// The verdict on all that the reader has left.
+fn judge_input<R: Read>(alloc: Global, reader: &mut Meter<R>) -> Result<Verdict, TextFault>
+    requires { reader.old.failed ≡ false }
+    ensures ok { IfOk result (JudgesInput (R.remaining reader.old.inner)) }
+    ensures err { IfErr result (IsOfJudging (R.remaining reader.old.inner) reader.new.failed) }
+{
+    let mut judging = Judging::new(alloc);
+    let mut chunk = [0; 16_384];
+    let mut length = 0usize;
+    loop {
+        let Ok(count) = reader.read(&mut chunk) else {
+            return Err(TextFault::Read);
+        };
+        if count == 0 {
+            return Ok(judging.finish()?);
+        }
+        length += count;
+        if length > INPUT_LIMIT {
+            return Err(TextFault::TooLong);
+        }
+        judging.feed(&chunk[..count])?;
+    }
+}

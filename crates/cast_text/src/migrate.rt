@@ -1,0 +1,32 @@
+//! Giving the text of an old record the new head.
+ghost use Rattle.std.specs.Prelude.{◌≡◌, false, OnOk, IfErr};
+ghost use Rattle.cast_text.specs.Migrating.{WritesMigrated, MigratingFails};
+
+use crate::input::read_input;
+use crate::text::TextFault;
+use cast_record::{Meter, MigrateFault, migrate, write_bytes};
+use std::alloc::Global;
+use std::io::{Read, Write};
+
+/// Reads a record `cast/1` to its end, and writes it with the head of `cast/2`. After a fault of reading, want of memory or
+/// `NotV1` nothing was written, after `Write` a front of the text, or nothing.
+pub fn migrate_text<R: Read, W: Write>(
+    alloc: Global,
+    reader: &mut Meter<R>,
+    writer: &mut Meter<W>,
+) -> Result<(), TextFault>
+    requires reader { reader.old.failed ≡ false }
+    requires writer { writer.old.failed ≡ false }
+    // The writer has the bytes with their head changed, and nothing else.
+    ensures ok { OnOk result (WritesMigrated (R.remaining reader.old.inner) (W.contents writer.old.inner) (W.contents writer.new.inner)) }
+    ensures err { IfErr result (MigratingFails (R.remaining reader.old.inner) reader.new.failed (W.contents writer.old.inner) (W.contents writer.new.inner) writer.new.failed) }
+{
+    let input = read_input(alloc, reader)?;
+    let migrated = match migrate(alloc, input.as_slice()) {
+        Ok(migrated) => migrated,
+        Err(MigrateFault::NotV1) => return Err(TextFault::NotV1),
+        Err(MigrateFault::Memory) => return Err(TextFault::Memory),
+    };
+    write_bytes(migrated.as_slice(), writer)?;
+    Ok(())
+}
