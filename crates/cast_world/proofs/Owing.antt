@@ -1,15 +1,32 @@
 -- The slots owed, found one after another.
-use Rattle.std.proofs.Common.{◌≡◌, ◌≢◌, ℕ, zero, suc, ◌+◌, ◌-◌, ◌<◌, ◌≤◌, refl, sym, ◌∙◌, ap, Bool, true, false, cond, List, [], ◌∷◌, ◌++◌, length, map, Option, Some, None, inl, inr, arith}
-use Rattle.std.specs.Prelude.{is_some}
-use Rattle.std.specs.List.{filter, range_with_len}
+use Rattle.std.proofs.Common.{◌≡◌, ◌≢◌, ℕ, zero, suc, ◌+◌, ◌-◌, ◌<◌, ◌≤◌, refl, sym, ◌∙◌, ap, subst, Bool, true, false, cond, List, [], ◌∷◌, ◌++◌, length, map, Option, Some, None, inl, inr, arith}
+use Rattle.std.specs.Prelude.{◌==◌, ◌^◌, nat_lt, is_some, not, ◌&&◌, if◌then◌else◌}
+use Rattle.std.specs.List.{filter, flat_map, range_with_len}
 use Rattle.std.specs.FinMap as finite
-use Rattle.std.proofs.lemmas.Bool.{cases_lt}
+use Rattle.std.proofs.lemmas.Bool.{cases_lt, cases_eq, eq-eqb, false≢true}
+use Rattle.std.proofs.lemmas.Bool.Decides.{nat_tests}
+use Rattle.std.proofs.Math.Nat.{mul-le-mul_left, mul-le-mul_right}
 use Rattle.std.proofs.lemmas.List.{append-nil, append_assoc, map-append}
 use Rattle.std.proofs.lemmas.List.Elements.{filter-append}
-use Rattle.cast_message.specs.Rounds.{Due}
+use Rattle.cast_message.specs.declared.config.Config.{Config}
+use Rattle.cast_message.specs.declared.message.Message.{Message}
+use Rattle.cast_message.specs.History.{History, is_live, first, given, given_of}
+use Rattle.cast_message.specs.Delivery.{nodes_of}
+use Rattle.cast_message.specs.Rounds.{Due, owed, due_between, live_nodes, due}
+use Rattle.cast_message.specs.Steps.{steps_of, copy_of}
+use Rattle.cast_message.specs.OwnSteps.{own_given, own_acked, own_owed, message_in}
+use Rattle.cast_message.proofs.Members.{Member, here, there, Member-filter}
+use Rattle.cast_message.proofs.Dues.{range_bounds}
+use Rattle.cast_message.proofs.OwnHeld.{own_live-steps_of, own_given-steps_of}
+use Rattle.cast_message.proofs.OwnTurns.{length-map}
+use Rattle.cast_message.proofs.OwnReplies.{own_owed-steps_of}
+use Rattle.cast_message.proofs.Possible.{held_bounded}
+use Rattle.cast_node.specs.Kept.{link_to}
+use Rattle.cast_node.specs.Stands.{StandsOut}
 use Rattle.cast_link.specs.Links.{Link}
 use Rattle.cast_node.proofs.Links.{range-more}
-use Rattle.cast_world.specs.Plans.{due_of, owed_below}
+use Rattle.cast_world.specs.Group.{State, node_at, Stands}
+use Rattle.cast_world.specs.Plans.{due_of, owed_below, owed_slots, live_at, due_between_at, due_at, IsBounded}
 
 -- one number more
 filter_more : (p : ℕ → Bool) (n : ℕ) (b : Bool) → p n ≡ b → filter p (range_with_len 0 (n + 1)) ≡ filter p (range_with_len 0 n) ++ cond b (n ∷ []) []
@@ -36,14 +53,14 @@ module _ (link : Link) (f : ℕ → Due) where
   -- the next slot owed
   pub owed_next : (before after old : List Due) (from slot next : ℕ) → next ≡ slot + 1 → from ≤ slot → finite.contains_key link.owed slot ≡ true → ((other : ℕ) → from ≤ other → other < slot → finite.get link.owed other ≡ None) →
       before ≡ old ++ map f (owed_below from link) → after ≡ before ++ f slot ∷ [] → after ≡ old ++ map f (owed_below next link)
-  owed_next before after old from slot next is l here none so_far one =
+  owed_next before after old from slot next is l waits none so_far one =
       one
       ∙ ap (λ ds. ds ++ f slot ∷ []) so_far
       ∙ append_assoc old (map f (owed_below from link)) (f slot ∷ [])
       ∙ ap (λ ds. old ++ ds) (sym (map-append f (owed_below from link) (slot ∷ [])))
       ∙ ap (λ slots. old ++ map f slots) (sym (
           ap (λ n. owed_below n link) is
-          ∙ filter_more (finite.contains_key link.owed) slot true here
+          ∙ filter_more (finite.contains_key link.owed) slot true waits
           ∙ ap (λ xs. xs ++ slot ∷ []) (filter_same (finite.contains_key link.owed) from slot l (λ i a b. ap is_some (none i a b)))))
 
   -- no more is owed
@@ -53,3 +70,94 @@ module _ (link : Link) (f : ℕ → Due) where
     | inl l ↦ sym (filter_same (finite.contains_key link.owed) from bound (omega (arith, l)) (λ i a b. ap is_some (none i a)))
     | inr l ↦ filter_same (finite.contains_key link.owed) bound from l (λ i a b. beyond i a)
   ])
+
+-- ---- what the definitions say is due
+
+filter_alike : (p t : ℕ → Bool) (xs : List ℕ) → ((x : ℕ) → Member x xs → p x ≡ t x) → filter p xs ≡ filter t xs
+filter_alike p t [] h = refl
+filter_alike p t (x ∷ xs) h = λ i. cond (h x here i) (x ∷ filter_alike p t xs (λ y m. h y (there m)) i) (filter_alike p t xs (λ y m. h y (there m)) i)
+
+flat_alike : (f g : ℕ → List Due) (xs : List ℕ) → ((x : ℕ) → Member x xs → f x ≡ g x) → flat_map f xs ≡ flat_map g xs
+flat_alike f g [] h = refl
+flat_alike f g (x ∷ xs) h = λ i. h x here i ++ flat_alike f g xs (λ y m. h y (there m)) i
+
+length-filter_le : {A : Type 0} (p : A → Bool) (xs : List A) → length (filter p xs) ≤ length xs
+length-filter_le p [] = omega arith
+length-filter_le p (x ∷ xs) = by_test (p x) (length-filter_le p xs)
+  where
+    by_test : (b : Bool) → length (filter p xs) ≤ length xs → length (cond b (x ∷ filter p xs) (filter p xs)) ≤ suc (length xs)
+    by_test true h = omega (arith, h)
+    by_test false h = omega (arith, h)
+
+module _ (config : Config) (past : History) (world : State) (st : Stands config past world) where
+  node_in : (p : ℕ) → Member p (nodes_of config) → p < config.nodes
+  node_in p m = let l = (range_bounds config.nodes 0 p m).1 in omega (arith, l)
+
+  out : (p q : ℕ) → p < config.nodes → q < config.nodes → q ≢ p → StandsOut p (steps_of past p) q (link_to (node_at world p) q)
+  out p q l m e = (st.nodes p l).out q m e
+
+  not_given : (p q slot : ℕ) → p < config.nodes → q < config.nodes → q ≢ p → (link_to (node_at world p) q).given ≤ slot → finite.contains_key (link_to (node_at world p) q).owed slot ≡ false
+  not_given p q slot l m e h =
+      ap is_some ((out p q l m e).owed slot)
+      ∙ ap (λ b. is_some (if b && not (own_acked (steps_of past p) q slot) then Some (message_in (own_given p (steps_of past p) q) slot) else None))
+      (let given = (out p q l m e).given in past_all (length (own_given p (steps_of past p) q)) slot (omega (arith, h, given)))
+    where
+      past_all : (n k : ℕ) → n ≤ k → nat_lt k n ≡ false
+      past_all n k l = grind (arith, nat_tests)
+
+  few_given : (p q : ℕ) → p < config.nodes → q < config.nodes → q ≢ p → (link_to (node_at world p) q).given < 2 ^ 64
+  unfolding given given_of
+  few_given p q l m e =
+      let given = (out p q l m e).given in
+      let copies = sym (length-map copy_of (own_given p (steps_of past p) q)) ∙ ap length (own_given-steps_of past p q) in
+      let within = length-filter_le (λ copy. not (copy.sender == q) && not (copy.source == q)) (first past p) in
+      let bound = held_bounded config past st.accepted p in
+      let nodes = mul-le-mul_right config.item_limit config.nodes_in_range in
+      let items = mul-le-mul_left 64 config.items_in_range in
+      omega (arith, given, copies, within, bound, nodes, items)
+
+  pub is_bounded : IsBounded world
+  is_bounded = record {
+    few = λ p q l m e. few_given p q (subst (λ n. p < n) st.size l) (subst (λ n. q < n) st.size m) (λ z. e (sym z));
+    given = λ p q slot l m e h. not_given p q slot (subst (λ n. p < n) st.size l) (subst (λ n. q < n) st.size m) (λ z. e (sym z)) h;
+  }
+
+  owed_are : (p q : ℕ) → p < config.nodes → q < config.nodes → q ≢ p → owed_slots (link_to (node_at world p) q) ≡ owed past p q
+  unfolding own_owed
+  owed_are p q l m e =
+      ap (λ n. filter (finite.contains_key (link_to (node_at world p) q).owed) (range_with_len 0 n)) (out p q l m e).given
+      ∙ filter_alike (finite.contains_key (link_to (node_at world p) q).owed) (λ slot. not (own_acked (steps_of past p) q slot)) (range_with_len 0 (length (own_given p (steps_of past p) q))) (λ slot n.
+      let inside = (range_bounds (length (own_given p (steps_of past p) q)) 0 slot n).1 in
+      ap is_some ((out p q l m e).owed slot) ∙ here_only (nat_lt slot (length (own_given p (steps_of past p) q))) (within slot (length (own_given p (steps_of past p) q)) (omega (arith, inside))) (own_acked (steps_of past p) q slot) (message_in (own_given p (steps_of past p) q) slot))
+      ∙ own_owed-steps_of past p q
+    where
+      within : (k n : ℕ) → k < n → nat_lt k n ≡ true
+      within k n l = grind (arith, nat_tests)
+
+      here_only : (b : Bool) → b ≡ true → (c : Bool) (x : Message) → is_some (if b && not c then Some x else None) ≡ not c
+      here_only true t true x = refl
+      here_only true t false x = refl
+      here_only false t c x = absurd (false≢true t)
+
+  between_are : (p q : ℕ) → p < config.nodes → q < config.nodes → due_between_at world p q ≡ due_between past p q
+  unfolding due_between
+  between_are p q l m = elim (cases_eq p q) [
+    | inl e ↦ ap (λ b. cond b [] (map (due_of p q) (owed_slots (link_to (node_at world p) q)))) (eq-eqb p q e) ∙ sym (ap (λ b. cond b [] (map (λ slot. record { from = p; to = q; slot = slot }) (owed past p q))) (eq-eqb p q e))
+    | inr e ↦ ap (λ slots. cond (p == q) [] (map (due_of p q) slots)) (owed_are p q l m (λ z. e (sym z)))
+  ]
+
+  live_are : live_at world ≡ live_nodes config past
+  unfolding live_nodes
+  live_are =
+      ap (λ c. filter (λ p. (node_at world p).live) (nodes_of c)) st.same_config
+      ∙ filter_alike (λ p. (node_at world p).live) (is_live past) (nodes_of config) (λ p m. (st.nodes p (node_in p m)).live ∙ own_live-steps_of past p)
+
+  live_in : (p : ℕ) → Member p (live_nodes config past) → p < config.nodes
+  unfolding live_nodes
+  live_in p m = node_in p (Member-filter (is_live past) p (nodes_of config) m).0
+
+  pub due_is : due_at world ≡ due config past
+  unfolding due
+  due_is =
+      ap (λ live. flat_map (λ p. flat_map (due_between_at world p) live) live) live_are
+      ∙ flat_alike _ _ (live_nodes config past) (λ p m. flat_alike (due_between_at world p) (due_between past p) (live_nodes config past) (λ q n. between_are p q (live_in p m) (live_in q n)))

@@ -11,7 +11,6 @@ use Rattle.cast_message.specs.History.{History, given, acked, is_live}
 use Rattle.cast_message.specs.Delivery.{nodes_of}
 use Rattle.cast_message.specs.Rounds.{Due, owed, due_between, live_nodes, due, events_for, plan_from, plan}
 use Rattle.cast_world.specs.Group.{State, node_at, frames_at, Stands}
-use Rattle.cast_world.specs.Plans.{live_at, due_of, due_between_at, due_at, events_at, plan_at}
 use Rattle.cast_node.proofs.Links.{range-more}
 
 range_more : (n : ℕ) → range_with_len 0 (n + 1) ≡ range_with_len 0 n ++ n ∷ []
@@ -39,15 +38,3 @@ nodes_more f p n old before now pass so_far one =
 
 pub nodes_same : (f : ℕ → List Due) (p : ℕ → Bool) (n : ℕ) (old before now : List Due) → p n ≡ false → before ≡ old ++ flat_map f (filter p (range_with_len 0 n)) → now ≡ before → now ≡ old ++ flat_map f (filter p (range_with_len 0 (n + 1)))
 nodes_same f p n old before now out so_far one = one ∙ so_far ∙ ap (λ xs. old ++ flat_map f xs) (sym (filter_dropped p n out))
-
--- a plan of one more slot
-plan_push : (w : State) (before ds : List Due) (d : Due) → plan_at w before (ds ++ d ∷ []) ≡ plan_at w before ds ++ events_at w (before ++ ds) d
-plan_push w before [] d = ap (λ x. events_at w x d) (sym (append-nil before))
-plan_push w before (x ∷ ds) d =
-    ap (λ es. events_at w before x ++ es) (plan_push w (before ++ x ∷ []) ds d ∙ ap (λ b. plan_at w (before ++ x ∷ []) ds ++ events_at w b d) (append_assoc before (x ∷ []) ds))
-    ∙ sym (append_assoc (events_at w before x) (plan_at w (before ++ x ∷ []) ds) (events_at w (before ++ x ∷ ds) d))
-
-pub plan_more : (w : State) (ds : List Due) (i : ℕ) (d : Due) (before now : List Event) → i < length ds → d ≡ get_or ds i d → before ≡ plan_at w [] (take i ds) → now ≡ before ++ events_at w (take i ds) d → now ≡ plan_at w [] (take (i + 1) ds)
-plan_more w ds i d before now within is so_far one =
-    one ∙ ap (λ es. es ++ events_at w (take i ds) d) so_far ∙ sym (plan_push w [] (take i ds) d) ∙ sym (ap (plan_at w []) (take_more ds i d within ∙ ap (λ x. take i ds ++ x ∷ []) (sym is)))
-

@@ -1,15 +1,15 @@
--- The plan of a round, read off what a world keeps.
+-- What is due in a round, read off what a world keeps.
 --     live_at world              the nodes that have not crashed
 --     owed_slots link            the slots of a link that are owed, ascending; owed_below n link: those below n
 --     due_at world               the slots that live nodes owe live nodes, by the giver, then the taker
---     plan_at world before ds    the events for these slots, after those for the slots before
-use Rattle.std.specs.Prelude.{◌≡◌, ◌≢◌, ℕ, false, ◌^◌, ◌<◌, ◌≤◌, ◌+◌, ◌==◌, if◌then◌else◌, List, [], ◌∷◌, ◌++◌, length, map}
+--     events_from world d        the events that settle one slot from here
+use Rattle.std.specs.Prelude.{◌≡◌, ◌≢◌, ℕ, false, ◌^◌, ◌<◌, ◌≤◌, ◌==◌, if◌then◌else◌, List, [], ◌∷◌, length, map}
 use Rattle.std.specs.List.{filter, flat_map, range_with_len}
 use Rattle.std.specs.FinMap as finite
 use Rattle.cast_message.specs.declared.event.Event.{Event}
 use Rattle.cast_message.specs.declared.event.Event.TheVariants.{Send, Ack, Arrive}
 use Rattle.cast_message.specs.Delivery.{nodes_of}
-use Rattle.cast_message.specs.Rounds.{Due, frames_for}
+use Rattle.cast_message.specs.Rounds.{Due}
 use Rattle.cast_link.specs.Links.{Link}
 use Rattle.cast_node.specs.Kept.{link_to}
 use Rattle.cast_world.specs.Group.{State, node_at, frames_at}
@@ -38,14 +38,11 @@ due_between_at world p q = if p == q then [] else map (due_of p q) (owed_slots (
 abbrev pub due_at : State → List Due
 due_at world = flat_map (λ p. flat_map (due_between_at world p) (live_at world)) (live_at world)
 
-abbrev pub events_at : State → List Due → Due → List Event
-events_at world before d =
+-- the events that settle one slot from here
+abbrev pub events_from : State → Due → List Event
+events_from world d =
     Send d.from d.to d.slot
-    ∷ Arrive d.from (length (frames_at world d.from) + frames_for before d.from)
+    ∷ Arrive d.from (length (frames_at world d.from))
     ∷ Ack d.to d.from d.slot
-    ∷ Arrive d.to (length (frames_at world d.to) + frames_for before d.to)
+    ∷ Arrive d.to (length (frames_at world d.to))
     ∷ []
-
-abbrev pub plan_at : State → List Due → List Due → List Event
-plan_at world before [] = []
-plan_at world before (d ∷ ds) = events_at world before d ++ plan_at world (before ++ d ∷ []) ds

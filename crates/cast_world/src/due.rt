@@ -4,16 +4,19 @@ ghost use Rattle.std.specs.List.{flat_map};
 ghost use Rattle.std.specs.FinMap as finite;
 ghost use Rattle.cast_node.specs.Kept.{link_to};
 ghost use Rattle.cast_node.specs.Calls.{is_peer};
-ghost use Rattle.cast_world.specs.Group.{node_at};
-ghost use Rattle.cast_world.specs.Plans.{live_at, due_of, due_between_at, due_at, owed_below, IsBounded};
+ghost use Rattle.cast_message.specs.declared.config.Config.{Config as Settings};
+ghost use Rattle.cast_message.specs.History.{History};
+ghost use Rattle.cast_message.specs.Rounds.{due};
+ghost use Rattle.cast_world.specs.Group.{Stands, node_at};
+ghost use Rattle.cast_world.specs.Plans.{live_at, due_of, due_between_at, due_at, owed_below, events_from, IsBounded};
 
 use crate::world::World;
-use cast_message::NodeId;
+use cast_message::{Event, NodeId};
 use cast_node::Node;
 use std::alloc::{AllocError, Global};
 use std::marker::Model;
 
-/// A slot that a live node owes another.
+/// A slot that a live node owes another live node.
 #[derive(Clone, Copy, Debug)]
 pub struct DueSlot {
     pub from: NodeId,
@@ -31,8 +34,42 @@ impl Model for DueSlot {
     ghost inverse = { λ d. record { from = d.from; to = d.to; slot = d.slot } };
 }
 
-/// The slots that live nodes owe live nodes, by the giver, then the taker, ascending, or want of memory.
-pub fn find_due(alloc: Global, world: &World) -> Result<Vec<DueSlot>, AllocError>
+impl World {
+    /// The slots that live nodes owe live nodes, by the giver, then the taker, ascending: what a round settles. Or want of
+    /// memory.
+    pub fn due(&self) -> Result<Vec<DueSlot>, AllocError>
+        ensures { (config : Settings) (past : History) → Stands config past self.now → IfOk result (λ found. found.items ≡ due config past) }
+    {
+        find_due(self.allocator(), self)
+    }
+
+    /// The events that settle one slot from here: it is sent, the frame arrives, the slot is acknowledged, and that arrives.
+    /// It takes no memory.
+    pub fn events_for(&self, due: DueSlot) -> [Event; 4]
+        ensures { result ≡ events_from self.now due }
+    {
+        let DueSlot { from, to, slot } = due;
+        [
+            Event::Send { from, to, slot },
+            Event::Arrive {
+                from,
+                seq: self.frame_count(from),
+            },
+            Event::Ack {
+                from: to,
+                to: from,
+                slot,
+            },
+            Event::Arrive {
+                from: to,
+                seq: self.frame_count(to),
+            },
+        ]
+    }
+}
+
+// The slots that live nodes owe live nodes, by the giver, then the taker, ascending.
+fn find_due(alloc: Global, world: &World) -> Result<Vec<DueSlot>, AllocError>
     ensures { IsBounded world.now → IfOk result (λ due. due.items ≡ due_at world.now) }
 {
     let mut due = Vec::new(alloc);

@@ -192,6 +192,21 @@ impl World {
         }
     }
 
+    /// The allocator that the world was made with.
+    pub(crate) fn allocator(&self) -> Global {
+        self.alloc
+    }
+
+    /// How many frames a node made; none where it is no node.
+    pub(crate) fn frame_count(&self, node: NodeId) -> u64
+        ensures { result ≡ length (frames_at self.now node) }
+    {
+        match self.frames.get(usize::from(node.0)) {
+            Some(row) => row.len() as u64,
+            None => 0,
+        }
+    }
+
     /// How many nodes there are, 1 to 64.
     pub(crate) fn node_count(&self) -> u8
         ensures value { result ≡ length self.now.nodes }
