@@ -1,6 +1,6 @@
 -- The verdict does not tell the two heads apart.
-use Rattle.std.proofs.Common.{◌≡◌, ℕ, ◌+◌, ◌-◌, ◌<◌, ◌≤◌, ◌&&◌, ◌||◌, not, Bool, true, false, cond, nat_eq, nat_lt, List, [], ◌∷◌, ◌++◌, append_assoc, length, length-append, get_or, drop, decimal, codes, Option, Some, None, option_and_then, option_map, is_some, Result, Ok, Err, refl, sym, ap, subst, ◌∙◌, arith}
-use Rattle.std.specs.List.{slice_split, list_any, filter, filter_map, cons_option, join_with_byte}
+use Rattle.std.proofs.Common.{◌≡◌, ℕ, ◌+◌, ◌≤◌, ◌&&◌, ◌||◌, not, Bool, true, false, cond, nat_eq, nat_lt, List, [], ◌∷◌, ◌++◌, append_assoc, length, length-append, get_or, decimal, codes, Option, Some, None, option_and_then, is_some, Result, Ok, Err, refl, sym, ap, ◌∙◌, arith}
+use Rattle.std.specs.List.{slice_split, list_any, filter, cons_option, join_with_byte}
 use Rattle.std.specs.Str.{bytes_eq}
 use Rattle.std.proofs.lemmas.List.Splits.{slice_split_at, join_with_byte-slice_split}
 use Rattle.cast_message.specs.declared.config.Mode.TheVariants.{Basic}
@@ -9,7 +9,6 @@ use Rattle.cast_message.specs.declared.message.Item.TheVariants.{Data, Propose, 
 use Rattle.cast_message.specs.declared.message.Message.{Message}
 use Rattle.cast_record.specs.declared.line.Line.{Line}
 use Rattle.cast_record.specs.declared.line.Line.TheVariants.{Head, Head2, Broadcast, Delivered, Decided, Crashed, Refused, End}
-use Rattle.cast_record.specs.declared.verdict.Verdict.{Verdict}
 use Rattle.cast_record.specs.declared.verdict.Verdict.TheVariants.{Good, Bad}
 use Rattle.std.specs.Global.{Vec}
 use Rattle.std.specs.Prelude.{IfOk, IfErr}
@@ -17,7 +16,6 @@ use Rattle.cast_record.specs.declared.migration.MigrateFault.{MigrateFault}
 use Rattle.cast_record.specs.declared.migration.MigrateFault.TheVariants.{NotV1, Memory}
 use Rattle.cast_record.specs.Migration.{IsHeadIn, IsNoHead, IsMigrated, HasNoHead, Migrates, new_text}
 use Rattle.cast_record.specs.Ranges.{IsWithin}
-use Rattle.cast_record.specs.Parts.{parts_of}
 use Rattle.cast_record.specs.Reading as read
 use Rattle.cast_record.specs.Reading.{line_of}
 use Rattle.cast_record.specs.Rules as said

@@ -1,5 +1,5 @@
 -- What is written is read again, and what is read was written so.
-use Rattle.std.proofs.Common.{◌≡◌, ℕ, ◌+◌, ◌-◌, ◌*◌, ◌^◌, ◌<◌, ◌≤◌, ◌||◌, Bool, true, false, List, [], ◌∷◌, ◌++◌, length, get_or, take, drop, decimal, codes, refl, sym, ap, subst, ◌∙◌, arith, nat_eq, nat_lt, nat_le, cond, Option, Some, None, option_map, option_and_then, append_assoc, if◌then◌else◌}
+use Rattle.std.proofs.Common.{◌≡◌, ℕ, ◌*◌, ◌^◌, ◌<◌, ◌≤◌, ◌||◌, Bool, true, false, List, [], ◌∷◌, ◌++◌, length, take, drop, decimal, codes, refl, sym, ap, subst, ◌∙◌, arith, nat_eq, nat_lt, cond, Option, Some, None, option_map, option_and_then, append_assoc}
 use Rattle.std.specs.List.{join_with_byte, slice_split}
 use Rattle.std.specs.Str.{bytes_eq}
 use Rattle.std.proofs.lemmas.List.{take-append-drop}

@@ -1,6 +1,6 @@
 -- A record under the new head.
 --     Migrates text result     the text with its head changed, or a refusal where it begins with no head `cast/1`
-use Rattle.std.specs.Prelude.{◌≡◌, ℕ, List, [], ◌∷◌, ◌++◌, codes, drop, Option, Some, None, Result, Ok, Err}
+use Rattle.std.specs.Prelude.{◌≡◌, ℕ, List, ◌∷◌, ◌++◌, codes, drop, Result, Ok, Err}
 use Rattle.std.specs.Global.{Vec}
 use Rattle.cast_message.specs.declared.config.Mode.TheVariants.{Basic}
 use Rattle.cast_record.specs.declared.line.Line.TheVariants.{Head, Head2}

@@ -2,7 +2,7 @@
 --     item_of word     the item that a word spells, if it spells one
 --     line_of bytes    the line that the bytes spell without a line feed, if they spell one
 --     IsReadOf bytes o     o is the line within its ranges whose text the bytes are, or none where there is none
-use Rattle.std.specs.Prelude.{◌≡◌, ℕ, ◌-◌, ◌==◌, ◌||◌, not, nat_lt, nat_le, if◌then◌else◌, List, [], ◌∷◌, length, take, drop, codes, Bool, false, Option, Some, None, option_map, option_and_then}
+use Rattle.std.specs.Prelude.{◌≡◌, ℕ, ◌-◌, ◌==◌, ◌||◌, nat_lt, nat_le, if◌then◌else◌, List, [], ◌∷◌, length, take, drop, codes, Bool, false, Option, Some, None, option_map, option_and_then}
 use Rattle.std.specs.Str.{bytes_eq}
 use Rattle.std.specs.List.{slice_split}
 use Rattle.cast_message.specs.declared.config.Mode.{Mode}
@@ -10,7 +10,6 @@ use Rattle.cast_message.specs.declared.config.Mode.TheVariants.{Basic, Uniform}
 use Rattle.cast_message.specs.declared.message.Item.{Item}
 use Rattle.cast_message.specs.declared.message.Item.TheVariants.{Data, Propose, Close}
 use Rattle.cast_message.specs.declared.message.Message.{Message}
-use Rattle.cast_message.specs.declared.message.Decision.{Decision}
 use Rattle.cast_record.specs.declared.line.Line.{Line}
 use Rattle.cast_record.specs.declared.line.Line.TheVariants.{Head, Head2, Broadcast, Delivered, Decided, Crashed, Refused, End}
 use Rattle.cast_record.specs.Numbers.{number_of, node_of}

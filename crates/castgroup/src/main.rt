@@ -178,7 +178,10 @@ fn refuse<R: Eprint>(rt: &R, fault: TextFault) -> Status {
         TextFault::Read => (eprintln!(rt; "castgroup: read fault"), Status::Channel),
         TextFault::Write => (eprintln!(rt; "castgroup: write fault"), Status::Channel),
         TextFault::TooLong => (eprintln!(rt; "castgroup: input too long"), Status::Refused),
-        TextFault::NotV1 => (eprintln!(rt; "castgroup: not a cast/1 record"), Status::Refused),
+        TextFault::NotV1 => (
+            eprintln!(rt; "castgroup: not a cast/1 record"),
+            Status::Refused,
+        ),
         TextFault::Memory | TextFault::Script(ScriptFault::Memory) => {
             (eprintln!(rt; "castgroup: out of memory"), Status::Resources)
         }

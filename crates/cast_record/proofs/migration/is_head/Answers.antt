@@ -1,7 +1,7 @@
-use Rattle.std.proofs.Common.{◌∙◌, ◌∷◌, ap, sym, option_map, true}
+use Rattle.std.proofs.Common.{◌∙◌, ◌∷◌, ap, sym, option_map}
 use Rattle.std.specs.Str.{bytes_eq}
 use Rattle.cast_record.specs.Parts.{parts_of}
-use Rattle.cast_record.proofs.MigrationLemmas.{head_found, head_missed, other_name, one_word}
+use Rattle.cast_record.proofs.MigrationLemmas.{head_found, head_missed, one_word}
 use Rattle.cast_record.proofs.migration.is_head.Goals as goal
 
 pub returns-then-eq-clause-yes : goal.returns-then-eq-clause-yes

@@ -1,5 +1,4 @@
-use Rattle.std.proofs.Common.{◌≡◌, ◌∙◌, ◌∷◌, ◌-◌, ◌+◌, nat_eq, ap, sym, arith, take, drop, length}
-use Rattle.std.specs.List.{slice_split}
+use Rattle.std.proofs.Common.{◌≡◌, ◌-◌, ◌+◌, nat_eq, sym, arith, take, drop, length}
 use Rattle.std.proofs.lemmas.Grind.{common_steps}
 use Rattle.cast_record.proofs.PartLemmas.{split_found, split_missed}
 use Rattle.cast_record.proofs.parts.split_part.Goals as goal

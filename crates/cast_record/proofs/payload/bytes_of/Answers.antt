@@ -1,4 +1,4 @@
-use Rattle.std.proofs.Common.{rules, arith, ◌∙◌, take, drop, length, ◌-◌, sym}
+use Rattle.std.proofs.Common.{rules, arith, ◌∙◌, take, drop, length, ◌-◌}
 use Rattle.std.proofs.lemmas.Grind.{common_steps}
 use Rattle.cast_record.proofs.UnhexLemmas.{two_digits}
 use Rattle.cast_record.proofs.payload.bytes_of.Goals as goal

@@ -1,7 +1,6 @@
-use Rattle.std.proofs.Common.{◌≡◌, ◌∙◌, ◌∷◌, ap, option_map, nat_eq, Option}
+use Rattle.std.proofs.Common.{◌≡◌, ◌∙◌, ◌∷◌, ap, option_map, nat_eq}
 use Rattle.std.specs.List.{slice_split}
 use Rattle.std.proofs.lemmas.Result.{IfOk-weaker}
-use Rattle.cast_record.specs.declared.line.Line.{Line}
 use Rattle.cast_record.specs.Parts.{parts_of}
 use Rattle.cast_record.specs.Reading.{IsReadOf, line_of, line_named}
 use Rattle.cast_record.proofs.ReadLemmas.{exact, line_by_parts, line_by_one_part}
