@@ -8,3 +8,4 @@ pub mod Tellings
 pub mod Goodness
 pub mod Records
 pub mod GoodRecords
+pub mod Rounds

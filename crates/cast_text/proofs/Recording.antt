@@ -9,8 +9,8 @@ use Rattle.cast_message.specs.declared.event.Answer.{Answer}
 use Rattle.cast_message.specs.declared.event.StepFault.{StepFault}
 use Rattle.cast_message.specs.History.{History}
 use Rattle.cast_message.specs.Replies.{is_want_of_memory, fault, answer, reply, reply_by, after}
-use Rattle.cast_plain.specs.Lists.{State, Stands, Continues}
-use Rattle.cast_plain.proofs.Running.{settled as settled_step}
+use Rattle.cast_world.specs.Group.{State, Stands, Continues}
+use Rattle.cast_world.proofs.Running.{settled as settled_step}
 use Rattle.cast_record.specs.declared.line.Line.{Line}
 use Rattle.cast_record.specs.declared.line.Line.TheVariants.{End}
 use Rattle.cast_script.specs.declared.script.ScriptEvent.{ScriptEvent}
@@ -100,12 +100,12 @@ some_by : (refusal : Option StepFault) (all : Bool) → all ≡ false → all �
 some_by None all nay is = absurd (cc)
 some_by (Some refusal) all nay is = (refusal, refl)
 
-tried_on : (config : Config) (index : ℕ) (now : History) (event : Event) (rest : List Event) → fault config now event ≡ None →
+pub tried_on : (config : Config) (index : ℕ) (now : History) (event : Event) (rest : List Event) → fault config now event ≡ None →
     tried config index now (event ∷ rest) ≡ record { lines = lines_for index event (reply config now event) ++ (tried config index (event ∷ now) rest).lines; past = (tried config index (event ∷ now) rest).past; stopped = (tried config index (event ∷ now) rest).stopped }
 unfolding tried
 tried_on config index now event rest none = rw none refl
 
-tried_end : (config : Config) (index : ℕ) (now : History) (event : Event) (rest : List Event) (refusal : StepFault) → fault config now event ≡ Some refusal →
+pub tried_end : (config : Config) (index : ℕ) (now : History) (event : Event) (rest : List Event) (refusal : StepFault) → fault config now event ≡ Some refusal →
     tried config index now (event ∷ rest) ≡ record { lines = lines_for index event (reply config now event); past = now; stopped = true }
 unfolding tried
 tried_end config index now event rest refusal some = rw some refl
@@ -179,11 +179,11 @@ trying_done config index past events rest world none trying =
 pub going_after : {old new : Option (List ℕ)} {failed : Bool} {piece : List ℕ} (text rest : List ℕ) → text ≡ piece ++ rest → WroteAll old new failed piece → IsGoing old new failed text rest
 going_after {piece = piece} text rest is wrote = record { front = piece; parts = is; appends = wrote.appends; sound = wrote.sound }
 
-went_on : (stopped all : Bool) → all ≡ true → all ≡ not stopped → stopped ≡ false
+pub went_on : (stopped all : Bool) → all ≡ true → all ≡ not stopped → stopped ≡ false
 went_on false all yea is = refl
 went_on true all yea is = absurd (cc)
 
-went_no_further : (stopped all : Bool) → all ≡ false → all ≡ not stopped → stopped ≡ true
+pub went_no_further : (stopped all : Bool) → all ≡ false → all ≡ not stopped → stopped ≡ true
 went_no_further true all nay is = refl
 went_no_further false all nay is = absurd (cc)
 

@@ -1,7 +1,7 @@
 -- What is written, and what the world stands for, while a record is made.
 use Rattle.std.specs.Prelude.{◌≡◌, ℕ, List, Bool, not, Option, Result, Ok, Err}
 use Rattle.cast_message.specs.declared.config.Config.{Config}
-use Rattle.cast_plain.specs.Lists.{State, Stands}
+use Rattle.cast_world.specs.Group.{State, Stands}
 use Rattle.cast_record.specs.Text.{record_text}
 use Rattle.cast_record.specs.Written.{WroteAll}
 use Rattle.cast_text.specs.declared.text.TextFault.{TextFault}

@@ -3,7 +3,7 @@ ghost use Rattle.std.specs.Prelude.{◌≡◌, ◌++◌, ◌∷◌, [], false, O
 ghost use Rattle.cast_message.specs.declared.config.Config.{Config as Settings};
 ghost use Rattle.cast_message.specs.History.{History};
 ghost use Rattle.cast_message.specs.Replies.{fault, reply, after, is_want_of_memory};
-ghost use Rattle.cast_plain.specs.Lists.{Stands};
+ghost use Rattle.cast_world.specs.Group.{Stands};
 ghost use Rattle.cast_record.specs.Lines.{head_of, lines_for};
 ghost use Rattle.cast_record.specs.Text.{record_text, line_text};
 ghost use Rattle.cast_text.specs.Rec.{tried, one_left, round_left, settled, left_by, record_of};
@@ -11,7 +11,7 @@ ghost use Rattle.cast_text.specs.Recorded.{Writes, Tries, Leaves};
 
 use crate::text::TextFault;
 use cast_message::{Config, Event, Reply, StepFault};
-use cast_plain::World;
+use cast_world::World;
 use cast_record::{Line, Meter, lines_of, write_line, write_record};
 use cast_script::{Script, ScriptEvent};
 use std::alloc::Global;
@@ -76,7 +76,7 @@ fn record_script_event<W: Write>(
     }
 }
 
-// Takes one round, and writes its lines. Answers whether no event was refused.
+// Takes one round, slot by slot of those that are due when it begins, and writes its lines. Answers whether no event was refused.
 fn record_round<W: Write>(
     alloc: Global,
     world: &mut World,
@@ -87,8 +87,14 @@ fn record_round<W: Write>(
     ensures sound { OnOk result (writer.new.failed ≡ false) }
     ensures left { (config : Settings) (past : History) → Stands config past world.old → Tries config (round_left config index past) world.new (W.contents writer.old.inner) (W.contents writer.new.inner) writer.new.failed result }
 {
-    let plan = world.round_plan()?;
-    record_events(alloc, world, index, plan.as_slice(), writer)
+    let due = world.due()?;
+    for slot in due.as_slice() {
+        let events = world.events_for(*slot);
+        if !record_events(alloc, world, index, &events, writer)? {
+            return Ok(false);
+        }
+    }
+    Ok(true)
 }
 
 // Takes these events up to the first that is refused, and writes their lines. Answers whether none was refused.

@@ -2,7 +2,7 @@
 use Rattle.std.proofs.Common.{◌≡◌, false, drop}
 use Rattle.cast_message.specs.declared.config.Config.{Config}
 use Rattle.cast_message.specs.History.{History}
-use Rattle.cast_plain.specs.Lists.{Stands}
+use Rattle.cast_world.specs.Group.{Stands}
 use Rattle.cast_text.proofs.Recording.{IsTrying}
 use Rattle.cast_text.proofs.record.record_events.Given as goal
 
