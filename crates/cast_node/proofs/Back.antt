@@ -108,7 +108,7 @@ module _ (config : Config) (me : ℕ) (step : Step) (steps : Steps) (accepted : 
   at_last false = refl
 
   module _ (back : HeldBack) (pair : has_pair (own_copies me (step ∷ steps)) s i ≡ true) (others : (k : ℕ) → k ≢ i → own_is_ready config me (step ∷ steps) s k ≡ own_is_ready config me steps s k)
-    (stands : HoldsBack (item_at (held me (step ∷ steps)) s) (own_is_ready config me steps s) back) where
+      (stands : HoldsBack (item_at (held me (step ∷ steps)) s) (own_is_ready config me steps s) back) where
     -- enough is known of the pair
     pub told_turn : own_known_enough config.mode config me (step ∷ steps) s i ≡ true → Turned items_after ready_after back.next (known_items back i) (known_after back i)
     unfolding own_is_ready

@@ -43,7 +43,14 @@ nothing_back config me s = record {
 pub stands_for_nothing : (config : Config) (me : ℕ) → me < config.nodes → Stands config me [] (nothing_kept config me)
 unfolding IsOwnAccepted own_live frame_count own_items own_taken frames_in own_log newest_first has_pair held
 stands_for_nothing config me place = record {
-  accepted = tt; place = place; same_config = refl; same_me = refl; live = refl; frames = refl; stream = refl; relay_me = refl;
+  accepted = tt;
+  place = place;
+  same_config = refl;
+  same_me = refl;
+  live = refl;
+  frames = refl;
+  stream = refl;
+  relay_me = refl;
   relay_size = length-replicated 256 (set.empty {R = nat_cmp});
   relay_holds = λ s i l. ap (λ numbers. set.contains numbers i) (at_replicate 256 s (set.empty {R = nat_cmp})) ∙ contains-empty nat_cmp i;
   peers_out = length-replicated config.nodes (record { given = 0; owed = finite.empty });

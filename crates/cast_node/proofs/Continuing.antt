@@ -104,14 +104,12 @@ module _ (config : Config) (me : ℕ) (steps : Steps) (kept : Kept) (st : Stands
 
       by_ignored : (b : Bool) → is_ignored config me steps step ≡ b → Continues config me steps step (Ok answer) new
       by_ignored true e =
-          let i = ignored step e in
-          (
+          let i = ignored step e in (
             (λ k. reply_by (none k) (if e k then AnswerArrived me nothing else own_answer config me steps step)) ∙ ap (λ a. let r : Result Answer StepFault = Ok a in r) (sym i.answer ∙ sym g.1),
             subst (λ s. Stands config me s new) (sym (λ k. if is_some (none k) || e k then steps else step ∷ steps)) (subst (Stands config me steps) (sym (g.2 ∙ i.same)) st),
           )
       by_ignored false e =
-          let r = right step e (st.accepted, none, e) in
-          (
+          let r = right step e (st.accepted, none, e) in (
             (λ k. reply_by (none k) (if e k then AnswerArrived me nothing else own_answer config me steps step)) ∙ ap (λ a. let r : Result Answer StepFault = Ok a in r) (sym r.answer ∙ sym g.1),
             subst (λ s. Stands config me s new) (sym (λ k. if is_some (none k) || e k then steps else step ∷ steps)) (subst (Stands config me (step ∷ steps)) (sym g.2) r.stands),
           )

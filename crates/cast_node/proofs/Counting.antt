@@ -146,7 +146,7 @@ module _ (config : Config) where
       let h = counts_votes j log in
       (decides_least (config.nodes - config.faults) some_quorum (newest_first [] log) j).0
       ∙ (λ k. if nat_le (config.nodes - config.faults) ((sym (length-values (proposals j (newest_first [] log))) ∙ ap length h.votes_are) k)
-          then Some ((ap (λ xs. least_of (take (config.nodes - config.faults) xs)) h.votes_are ∙ least_same (take (config.nodes - config.faults) (first_votes j [] log))) k) else None)
+      then Some ((ap (λ xs. least_of (take (config.nodes - config.faults) xs)) h.votes_are ∙ least_same (take (config.nodes - config.faults) (first_votes j [] log))) k) else None)
 
   none_or_one : (b : Bool) (x : Decision) → option_to_list (if b then Some x else None) ≡ (if b then x ∷ [] else [])
   none_or_one true x = refl
@@ -162,7 +162,7 @@ module _ (config : Config) where
       ap option_to_list ((decides_least (config.nodes - config.faults) some_quorum (newest_first [] log) j).1 m.sender v)
       ∙ none_or_one (not (has_proposed (proposals j (newest_first [] log)) m.sender) && length (proposals j (newest_first [] log)) + 1 == config.nodes - config.faults) (record { instance = j; value = least_of (values (proposals j (newest_first [] log)) ++ v ∷ []) })
       ∙ (λ k. if not (h.proposed m.sender k) && (sym (length-values (proposals j (newest_first [] log))) ∙ ap length h.votes_are) k + 1 == config.nodes - config.faults
-          then record { instance = j; value = (ap (λ xs. least_of (xs ++ v ∷ [])) h.votes_are ∙ least_same (first_votes j [] log ++ v ∷ [])) k } ∷ [] else [])
+      then record { instance = j; value = (ap (λ xs. least_of (xs ++ v ∷ [])) h.votes_are ∙ least_same (first_votes j [] log ++ v ∷ [])) k } ∷ [] else [])
       ∙ by_test (is_first_vote j log m.sender) refl
     where
       by_test : (b : Bool) → is_first_vote j log m.sender ≡ b →
@@ -180,4 +180,4 @@ module _ (config : Config) where
   decisions_are log [] = refl
   decisions_are log (m ∷ ms) =
       λ k. decision_on_is log m m.item refl k
-          ++ (ap (λ all. decisions_all (counted_of (config.nodes - config.faults) all) ms) (sym (newest_first-append [] log (m ∷ []))) ∙ decisions_are (log ++ m ∷ []) ms) k
+      ++ (ap (λ all. decisions_all (counted_of (config.nodes - config.faults) all) ms) (sym (newest_first-append [] log (m ∷ []))) ∙ decisions_are (log ++ m ∷ []) ms) k

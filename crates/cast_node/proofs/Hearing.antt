@@ -71,11 +71,11 @@ other_item a b i e = ap (λ c. a == a && c) (other_number i b e) ∙ none (a == 
 module _ (config : Config) (me : ℕ) (step : Step) (steps : Steps) (kept : Kept) (b : Base config me step steps kept) where
   -- more is heard of a pair that is held
   module _ (s i r : ℕ) (nothing_new : brought me steps step ≡ []) (sender : s < config.nodes) (from : r < config.nodes)
-    (pair : has_pair (own_copies me steps) s i ≡ true)
-    (here : (x : ℕ) → own_knows me (step ∷ steps) s i x ≡ (own_knows me steps s i x || (r == x)))
-    (other : (x k : ℕ) → same_pair s i x k ≡ false → (y : ℕ) → own_knows me (step ∷ steps) x k y ≡ own_knows me steps x k y)
-    (concerned : own_concerned me steps step ≡ Some s)
-    (out : (q : ℕ) → q < config.nodes → q ≢ me → StandsOut me (step ∷ steps) q (link_to kept q)) where
+      (pair : has_pair (own_copies me steps) s i ≡ true)
+      (here : (x : ℕ) → own_knows me (step ∷ steps) s i x ≡ (own_knows me steps s i x || (r == x)))
+      (other : (x k : ℕ) → same_pair s i x k ≡ false → (y : ℕ) → own_knows me (step ∷ steps) x k y ≡ own_knows me steps x k y)
+      (concerned : own_concerned me steps step ≡ Some s)
+      (out : (q : ℕ) → q < config.nodes → q ≢ me → StandsOut me (step ∷ steps) q (link_to kept q)) where
     items_same : (x k : ℕ) → item_at (held me (step ∷ steps)) x k ≡ item_at (held me steps) x k
     items_same x k = ap (λ hs. item_at hs x k) (held-more me step steps ∙ ap (λ hs. held me steps ++ hs) nothing_new ∙ append-nil (held me steps))
 
@@ -97,15 +97,29 @@ module _ (config : Config) (me : ℕ) (step : Step) (steps : Steps) (kept : Kept
 
     pub known_heard : Heard config me step steps (with_knower kept s i r) s i
     known_heard = record {
-      accepted = b.accepted; place = b.place; same_config = b.same_config; same_me = b.same_me; live = b.live; frames = b.frames; stream = b.stream;
-      relay_me = b.relay_me; relay_size = b.relay_size; relay_holds = b.relay_holds; peers_out = b.peers_out; out = out; peers_in = b.peers_in; taken = b.taken;
+      accepted = b.accepted;
+      place = b.place;
+      same_config = b.same_config;
+      same_me = b.same_me;
+      live = b.live;
+      frames = b.frames;
+      stream = b.stream;
+      relay_me = b.relay_me;
+      relay_size = b.relay_size;
+      relay_holds = b.relay_holds;
+      peers_out = b.peers_out;
+      out = out;
+      peers_in = b.peers_in;
+      taken = b.taken;
       senders_back = b.senders_back;
       back_here = back_items s (held_of kept.hold_back s) (b.holds_back s sender);
       back_other = λ x l e. back_same config me step steps x (held_of kept.hold_back x) (items_same x) (λ k. ready_same x k (other_pair s i x k e)) (b.holds_back x l);
       senders_known = length-slice_set kept.knowers s _ ∙ b.senders_known;
       knows = knows_pair config me step steps kept.knowers b.knows s i (set.insert (knowers_of kept s i) r) (subst (λ n. s < n) (sym b.senders_known) sender) b.senders_known
           (λ x k e. (pair_none me step steps nothing_new x k, other x k e)) members_here;
-      senders_delivered = b.senders_delivered; delivers = b.delivers; agrees = b.agrees;
+      senders_delivered = b.senders_delivered;
+      delivers = b.delivers;
+      agrees = b.agrees;
       sender = sender;
       pair = pair_none me step steps nothing_new s i ∙ pair;
       others = λ k e. ready_same s k (other_item s i k e);
@@ -117,12 +131,12 @@ module _ (config : Config) (me : ℕ) (step : Step) (steps : Steps) (kept : Kept
 
   -- a message that wasn't held
   module _ (h : Held) (new : brought me steps step ≡ h ∷ []) (sender : h.message.sender < config.nodes) (from : h.source < config.nodes)
-    (fresh : has_pair (own_copies me steps) h.message.sender h.message.number ≡ false)
-    (here : (x : ℕ) → own_knows me (step ∷ steps) h.message.sender h.message.number x ≡ ((x == me || x == h.message.sender) || (h.source == x)))
-    (other : (x k : ℕ) → same_pair h.message.sender h.message.number x k ≡ false → (y : ℕ) → own_knows me (step ∷ steps) x k y ≡ own_knows me steps x k y)
-    (concerned : own_concerned me steps step ≡ Some h.message.sender)
-    (still : (q slot : ℕ) → own_acked (step ∷ steps) q slot ≡ own_acked steps q slot)
-    (out : (q : ℕ) → q < config.nodes → q ≢ me → StandsOut me steps q (link_to kept q)) where
+      (fresh : has_pair (own_copies me steps) h.message.sender h.message.number ≡ false)
+      (here : (x : ℕ) → own_knows me (step ∷ steps) h.message.sender h.message.number x ≡ ((x == me || x == h.message.sender) || (h.source == x)))
+      (other : (x k : ℕ) → same_pair h.message.sender h.message.number x k ≡ false → (y : ℕ) → own_knows me (step ∷ steps) x k y ≡ own_knows me steps x k y)
+      (concerned : own_concerned me steps step ≡ Some h.message.sender)
+      (still : (q slot : ℕ) → own_acked (step ∷ steps) q slot ≡ own_acked steps q slot)
+      (out : (q : ℕ) → q < config.nodes → q ≢ me → StandsOut me steps q (link_to kept q)) where
     held_is : held me (step ∷ steps) ≡ held me steps ++ h ∷ []
     held_is = held-more me step steps ∙ ap (λ hs. held me steps ++ hs) new
 
@@ -183,11 +197,20 @@ module _ (config : Config) (me : ℕ) (step : Step) (steps : Steps) (kept : Kept
 
     pub new_heard : Heard config me step steps (spread kept h.message h.source) h.message.sender h.message.number
     new_heard = record {
-      accepted = b.accepted; place = b.place; same_config = b.same_config; same_me = b.same_me; live = b.live; frames = b.frames; stream = b.stream;
-      relay_me = b.relay_me; relay_size = b.relay_size; relay_holds = b.relay_holds;
+      accepted = b.accepted;
+      place = b.place;
+      same_config = b.same_config;
+      same_me = b.same_me;
+      live = b.live;
+      frames = b.frames;
+      stream = b.stream;
+      relay_me = b.relay_me;
+      relay_size = b.relay_size;
+      relay_holds = b.relay_holds;
       peers_out = length-given_from 0 kept.relay h.source h.message kept.outgoing ∙ b.peers_out;
       out = out_after;
-      peers_in = b.peers_in; taken = b.taken;
+      peers_in = b.peers_in;
+      taken = b.taken;
       senders_back = length-slice_set kept.hold_back h.message.sender _ ∙ b.senders_back;
       back_here = subst (HoldsBack (item_at (held me (step ∷ steps)) h.message.sender) (own_is_ready config me steps h.message.sender)) (sym (back_at h.message.sender ∙ ap (λ c. cond c (with_item (held_of kept.hold_back h.message.sender) h.message.number h.message.item) (held_of kept.hold_back h.message.sender)) (same_number h.message.sender h.message.sender refl)))
           (subst (λ hs. HoldsBack (item_at hs h.message.sender) (own_is_ready config me steps h.message.sender) (with_item (held_of kept.hold_back h.message.sender) h.message.number h.message.item)) (sym held_is) (back_more config me steps h (held_of kept.hold_back h.message.sender) (b.holds_back h.message.sender sender)));
@@ -196,7 +219,9 @@ module _ (config : Config) (me : ℕ) (step : Step) (steps : Steps) (kept : Kept
       senders_known = length-slice_set kept.knowers h.message.sender _ ∙ b.senders_known;
       knows = knows_pair config me step steps kept.knowers b.knows h.message.sender h.message.number members (subst (λ n. h.message.sender < n) (sym b.senders_known) sender) b.senders_known
           (λ x k e. (pair_other x k e, other x k e)) members_new;
-      senders_delivered = b.senders_delivered; delivers = b.delivers; agrees = b.agrees;
+      senders_delivered = b.senders_delivered;
+      delivers = b.delivers;
+      agrees = b.agrees;
       sender = sender;
       pair = pair_here;
       others = λ k e. ready_other h.message.sender k (other_item h.message.sender h.message.number k e);

@@ -137,8 +137,8 @@ module _ (config : Config) (me : ℕ) (step : Step) (steps : Steps) (all : List 
   knows_same pair knows s i r l = before s i r l ∙ sym (λ k. pair s i k && (nat_lt r config.nodes && knows s i r k))
 
   module _ (a b : ℕ) (members : set.FinSet nat_cmp) (place : a < length all) (same_size : length all ≡ config.nodes)
-    (other : (s i : ℕ) → same_pair a b s i ≡ false → (has_pair (own_copies me (step ∷ steps)) s i ≡ has_pair (own_copies me steps) s i) × ((r : ℕ) → own_knows me (step ∷ steps) s i r ≡ own_knows me steps s i r))
-    (here : (r : ℕ) → set.contains members r ≡ (has_pair (own_copies me (step ∷ steps)) a b && (nat_lt r config.nodes && own_knows me (step ∷ steps) a b r))) where
+      (other : (s i : ℕ) → same_pair a b s i ≡ false → (has_pair (own_copies me (step ∷ steps)) s i ≡ has_pair (own_copies me steps) s i) × ((r : ℕ) → own_knows me (step ∷ steps) s i r ≡ own_knows me steps s i r))
+      (here : (r : ℕ) → set.contains members r ≡ (has_pair (own_copies me (step ∷ steps)) a b && (nat_lt r config.nodes && own_knows me (step ∷ steps) a b r))) where
     -- something is known of one pair
     pub knows_pair : KnowsAll config me (step ∷ steps) (slice_set all a (known_row (slice_index_or all a []) b members))
     knows_pair s i r l = ap (λ m. set.contains m r) (knowers_in-set all a b members place s i) ∙ by_test (same_pair a b s i) refl

@@ -107,8 +107,8 @@ module _ (config : Config) (me : ℕ) (place : me < config.nodes) where
 module _ (config : Config) (me : ℕ) (steps : Steps) (kept : Kept) (st : Stands config me steps kept) where
   -- a step that brings nothing new
   module _ (step : Step) (accepted : IsOwnAccepted config me (step ∷ steps)) (nothing_new : brought me steps step ≡ []) (items_same : own_items (step ∷ steps) ≡ own_items steps)
-    (acked_same : (q slot : ℕ) → own_acked (step ∷ steps) q slot ≡ own_acked steps q slot)
-    (knows : (s i r : ℕ) → own_knows me (step ∷ steps) s i r ≡ own_knows me steps s i r) where
+      (acked_same : (q slot : ℕ) → own_acked (step ∷ steps) q slot ≡ own_acked steps q slot)
+      (knows : (s i r : ℕ) → own_knows me (step ∷ steps) s i r ≡ own_knows me steps s i r) where
     held_same : held me (step ∷ steps) ≡ held me steps
     held_same = held-more me step steps ∙ ap (λ hs. held me steps ++ hs) nothing_new ∙ append-nil (held me steps)
 
@@ -135,13 +135,20 @@ module _ (config : Config) (me : ℕ) (steps : Steps) (kept : Kept) (st : Stands
         ((r slot : ℕ) → r < config.nodes → set.contains (slice_index_or incoming r set.empty) slot ≡ own_taken (step ∷ steps) r slot) →
         Stands config me (step ∷ steps) (record kept { live = live; frames = frames; incoming = incoming })
     stands_same live frames incoming live_is frames_is size taken_is = record {
-      accepted = accepted; place = st.place; same_config = st.same_config; same_me = st.same_me;
-      live = live_is; frames = frames_is; stream = st.stream ∙ sym items_same;
-      relay_me = st.relay_me; relay_size = st.relay_size;
+      accepted = accepted;
+      place = st.place;
+      same_config = st.same_config;
+      same_me = st.same_me;
+      live = live_is;
+      frames = frames_is;
+      stream = st.stream ∙ sym items_same;
+      relay_me = st.relay_me;
+      relay_size = st.relay_size;
       relay_holds = λ s i l. st.relay_holds s i l ∙ sym (pair_none me step steps nothing_new s i);
       peers_out = st.peers_out;
       out = λ q l e. out_same me steps step q (link_to kept q) (own_given-more me step steps q ∙ ap (λ hs. own_given me steps q ++ filter (λ (x : Held). not (x.message.sender == q) && not (x.source == q)) hs) nothing_new ∙ append-nil (own_given me steps q)) (acked_same q) (st.out q l e);
-      peers_in = size; taken = taken_is;
+      peers_in = size;
+      taken = taken_is;
       senders_back = st.senders_back;
       holds_back = λ s l. back_same config me step steps s (held_of kept.hold_back s) (λ k. ap (λ hs. item_at hs s k) held_same) (ready_same s) (st.holds_back s l);
       senders_known = st.senders_known;
@@ -224,14 +231,27 @@ told_before me steps from slot before s i x e =
 took_base : (config : Config) (me : ℕ) (steps : Steps) (kept : Kept) → Stands config me steps kept → (from seq to slot : ℕ) → IsOwnAccepted config me (Arrived (record { from = from; seq = seq; to = to; body = Took slot }) ∷ steps) → length (with_acked kept from slot).outgoing ≡ config.nodes → Base config me (Arrived (record { from = from; seq = seq; to = to; body = Took slot })) steps (with_acked kept from slot)
 unfolding own_items own_live frame_count
 took_base config me steps kept st from seq to slot accepted peers = record {
-  accepted = accepted; before = st.accepted; place = st.place; same_config = st.same_config; same_me = st.same_me;
-  live = st.live; frames = st.frames ∙ (let z : frame_count steps ≡ frame_count steps + 0 = omega arith in z); stream = st.stream ∙ sym (append-nil (own_items steps));
-  relay_me = st.relay_me; relay_size = st.relay_size;
+  accepted = accepted;
+  before = st.accepted;
+  place = st.place;
+  same_config = st.same_config;
+  same_me = st.same_me;
+  live = st.live;
+  frames = st.frames ∙ (let z : frame_count steps ≡ frame_count steps + 0 = omega arith in z);
+  stream = st.stream ∙ sym (append-nil (own_items steps));
+  relay_me = st.relay_me;
+  relay_size = st.relay_size;
   relay_holds = λ x k l. st.relay_holds x k l ∙ sym (pair_none me (Arrived (record { from = from; seq = seq; to = to; body = Took slot })) steps refl x k);
-  peers_out = peers; peers_in = st.peers_in;
+  peers_out = peers;
+  peers_in = st.peers_in;
   taken = λ r k l. st.taken r k l ∙ sym (own_taken-more me (Arrived (record { from = from; seq = seq; to = to; body = Took slot })) steps r k ∙ ap (λ c. own_taken steps r k || (c || false)) (never (from == r)) ∙ none (own_taken steps r k));
-  senders_back = st.senders_back; holds_back = st.holds_back; senders_known = st.senders_known; knows = st.knows;
-  senders_delivered = st.senders_delivered; delivers = st.delivers; agrees = st.agrees;
+  senders_back = st.senders_back;
+  holds_back = st.holds_back;
+  senders_known = st.senders_known;
+  knows = st.knows;
+  senders_delivered = st.senders_delivered;
+  delivers = st.delivers;
+  agrees = st.agrees;
 }
 
 module _ (config : Config) (me : ℕ) (steps : Steps) (kept : Kept) (st : Stands config me steps kept) where
@@ -262,17 +282,30 @@ module _ (config : Config) (me : ℕ) (steps : Steps) (kept : Kept) (st : Stands
     own_base : Base config me (Ordered item) steps own_kept
     unfolding own_items own_live frame_count
     own_base = record {
-      accepted = accepted; before = st.accepted; place = st.place; same_config = st.same_config; same_me = st.same_me;
-      live = st.live; frames = st.frames ∙ (let z : frame_count steps ≡ frame_count steps + 0 = omega arith in z); stream = ap (λ items. items ++ item ∷ []) st.stream;
-      relay_me = st.relay_me; relay_size = length-slice_set kept.relay.numbers kept.me _ ∙ st.relay_size;
+      accepted = accepted;
+      before = st.accepted;
+      place = st.place;
+      same_config = st.same_config;
+      same_me = st.same_me;
+      live = st.live;
+      frames = st.frames ∙ (let z : frame_count steps ≡ frame_count steps + 0 = omega arith in z);
+      stream = ap (λ items. items ++ item ∷ []) st.stream;
+      relay_me = st.relay_me;
+      relay_size = length-slice_set kept.relay.numbers kept.me _ ∙ st.relay_size;
       relay_holds = λ x k l.
           relay_more kept.relay kept.me (length kept.stream) (senders_below kept.me (subst (λ y. y < config.nodes) (sym st.same_me) st.place)) x k
           ∙ ap (λ c. c || same_pair kept.me (length kept.stream) x k) (st.relay_holds x k l)
           ∙ sym (pair_more me (Ordered item) steps own own_new x k);
-      peers_out = st.peers_out; peers_in = st.peers_in;
+      peers_out = st.peers_out;
+      peers_in = st.peers_in;
       taken = λ r slot l. st.taken r slot l ∙ sym (no_take config me steps kept st (Ordered item) refl r slot);
-      senders_back = st.senders_back; holds_back = st.holds_back; senders_known = st.senders_known; knows = st.knows;
-      senders_delivered = st.senders_delivered; delivers = st.delivers; agrees = st.agrees;
+      senders_back = st.senders_back;
+      holds_back = st.holds_back;
+      senders_known = st.senders_known;
+      knows = st.knows;
+      senders_delivered = st.senders_delivered;
+      delivers = st.delivers;
+      agrees = st.agrees;
     }
 
     pub ordered_right : ToldRight config me (Ordered item) steps (ordered kept item)
@@ -343,14 +376,27 @@ module _ (config : Config) (me : ℕ) (steps : Steps) (kept : Kept) (st : Stands
     carry_base : (relay : HeldPairs) → relay.me ≡ me → length relay.numbers ≡ 256 → ((x k : ℕ) → x < config.nodes → holds relay x k ≡ has_pair (own_copies me (carry ∷ steps)) x k) → Base config me carry steps (record (with_taken kept from slot) { relay = relay })
     unfolding own_items own_live frame_count
     carry_base relay relay_me relay_size relay_holds = record {
-      accepted = accepted; before = st.accepted; place = st.place; same_config = st.same_config; same_me = st.same_me;
-      live = st.live; frames = st.frames ∙ (let z : frame_count steps ≡ frame_count steps + 0 = omega arith in z); stream = st.stream ∙ sym (append-nil (own_items steps));
-      relay_me = relay_me; relay_size = relay_size; relay_holds = relay_holds;
+      accepted = accepted;
+      before = st.accepted;
+      place = st.place;
+      same_config = st.same_config;
+      same_me = st.same_me;
+      live = st.live;
+      frames = st.frames ∙ (let z : frame_count steps ≡ frame_count steps + 0 = omega arith in z);
+      stream = st.stream ∙ sym (append-nil (own_items steps));
+      relay_me = relay_me;
+      relay_size = relay_size;
+      relay_holds = relay_holds;
       peers_out = st.peers_out;
       peers_in = length-slice_set kept.incoming from _ ∙ st.peers_in;
       taken = carry_taken;
-      senders_back = st.senders_back; holds_back = st.holds_back; senders_known = st.senders_known; knows = st.knows;
-      senders_delivered = st.senders_delivered; delivers = st.delivers; agrees = st.agrees;
+      senders_back = st.senders_back;
+      holds_back = st.holds_back;
+      senders_known = st.senders_known;
+      knows = st.knows;
+      senders_delivered = st.senders_delivered;
+      delivers = st.delivers;
+      agrees = st.agrees;
     }
 
     -- of a pair that is held

@@ -69,7 +69,7 @@ knows_more config me step steps accepted s i r =
         ap (told_by me (step ∷ steps) s i r) (frames_in-more me step steps)
         ∙ list_any-append _ (frames_in steps) (frame_of step)
         ∙ (λ k. any_alike _ _ (frames_in steps) (λ frame m. same frame (λ e. subst (λ z. GivenTo me steps z frame.body) e (frames_given config me steps accepted.0 frame m))) k
-            || any_alike _ _ (frame_of step) (λ frame m. same frame (by_step step accepted.2 frame m)) k)
+        || any_alike _ _ (frame_of step) (λ frame m. same frame (by_step step accepted.2 frame m)) k)
 
 -- a pair of which a frame told is held
 module _ (config : Config) (me : ℕ) where

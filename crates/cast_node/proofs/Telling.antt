@@ -101,11 +101,24 @@ module _ (config : Config) (me : ℕ) (step : Step) (steps : Steps) where
     unfolding own_log own_outcome
     turned enough = record {
       stands = record {
-        accepted = h.accepted; place = h.place; same_config = h.same_config; same_me = h.same_me; live = h.live; frames = h.frames; stream = h.stream;
-        relay_me = h.relay_me; relay_size = h.relay_size; relay_holds = h.relay_holds; peers_out = h.peers_out; out = h.out; peers_in = h.peers_in; taken = h.taken;
+        accepted = h.accepted;
+        place = h.place;
+        same_config = h.same_config;
+        same_me = h.same_me;
+        live = h.live;
+        frames = h.frames;
+        stream = h.stream;
+        relay_me = h.relay_me;
+        relay_size = h.relay_size;
+        relay_holds = h.relay_holds;
+        peers_out = h.peers_out;
+        out = h.out;
+        peers_in = h.peers_in;
+        taken = h.taken;
         senders_back = length-slice_set kept.hold_back s (known_after (held_of kept.hold_back s) i) ∙ h.senders_back;
         holds_back = λ x l. subst (HoldsBack (item_at (held me (step ∷ steps)) x) (own_is_ready config me (step ∷ steps) x)) (sym (at_set kept.hold_back s x (known_after (held_of kept.hold_back s) i) nothing_held (subst (λ n. s < n) (sym h.senders_back) h.sender))) (back x l);
-        senders_known = h.senders_known; knows = h.knows;
+        senders_known = h.senders_known;
+        knows = h.knows;
         senders_delivered = length-slice_set kept.delivered s _ ∙ h.senders_delivered;
         delivers = λ x l.
             at_set kept.delivered s x (slice_index_or kept.delivered s [] ++ known_items (held_of kept.hold_back s) i) [] (subst (λ n. s < n) (sym h.senders_delivered) h.sender)
@@ -146,14 +159,27 @@ module _ (config : Config) (me : ℕ) (step : Step) (steps : Steps) where
     unfolding own_log own_outcome own_decisions_of
     still lacking = record {
       stands = record {
-        accepted = h.accepted; place = h.place; same_config = h.same_config; same_me = h.same_me; live = h.live; frames = h.frames; stream = h.stream;
-        relay_me = h.relay_me; relay_size = h.relay_size; relay_holds = h.relay_holds; peers_out = h.peers_out; out = h.out; peers_in = h.peers_in; taken = h.taken;
+        accepted = h.accepted;
+        place = h.place;
+        same_config = h.same_config;
+        same_me = h.same_me;
+        live = h.live;
+        frames = h.frames;
+        stream = h.stream;
+        relay_me = h.relay_me;
+        relay_size = h.relay_size;
+        relay_holds = h.relay_holds;
+        peers_out = h.peers_out;
+        out = h.out;
+        peers_in = h.peers_in;
+        taken = h.taken;
         senders_back = h.senders_back;
         holds_back = λ x l. elim (cases_eq x s) [
           | inl e ↦ subst (λ y. HoldsBack (item_at (held me (step ∷ steps)) y) (own_is_ready config me (step ∷ steps) y) (held_of kept.hold_back y)) (sym e) at
           | inr e ↦ h.back_other x l e
         ];
-        senders_known = h.senders_known; knows = h.knows;
+        senders_known = h.senders_known;
+        knows = h.knows;
         senders_delivered = h.senders_delivered;
         delivers = λ x l. h.delivers x l ∙ ap (λ log. map item_of (filter (is_from x) log)) (sym log_same);
         agrees = h.agrees ∙ ap (λ log. counted_of (config.nodes - config.faults) (newest_first [] log)) (sym log_same);

@@ -11,9 +11,9 @@ ghost use Rattle.cast_text.specs.Recorded.{Writes, Tries, Leaves};
 
 use crate::text::TextFault;
 use cast_message::{Config, Event, Reply, StepFault};
-use cast_world::World;
 use cast_record::{Line, Meter, lines_of, write_line, write_record};
 use cast_script::{Script, ScriptEvent};
+use cast_world::World;
 use std::alloc::Global;
 use std::io::Write;
 

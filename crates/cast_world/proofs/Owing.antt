@@ -59,9 +59,9 @@ module _ (link : Link) (f : ℕ → Due) where
       ∙ append_assoc old (map f (owed_below from link)) (f slot ∷ [])
       ∙ ap (λ ds. old ++ ds) (sym (map-append f (owed_below from link) (slot ∷ [])))
       ∙ ap (λ slots. old ++ map f slots) (sym (
-          ap (λ n. owed_below n link) is
-          ∙ filter_more (finite.contains_key link.owed) slot true waits
-          ∙ ap (λ xs. xs ++ slot ∷ []) (filter_same (finite.contains_key link.owed) from slot l (λ i a b. ap is_some (none i a b)))))
+      ap (λ n. owed_below n link) is
+      ∙ filter_more (finite.contains_key link.owed) slot true waits
+      ∙ ap (λ xs. xs ++ slot ∷ []) (filter_same (finite.contains_key link.owed) from slot l (λ i a b. ap is_some (none i a b)))))
 
   -- no more is owed
   pub owed_all : (now old : List Due) (from bound : ℕ) → ((other : ℕ) → from ≤ other → finite.get link.owed other ≡ None) → ((slot : ℕ) → bound ≤ slot → finite.contains_key link.owed slot ≡ false) →

@@ -52,20 +52,23 @@ no_fault (Some refusal) a b e = absurd (cc)
 module _ (config : Config) (past : History) (world : State) (st : Stands config past world) where
   -- a node takes a step
   module _ (p : ℕ) (event : Event) (step : Step) (is : IsStep past p event step) (made : List Frame)
-    (made_is : p < config.nodes → own_fault config p (steps_of past p) step ≡ None → own_made p (steps_of past p) step ≡ made) where
+      (made_is : p < config.nodes → own_fault config p (steps_of past p) step ≡ None → own_made p (steps_of past p) step ≡ made) where
     took : (answered : Answer) (new : State) → Takes world new p step made answered → Continues config past event (Ok answered) new
     unfolding reply after own_frames IsAccepted
-    took answered new t = (replied, record {
-      accepted = accepted;
-      same_config = ap (λ w. w.config) t.moves ∙ st.same_config;
-      size = ap (λ w. length w.nodes) t.moves ∙ length-slice_set world.nodes p (node_at new p) ∙ st.size;
-      rows = ap (λ w. length w.frames) t.moves ∙ rows_after made ∙ st.rows;
-      nodes = λ q l. elim (cases_eq q p) [
-        | inl e ↦ subst (λ x. NodeStands config x (steps_of (event ∷ past) x) (node_at new x)) (sym e) (subst (λ steps. NodeStands config p steps (node_at new p)) steps_are node.1)
-        | inr e ↦ subst (NodeStands config q (steps_of (event ∷ past) q)) (sym (node_other q e)) (subst (λ steps. NodeStands config q steps (node_at world q)) (sym (other_steps past p event step is q e)) (st.nodes q l))
-      ];
-      made = λ q l. ap (λ w. frames_at w q) t.moves ∙ row q l (cases_eq q p) ∙ own_frames-steps_of config (event ∷ past) accepted q;
-    })
+    took answered new t = (
+      replied,
+      record {
+        accepted = accepted;
+        same_config = ap (λ w. w.config) t.moves ∙ st.same_config;
+        size = ap (λ w. length w.nodes) t.moves ∙ length-slice_set world.nodes p (node_at new p) ∙ st.size;
+        rows = ap (λ w. length w.frames) t.moves ∙ rows_after made ∙ st.rows;
+        nodes = λ q l. elim (cases_eq q p) [
+          | inl e ↦ subst (λ x. NodeStands config x (steps_of (event ∷ past) x) (node_at new x)) (sym e) (subst (λ steps. NodeStands config p steps (node_at new p)) steps_are node.1)
+          | inr e ↦ subst (NodeStands config q (steps_of (event ∷ past) q)) (sym (node_other q e)) (subst (λ steps. NodeStands config q steps (node_at world q)) (sym (other_steps past p event step is q e)) (st.nodes q l))
+        ];
+        made = λ q l. ap (λ w. frames_at w q) t.moves ∙ row q l (cases_eq q p) ∙ own_frames-steps_of config (event ∷ past) accepted q;
+      },
+    )
       where
         p_in : p < config.nodes
         p_in = subst (λ n. p < n) st.size t.within

@@ -9,12 +9,7 @@ use cast_message::{Answer, Frame, NodeId, Reply, StepFault};
 use cast_node::Node;
 
 /// The frame that carries a slot. It is answered by its number.
-pub fn send(
-    node: &mut Node,
-    made: &mut Vec<Frame>,
-    to: NodeId,
-    slot: u64,
-) -> Reply
+pub fn send(node: &mut Node, made: &mut Vec<Frame>, to: NodeId, slot: u64) -> Reply
     ensures gives { Gives node.old (Sent to slot) result node.new }
     ensures made { OnOk result (made.new.items ≡ made.old.items ++ carry_of node.old to slot ∷ []) }
     ensures same { OnErr result (made.new.items ≡ made.old.items) }
@@ -30,12 +25,7 @@ pub fn send(
 }
 
 /// The frame that acknowledges a slot. It is answered by its number.
-pub fn acknowledge(
-    node: &mut Node,
-    made: &mut Vec<Frame>,
-    to: NodeId,
-    slot: u64,
-) -> Reply
+pub fn acknowledge(node: &mut Node, made: &mut Vec<Frame>, to: NodeId, slot: u64) -> Reply
     ensures gives { Gives node.old (Acknowledged to slot) result node.new }
     ensures made { OnOk result (made.new.items ≡ made.old.items ++ took_of node.old to slot ∷ []) }
     ensures same { OnErr result (made.new.items ≡ made.old.items) }

@@ -4,6 +4,8 @@
 mod due;
 mod frames;
 mod run;
+#[cfg(test)]
+mod tests;
 mod world;
 
 pub use due::DueSlot;

@@ -101,12 +101,7 @@ impl World {
         if place >= self.nodes.len() {
             return Err(StepFault::NoNode);
         }
-        frames::send(
-            &mut self.nodes[place],
-            &mut self.frames[place],
-            to,
-            slot,
-        )
+        frames::send(&mut self.nodes[place], &mut self.frames[place], to, slot)
     }
 
     fn ack(&mut self, from: NodeId, to: NodeId, slot: u64) -> Reply
@@ -116,12 +111,7 @@ impl World {
         if place >= self.nodes.len() {
             return Err(StepFault::NoNode);
         }
-        frames::acknowledge(
-            &mut self.nodes[place],
-            &mut self.frames[place],
-            to,
-            slot,
-        )
+        frames::acknowledge(&mut self.nodes[place], &mut self.frames[place], to, slot)
     }
 
     fn arrive(&mut self, from: NodeId, seq: u64) -> Reply

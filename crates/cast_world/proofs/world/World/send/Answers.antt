@@ -16,7 +16,7 @@ invariant_of-self c =
 pub returns : goal.returns
 returns c =
     subst (λ p. TakesStep c.args.self.now p (Sent c.args.to c.args.slot) (carry_of (node_at c.args.self.now p) c.args.to c.args.slot ∷ []) c.send.result
-        (record { config = c.self.inside.config; nodes = slice_set c.self.inside.nodes.items c.from-place.result c.send.new.node; frames = map (λ row. row.items) (slice_set c.self.inside.frames.items c.from-place.result c.send.new.made) }))
+    (record { config = c.self.inside.config; nodes = slice_set c.self.inside.nodes.items c.from-place.result c.send.new.node; frames = map (λ row. row.items) (slice_set c.self.inside.frames.items c.from-place.result c.send.new.made) }))
     (c.from-place.ensures ∙ c.from.view_is)
     (sent_rows (λ row. row.items) c.self.inside.config c.self.inside.nodes.items c.self.inside.frames.items c.self.invariant c.from-place.result (omega (arith, c.if-place-len.false, c.len.ensures))
     c.index_mut.result.now c.send.new.node c.index_mut.ensures.value (Sent c.args.to c.args.slot) c.index_mut-2.result.now c.index_mut-2.ensures.value c.send.new.made (λ k. carry_of k c.args.to c.args.slot)
