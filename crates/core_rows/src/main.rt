@@ -7,12 +7,9 @@ mod replies;
 mod shown;
 mod stepping;
 
-use anyhow::{Result, bail};
-use cast_message::Event;
+use anyhow::Result;
 use cast_script::{ScriptEvent, read_script};
-use std::alloc::Global;
 use std::io::Read;
-use std::rt::Runtime;
 
 fn main(rt: HostRuntime) -> Result<()> {
     let alloc = rt.alloc();
