@@ -5,3 +5,6 @@ pub mod Running
 pub mod Beginning
 pub mod Owing
 pub mod Planning
+pub mod Rounding
+pub mod Resting
+pub mod Numbering

@@ -1,16 +1,11 @@
 -- The plan of a round is built as the definitions say.
-use Rattle.std.proofs.Common.{◌≡◌, ℕ, ◌+◌, ◌<◌, ◌≤◌, List, [], ◌∷◌, ◌++◌, length, take, get_or, map, Bool, true, false, refl, sym, ap, ◌∙◌, arith}
-use Rattle.std.specs.Prelude.{cond, ◌==◌}
+use Rattle.std.proofs.Common.{◌≡◌, ℕ, ◌+◌, List, [], ◌∷◌, ◌++◌, map, Bool, true, false, sym, ap, ◌∙◌, arith}
+use Rattle.std.specs.Prelude.{cond}
 use Rattle.std.specs.List.{filter, flat_map, range_with_len}
-use Rattle.std.proofs.lemmas.List.{append-nil, append_assoc, map_push, take_more, take_all}
+use Rattle.std.proofs.lemmas.List.{append-nil, append_assoc, map_push}
 use Rattle.std.proofs.lemmas.List.Elements.{filter-append}
 use Rattle.std.proofs.lemmas.List.Concat.{flat_map-append}
-use Rattle.cast_message.specs.declared.config.Config.{Config}
-use Rattle.cast_message.specs.declared.event.Event.{Event}
-use Rattle.cast_message.specs.History.{History, given, acked, is_live}
-use Rattle.cast_message.specs.Delivery.{nodes_of}
-use Rattle.cast_message.specs.Rounds.{Due, owed, due_between, live_nodes, due, events_for, plan_from, plan}
-use Rattle.cast_world.specs.Group.{State, node_at, frames_at, Stands}
+use Rattle.cast_message.specs.Rounds.{Due}
 use Rattle.cast_node.proofs.Links.{range-more}
 
 range_more : (n : ℕ) → range_with_len 0 (n + 1) ≡ range_with_len 0 n ++ n ∷ []

@@ -1,5 +1,5 @@
 -- What the readers of a world show.
-use Rattle.std.proofs.Common.{◌≡◌, ◌≢◌, ◌⊎◌, ℕ, zero, suc, ◌<◌, ◌≤◌, refl, sym, ◌∙◌, ap, subst, Bool, true, false, cond, List, [], ◌∷◌, length, map, Option, Some, None, inl, inr, arith}
+use Rattle.std.proofs.Common.{◌≡◌, ◌≢◌, ◌⊎◌, ℕ, zero, suc, ◌<◌, ◌≤◌, refl, sym, ◌∙◌, ap, subst, Bool, true, false, cond, List, [], ◌∷◌, length, map, Some, None, inl, inr, arith}
 use Rattle.std.specs.Prelude.{◌==◌, not, if◌then◌else◌, ◌&&◌, ◌-◌, max, take, nat_lt, slice_get, slice_index_or}
 use Rattle.std.proofs.lemmas.Bool.{cases_lt, cases_eq, lt-ltb, ltb-true, lt-leb, and_parts, eq-eqb, ne_eqb, false≢true}
 use Rattle.std.specs.FinMap as finite
@@ -10,7 +10,7 @@ use Rattle.cast_message.specs.History.{History, stream, is_live, frames}
 use Rattle.cast_message.specs.Delivery.{delivered, decision, least}
 use Rattle.cast_message.specs.Replies.{IsAccepted, causes, fault}
 use Rattle.cast_message.specs.Rounds.{owed}
-use Rattle.cast_message.specs.Shown.{item_of, ShowsDelivered, ShowsStream, ShowsOwed}
+use Rattle.cast_message.specs.Shown.{item_of, ShowsDelivered, ShowsOwed}
 use Rattle.cast_message.specs.Steps.{Step, steps_of}
 use Rattle.cast_message.specs.OwnSteps.{own_decision, own_log, first_votes, IsStep, orders, sends, acknowledges, takes, stops}
 use Rattle.cast_message.proofs.Members.{Member-slice_get}

@@ -1,5 +1,5 @@
 -- A world in which one node moves stays sound, and how the code's lists say that it moved.
-use Rattle.std.proofs.Common.{◌≡◌, ◌≢◌, ◌⊎◌, ℕ, zero, suc, ◌+◌, ◌<◌, ◌≤◌, refl, sym, ◌∙◌, ap, subst, Bool, true, false, cond, List, [], ◌∷◌, ◌++◌, length, map, set, get_or, Option, Some, None, inl, inr, arith, Result, Ok, Err, length-append}
+use Rattle.std.proofs.Common.{◌≡◌, ◌≢◌, ◌⊎◌, ℕ, zero, suc, ◌<◌, refl, sym, ◌∙◌, ap, subst, Bool, true, false, cond, List, [], ◌∷◌, ◌++◌, length, map, get_or, Option, Some, None, inl, inr, arith, Result, Ok, Err}
 use Rattle.std.specs.Prelude.{OnOk, OnErr, ◌==◌, nat_lt, not, slice_get, slice_index_or, slice_set}
 use Rattle.std.proofs.lemmas.Bool.{cases_eq, ltb-true}
 use Rattle.std.proofs.lemmas.List.{set-get_or, get_or-set_same, map-set, get_or-map}
@@ -19,10 +19,10 @@ use Rattle.cast_message.specs.Steps.{Step, Ordered, Sent, Acknowledged, Arrived,
 use Rattle.std.specs.FinMap as finite
 use Rattle.cast_relay.specs.Held.{holds}
 use Rattle.cast_node.specs.Kept.{Kept, nothing_kept, link_to, is_enough}
-use Rattle.cast_node.specs.Turns.{Told, told, released, unmoved, ordered, own_taken_up, acknowledged, carried, arrived_body, arrived, may_arrive, taken_up, with_taken, with_acked, with_knower, kept_causes, kept_fault, kept_after, Gives}
+use Rattle.cast_node.specs.Turns.{told, released, unmoved, own_taken_up, acknowledged, arrived_body, may_arrive, taken_up, with_taken, with_acked, with_knower, kept_causes, kept_fault, kept_after, Gives}
 use Rattle.cast_node.proofs.Places.{length-slice_set, at_set, same_number, other_number}
 use Rattle.cast_world.specs.Group.{State, node_at, frames_at}
-use Rattle.cast_world.specs.Moves.{frames_after, moved, Takes, Refuses, TakesStep, ArrivesBy, StepsTo, IsSound}
+use Rattle.cast_world.specs.Moves.{frames_after, Takes, TakesStep, ArrivesBy, StepsTo, IsSound}
 
 -- a step leaves a node's number and its configuration
 record SamePlace (kept new : Kept) : Type 0 where

@@ -1,7 +1,7 @@
 -- A world in which one node takes a step goes on as the definitions say.
-use Rattle.std.proofs.Common.{◌≡◌, ◌≢◌, ◌⊎◌, ℕ, zero, suc, ◌+◌, ◌<◌, ◌≤◌, refl, sym, ◌∙◌, ap, subst, Bool, true, false, not, cond, List, [], ◌∷◌, ◌++◌, length, Option, Some, None, inl, inr, arith, Result, Ok, Err}
-use Rattle.std.specs.Prelude.{◌==◌, nat_lt, slice_get, slice_index_or, slice_set, if◌then◌else◌}
-use Rattle.std.proofs.lemmas.Bool.{cases_eq, cases_lt, ne_eqb, eq-eqb}
+use Rattle.std.proofs.Common.{◌≡◌, ◌≢◌, ◌⊎◌, ℕ, zero, suc, ◌<◌, ◌≤◌, refl, sym, ◌∙◌, ap, subst, Bool, true, false, not, cond, List, [], ◌∷◌, ◌++◌, length, Option, Some, None, inl, inr, arith, Result, Ok, Err}
+use Rattle.std.specs.Prelude.{◌==◌, nat_lt, slice_get, slice_index_or, if◌then◌else◌}
+use Rattle.std.proofs.lemmas.Bool.{cases_eq, cases_lt}
 use Rattle.std.proofs.lemmas.Bool.Decides.{nat_tests}
 use Rattle.std.proofs.lemmas.List.{append-nil}
 use Rattle.cast_message.specs.declared.config.Config.{Config}
@@ -20,15 +20,14 @@ use Rattle.cast_message.proofs.Dues.{none_from_absent}
 use Rattle.cast_message.proofs.OwnHeld.{steps_after}
 use Rattle.cast_message.proofs.OwnReplies.{own_fault-steps_of, own_frames-steps_of, frame_ends}
 use Rattle.cast_message.proofs.Possible.{node_reply-steps_of, node_after-steps_of}
-use Rattle.cast_node.specs.Kept.{Kept, nothing_kept}
-use Rattle.cast_node.specs.Turns.{kept_fault, carry_of, took_of, Gives}
-use Rattle.cast_node.specs.Stands.{Stands as NodeStands, Continues as NodeContinues}
+use Rattle.cast_node.specs.Kept.{nothing_kept}
+use Rattle.cast_node.specs.Stands.{Stands as NodeStands}
 use Rattle.cast_node.proofs.Places.{length-slice_set, at_set, same_number, other_number}
 use Rattle.cast_node.proofs.Refusals.{faults_are}
 use Rattle.cast_node.proofs.Continuing.{continues}
 use Rattle.cast_node.proofs.Showing.{carries, tells_taken}
 use Rattle.cast_world.specs.Group.{State, node_at, frames_at, Stands, Continues}
-use Rattle.cast_world.specs.Moves.{frames_after, moved, Takes, Refuses, TakesStep, ArrivesBy, StepsTo}
+use Rattle.cast_world.specs.Moves.{frames_after, Takes, Refuses, TakesStep, ArrivesBy, StepsTo}
 
 -- an event is no step of another node
 other_steps : (past : History) (p : ℕ) (event : Event) (step : Step) → IsStep past p event step → (q : ℕ) → q ≢ p → steps_of (event ∷ past) q ≡ steps_of past q

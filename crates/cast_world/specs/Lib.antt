@@ -2,3 +2,4 @@ pub mod Group
 pub mod Moves
 pub mod Code
 pub mod Plans
+pub mod Rounds

@@ -2,7 +2,7 @@
 --     TakesStep world p step made reply new     node p is asked for the step, and makes these frames where it takes it
 --     StepsTo world event reply new             the world answers the event so, and is this then
 --     IsSound world                             the nodes are those of the group, and frames go to them
-use Rattle.std.specs.Prelude.{◌≡◌, ◌⊎◌, ℕ, ◌<◌, ◌≤◌, nat_lt, Bool, if◌then◌else◌, List, [], ◌∷◌, ◌++◌, length, slice_get, slice_index_or, slice_set, Option, Some, None, Result, Ok, Err}
+use Rattle.std.specs.Prelude.{◌≡◌, ◌⊎◌, ℕ, ◌<◌, ◌≤◌, nat_lt, if◌then◌else◌, List, [], ◌∷◌, ◌++◌, length, slice_get, slice_index_or, slice_set, Option, Some, None, Result, Ok, Err}
 use Rattle.cast_message.specs.declared.event.Event.{Event}
 use Rattle.cast_message.specs.declared.event.Event.TheVariants.{Order, Send, Ack, Arrive, Crash}
 use Rattle.cast_message.specs.declared.event.Answer.{Answer}

@@ -3,6 +3,8 @@
 
 mod due;
 mod frames;
+mod rest;
+mod round;
 mod run;
 #[cfg(test)]
 mod tests;

@@ -1,5 +1,5 @@
 //! The group as one value: events go in, replies come out.
-ghost use Rattle.std.specs.Prelude.{◌≡◌, ◌<◌, ◌≤◌, IfOk, IfNone, OnErr, [], Some, None, length, slice_get, option_map, nat_lt, ◌&&◌, MatchOption, MatchResult};
+ghost use Rattle.std.specs.Prelude.{◌≡◌, ◌<◌, ◌≤◌, ◌^◌, IfOk, IfNone, OnErr, [], Some, None, length, slice_get, option_map, nat_lt, ◌&&◌, MatchOption, MatchResult};
 ghost use Rattle.std.specs.Option.{option_copied};
 ghost use Rattle.cast_message.specs.declared.config.Config.{Config as Settings};
 ghost use Rattle.cast_message.specs.History.{History, is_live};
@@ -189,7 +189,8 @@ impl World {
 
     /// How many frames a node made; none where it is no node.
     pub(crate) fn frame_count(&self, node: NodeId) -> u64
-        ensures { result ≡ length (frames_at self.now node) }
+        ensures value { result ≡ length (frames_at self.now node) }
+        ensures bound { result < 2 ^ 63 }
     {
         match self.frames.get(usize::from(node.0)) {
             Some(row) => row.len() as u64,

@@ -1,4 +1,4 @@
-use Rattle.std.proofs.Common.{◌∙◌, ap}
+use Rattle.std.proofs.Common.{◌∙◌}
 use Rattle.std.proofs.lemmas.Result.{IfOk-weaker}
 use Rattle.cast_world.proofs.Owing.{is_bounded, due_is}
 use Rattle.cast_world.proofs.world.World.due.Goals as goal

@@ -1,0 +1,102 @@
+-- The frames of a plan are numbered on.
+use Rattle.std.proofs.Common.{◌≡◌, ℕ, zero, suc, ◌+◌, ◌<◌, ◌≤◌, refl, sym, ◌∙◌, ap, subst, cond, List, [], ◌∷◌, ◌++◌, length, take, drop, get_or, replicate, inl, inr, arith, append_assoc, append-nil}
+use Rattle.std.specs.Prelude.{◌==◌, ◌||◌, ◌^◌, slice_index_or}
+use Rattle.std.proofs.lemmas.Bool.{cases_lt}
+use Rattle.std.proofs.lemmas.List.{take_more, take_all, drop_all, take-append-drop}
+use Rattle.std.proofs.lemmas.List.Sums.{count_by-le-length}
+use Rattle.cast_message.specs.declared.config.Config.{Config}
+use Rattle.cast_message.specs.declared.event.Event.{Event}
+use Rattle.cast_message.specs.declared.event.Event.TheVariants.{Send, Ack, Arrive}
+use Rattle.cast_message.specs.History.{History}
+use Rattle.cast_message.specs.Rounds.{Due, due, frames_for, events_for, plan_from, plan}
+use Rattle.cast_message.proofs.Members.{Member, here, Member-append_right}
+use Rattle.cast_message.proofs.Dues.{due_ok}
+use Rattle.cast_message.proofs.Round.{frames_for-push}
+use Rattle.cast_world.specs.Group.{State, Stands}
+use Rattle.cast_world.specs.Rounds.{events_after}
+use Rattle.cast_world.proofs.Rounding.{drop-next}
+use Rattle.cast_world.proofs.Stepping.{made_all}
+
+-- of these slots so many frames were counted, by the node
+pub record AreCounted (ds : List Due) (made : List ℕ) : Type 0 where
+  pub size : length made ≡ 256
+  pub counted : (p : ℕ) → p < 256 → slice_index_or made p 0 ≡ frames_for ds p
+
+none_past : (xs : List ℕ) (p : ℕ) → length xs ≤ p → slice_index_or xs p 0 ≡ 0
+none_past [] p l = refl
+none_past (x ∷ xs) zero l = absurd (omega (arith, l))
+none_past (x ∷ xs) (suc p) l = none_past xs p (omega (arith, l))
+
+zero_at : (n p : ℕ) → slice_index_or (replicate {A = ℕ} n 0) p 0 ≡ 0
+zero_at zero p = refl
+zero_at (suc n) zero = refl
+zero_at (suc n) (suc p) = zero_at n p
+
+pub counted_none : (made : List ℕ) (ds : List Due) → made ≡ replicate 256 0 → AreCounted (take 0 ds) made
+unfolding frames_for
+counted_none made ds is = subst (AreCounted []) (sym is) (record { size = refl; counted = λ p l. zero_at 256 p })
+
+-- no slot, no event
+pub plan_none : (past : History) (ds : List Due) (events : List Event) → events ≡ [] → events ≡ plan_from past [] (take 0 ds)
+unfolding plan_from
+plan_none past ds events none = none
+
+-- they are no more than the slots
+pub counted_few : (ds : List Due) (i : ℕ) (made : List ℕ) → length ds < 2 ^ 63 → AreCounted (take i ds) made → (p : ℕ) → slice_index_or made p 0 < 2 ^ 63
+unfolding frames_for
+counted_few ds i made few count p = elim (cases_lt p 256) [
+  | inl l ↦ (let h = count.counted p l in let k = count_by-le-length (λ d. d.from == p || d.to == p) (take i ds) in let t = taken ds i in omega (arith, h, k, t, few))
+  | inr l ↦ (let h = none_past made p (let size = count.size in omega (arith, l, size)) in omega (arith, h))
+]
+  where
+    taken : (ds : List Due) (i : ℕ) → length (take i ds) ≤ length ds
+    taken ds zero = omega arith
+    taken [] (suc i) = omega arith
+    taken (d ∷ ds) (suc i) = let h = taken ds i in omega (arith, h)
+
+pub counted_more : (ds : List Due) (i : ℕ) (d : Due) (made new : List ℕ) → i < length ds → d ≡ get_or ds i d → AreCounted (take i ds) made → length new ≡ 256 → ((p : ℕ) → p < 256 → slice_index_or new p 0 ≡ slice_index_or made p 0 + cond (d.from == p || d.to == p) 1 0) → AreCounted (take (i + 1) ds) new
+counted_more ds i d made new within is count size one =
+    subst (λ before. AreCounted before new) (sym (take_more ds i d within ∙ ap (λ e. take i ds ++ e ∷ []) (sym is)))
+    (record { size = size; counted = λ p l. one p l ∙ ap (λ n. n + cond (d.from == p || d.to == p) 1 0) (count.counted p l) ∙ sym (frames_for-push (take i ds) d p) })
+
+-- the numbers written through a slice of all of them
+pub written_back : (new old : List ℕ) (len : ℕ) → length new ≡ 256 → length old ≡ 256 → len ≡ 256 → take len (new ++ drop (length new) old) ≡ new
+written_back new old len size same all =
+    ap (λ rest. take len (new ++ rest)) (drop_all (length new) old (omega (arith, size, same)))
+    ∙ ap (take len) (append-nil new)
+    ∙ take_all len new (omega (arith, size, all))
+
+-- a plan of one more slot
+plan_push : (past : History) (before ds : List Due) (d : Due) → plan_from past before (ds ++ d ∷ []) ≡ plan_from past before ds ++ events_for past (before ++ ds) d
+unfolding plan_from
+plan_push past before [] d = append-nil (events_for past before d) ∙ ap (λ all. events_for past all d) (sym (append-nil before))
+plan_push past before (x ∷ ds) d =
+    ap (λ es. events_for past before x ++ es) (plan_push past (before ++ x ∷ []) ds d ∙ ap (λ b. plan_from past (before ++ x ∷ []) ds ++ events_for past b d) (append_assoc before (x ∷ []) ds))
+    ∙ sym (append_assoc (events_for past before x) (plan_from past (before ++ x ∷ []) ds) (events_for past (before ++ x ∷ ds) d))
+
+module _ (config : Config) (past : History) (world : State) (st : Stands config past world) where
+  -- the next slot's events are numbered on from those before it
+  numbered_on : (ds : List Due) (i : ℕ) (d : Due) (made : List ℕ) → ds ≡ due config past → i < length ds → d ≡ get_or ds i d → AreCounted (take i ds) made → events_after world made d ≡ events_for past (take i ds) d
+  unfolding events_for
+  numbered_on ds i d made all within is count =
+      let ok = due_ok config past d (subst (λ xs. Member d xs) (take-append-drop i ds ∙ all) (Member-append_right d (take i ds) (drop i ds) (subst (λ xs. Member d xs) (sym (drop-next ds i d within is)) here))) in
+      let nodes = config.nodes_in_range in
+      let from = count.counted d.from (let l = ok.from_in in omega (arith, l, nodes)) in
+      let to = count.counted d.to (let l = ok.to_in in omega (arith, l, nodes)) in
+      λ k. Send d.from d.to d.slot
+      ∷ Arrive d.from (length (made_all config past world st d.from k) + from k)
+      ∷ Ack d.to d.from d.slot
+      ∷ Arrive d.to (length (made_all config past world st d.to k) + to k)
+      ∷ []
+
+  pub plan_more : (ds : List Due) (i : ℕ) (d : Due) (made : List ℕ) (before new : List Event) → ds ≡ due config past → i < length ds → d ≡ get_or ds i d → AreCounted (take i ds) made → before ≡ plan_from past [] (take i ds) → new ≡ before ++ events_after world made d → new ≡ plan_from past [] (take (i + 1) ds)
+  plan_more ds i d made before new all within is count so_far one =
+      one
+      ∙ ap (λ es. es ++ events_after world made d) so_far
+      ∙ ap (λ es. plan_from past [] (take i ds) ++ es) (numbered_on ds i d made all within is count)
+      ∙ sym (plan_push past [] (take i ds) d)
+      ∙ sym (ap (plan_from past []) (take_more ds i d within ∙ ap (λ x. take i ds ++ x ∷ []) (sym is)))
+
+  pub plan_made : (ds : List Due) (i : ℕ) (events : List Event) → ds ≡ due config past → length ds ≤ i → events ≡ plan_from past [] (take i ds) → events ≡ plan config past
+  unfolding plan
+  plan_made ds i events all past_all so_far = so_far ∙ ap (plan_from past []) (take_all i ds past_all ∙ all)

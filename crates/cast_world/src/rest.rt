@@ -1,0 +1,57 @@
+//! Rest: no live node owes a live node anything, so that nothing that a round could bring is missing anywhere.
+ghost use Rattle.std.specs.Prelude.{◌≡◌, ℕ, ◌<◌, ◌↔◌, IsTrue};
+ghost use Rattle.cast_message.specs.declared.config.Config.{Config as Settings};
+ghost use Rattle.cast_message.specs.declared.config.Mode.TheVariants.{Uniform};
+ghost use Rattle.cast_message.specs.History.{History};
+ghost use Rattle.cast_message.specs.Rounds.{Rest, FewCrashedIn};
+ghost use Rattle.cast_world.specs.Group.{Stands};
+ghost use Rattle.cast_world.specs.Rounds.{IsSettled, AgreesAtRest, HaveWhatAnyDelivered};
+
+use crate::world::World;
+use cast_message::NodeId;
+
+impl World {
+    /// Whether no live node owes a live node a slot. It takes no memory, and looks at each link once.
+    ///
+    /// At rest, in uniform mode where no more nodes have crashed than the faults that are tolerated, all live nodes have
+    /// delivered the same from each sender, the whole stream of a live one; an instance that one of them decided, or of which
+    /// proposals of as many senders as there are nodes less faults stand in what they delivered, is decided by all of them;
+    /// and in uniform mode each of them has delivered what any node delivered, a crashed one too.
+    pub fn at_rest(&self) -> bool
+        ensures rest { (config : Settings) (past : History) → Stands config past self.now → (IsTrue result ↔ Rest config past) }
+        ensures agrees { (config : Settings) (past : History) → Stands config past self.now → IsTrue result → FewCrashedIn config.mode config past → AgreesAtRest config past }
+        ensures uniform { (config : Settings) (past : History) → Stands config past self.now → IsTrue result → config.mode ≡ Uniform → FewCrashedIn Uniform config past → HaveWhatAnyDelivered config past }
+    {
+        for giver in 0..self.node_count() {
+            if !self.owes_nobody(NodeId(giver)) {
+                return false;
+            }
+        }
+        true
+    }
+
+    // Whether a node is not live, or owes no live node a slot.
+    fn owes_nobody(&self, giver: NodeId) -> bool
+        ensures { (config : Settings) (past : History) → Stands config past self.now → giver < config.nodes → (IsTrue result ↔ ((taker : ℕ) → taker < config.nodes → IsSettled past giver taker)) }
+    {
+        for taker in 0..self.node_count() {
+            if !self.is_settled(giver, NodeId(taker)) {
+                return false;
+            }
+        }
+        true
+    }
+
+    // Whether one of the two is not live, or the first owes the other nothing.
+    fn is_settled(&self, giver: NodeId, taker: NodeId) -> bool
+        ensures { (config : Settings) (past : History) → Stands config past self.now → giver < config.nodes → taker < config.nodes → (IsTrue result ↔ IsSettled past giver taker) }
+    {
+        if !self.live(giver) || !self.live(taker) {
+            return true;
+        }
+        match self.owed(giver, taker) {
+            Some(count) => count == 0,
+            None => true,
+        }
+    }
+}

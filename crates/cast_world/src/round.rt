@@ -1,0 +1,114 @@
+//! Rounds: every slot that a live node owes another is sent, taken and acknowledged. Two of them without a loss bring rest,
+//! where all live nodes have delivered the same.
+ghost use Rattle.std.specs.Prelude.{◌≡◌, ℕ, true, ◌<◌, ◌+◌, ◌^◌, ◌++◌, ◌==◌, ◌||◌, ◌↔◌, cond, IsTrue, IfOk, OnOk, length, slice_index_or};
+ghost use Rattle.cast_message.specs.declared.config.Config.{Config as Settings};
+ghost use Rattle.cast_message.specs.declared.config.Mode.TheVariants.{Uniform};
+ghost use Rattle.cast_message.specs.History.{History};
+ghost use Rattle.cast_message.specs.Replies.{IsAccepted};
+ghost use Rattle.cast_message.specs.Rounds.{Rest, HoldTheSame, FewCrashedIn, AreAccepted, plan, after_round};
+ghost use Rattle.cast_world.specs.Group.{Stands};
+ghost use Rattle.cast_world.specs.Rounds.{TakesAll, TakesRound, Spreads, AgreesAtRest, HaveWhatAnyDelivered, events_after};
+
+use crate::due::DueSlot;
+use crate::world::World;
+use cast_message::{Event, List, NodeId, StepFault};
+use std::alloc::AllocError;
+
+// How many numbers a `NodeId` can have.
+const NODE_IDS: usize = 256;
+
+impl World {
+    /// The events of one round from here: for each slot that a live node owes another, by the giver, then the taker,
+    /// ascending, the slot sent, the frame's arrival, the acknowledgement, and the arrival of that; or want of memory. The
+    /// frames are numbered on as if no node's could be full.
+    pub fn round_plan(&self) -> Result<List<Event>, AllocError>
+        ensures { (config : Settings) (past : History) → Stands config past self.now → IfOk result (λ events. events ≡ plan config past) }
+    {
+        let alloc = self.allocator();
+        let due = self.due()?;
+        // By the node, how many frames the events so far make.
+        let mut made = vec![in alloc; 0; NODE_IDS]?;
+        let mut events = Vec::new(alloc);
+        for slot in due.as_slice() {
+            self.add_events(*slot, made.as_slice(), &mut events)?;
+            count_frames(*slot, made.as_mut_slice());
+        }
+        Ok(List::from_vec(events))
+    }
+
+    /// Takes the events of one round from here, slot by slot of those that are due now, and answers how many frames they
+    /// made. Refused as `FramesFull` is a round in which the next event has that fault, and as `Memory` one that wanted
+    /// memory; there is no other refusal, and the events before it stand.
+    ///
+    /// After a round each live node holds exactly what some live node held before it. Where all of them held the same, the
+    /// group is at rest, so that two rounds bring rest.
+    pub fn round(&mut self) -> Result<u64, StepFault>
+        ensures takes { (config : Settings) (past : History) → Stands config past self.old → TakesRound config past result self.new }
+        ensures spreads { (config : Settings) (past : History) → Stands config past self.old → IfOk result (λ _. Spreads config past) }
+        ensures rests { (config : Settings) (past : History) → Stands config past self.old → HoldTheSame config past → IfOk result (λ _. Rest config (after_round config past)) }
+
+        // The second of two rounds brings rest.
+        ensures second { (config : Settings) (past : History) → IsAccepted config past → AreAccepted config past (plan config past) → Stands config (after_round config past) self.old → IfOk result (λ _. Rest config (after_round config (after_round config past))) }
+    {
+        let due = self.due()?;
+        for slot in due.as_slice() {
+            let events = self.events_for(*slot);
+            self.take_all(&events)?;
+        }
+        Ok(2 * due.len() as u64)
+    }
+
+    // Takes these events up to the first that is refused.
+    fn take_all(&mut self, events: &[Event]) -> Result<(), StepFault>
+        ensures { (config : Settings) (past : History) → Stands config past self.old → TakesAll config past events.now result self.new }
+    {
+        for event in events {
+            self.step(event)?;
+        }
+        Ok(())
+    }
+
+    // The four events for one slot, where so many frames were made besides those of the world.
+    fn add_events(
+        &self,
+        due: DueSlot,
+        made: &[u64],
+        events: &mut Vec<Event>,
+    ) -> Result<(), AllocError>
+        requires size { length made.now ≡ 256 }
+        requires from { slice_index_or made.now due.from 0 < 2 ^ 63 }
+        requires to { slice_index_or made.now due.to 0 < 2 ^ 63 }
+        ensures { OnOk result (events.new.items ≡ events.old.items ++ events_after self.now made.now due) }
+    {
+        let DueSlot { from, to, slot } = due;
+        let carry = self.frame_count(from) + made[usize::from(from.0)];
+        let took = self.frame_count(to) + made[usize::from(to.0)];
+        events.push(Event::Send { from, to, slot })?;
+        events.push(Event::Arrive { from, seq: carry })?;
+        events.push(Event::Ack {
+            from: to,
+            to: from,
+            slot,
+        })?;
+        events.push(Event::Arrive {
+            from: to,
+            seq: took,
+        })?;
+        Ok(())
+    }
+}
+
+// Each end of a slot that is due makes a frame.
+fn count_frames(due: DueSlot, made: &mut [u64])
+    requires size { length made.old ≡ 256 }
+    requires from { slice_index_or made.old due.from 0 < 2 ^ 63 }
+    requires to { slice_index_or made.old due.to 0 < 2 ^ 63 }
+    ensures size { length made.new ≡ 256 }
+    ensures counted { (p : ℕ) → p < 256 → slice_index_or made.new p 0 ≡ slice_index_or made.old p 0 + cond (due.from == p || due.to == p) 1 0 }
+{
+    let DueSlot { from, to, slot: _ } = due;
+    made[usize::from(from.0)] += 1;
+    if from != to {
+        made[usize::from(to.0)] += 1;
+    }
+}
