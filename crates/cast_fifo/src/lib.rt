@@ -3,7 +3,7 @@
 //! first and marked later, so that it goes only once its node knows enough of it.
 #![tactic(auto)]
 
-ghost use Rattle.std.specs.Prelude.{◌≡◌, ◌+◌, ◌<◌, ◌≤◌, ◌^◌, ◌++◌, true, length, replicate, slice_set, vec_len, vec_capacity, IfOk, OnOk, OnErr};
+ghost use Rattle.std.specs.Prelude.{[], nat_lt, IsTrue, ◌≡◌, ◌+◌, ◌<◌, ◌≤◌, ◌^◌, ◌++◌, true, length, replicate, slice_set, vec_len, vec_capacity, IfOk, OnOk, OnErr};
 ghost use Rattle.std.specs.List.{All};
 ghost use Rattle.std.specs.Map.{keys_of};
 ghost use Rattle.cast_message.specs.History.{numbered};
@@ -100,6 +100,17 @@ impl HoldBack {
         self.senders[usize::from(sender.0)].came(number)
     }
 
+    /// Whether a pair had its turn, so that a mark of it brings nothing and changes nothing. The sender is below the number of
+    /// nodes. It takes no memory.
+    pub fn had_turn(&self, sender: NodeId, number: u64) -> bool
+        requires { sender < length self.now }
+        ensures test { result ≡ nat_lt number (held_of self.now sender).next }
+        ensures nothing { IsTrue result → known_items (held_of self.now sender) number ≡ [] }
+        ensures same { IsTrue result → known_after (held_of self.now sender) number ≡ held_of self.now sender }
+    {
+        self.senders[usize::from(sender.0)].had_turn(number)
+    }
+
     /// Takes back a message that waits for its turn: just after `hold` kept it, the state is again that before `hold`. The
     /// sender is below the number of nodes. It takes no memory.
     pub fn take_back(&mut self, sender: NodeId, number: u64)
@@ -118,9 +129,9 @@ impl HoldBack {
         self.senders[usize::from(sender.0)].ready(self.alloc, sender, number)
     }
 
-    /// Marks a pair as `known` does, where it was held or offered, and puts the items whose turn has come at the end of `items`, in order. The sender is
-    /// below the number of nodes, `items` has room for them, and no message waits 4,096 numbers or more past the next. It
-    /// takes no memory.
+    /// Marks a pair as `known` does, where it was held or offered, and puts the items whose turn has come at the end of
+    /// `items`, in order. The sender is below the number of nodes, `items` has room for them, and no message waits 4,096
+    /// numbers or more past the next. It takes no memory.
     pub fn release(&mut self, sender: NodeId, number: u64, items: &mut Vec<Item>)
         requires sender { sender < length self.old }
         requires near { All (λ other. other < (held_of self.old sender).next + 4096) (keys_of (held_of self.old sender).waiting) }

@@ -1,6 +1,6 @@
 //! What is held back of one sender: a ring of places for the numbers from the next on, and an ordered map for those
 //! farther away.
-ghost use Rattle.std.specs.Prelude.{◌≡◌, ◌≢◌, ℕ, ◌+◌, ◌-◌, ◌*◌, ◌<◌, ◌≤◌, ◌^◌, ◌∷◌, ◌++◌, ◌||◌, length, [], replicate, drop, true, false, None, Some, is_some, IsSome, IfOk, OnOk, OnErr, option_map, vec_len, vec_capacity, ◌⊎◌, nat_eq, if◌then◌else◌};
+ghost use Rattle.std.specs.Prelude.{◌≡◌, ◌≢◌, ℕ, ◌+◌, ◌-◌, ◌*◌, ◌<◌, ◌≤◌, ◌^◌, ◌∷◌, ◌++◌, ◌||◌, length, [], replicate, drop, true, false, None, Some, is_some, IsSome, IfOk, OnOk, OnErr, option_map, vec_len, vec_capacity, ◌⊎◌, nat_eq, nat_lt, IsTrue, if◌then◌else◌};
 ghost use Rattle.std.specs.Option.{option_copied};
 ghost use Rattle.std.specs.List.{All, list_any};
 ghost use Rattle.std.specs.Map.{keys_of, set_value, remove_entry};
@@ -139,6 +139,15 @@ impl Queue {
         ensures { result ≡ came self.now number }
     {
         number < self.next || self.at(number).is_some()
+    }
+
+    /// Whether the number had its turn, so that a mark of it changes nothing.
+    pub fn had_turn(&self, number: u64) -> bool
+        ensures test { result ≡ nat_lt number self.now.next }
+        ensures nothing { IsTrue result → known_items self.now number ≡ [] }
+        ensures same { IsTrue result → known_after self.now number ≡ self.now }
+    {
+        number < self.next
     }
 
     /// Takes back what waits at a number.

@@ -1,8 +1,8 @@
 -- What is held back of a sender, and what has its turn, after each step.
-use Rattle.std.proofs.Common.{◌≡◌, ◌≢◌, ℕ, zero, suc, ◌+◌, ◌-◌, ◌<◌, ◌≤◌, refl, sym, ◌∙◌, ap, subst, Bool, true, false, not, ◌&&◌, ◌||◌, cond, List, [], ◌∷◌, ◌++◌, length, map, Option, Some, None, inl, inr, ◌⊎◌, arith, true≢false}
-use Rattle.std.specs.Prelude.{◌==◌, nat_lt, is_some, unwrap_or, option_map, if◌then◌else◌}
-use Rattle.std.specs.List.{filter, filter_map, cons_option, list_any, range_with_len}
-use Rattle.std.proofs.lemmas.Bool.{cases_lt, cases_eq, false≢true, and_parts, eqb-true, eq-eqb, false_from_ne_true}
+use Rattle.std.proofs.Common.{◌≡◌, ◌≢◌, ℕ, ◌-◌, ◌<◌, refl, sym, ◌∙◌, ap, Bool, true, false, ◌&&◌, ◌||◌, cond, List, [], ◌∷◌, ◌++◌, map, Option, Some, None, inl, inr, arith}
+use Rattle.std.specs.Prelude.{◌==◌, is_some, unwrap_or, option_map, if◌then◌else◌}
+use Rattle.std.specs.List.{filter_map, cons_option, list_any, range_with_len}
+use Rattle.std.proofs.lemmas.Bool.{cases_lt, cases_eq, false≢true, and_parts, eqb-true, false_from_ne_true}
 use Rattle.cast_message.specs.declared.config.Config.{Config}
 use Rattle.cast_message.specs.declared.message.Item.{Item}
 use Rattle.cast_message.specs.declared.message.Item.TheVariants.{Close}
@@ -13,7 +13,7 @@ use Rattle.cast_message.specs.Steps.{Step, Steps, Held, copy_of, held}
 use Rattle.cast_message.specs.OwnSteps.{own_copies, own_is_ready, own_known_enough, own_next, message_at, messages_from, IsOwnAccepted}
 use Rattle.cast_message.proofs.Members.{Member, here, there}
 use Rattle.cast_message.proofs.Dues.{range_bounds}
-use Rattle.cast_message.proofs.OwnFronts.{own_below_next, own_not_at_next, own_held_below, message_at-sender, no_messages}
+use Rattle.cast_message.proofs.OwnFronts.{own_below_next, own_not_at_next, own_held_below}
 use Rattle.cast_fifo.specs.Held.{Held as HeldBack, with_item, known_items, known_after}
 use Rattle.cast_fifo.specs.Calls.{first_of}
 use Rattle.cast_fifo.proofs.Stands.{Stands as HoldsBack, same_stands, with_one, holds, Turned, knows, numbered-map}

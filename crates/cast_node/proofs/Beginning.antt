@@ -1,6 +1,6 @@
 -- A node that has done nothing stands for no steps.
-use Rattle.std.proofs.Common.{◌≡◌, ◌≢◌, ℕ, zero, ◌-◌, ◌<◌, refl, sym, ◌∙◌, ap, subst, Bool, true, false, not, ◌&&◌, cond, List, [], length, map, Option, Some, None, arith}
-use Rattle.std.specs.Prelude.{nat_lt, replicate, slice_index_or, if◌then◌else◌}
+use Rattle.std.proofs.Common.{◌≡◌, ℕ, ◌<◌, refl, sym, ◌∙◌, ap, subst, false, not, ◌&&◌, [], Some, None, arith}
+use Rattle.std.specs.Prelude.{nat_lt, slice_index_or, if◌then◌else◌}
 use Rattle.std.specs.Ordering.{nat_cmp}
 use Rattle.std.specs.FinSet as set
 use Rattle.std.specs.FinSet.{contains-empty}
@@ -12,7 +12,6 @@ use Rattle.cast_message.specs.declared.message.Message.{Message}
 use Rattle.cast_message.specs.History.{has_pair}
 use Rattle.cast_message.specs.Steps.{own_items, frame_count, frames_in, held}
 use Rattle.cast_message.specs.OwnSteps.{own_live, own_given, own_taken, own_acked, own_owed, own_is_ready, own_log, message_in, message_at, IsOwnAccepted}
-use Rattle.cast_link.specs.Links.{Link}
 use Rattle.cast_fifo.specs.Held.{nothing_held}
 use Rattle.cast_fifo.proofs.Stands.{Stands as HoldsBack}
 use Rattle.cast_node.specs.Kept.{nothing_kept}

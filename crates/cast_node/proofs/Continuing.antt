@@ -1,20 +1,19 @@
 -- A node that gives what its parts give goes on as the definitions say, and shows what they say.
-use Rattle.std.proofs.Common.{◌≡◌, ◌≢◌, ℕ, ◌<◌, refl, sym, ◌∙◌, ap, subst, Bool, true, false, not, ◌&&◌, ◌||◌, cond, List, [], ◌∷◌, ◌++◌, length, map, Option, Some, None, inl, inr, arith}
+use Rattle.std.proofs.Common.{◌≡◌, ◌≢◌, ℕ, ◌<◌, refl, sym, ◌∙◌, ap, subst, Bool, true, false, not, ◌&&◌, ◌||◌, ◌∷◌, length, None}
 use Rattle.std.specs.Prelude.{◌*◌, ◌==◌, nat_lt, is_some, if◌then◌else◌, Result, Ok, Err}
 use Rattle.std.proofs.lemmas.Bool.{and_parts, ltb-true, eq-eqb, false≢true}
 use Rattle.cast_message.specs.declared.config.Config.{Config}
 use Rattle.cast_message.specs.declared.event.Answer.{Answer}
-use Rattle.cast_message.specs.declared.event.Answer.TheVariants.{Ordered as AnswerOrdered, Sent as AnswerSent, Arrived as AnswerArrived, Down}
+use Rattle.cast_message.specs.declared.event.Answer.TheVariants.{Ordered as AnswerOrdered, Sent as AnswerSent, Arrived as AnswerArrived}
 use Rattle.cast_message.specs.declared.event.StepFault.{StepFault}
-use Rattle.cast_message.specs.declared.message.Item.{Item}
 use Rattle.cast_message.specs.declared.message.Frame.{Frame}
 use Rattle.cast_message.specs.declared.message.FrameBody.{FrameBody}
 use Rattle.cast_message.specs.declared.message.FrameBody.TheVariants.{Carry, Took}
 use Rattle.cast_message.specs.Replies.{IsRefused, reply_by}
-use Rattle.cast_message.specs.Steps.{Step, Ordered, Sent, Acknowledged, Arrived, Stopped, Steps, own_items, frame_count}
-use Rattle.cast_message.specs.OwnSteps.{own_given, own_fault, own_answer, own_outcome, node_reply, node_after, nothing, is_ignored, is_possible, is_possible_body, IsOwnAccepted}
-use Rattle.cast_node.specs.Kept.{Kept, link_to}
-use Rattle.cast_node.specs.Turns.{Told, ordered, arrived, arrived_body, unmoved, may_arrive, may_bring, kept_fault, kept_answer, kept_after, Gives}
+use Rattle.cast_message.specs.Steps.{Step, Ordered, Sent, Acknowledged, Arrived, Stopped, Steps}
+use Rattle.cast_message.specs.OwnSteps.{own_given, own_fault, own_answer, node_reply, node_after, nothing, is_ignored, is_possible, is_possible_body, IsOwnAccepted}
+use Rattle.cast_node.specs.Kept.{Kept}
+use Rattle.cast_node.specs.Turns.{arrived, arrived_body, unmoved, may_arrive, may_bring, kept_answer, kept_after, Gives}
 use Rattle.cast_node.specs.Stands.{Stands, Continues}
 use Rattle.cast_node.proofs.Refusals.{faults_are}
 use Rattle.cast_node.proofs.Telling.{ToldRight}

@@ -1,8 +1,8 @@
 -- What is counted of the deliveries is what the definitions count.
-use Rattle.std.proofs.Common.{◌≡◌, ◌≢◌, ℕ, zero, suc, ◌+◌, ◌-◌, ◌<◌, ◌≤◌, refl, sym, ◌∙◌, ap, subst, Bool, true, false, not, ◌&&◌, ◌||◌, cond, List, [], ◌∷◌, ◌++◌, length, map, Option, Some, None, inl, inr, ◌⊎◌, arith, append_assoc, length-append}
-use Rattle.std.specs.Prelude.{◌==◌, nat_le, nat_eq, is_some, take, if◌then◌else◌, option_to_list, option_map}
-use Rattle.std.specs.List.{list_any, fold, cons_option}
-use Rattle.std.proofs.lemmas.Bool.Decides.{nat_tests, leb_tells, eqb_tells}
+use Rattle.std.proofs.Common.{◌≡◌, ℕ, ◌+◌, ◌-◌, ◌<◌, refl, sym, ◌∙◌, ap, subst, Bool, true, false, not, ◌&&◌, ◌||◌, List, [], ◌∷◌, ◌++◌, length, Some, None, inl, inr, arith, append_assoc, length-append}
+use Rattle.std.specs.Prelude.{◌==◌, nat_le, is_some, take, if◌then◌else◌, option_to_list}
+use Rattle.std.specs.List.{list_any, cons_option}
+use Rattle.std.proofs.lemmas.Bool.Decides.{nat_tests, eqb_tells}
 use Rattle.std.proofs.lemmas.List.{append-nil}
 use Rattle.std.proofs.lemmas.List.Folds.{list_any-append}
 use Rattle.cast_message.specs.declared.config.Config.{Config}
@@ -11,10 +11,9 @@ use Rattle.cast_message.specs.declared.message.Item.TheVariants.{Data, Propose, 
 use Rattle.cast_message.specs.declared.message.Message.{Message}
 use Rattle.cast_message.specs.declared.message.Decision.{Decision}
 use Rattle.cast_message.specs.Delivery.{value_in, votes, least, decision_by}
-use Rattle.cast_message.specs.Steps.{Steps}
-use Rattle.cast_message.specs.OwnSteps.{is_first_vote, first_votes, own_decision_on, own_decisions_of, own_log, own_decision}
-use Rattle.cast_agree.specs.Counted.{Counted, counted_after, decision as decision_counted, decision_by as decision_counted_by}
-use Rattle.cast_agree.specs.Proposals.{has_proposed, with_item, proposals, counted_of, values, settled, settled_by, least as least_of}
+use Rattle.cast_message.specs.OwnSteps.{is_first_vote, first_votes, own_decision_on, own_decisions_of}
+use Rattle.cast_agree.specs.Counted.{decision as decision_counted, decision_by as decision_counted_by}
+use Rattle.cast_agree.specs.Proposals.{has_proposed, with_item, proposals, counted_of, values, least as least_of}
 use Rattle.cast_agree.proofs.Law.{decides_least, values-push, length-values, proposed-push}
 use Rattle.cast_agree.specs.Journal.{counted_all, decisions_all}
 use Rattle.cast_node.specs.Stands.{newest_first}

@@ -1,24 +1,20 @@
 -- What stands once a step was taken in: that of a new message, and that of one that tells more of a held pair.
-use Rattle.std.proofs.Common.{◌≡◌, ◌≢◌, ℕ, zero, suc, ◌+◌, ◌-◌, ◌<◌, ◌≤◌, refl, sym, ◌∙◌, ap, subst, Bool, true, false, not, ◌&&◌, ◌||◌, cond, List, [], ◌∷◌, ◌++◌, length, map, Option, Some, None, inl, inr, arith, true≢false}
+use Rattle.std.proofs.Common.{◌≡◌, ◌≢◌, ℕ, ◌+◌, ◌-◌, ◌<◌, refl, sym, ◌∙◌, ap, subst, Bool, true, false, not, ◌&&◌, ◌||◌, cond, [], ◌∷◌, ◌++◌, length, map, Some, inl, inr, arith}
 use Rattle.std.specs.Prelude.{◌==◌, nat_lt, slice_index_or, slice_set}
-use Rattle.std.specs.List.{filter, list_any}
+use Rattle.std.specs.List.{filter}
 use Rattle.std.specs.Ordering.{nat_cmp, eq_by_cmp}
 use Rattle.std.specs.Cmp.{nat_cmp_total}
 use Rattle.std.specs.FinSet as set
 use Rattle.std.specs.FinSet.{contains-insert, contains-empty}
 use Rattle.std.specs.FinMap as finite
-use Rattle.std.proofs.lemmas.Bool.{cases_eq, or_left}
 use Rattle.std.proofs.lemmas.Bool.Decides.{nat_tests, eqb_tells}
 use Rattle.std.proofs.lemmas.List.{append-nil}
 use Rattle.cast_message.specs.declared.config.Config.{Config}
-use Rattle.cast_message.specs.declared.message.Item.{Item}
-use Rattle.cast_message.specs.declared.message.Message.{Message}
 use Rattle.cast_message.specs.History.{has_pair}
 use Rattle.cast_message.specs.Replies.{is_from}
 use Rattle.cast_message.specs.Steps.{Step, Steps, own_items, frame_count, Held, held}
 use Rattle.cast_message.specs.OwnSteps.{own_live, own_copies, own_given, own_acked, own_knows, own_is_ready, own_taken, own_concerned, own_log, IsOwnAccepted}
 use Rattle.cast_message.proofs.OwnGrowth.{brought, held-more, own_given-more}
-use Rattle.cast_link.specs.Links.{Link}
 use Rattle.cast_relay.specs.Held.{holds, relays_to}
 use Rattle.cast_fifo.specs.Held.{Held as HeldBack, held_of, nothing_held, with_item}
 use Rattle.cast_fifo.proofs.Stands.{Stands as HoldsBack}
@@ -26,7 +22,7 @@ use Rattle.cast_agree.specs.Proposals.{counted_of}
 use Rattle.cast_node.specs.Kept.{Kept, link_to, taken_from, knowers_of}
 use Rattle.cast_node.specs.Turns.{with_knower, spread, given_one, given_from}
 use Rattle.cast_message.specs.Shown.{item_of}
-use Rattle.cast_node.specs.Stands.{item_at, newest_first, StandsOut, Stands}
+use Rattle.cast_node.specs.Stands.{item_at, newest_first, StandsOut}
 use Rattle.cast_node.proofs.Places.{length-slice_set, at_set, same_number, other_number}
 use Rattle.cast_node.proofs.Links.{length-given_from, given_from-at, goes, out_same, out_given}
 use Rattle.cast_node.proofs.Known.{KnowsAll, ready_alike, same_pair, pair_more, pair_none, knows_pair}

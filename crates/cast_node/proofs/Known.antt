@@ -1,25 +1,24 @@
 -- The members kept of a pair are the nodes known to hold it, and so as many.
-use Rattle.std.proofs.Common.{◌≡◌, ◌≢◌, ℕ, zero, suc, ◌+◌, ◌<◌, ◌≤◌, refl, sym, ◌∙◌, ap, Bool, true, false, not, ◌&&◌, ◌||◌, cond, List, [], ◌∷◌, ◌++◌, length, map, inl, inr, ◌⊎◌, arith, length-append}
+use Rattle.std.proofs.Common.{◌≡◌, ℕ, zero, suc, ◌+◌, ◌<◌, refl, sym, ◌∙◌, ap, Bool, true, false, ◌&&◌, ◌||◌, cond, List, [], ◌∷◌, ◌++◌, length, map, inl, inr, arith, length-append}
 use Rattle.std.specs.Prelude.{◌==◌, nat_lt, slice_set, slice_index_or}
-use Rattle.std.specs.List.{count_by, filter, range_with_len, list_any}
+use Rattle.std.specs.List.{count_by, filter, range_with_len}
 use Rattle.std.specs.Ordering.{nat_cmp, eq_by_cmp}
 use Rattle.std.specs.Cmp.{nat_cmp_total}
 use Rattle.std.specs.FinSet as set
 use Rattle.std.specs.FinSet.{contains-insert, contains-empty, len-empty, same_set, nat_cmp-IsAntisymmetric}
-use Rattle.std.proofs.lemmas.Bool.Decides.{nat_tests, leb_tells, eqb_tells}
+use Rattle.std.proofs.lemmas.Bool.Decides.{nat_tests, eqb_tells}
 use Rattle.std.proofs.lemmas.Bool.{and_parts, eqb-true}
 use Rattle.std.proofs.lemmas.List.Sums.{length-filter}
 use Rattle.std.proofs.lemmas.List.Elements.{filter-append}
 use Rattle.std.proofs.lemmas.List.Folds.{list_any-append}
-use Rattle.cast_sets.specs.Members.{members_below, contains-members_below, members_below-empty, len-new_member}
+use Rattle.cast_sets.specs.Members.{members_below, contains-members_below, len-new_member}
 use Rattle.cast_message.specs.declared.config.Config.{Config}
 use Rattle.cast_message.specs.declared.config.Mode.{Mode}
 use Rattle.cast_message.specs.declared.config.Mode.TheVariants.{Basic, Uniform}
-use Rattle.cast_message.specs.declared.message.Message.{Message}
 use Rattle.cast_message.specs.History.{has_pair}
 use Rattle.cast_message.specs.Delivery.{nodes_of}
 use Rattle.cast_message.specs.Steps.{Step, Steps, Held, copy_of}
-use Rattle.cast_message.specs.OwnSteps.{own_copies, own_knows, own_known_by, own_known_enough, own_is_ready, IsOwnAccepted}
+use Rattle.cast_message.specs.OwnSteps.{own_copies, own_knows, own_known_by, own_known_enough, own_is_ready}
 use Rattle.cast_message.proofs.OwnGrowth.{brought, own_copies-more}
 use Rattle.cast_node.specs.Kept.{knowers_in, is_enough_in}
 use Rattle.cast_node.specs.Turns.{known_row}

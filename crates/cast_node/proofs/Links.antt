@@ -1,27 +1,25 @@
 -- What a node gave its peers, and owes them, after each step.
-use Rattle.std.proofs.Common.{◌≡◌, ◌≢◌, ℕ, zero, suc, ◌+◌, ◌-◌, ◌<◌, ◌≤◌, refl, sym, ◌∙◌, ap, subst, Bool, true, false, not, ◌&&◌, ◌||◌, cond, List, [], ◌∷◌, ◌++◌, length, map, Option, Some, None, inl, inr, ◌⊎◌, arith, length-append, true≢false}
-use Rattle.std.specs.Prelude.{◌==◌, nat_lt, nat_eq, slice_index_or, is_some, if◌then◌else◌}
-use Rattle.std.specs.List.{filter, list_any, range_with_len}
+use Rattle.std.proofs.Common.{◌≡◌, ◌≢◌, ℕ, zero, suc, ◌+◌, ◌-◌, ◌<◌, ◌≤◌, refl, sym, ◌∙◌, ap, Bool, true, false, not, ◌&&◌, ◌||◌, cond, List, [], ◌∷◌, ◌++◌, length, Option, Some, None, inl, inr, arith, length-append, true≢false}
+use Rattle.std.specs.Prelude.{◌==◌, nat_lt, slice_index_or, is_some, if◌then◌else◌}
+use Rattle.std.specs.List.{filter, range_with_len}
 use Rattle.std.specs.Ordering.{nat_cmp, eq_by_cmp}
 use Rattle.std.specs.Cmp.{nat_cmp_total}
 use Rattle.std.specs.FinMap as finite
 use Rattle.std.specs.FinMap.{get-insert, get-remove, len-insert, len-remove}
-use Rattle.std.proofs.lemmas.Bool.Decides.{nat_tests, leb_tells, eqb_tells}
-use Rattle.std.proofs.lemmas.Bool.{cases_eq, cases_lt, lt-ltb, ltb-true, false_from_ne_true}
-use Rattle.std.proofs.lemmas.List.{get_or_append_left, append-nil}
+use Rattle.std.proofs.lemmas.Bool.Decides.{nat_tests}
+use Rattle.std.proofs.lemmas.Bool.{cases_eq, cases_lt, false_from_ne_true}
+use Rattle.std.proofs.lemmas.List.{get_or_append_left}
 use Rattle.std.proofs.lemmas.List.Elements.{filter-append}
-use Rattle.std.proofs.lemmas.List.FromFn.{length-range_with_len}
 use Rattle.cast_message.specs.declared.config.Config.{Config}
-use Rattle.cast_message.specs.declared.message.Item.TheVariants.{Close}
 use Rattle.cast_message.specs.declared.message.Message.{Message}
 use Rattle.cast_message.specs.declared.message.Frame.{Frame}
 use Rattle.cast_message.specs.declared.message.FrameBody.{FrameBody}
 use Rattle.cast_message.specs.declared.message.FrameBody.TheVariants.{Carry, Took}
 use Rattle.cast_message.specs.History.{is_took_of}
-use Rattle.cast_message.specs.Steps.{Step, Steps, Held, frames_in, frame_of}
+use Rattle.cast_message.specs.Steps.{Step, Steps, Held, frames_in}
 use Rattle.cast_message.specs.OwnSteps.{own_given, own_acked, own_owed, message_in, IsOwnAccepted}
-use Rattle.cast_message.proofs.Members.{Member, Member-list_any}
-use Rattle.cast_message.proofs.OwnGrowth.{brought, own_given-more, frames_given, GivenTo}
+use Rattle.cast_message.proofs.Members.{Member-list_any}
+use Rattle.cast_message.proofs.OwnGrowth.{frames_given, GivenTo}
 use Rattle.cast_link.specs.Links.{Link}
 use Rattle.cast_relay.specs.Held.{Held as HeldPairs, relays_to}
 use Rattle.cast_node.specs.Turns.{given_one, given_from}

@@ -1,5 +1,5 @@
 -- A node refuses what the definitions refuse.
-use Rattle.std.proofs.Common.{◌≡◌, ◌≢◌, ℕ, ◌-◌, ◌<◌, ◌≤◌, refl, sym, ◌∙◌, ap, Bool, true, false, not, ◌&&◌, cond, List, [], ◌∷◌, length, Option, Some, None, arith}
+use Rattle.std.proofs.Common.{◌≡◌, ◌≢◌, ℕ, ◌-◌, ◌<◌, refl, sym, ◌∙◌, ap, Bool, true, false, not, ◌&&◌, cond, List, [], ◌∷◌, length, Some, None, arith}
 use Rattle.std.specs.Prelude.{◌==◌, nat_lt, nat_le, is_some, if◌then◌else◌}
 use Rattle.std.specs.List.{list_any}
 use Rattle.std.specs.FinSet as set
@@ -8,16 +8,13 @@ use Rattle.std.proofs.lemmas.Bool.Decides.{nat_tests}
 use Rattle.std.proofs.lemmas.Bool.{not-false, ltb-true, eq-eqb, false≢true}
 use Rattle.cast_message.specs.Limits.{frame_limit}
 use Rattle.cast_message.specs.declared.config.Config.{Config}
-use Rattle.cast_message.specs.declared.event.StepFault.{StepFault}
 use Rattle.cast_message.specs.declared.event.StepFault.TheVariants.{SelfLink, Crashed, Closed, TooLong, AlreadyProposed, StreamFull, NoSlot, Acked, NotTaken, FramesFull}
-use Rattle.cast_message.specs.declared.message.Item.{Item}
-use Rattle.cast_message.specs.declared.message.Message.{Message}
 use Rattle.cast_message.specs.Replies.{Cause, no_node, is_close, is_too_long, is_second_proposal, first_fault}
-use Rattle.cast_message.specs.Steps.{Step, Ordered, Sent, Acknowledged, Arrived, Stopped, Steps, own_items, frame_count}
-use Rattle.cast_message.specs.OwnSteps.{own_live, own_given, own_acked, own_taken, message_in, own_causes, own_fault}
+use Rattle.cast_message.specs.Steps.{Step, Ordered, Sent, Acknowledged, Arrived, Stopped, Steps, frame_count}
+use Rattle.cast_message.specs.OwnSteps.{own_live, own_given, own_acked, message_in, own_causes, own_fault}
 use Rattle.cast_node.specs.Kept.{Kept, link_to, taken_from}
 use Rattle.cast_node.specs.Turns.{kept_causes, kept_fault}
-use Rattle.cast_node.specs.Stands.{StandsOut, Stands}
+use Rattle.cast_node.specs.Stands.{Stands}
 
 -- causes behind one that doesn't hold
 skip : (cause : Cause) (xs ys : List Cause) → (cause.holds ≡ false → first_fault xs ≡ first_fault ys) → first_fault (cause ∷ xs) ≡ first_fault (cause ∷ ys)

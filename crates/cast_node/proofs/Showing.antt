@@ -1,26 +1,22 @@
 -- What a node shows is what the definitions say of its steps, and the frames that it makes are those.
-use Rattle.std.proofs.Common.{◌≡◌, ◌≢◌, ℕ, ◌-◌, ◌<◌, ◌≤◌, refl, sym, ◌∙◌, ap, subst, Bool, true, false, not, ◌&&◌, cond, List, [], ◌∷◌, length, map, Option, Some, None, arith}
-use Rattle.std.specs.Prelude.{◌==◌, nat_lt, nat_le, slice_index_or, unwrap_or, if◌then◌else◌}
-use Rattle.std.specs.List.{filter}
+use Rattle.std.proofs.Common.{◌≡◌, ◌≢◌, ℕ, ◌<◌, refl, sym, ◌∙◌, ap, Bool, true, false, not, ◌&&◌, cond, List, [], ◌∷◌, length, map, Some, None, arith}
+use Rattle.std.specs.Prelude.{nat_lt, nat_le, slice_index_or, unwrap_or, if◌then◌else◌}
 use Rattle.std.specs.FinSet as set
 use Rattle.std.specs.FinMap as finite
 use Rattle.std.proofs.lemmas.Bool.{not-false, ltb-true, eq-eqb, false≢true}
 use Rattle.std.proofs.lemmas.Bool.Decides.{nat_tests}
 use Rattle.cast_message.specs.declared.config.Config.{Config}
-use Rattle.cast_message.specs.declared.event.StepFault.{StepFault}
 use Rattle.cast_message.specs.declared.message.Item.TheVariants.{Close}
-use Rattle.cast_message.specs.declared.message.Message.{Message}
-use Rattle.cast_message.specs.declared.message.Frame.{Frame}
 use Rattle.cast_message.specs.declared.message.FrameBody.TheVariants.{Carry, Took}
 use Rattle.cast_message.specs.Replies.{Cause, first_fault}
-use Rattle.cast_message.specs.Steps.{Step, Sent, Acknowledged, Steps, frame_count}
+use Rattle.cast_message.specs.Steps.{Sent, Acknowledged, Steps}
 use Rattle.cast_message.specs.OwnSteps.{own_given, own_acked, own_owed, own_delivered, own_decision, own_known_by, own_made, own_fault, own_causes, message_in}
 use Rattle.cast_message.proofs.OwnFronts.{own_log-front}
 use Rattle.cast_agree.specs.Counted.{decision}
 use Rattle.cast_node.specs.Kept.{Kept, link_to, knowers_of}
 use Rattle.cast_node.specs.Turns.{carry_of, took_of, message_owed}
 use Rattle.cast_message.specs.Shown.{item_of}
-use Rattle.cast_node.specs.Stands.{StandsOut, Stands, owed_in}
+use Rattle.cast_node.specs.Stands.{Stands}
 use Rattle.cast_node.proofs.Known.{known_by-is}
 use Rattle.cast_node.proofs.Counting.{decision_is}
 

@@ -1,14 +1,14 @@
 -- Each step that is not refused leaves a node that stands for it, and answers what the definitions say.
-use Rattle.std.proofs.Common.{◌≡◌, ◌≢◌, ℕ, zero, suc, ◌+◌, ◌-◌, ◌<◌, ◌≤◌, refl, sym, ◌∙◌, ap, subst, Bool, true, false, not, ◌&&◌, ◌||◌, cond, List, [], ◌∷◌, ◌++◌, length, map, Option, Some, None, inl, inr, ◌⊎◌, arith, length-append, true≢false}
-use Rattle.std.specs.Prelude.{◌*◌, ◌==◌, nat_lt, nat_le, is_some, slice_index_or, slice_set, if◌then◌else◌}
+use Rattle.std.proofs.Common.{◌≡◌, ◌≢◌, ℕ, zero, suc, ◌+◌, ◌-◌, ◌<◌, refl, sym, ◌∙◌, ap, subst, Bool, true, false, not, ◌&&◌, ◌||◌, cond, List, [], ◌∷◌, ◌++◌, length, map, Option, Some, None, inl, inr, arith, length-append}
+use Rattle.std.specs.Prelude.{◌*◌, ◌==◌, nat_lt, slice_index_or, if◌then◌else◌}
 use Rattle.std.specs.List.{filter, list_any, prefix_len, range_with_len}
 use Rattle.std.specs.Ordering.{nat_cmp, eq_by_cmp}
 use Rattle.std.specs.Cmp.{nat_cmp_total}
 use Rattle.std.specs.FinSet as set
 use Rattle.std.specs.FinSet.{contains-insert}
 use Rattle.std.specs.FinMap as finite
-use Rattle.std.proofs.lemmas.Bool.{cases_eq, or_cases, or_right, and_from, and_parts, lt-ltb, eqb-true, eq-eqb, ltb-true, not-false, false≢true, false_from_ne_true}
-use Rattle.std.proofs.lemmas.Bool.Decides.{nat_tests, eqb_tells}
+use Rattle.std.proofs.lemmas.Bool.{cases_eq, or_cases, or_right, and_from, and_parts, lt-ltb, eqb-true, ltb-true, not-false, false≢true, false_from_ne_true}
+use Rattle.std.proofs.lemmas.Bool.Decides.{nat_tests}
 use Rattle.std.proofs.lemmas.List.{append-nil}
 use Rattle.std.proofs.lemmas.List.Folds.{list_any-append}
 use Rattle.cast_message.specs.declared.config.Config.{Config}
@@ -21,24 +21,22 @@ use Rattle.cast_message.specs.declared.message.FrameBody.TheVariants.{Carry, Too
 use Rattle.cast_message.specs.History.{FirstCopy, has_pair, copy_at, is_carry_of, is_took_of}
 use Rattle.cast_message.specs.Delivery.{is_pair, tells_of}
 use Rattle.cast_message.specs.Replies.{is_from}
-use Rattle.cast_message.specs.Steps.{Step, Ordered, Sent, Acknowledged, Arrived, Stopped, Steps, item_of as items_of, own_items, frame_count, frames_by, frames_in, frame_of, Held, copy_of, held_by_body, held}
-use Rattle.cast_message.specs.OwnSteps.{own_live, own_copies, own_given, own_given_copies, own_taken, own_acked, own_owed, own_knows, own_is_ready, own_next, own_concerned, own_turns, own_deliveries, own_log, own_outcome, own_decisions_of, message_in, messages_from, nothing, is_stop, is_ignored, is_possible, is_possible_body, IsOwnAccepted}
+use Rattle.cast_message.specs.Steps.{Step, Ordered, Sent, Acknowledged, Arrived, Stopped, Steps, item_of as items_of, own_items, frame_count, frames_in, frame_of, Held, copy_of, held_by_body, held}
+use Rattle.cast_message.specs.OwnSteps.{own_live, own_copies, own_given, own_given_copies, own_taken, own_acked, own_knows, own_is_ready, own_next, own_concerned, own_turns, own_deliveries, own_log, own_outcome, own_decisions_of, message_in, messages_from, nothing, is_ignored, is_possible, is_possible_body, IsOwnAccepted}
 use Rattle.cast_message.proofs.Members.{Member-list_any, list_any-Member}
 use Rattle.cast_message.proofs.OwnGrowth.{brought, held-more, own_copies-more, own_given-more, own_taken-more, own_acked-more}
 use Rattle.cast_message.proofs.OwnFronts.{no_messages}
-use Rattle.cast_message.proofs.OwnTurns.{length-map}
 use Rattle.cast_relay.specs.Held.{Held as HeldPairs, holds, with_pair, numbers_of}
-use Rattle.cast_fifo.specs.Held.{Held as HeldBack, held_of}
-use Rattle.cast_fifo.proofs.Stands.{Stands as HoldsBack}
+use Rattle.cast_fifo.specs.Held.{held_of}
 use Rattle.cast_agree.specs.Proposals.{counted_of}
-use Rattle.cast_node.specs.Kept.{Kept, link_to, taken_from, knowers_of}
-use Rattle.cast_node.specs.Turns.{Told, told, ordered, unmoved, with_taken, with_acked, with_knower, own_taken_up, own_message, taken_up, carried, acknowledged, arrived_body}
+use Rattle.cast_node.specs.Kept.{Kept, link_to, taken_from}
+use Rattle.cast_node.specs.Turns.{told, ordered, unmoved, with_taken, with_acked, with_knower, own_taken_up, taken_up, carried, acknowledged}
 use Rattle.cast_message.specs.Shown.{item_of}
 use Rattle.cast_node.specs.Stands.{item_at, newest_first, StandsOut, Stands}
 use Rattle.cast_node.proofs.Places.{length-slice_set, at_set, same_number, other_number}
-use Rattle.cast_node.proofs.Links.{out_same, out_acked, out_acked_again, acked_given}
+use Rattle.cast_node.proofs.Links.{out_same, out_acked}
 use Rattle.cast_node.proofs.Tellers.{knows_more, told_by, untold, given_held}
-use Rattle.cast_node.proofs.Known.{KnowsAll, knows_same, ready_alike, same_pair, pair_more, pair_none}
+use Rattle.cast_node.proofs.Known.{knows_same, ready_alike, same_pair, pair_more, pair_none}
 use Rattle.cast_node.proofs.Back.{back_same}
 use Rattle.cast_node.proofs.Telling.{ToldRight, told_right}
 use Rattle.cast_node.proofs.Hearing.{Base, known_heard, new_heard}

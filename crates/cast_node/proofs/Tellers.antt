@@ -1,12 +1,9 @@
 -- Who is known to hold a pair after each step.
-use Rattle.std.proofs.Common.{◌≡◌, ◌≢◌, ℕ, zero, suc, ◌+◌, ◌-◌, ◌<◌, ◌≤◌, refl, sym, ◌∙◌, ap, subst, Bool, true, false, not, ◌&&◌, ◌||◌, cond, List, [], ◌∷◌, ◌++◌, length, map, Option, Some, None, inl, inr, ◌⊎◌, arith, length-append, true≢false}
-use Rattle.std.specs.Prelude.{◌==◌, nat_lt, nat_eq, slice_index_or, slice_set, replicate, is_some}
-use Rattle.std.specs.List.{filter, list_any}
-use Rattle.std.specs.Ordering.{nat_cmp, eq_by_cmp}
-use Rattle.std.specs.Cmp.{nat_cmp_total}
+use Rattle.std.proofs.Common.{◌≡◌, ◌≢◌, ℕ, suc, ◌-◌, ◌<◌, refl, sym, ◌∙◌, ap, subst, Bool, true, false, ◌&&◌, ◌||◌, cond, List, [], ◌∷◌, ◌++◌, length, map, inl, inr, ◌⊎◌, arith, length-append, true≢false}
+use Rattle.std.specs.Prelude.{◌==◌, slice_index_or, slice_set, replicate}
+use Rattle.std.specs.List.{list_any}
+use Rattle.std.specs.Ordering.{nat_cmp}
 use Rattle.std.specs.FinSet as set
-use Rattle.std.specs.FinSet.{contains-insert, contains-empty}
-use Rattle.std.proofs.lemmas.Bool.Decides.{nat_tests, leb_tells, eqb_tells}
 use Rattle.std.proofs.lemmas.Bool.{cases_eq, eqb-true, and_parts, false_from_ne_true, or_left, or_right}
 use Rattle.std.proofs.lemmas.List.Folds.{list_any-append}
 use Rattle.cast_message.specs.declared.config.Config.{Config}
@@ -14,19 +11,19 @@ use Rattle.cast_message.specs.declared.message.Message.{Message}
 use Rattle.cast_message.specs.declared.message.Frame.{Frame}
 use Rattle.cast_message.specs.declared.message.FrameBody.{FrameBody}
 use Rattle.cast_message.specs.declared.message.FrameBody.TheVariants.{Carry, Took}
-use Rattle.cast_message.specs.History.{FirstCopy, has_pair, copy_at}
-use Rattle.cast_message.specs.Delivery.{is_pair, tells_of}
-use Rattle.cast_message.specs.Steps.{Step, Ordered, Sent, Acknowledged, Arrived, Stopped, Steps, Held, copy_of, held_by_body, held, frames_in, frame_of}
+use Rattle.cast_message.specs.History.{has_pair, copy_at}
+use Rattle.cast_message.specs.Delivery.{tells_of}
+use Rattle.cast_message.specs.Steps.{Step, Ordered, Sent, Acknowledged, Arrived, Stopped, Steps, copy_of, held_by_body, held, frames_in, frame_of}
 use Rattle.cast_message.specs.OwnSteps.{own_copies, own_given, own_given_copies, own_knows, is_ignored, IsOwnAccepted}
 use Rattle.cast_message.proofs.Members.{Member, Member-append, Member-one, Member-list_any, Member-filter, Member-get_or, here, there}
-use Rattle.cast_message.proofs.Sound.{has_pair-Member, Member-has_pair}
+use Rattle.cast_message.proofs.Sound.{has_pair-Member}
 use Rattle.cast_message.proofs.RoundSpreads.{Member-map}
 use Rattle.cast_message.proofs.Dues.{Member-map_in}
-use Rattle.cast_message.proofs.OwnGrowth.{brought, own_copies-more, own_pair_kept, own_given-more, frames_in-more, frames_given, possible_given, GivenTo, tells_same}
+use Rattle.cast_message.proofs.OwnGrowth.{own_copies-more, own_pair_kept, frames_in-more, frames_given, possible_given, GivenTo, tells_same}
 use Rattle.cast_message.proofs.OwnTurns.{length-map}
 use Rattle.cast_node.specs.Kept.{knowers_in}
 use Rattle.cast_node.specs.Turns.{known_row}
-use Rattle.cast_node.proofs.Places.{same_number, other_number, length-slice_set, at_set, at_padded, length-replicated}
+use Rattle.cast_node.proofs.Places.{same_number, other_number, at_set, at_padded, length-replicated}
 
 module _ {A : Type 0} where
   pub any_alike : (f g : A → Bool) (xs : List A) → ((x : A) → Member x xs → f x ≡ g x) → list_any f xs ≡ list_any g xs

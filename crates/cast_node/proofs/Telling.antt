@@ -1,25 +1,23 @@
 -- Once something was heard of a pair: what is delivered and decided, and that the node stands for one step more.
-use Rattle.std.proofs.Common.{◌≡◌, ◌≢◌, ℕ, zero, suc, ◌+◌, ◌-◌, ◌<◌, ◌≤◌, refl, sym, ◌∙◌, ap, subst, Bool, true, false, cond, List, [], ◌∷◌, ◌++◌, length, map, Option, Some, None, inl, inr, arith}
-use Rattle.std.specs.Prelude.{◌==◌, slice_index_or, slice_set}
+use Rattle.std.proofs.Common.{◌≡◌, ◌≢◌, ℕ, suc, ◌-◌, ◌<◌, refl, sym, ◌∙◌, ap, subst, Bool, true, false, cond, List, [], ◌∷◌, ◌++◌, length, map, Some, inl, inr}
+use Rattle.std.specs.Prelude.{◌==◌, slice_index_or}
 use Rattle.std.specs.List.{filter}
-use Rattle.std.specs.Ordering.{nat_cmp}
 use Rattle.std.specs.FinSet as set
 use Rattle.std.proofs.lemmas.Bool.{cases_eq, eq-eqb, ne_eqb}
 use Rattle.std.proofs.lemmas.List.{append-nil, map-append}
 use Rattle.std.proofs.lemmas.List.Elements.{filter-append}
 use Rattle.cast_message.specs.declared.config.Config.{Config}
-use Rattle.cast_message.specs.declared.event.Outcome.{Outcome}
 use Rattle.cast_message.specs.declared.message.Item.{Item}
 use Rattle.cast_message.specs.declared.message.Message.{Message}
 use Rattle.cast_message.specs.History.{has_pair, numbered}
 use Rattle.cast_message.specs.Replies.{is_from}
 use Rattle.cast_message.specs.Steps.{Step, Steps, own_items, frame_count, held}
-use Rattle.cast_message.specs.OwnSteps.{own_live, own_copies, own_known_enough, own_is_ready, own_next, own_taken, own_concerned, own_turns, own_deliveries, own_log, own_outcome, own_decisions_of, messages_from, nothing, IsOwnAccepted}
+use Rattle.cast_message.specs.OwnSteps.{own_live, own_copies, own_known_enough, own_is_ready, own_next, own_taken, own_concerned, own_turns, own_deliveries, own_log, own_outcome, own_decisions_of, messages_from, IsOwnAccepted}
 use Rattle.cast_message.proofs.Members.{Member}
 use Rattle.cast_message.proofs.Fronts.{filter_all, filter_none}
 use Rattle.cast_message.proofs.OwnFronts.{messages_sender, no_messages}
 use Rattle.cast_relay.specs.Held.{holds}
-use Rattle.cast_fifo.specs.Held.{Held as HeldBack, held_of, nothing_held, known_items, known_after}
+use Rattle.cast_fifo.specs.Held.{held_of, nothing_held, known_items, known_after}
 use Rattle.cast_fifo.proofs.Stands.{Stands as HoldsBack, Turned}
 use Rattle.cast_agree.specs.Journal.{counted_all, decisions_all}
 use Rattle.cast_agree.specs.Proposals.{counted_of}

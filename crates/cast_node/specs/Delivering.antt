@@ -2,11 +2,12 @@
 --     Delivering                     who is known to hold each pair, what waits, and what was delivered and counted
 --     noted ds s i members           these are known to hold the pair
 --     let_go ds s i                  the messages whose turn has come by it are delivered
+--     BringsNothing mode faults held i members       no message has its turn by it
 --     told_in ds s i members         both: the second where they are enough
 --     outcome_in ds s i members      what is delivered and decided then
 --     waiting_in ds message          a message is kept back
 --     forgotten_in ds s i            what waits at a pair is taken back
-use Rattle.std.specs.Prelude.{ℕ, ◌-◌, List, [], replicate, slice_index_or, slice_set, ◌++◌, if◌then◌else◌}
+use Rattle.std.specs.Prelude.{◌≡◌, ℕ, true, ◌-◌, List, [], replicate, slice_index_or, slice_set, ◌++◌, if◌then◌else◌}
 use Rattle.std.specs.Ordering.{nat_cmp}
 use Rattle.std.specs.FinSet as set
 use Rattle.std.specs.FinMap as map
@@ -53,6 +54,10 @@ let_go ds s i = record ds {
   delivered = slice_set ds.delivered s (slice_index_or ds.delivered s [] ++ known_items (held_of ds.hold_back s) i);
   agree = counted_all ds.agree (news_in ds s i);
 }
+
+-- where these nodes are enough, a mark of the pair changes nothing of what is held of its sender
+abbrev pub BringsNothing : Mode → ℕ → HeldBack → ℕ → set.FinSet nat_cmp → Type 0
+BringsNothing mode faults held i members = is_enough_in mode faults members ≡ true → (known_items held i ≡ []) × (known_after held i ≡ held)
 
 abbrev pub told_in : Delivering → ℕ → ℕ → set.FinSet nat_cmp → Delivering
 told_in ds s i members = if is_enough_in ds.mode ds.faults members then let_go (noted ds s i members) s i else noted ds s i members

@@ -1,6 +1,6 @@
 //! What a node keeps of the pairs that it holds: which nodes are known to hold them too, what waits for its turn, and what was
 //! delivered and decided.
-ghost use Rattle.std.specs.Prelude.{◌≡◌, ◌≢◌, ◌+◌, ◌-◌, ◌<◌, ◌≤◌, ◌++◌, true, false, suc, length, slice_index_or, slice_set, vec_len, vec_capacity, slice_get, option_map, IfOk, OnOk, OnErr};
+ghost use Rattle.std.specs.Prelude.{◌≡◌, ◌≢◌, ◌+◌, ◌-◌, ◌<◌, ◌≤◌, ◌++◌, true, false, suc, length, slice_index_or, slice_set, vec_len, vec_capacity, slice_get, option_map, IsTrue, IsFalse, IfOk, OnOk, OnErr};
 ghost use Rattle.std.specs.List.{All};
 ghost use Rattle.std.specs.Map.{keys_of};
 ghost use Rattle.std.specs.FinSet as set;
@@ -11,7 +11,7 @@ ghost use Rattle.cast_agree.specs.Journal.{counted_all, decisions_all, restored}
 ghost use Rattle.cast_agree.specs.Counted.{decision};
 ghost use Rattle.cast_node.specs.Kept.{knowers_in, is_enough_in};
 ghost use Rattle.cast_node.specs.Turns.{known_row};
-ghost use Rattle.cast_node.specs.Delivering.{nothing_delivered, told_in, outcome_in, waiting_in, forgotten_in};
+ghost use Rattle.cast_node.specs.Delivering.{BringsNothing, nothing_delivered, told_in, outcome_in, waiting_in, forgotten_in};
 
 use cast_agree::{Agree, Counting};
 use cast_fifo::HoldBack;
@@ -121,7 +121,15 @@ impl Deliveries {
     {
         let place = usize::from(sender.0);
         make_place(&mut self.knowers[place], number)?;
-        if !is_enough(self.mode, self.faults, &members) {
+        let nothing = brings_nothing(
+            self.mode,
+            self.faults,
+            &self.hold_back,
+            sender,
+            number,
+            &members,
+        );
+        if nothing {
             note(&mut self.knowers[place], number, members);
             return Ok(no_news(self.alloc));
         }
@@ -161,7 +169,15 @@ impl Deliveries {
     {
         let place = usize::from(sender.0);
         make_place(&mut self.knowers[place], number)?;
-        if !is_enough(self.mode, self.faults, &members) {
+        let nothing = brings_nothing(
+            self.mode,
+            self.faults,
+            &self.hold_back,
+            sender,
+            number,
+            &members,
+        );
+        if nothing {
             link.take(slot)?;
             note(&mut self.knowers[place], number, members);
             return Ok(no_news(self.alloc));
@@ -261,6 +277,22 @@ fn is_enough(mode: Mode, faults: u64, members: &NodeSet) -> bool
         Mode::Basic => true,
         Mode::Uniform => members.len() > faults,
     }
+}
+
+// Whether nothing has its turn by a pair that these nodes hold: they are not enough, or it had its turn before.
+fn brings_nothing(
+    mode: Mode,
+    faults: u64,
+    hold_back: &HoldBack,
+    sender: NodeId,
+    number: u64,
+    members: &NodeSet,
+) -> bool
+    requires { sender < length hold_back.now }
+    ensures nothing { IsTrue result → BringsNothing mode faults (held_of hold_back.now sender) number members.now }
+    ensures enough { IsFalse result → is_enough_in mode faults members.now ≡ true }
+{
+    !is_enough(mode, faults, members) || hold_back.had_turn(sender, number)
 }
 
 /// Nothing is delivered or decided.

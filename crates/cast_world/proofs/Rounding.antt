@@ -136,8 +136,8 @@ module _ (config : Config) (past : History) where
             split = split;
             accepted = all_accepted config past whole whole_accepted;
             cause = stops_for (history_from config past whole) stop.event later refusal
-            (subst (λ h. (fault config h stop.event ≡ None) ⊎ (fault config h stop.event ≡ Some FramesFull)) (sym (history_from-with_all config past whole whole_accepted)) (plan_fault config past whole stop.event later split whole_accepted))
-            (subst (λ h. IsRefused (fault config h stop.event) refusal) now_is stop.refused);
+                (subst (λ h. (fault config h stop.event ≡ None) ⊎ (fault config h stop.event ≡ Some FramesFull)) (sym (history_from-with_all config past whole whole_accepted)) (plan_fault config past whole stop.event later split whole_accepted))
+                (subst (λ h. IsRefused (fault config h stop.event) refusal) now_is stop.refused);
             stands = subst (λ h. Stands config h new) now_is stop.stands;
           }
         where

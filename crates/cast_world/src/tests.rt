@@ -1,4 +1,6 @@
 //! The group as one value, by worked rows: runs, what is owed and due, crashes, and every refusal.
+mod rounds;
+
 use crate::{DueSlot, World, run_events};
 use bytes::Bytes;
 use cast_message::{Config, Event, Item, Mode, NodeId, Payload, Reply, StepFault};

@@ -1,9 +1,11 @@
 //! The plain and the fast core on one script, read from standard input: each event goes to both, and what they answer and
-//! what their readers show must be the same, as must what a round settles. A step of the fast core that is refused for
-//! want of memory is printed as such, must have left what its readers show, and is made once more.
+//! what their readers show must be the same, as must the plan of a round and what comes of it; two rounds must bring rest,
+//! with the same deliveries at all live nodes. A step of the fast core that is refused for want of memory is printed as such,
+//! must have left what its readers show, and is made once more.
 #![tactic(auto)]
 
 mod replies;
+mod rounds;
 mod shown;
 mod stepping;
 
@@ -24,8 +26,10 @@ fn main(rt: HostRuntime) -> Result<()> {
                 stepping::step(&rt, &mut plain, &mut fast, event)?;
             }
             ScriptEvent::Settle => {
-                if stepping::settle(&rt, &mut plain, &mut fast)? {
-                    stepping::settle(&rt, &mut plain, &mut fast)?;
+                if rounds::take_round(&mut plain, &mut fast)?
+                    && rounds::take_round(&mut plain, &mut fast)?
+                {
+                    rounds::check_rest(&script.config, &fast)?;
                 }
             }
         }

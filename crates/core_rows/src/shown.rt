@@ -2,10 +2,24 @@
 use cast_message::{Item, NodeId};
 
 /// The number past the last of the nodes that a group can have. Nodes that a group has not are asked for too.
-const MOST_NODES: u8 = 64;
+pub const MOST_NODES: u8 = 64;
 
 pub fn same_shown(plain: &cast_plain::World, fast: &cast_world::World) -> bool {
-    (0..MOST_NODES).all(|node| same_node(plain, fast, NodeId(node)))
+    is_at_rest(plain) == fast.at_rest()
+        && (0..MOST_NODES).all(|node| same_node(plain, fast, NodeId(node)))
+}
+
+// Whether no live node owes a live node, by the other readers.
+fn is_at_rest(plain: &cast_plain::World) -> bool {
+    (0..MOST_NODES).all(|from| (0..MOST_NODES).all(|to| is_settled(
+        plain,
+        NodeId(from),
+        NodeId(to),
+    )))
+}
+
+fn is_settled(plain: &cast_plain::World, from: NodeId, to: NodeId) -> bool {
+    !plain.live(from) || !plain.live(to) || matches!(plain.owed(from, to), None | Some(0))
 }
 
 fn same_node(plain: &cast_plain::World, fast: &cast_world::World, node: NodeId) -> bool {

@@ -1,4 +1,4 @@
-//! One event, and one round, taken by both cores.
+//! One event, taken by both cores.
 use crate::replies::same_reply;
 use crate::shown::same_shown;
 use anyhow::{Result, bail};
@@ -29,8 +29,8 @@ pub fn step(
     Ok(answered.is_ok())
 }
 
-// The plain core's own want of memory is no matter here: it is asked once more.
-fn step_plain(plain: &mut cast_plain::World, event: &Event) -> Reply {
+/// The reply of the plain core, whose own want of memory is no matter here: it is asked once more.
+pub fn step_plain(plain: &mut cast_plain::World, event: &Event) -> Reply {
     let reply = plain.step(event);
     if is_want_of_memory(&reply) {
         return plain.step(event);
@@ -40,31 +40,4 @@ fn step_plain(plain: &mut cast_plain::World, event: &Event) -> Reply {
 
 fn is_want_of_memory(reply: &Reply) -> bool {
     matches!(reply, Err(StepFault::Memory))
-}
-
-/// Takes a round on both, slot by slot on the fast core, and compares it with the plan of the plain core. Answers whether
-/// all of it was accepted.
-pub fn settle(
-    rt: &impl Print,
-    plain: &mut cast_plain::World,
-    fast: &mut cast_world::World,
-) -> Result<bool> {
-    let plan = plain.round_plan()?;
-    let due = fast.due()?;
-    let mut place = 0_usize;
-    for slot in due.as_slice() {
-        for event in fast.events_for(*slot).iter() {
-            if plan.as_slice().get(place) != Some(event) {
-                bail!("event {place} of a round is no event of the plan: {event:?}");
-            }
-            place = place.saturating_add(1);
-            if !step(rt, plain, fast, event)? {
-                return Ok(false);
-            }
-        }
-    }
-    if place != plan.as_slice().len() {
-        bail!("a round ends after {place} events of its plan");
-    }
-    Ok(true)
 }

@@ -8,7 +8,7 @@ use Rattle.cast_fifo.proofs.Came.{All-known_after}
 use Rattle.cast_node.specs.Delivering.{Delivering}
 use Rattle.cast_node.proofs.Parts.{on_err, rows-length}
 use Rattle.cast_node.proofs.Sound.{sound_set, sound_rows}
-use Rattle.cast_node.proofs.Tells.{row_same, both_same, noted_is, told_is}
+use Rattle.cast_node.proofs.Tells.{row_same, both_same, noted_is, none_is, told_is}
 use Rattle.cast_node.proofs.deliveries.Deliveries.tell.Goals as goal
 
 abbrev Row : Type 0
@@ -26,14 +26,14 @@ returns-in_err-make_place-clause-err c =
     let rows : c.from-place.result < length c.self.inside.knowers.items = omega (arith, at, within, c.self.invariant.rows, rows-length f c.self.inside.knowers.items) in
     on_err c.from_residual.result (row_same f g c.self.inside.mode c.self.inside.faults c.self.inside.knowers.items c.self.inside.hold_back c.self.inside.delivered.items c.self.inside.agree c.args.self.now c.self.view_is c.from-place.result c.args.sender at c.index_mut.result.now c.make_place.new.row rows c.index_mut.ensures.value c.make_place.ensures.same)
 
-pub returns-then-not-is_enough-clause-ok : goal.returns-then-not-is_enough-clause-ok
-returns-then-not-is_enough-clause-ok c =
+pub returns-then-nothing-clause-ok : goal.returns-then-nothing-clause-ok
+returns-then-nothing-clause-ok c =
     let f = λ (row : Row). row.items in
     let g = λ (items : Stream). items.items in
     let at = c.from-place.ensures ∙ c.sender.view_is in
     let within : c.args.sender < length c.self.inside.hold_back = omega (arith, c.requires.sender, ap (λ (ds : Delivering). length ds.hold_back) c.self.view_is) in
     let rows : c.from-place.result < length c.self.inside.knowers.items = omega (arith, at, within, c.self.invariant.rows, rows-length f c.self.inside.knowers.items) in
-    noted_is f g c.self.inside.mode c.self.inside.faults c.self.inside.knowers.items c.self.inside.hold_back c.self.inside.delivered.items c.self.inside.agree c.args.self.now c.self.view_is c.from-place.result c.args.sender at c.index_mut.result.now c.make_place.new.row c.index_mut-then-not-is_enough.result.now c.note.new.row c.args.number c.args.members rows c.index_mut.ensures.value c.make_place.ensures.same c.index_mut-then-not-is_enough.ensures.value c.note.ensures (sym c.is_enough.ensures ∙ c.if-not-is_enough.true)
+    noted_is f g c.self.inside.mode c.self.inside.faults c.self.inside.knowers.items c.self.inside.hold_back c.self.inside.delivered.items c.self.inside.agree c.args.self.now c.self.view_is c.from-place.result c.args.sender at c.index_mut.result.now c.make_place.new.row c.index_mut-then-nothing.result.now c.note.new.row c.args.number c.args.members rows c.index_mut.ensures.value c.make_place.ensures.same c.index_mut-then-nothing.ensures.value c.note.ensures (c.brings_nothing-nothing.ensures.nothing c.if-nothing.true)
 
 pub returns-in_err-ready-clause-err : goal.returns-in_err-ready-clause-err
 returns-in_err-ready-clause-err c =
@@ -66,4 +66,10 @@ returns-clause-ok c =
     let within : c.args.sender < length c.self.inside.hold_back = omega (arith, c.requires.sender, ap (λ (ds : Delivering). length ds.hold_back) c.self.view_is) in
     let rows : c.from-place.result < length c.self.inside.knowers.items = omega (arith, at, within, c.self.invariant.rows, rows-length f c.self.inside.knowers.items) in
     let streams : c.from-place.result < length c.self.inside.delivered.items = omega (arith, at, within, c.self.invariant.streams, rows-length g c.self.inside.delivered.items) in
-    told_is f g c.self.inside.mode c.self.inside.faults c.self.inside.knowers.items c.self.inside.hold_back c.self.inside.delivered.items c.self.inside.agree c.args.self.now c.self.view_is c.from-place.result c.args.sender at c.index_mut.result.now c.make_place.new.row c.index_mut-3.result.now c.note-2.new.row c.index_mut-2.result.now c.prepare.new.items c.index_mut-4.result.now c.release.new.items c.args.number c.args.members c.release.new.hold_back c.prepare.new.agree rows c.index_mut.ensures.value c.make_place.ensures.same c.index_mut-3.ensures.value c.note-2.ensures streams c.index_mut-2.ensures.value c.prepare.ensures.same c.index_mut-4.ensures.value c.release.ensures.items c.release.ensures.hold_back c.in_ok-ready.ensures.agree (sym c.is_enough.ensures ∙ c.if-not-is_enough.false)
+    told_is f g c.self.inside.mode c.self.inside.faults c.self.inside.knowers.items c.self.inside.hold_back c.self.inside.delivered.items c.self.inside.agree c.args.self.now c.self.view_is c.from-place.result c.args.sender at c.index_mut.result.now c.make_place.new.row c.index_mut-3.result.now c.note-2.new.row c.index_mut-2.result.now c.prepare.new.items c.index_mut-4.result.now c.release.new.items c.args.number c.args.members c.release.new.hold_back c.prepare.new.agree rows c.index_mut.ensures.value c.make_place.ensures.same c.index_mut-3.ensures.value c.note-2.ensures streams c.index_mut-2.ensures.value c.prepare.ensures.same c.index_mut-4.ensures.value c.release.ensures.items c.release.ensures.hold_back c.in_ok-ready.ensures.agree (c.brings_nothing-nothing.ensures.enough c.if-nothing.false)
+
+pub returns-then-nothing-clause-outcome : goal.returns-then-nothing-clause-outcome
+returns-then-nothing-clause-outcome c =
+    let f = λ (row : Row). row.items in
+    let g = λ (items : Stream). items.items in
+    c.no_news.ensures ∙ none_is f g c.self.inside.mode c.self.inside.faults c.self.inside.knowers.items c.self.inside.hold_back c.self.inside.delivered.items c.self.inside.agree c.args.self.now c.self.view_is c.from-place.result c.args.sender (c.from-place.ensures ∙ c.sender.view_is) c.args.number c.args.members (c.brings_nothing-nothing.ensures.nothing c.if-nothing.true)
