@@ -8,6 +8,8 @@ mod replies;
 mod rounds;
 mod shown;
 mod stepping;
+#[cfg(test)]
+mod tests;
 
 use anyhow::Result;
 use cast_script::{ScriptEvent, read_script};
