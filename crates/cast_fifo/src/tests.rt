@@ -108,3 +108,13 @@ fn closing() -> Message
         item: Item::Close,
     }
 }
+
+#[test]
+fn knows_what_had_its_turn(rt: HostRuntime) -> Result<(), Fail> {
+    let mut held = HoldBack::new(rt.alloc(), 1)?;
+    assert!(rt; !held.had_turn(NodeId(0), 0));
+    assert_eq!(rt; offer(&mut held, 0, 0, Item::Close)?, 1);
+    assert!(rt; held.had_turn(NodeId(0), 0));
+    assert!(rt; !held.had_turn(NodeId(0), 1));
+    Ok(())
+}
