@@ -1,5 +1,5 @@
 //! The ends of a node's client.
-ghost use Rattle.std.specs.Prelude.{◌≡◌, ◌<◌, ◌++◌, ◌∷◌, [], ℕ, IfOk, IfErr, IfNone, OnErr, MatchOption};
+ghost use Rattle.std.specs.Prelude.{◌≡◌, ◌<◌, ◌++◌, ◌∷◌, [], ℕ, length, IfOk, IfErr, IfNone, OnErr, MatchOption};
 ghost use Rattle.cast_box.specs.Lists.{HasTakenOfEnded};
 ghost use Rattle.cast_desk.specs.Desk.{ClientState, IsSameClient, IsRefusal, AreInTurn, next_ticket};
 
@@ -103,6 +103,14 @@ impl Client {
         ensures empty { IfNone result (HasTakenOfEnded self.old.tray.ended self.old.tray.taken) }
     {
         self.tray.take(rt)
+    }
+
+    /// How many orders the client has submitted.
+    pub fn submitted(&self) -> u64
+        ensures many { result ≡ length self.now.orders.put }
+        ensures turn { AreInTurn self.now.number self.now.first_ticket self.now.orders.put }
+    {
+        self.next_ticket - self.first_ticket
     }
 
     /// The ends, where the client ends.

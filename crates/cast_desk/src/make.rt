@@ -81,6 +81,7 @@ pub fn end_desk<R: Wait>(rt: &R, clients: Vec<Client>, desk: Desk) -> Gathered<O
     ensures orders { (c : ℕ) (client : ClientState) → slice_get clients.items c ≡ Some client → of c (desk.orders.taken ++ result.left) ≡ client.orders.put }
     ensures notices { (c : ℕ) (client : ClientState) (tray : PutterEnd Notice) → slice_get clients.items c ≡ Some client → slice_get desk.trays.items c ≡ Some tray
         → StartsWith tray.put (map (λ m. m.1) client.tray.taken) }
+    ensures fair { IsFair (map (λ c. c.orders.put) clients.items) desk.orders.taken result.left }
     ensures gathered { (result.taken ≡ desk.orders.taken) × (result.put ≡ map (λ c. c.orders.put) clients.items) }
 {
     let Desk { mut orders, trays } = desk;

@@ -13,7 +13,7 @@ use Rattle.cast_node.specs.Kept.{Kept, nothing_kept}
 use Rattle.cast_node.specs.Stands.{Stands as NodeStands}
 use Rattle.cast_node.proofs.Places.{at_replicate, length-replicated}
 use Rattle.cast_node.proofs.Beginning.{stands_for_nothing}
-use Rattle.cast_world.specs.Group.{State, node_at, frames_at, Stands}
+use Rattle.cast_world.specs.Group.{State, node_at, frames_at, kept_by, Stands}
 use Rattle.cast_world.specs.Moves.{IsSound}
 
 abbrev pub new_world : Config → State
@@ -36,13 +36,14 @@ module _ (config : Config) where
   }
 
   pub new_stands : Stands config [] (new_world config)
-  unfolding steps_of frames IsAccepted
+  unfolding steps_of frames IsAccepted kept_by
   new_stands = record {
     accepted = tt;
     same_config = refl;
     size = length-map-range_with_len (nothing_kept config) 0 config.nodes;
     rows = length-replicated config.nodes [];
     nodes = λ p l. subst (NodeStands config p []) (sym (new_node p l)) (stands_for_nothing config p l);
+    kept = new_node;
     made = λ p l. none_made p;
   }
 

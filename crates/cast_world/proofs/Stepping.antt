@@ -21,16 +21,17 @@ use Rattle.cast_message.proofs.OwnHeld.{steps_after}
 use Rattle.cast_message.proofs.OwnReplies.{own_fault-steps_of, own_frames-steps_of, frame_ends}
 use Rattle.cast_message.proofs.Possible.{node_reply-steps_of, node_after-steps_of}
 use Rattle.cast_node.specs.Kept.{nothing_kept}
+use Rattle.cast_node.specs.Turns.{kept_after}
 use Rattle.cast_node.specs.Stands.{Stands as NodeStands}
 use Rattle.cast_node.proofs.Places.{length-slice_set, at_set, same_number, other_number}
 use Rattle.cast_node.proofs.Refusals.{faults_are}
 use Rattle.cast_node.proofs.Continuing.{continues}
 use Rattle.cast_node.proofs.Showing.{carries, tells_taken}
-use Rattle.cast_world.specs.Group.{State, node_at, frames_at, Stands, Continues}
+use Rattle.cast_world.specs.Group.{State, node_at, frames_at, kept_by, Stands, Continues}
 use Rattle.cast_world.specs.Moves.{frames_after, Takes, Refuses, TakesStep, ArrivesBy, StepsTo}
 
 -- an event is no step of another node
-other_steps : (past : History) (p : ℕ) (event : Event) (step : Step) → IsStep past p event step → (q : ℕ) → q ≢ p → steps_of (event ∷ past) q ≡ steps_of past q
+pub other_steps : (past : History) (p : ℕ) (event : Event) (step : Step) → IsStep past p event step → (q : ℕ) → q ≢ p → steps_of (event ∷ past) q ≡ steps_of past q
 unfolding steps_of frame_arriving
 other_steps past p event step is q e = ap (λ more. more ++ steps_of past q) (none event step is)
   where
@@ -53,7 +54,7 @@ module _ (config : Config) (past : History) (world : State) (st : Stands config 
   module _ (p : ℕ) (event : Event) (step : Step) (is : IsStep past p event step) (made : List Frame)
       (made_is : p < config.nodes → own_fault config p (steps_of past p) step ≡ None → own_made p (steps_of past p) step ≡ made) where
     took : (answered : Answer) (new : State) → Takes world new p step made answered → Continues config past event (Ok answered) new
-    unfolding reply after own_frames IsAccepted
+    unfolding reply after own_frames IsAccepted kept_by
     took answered new t = (
       replied,
       record {
@@ -64,6 +65,10 @@ module _ (config : Config) (past : History) (world : State) (st : Stands config 
         nodes = λ q l. elim (cases_eq q p) [
           | inl e ↦ subst (λ x. NodeStands config x (steps_of (event ∷ past) x) (node_at new x)) (sym e) (subst (λ steps. NodeStands config p steps (node_at new p)) steps_are node.1)
           | inr e ↦ subst (NodeStands config q (steps_of (event ∷ past) q)) (sym (node_other q e)) (subst (λ steps. NodeStands config q steps (node_at world q)) (sym (other_steps past p event step is q e)) (st.nodes q l))
+        ];
+        kept = λ q l. elim (cases_eq q p) [
+          | inl e ↦ subst (λ x. node_at new x ≡ kept_by config x (steps_of (event ∷ past) x)) (sym e) (t.gives.2 ∙ ap (λ k. kept_after k step) (st.kept p p_in) ∙ sym (ap (kept_by config p) (steps_after past p event step is)))
+          | inr e ↦ node_other q e ∙ st.kept q l ∙ sym (ap (kept_by config q) (other_steps past p event step is q e))
         ];
         made = λ q l. ap (λ w. frames_at w q) t.moves ∙ row q l (cases_eq q p) ∙ own_frames-steps_of config (event ∷ past) accepted q;
       },

@@ -10,8 +10,9 @@ use Rattle.cast_message.specs.declared.event.StepFault.{StepFault}
 use Rattle.cast_message.specs.declared.message.Frame.{Frame}
 use Rattle.cast_message.specs.History.{History, frames}
 use Rattle.cast_message.specs.Replies.{IsAccepted, IsRefused, fault, reply}
-use Rattle.cast_message.specs.Steps.{steps_of}
+use Rattle.cast_message.specs.Steps.{Steps, steps_of}
 use Rattle.cast_node.specs.Kept.{Kept, nothing_kept}
+use Rattle.cast_node.specs.Turns.{kept_after}
 use Rattle.cast_node.specs.Stands.{Stands as NodeStands}
 
 pub record State : Type 0 where
@@ -26,6 +27,11 @@ node_at world p = slice_index_or world.nodes p (nothing_kept world.config 0)
 abbrev pub frames_at : State → ℕ → List Frame
 frames_at world p = slice_index_or world.frames p []
 
+-- what a node keeps after these steps
+unfoldable pub kept_by : Config → ℕ → Steps → Kept
+kept_by config me [] = nothing_kept config me
+kept_by config me (step ∷ steps) = kept_after (kept_by config me steps) step
+
 -- the world stands for this accepted history
 pub record Stands (config : Config) (past : History) (world : State) : Type 0 where
   pub accepted : IsAccepted config past
@@ -33,6 +39,7 @@ pub record Stands (config : Config) (past : History) (world : State) : Type 0 wh
   pub size : length world.nodes ≡ config.nodes
   pub rows : length world.frames ≡ config.nodes
   pub nodes : (p : ℕ) → p < config.nodes → NodeStands config p (steps_of past p) (node_at world p)
+  pub kept : (p : ℕ) → p < config.nodes → node_at world p ≡ kept_by config p (steps_of past p)
   pub made : (p : ℕ) → p < config.nodes → frames_at world p ≡ frames past p
 
 -- what a world stands for after a step

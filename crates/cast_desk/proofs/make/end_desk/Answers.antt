@@ -1,6 +1,6 @@
 use Rattle.std.proofs.Common.{◌≡◌, ◌∙◌, ◌∷◌, ◌++◌, [], List, ℕ, map, length, ap, sym, subst, rules}
 use Rattle.std.specs.Option.{option_to_list}
-use Rattle.cast_box.specs.Lists.{StartsWith}
+use Rattle.cast_box.specs.Lists.{StartsWith, IsFair}
 use Rattle.cast_box.specs.Ends.{PutterEnd, TakerEnd, AreAllEnds, IsNextToEnd}
 use Rattle.cast_desk.specs.declared.desk.OrderIn.{OrderIn}
 use Rattle.cast_desk.specs.declared.notice.Notice.{Notice}
@@ -53,6 +53,15 @@ pub returns-clause-notices : goal.returns-clause-notices
 returns-clause-notices g c =
     let done : length c.loop-client.client-iterator.rest.items ≡ 0 = search rules in
     all_took c.args.clients.items c.args.desk.orders c.args.desk.trays.items c.requires c.loop-client.yielded _ _ c.loop-client.orders c.loop-client.invariant.2 done
+
+pub returns-clause-fair : goal.returns-clause-fair
+returns-clause-fair g c =
+    let done : length c.loop-client.client-iterator.rest.items ≡ 0 = search rules in
+    let b = c.gather in
+    let t = b.ensures.taken ∙ same_taken c.args.clients.items c.args.desk.orders c.args.desk.trays.items c.requires c.loop-client.yielded _ _ c.loop-client.orders c.loop-client.invariant.2 done in
+    let p = b.ensures.put ∙ put_all c.args.clients.items c.args.desk.orders c.args.desk.trays.items c.requires c.loop-client.yielded _ _ c.loop-client.orders c.loop-client.invariant.2 done in
+    let P : List (List OrderIn) → List (ℕ × OrderIn) → Type 0 = λ l t. IsFair l t b.result.left in
+    subst (P _) t (subst (λ l. P l b.result.taken) p b.ensures.fair)
 
 pub returns-clause-gathered : goal.returns-clause-gathered
 returns-clause-gathered g c =
