@@ -10,6 +10,9 @@ use std::alloc::{AllocError, Global};
 /// The most bytes of a line that is not whole yet. The longest line of the grammar has 2,084.
 const LONGEST_LINE: usize = 4_096;
 
+/// All pieces together have fewer bytes.
+const MOST_BYTES: u64 = 1 << 63;
+
 /// Whether the judge goes on.
 #[derive(Clone, Copy, Debug)]
 enum State {
@@ -89,6 +92,13 @@ impl Judging {
             State::Offended { .. } => Ok(()),
             State::Refused => Err(AllocError),
         }
+    }
+
+    /// How many bytes may still be fed, and one more.
+    pub fn room(&self) -> u64
+        ensures { result + self.now.fed ≡ 2 ^ 63 }
+    {
+        MOST_BYTES - self.fed
     }
 
     /// The verdict on all pieces joined. It takes no memory, and answers want of memory only where a piece was refused.

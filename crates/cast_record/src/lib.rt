@@ -24,7 +24,9 @@ pub use meter::{Failed, Meter};
 pub use migration::{MigrateFault, migrate};
 pub use reading::read_line;
 pub use verdict::{Verdict, write_verdict};
-pub use writing::{WriteFault, write_bytes, write_line, write_record};
+pub use writing::{
+    WriteFault, mode_name, write_bytes, write_hex, write_line, write_number, write_record,
+};
 
 #[cfg(test)]
 mod tests;

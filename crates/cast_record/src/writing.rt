@@ -132,7 +132,8 @@ fn write_word<W: Write>(word: &Word<'_>, writer: &mut Meter<W>) -> Result<(), Wr
     }
 }
 
-fn mode_name(mode: Mode) -> &'static [u8]
+/// The word of a mode.
+pub fn mode_name(mode: Mode) -> &'static [u8]
     ensures { result.now ≡ mode_word mode }
 {
     match mode {
@@ -160,16 +161,16 @@ fn write_item<W: Write>(item: &Item, writer: &mut Meter<W>) -> Result<(), WriteF
     }
 }
 
-// Writes the number in decimal digits.
-fn write_number<W: Write>(number: u64, writer: &mut Meter<W>) -> Result<(), WriteFault>
+/// Writes the number in decimal digits. It takes no memory; a refusal comes as in `write_bytes`.
+pub fn write_number<W: Write>(number: u64, writer: &mut Meter<W>) -> Result<(), WriteFault>
     requires { writer.old.failed ≡ false }
     ensures { Writes (W.contents writer.old.inner) (W.contents writer.new.inner) writer.new.failed result (decimal number) }
 {
     write_bytes(Digits::new(number).as_slice(), writer)
 }
 
-// Writes each byte as two digits, so many bytes at a time.
-fn write_hex<W: Write>(bytes: &[u8], writer: &mut Meter<W>) -> Result<(), WriteFault>
+/// Writes each byte as two digits. It takes no memory; a refusal comes as in `write_bytes`.
+pub fn write_hex<W: Write>(bytes: &[u8], writer: &mut Meter<W>) -> Result<(), WriteFault>
     requires { writer.old.failed ≡ false }
     ensures { Writes (W.contents writer.old.inner) (W.contents writer.new.inner) writer.new.failed result (hex bytes.now) }
 {

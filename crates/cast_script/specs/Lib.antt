@@ -5,6 +5,9 @@ pub mod Places
 pub mod Element
 pub mod Members
 pub mod Script
+pub mod Replay
+pub mod Cells
+pub mod ReplayRanges
 pub use Rattle.cast_message.specs.Limits
 pub use Rattle.serde_json.specs.Read
 pub use Rattle.serde_json.specs.Data

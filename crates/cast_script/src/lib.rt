@@ -8,11 +8,15 @@ mod fault;
 mod hex;
 mod item;
 mod job;
+mod law;
 mod members;
 mod reading;
+mod replay;
 mod script;
 
+pub use law::is_read_back;
 pub use reading::read_script;
+pub use replay::write_script;
 pub use script::{Fault, FaultPlan, FrameKind, Script, ScriptEvent, ScriptFault};
 
 #[cfg(test)]

@@ -1,7 +1,8 @@
 //! Texts that are scripts, and texts that are none.
-use crate::{Fault, FrameKind, ScriptEvent, ScriptFault, read_script};
+use crate::{Fault, FrameKind, ScriptEvent, ScriptFault, is_read_back, read_script, write_script};
 use bytes::Bytes;
 use cast_message::{ConfigFault, Event, Item, Mode, NodeId, Payload};
+use cast_record::Meter;
 use std::alloc::{AllocError, Global};
 use std::test::Fail;
 
@@ -258,5 +259,91 @@ fn reads_every_job(rt: HostRuntime) -> Result<(), Fail> {
     assert_eq!(rt; jobs[0].1.as_slice(), wanted.as_slice());
     assert_eq!(rt; jobs[1].0, NodeId(0));
     assert!(rt; jobs[1].1.as_slice().is_empty());
+    Ok(())
+}
+
+const REPLAY: &str =
+    "{\"nodes\":5,\"faults\":2,\"choices\":3,\"item_limit\":10,\"log_limit\":20,\"box_size\":30,\"first_stamp\":18446744073709551615,\"mode\":\"uniform\",\"events\":[\n[\"order\",0,\"data\",\"00ff\"],\n[\"order\",255,\"propose\",7,18446744073709551615],\n[\"order\",1,\"close\"],\n[\"send\",1,255,7],\n[\"ack\",1,0,18446744073709551615],\n[\"arrive\",2,3],\n[\"crash\",4]\n]}";
+
+fn every_core_event(alloc: Global) -> Result<[Event; 7], AllocError> {
+    let item = data(alloc, &[0, 255])?;
+    Ok([
+        Event::Order {
+            node: NodeId(0),
+            item,
+        },
+        Event::Order {
+            node: NodeId(255),
+            item: Item::Propose {
+                instance: 7,
+                value: u64::MAX,
+            },
+        },
+        Event::Order {
+            node: NodeId(1),
+            item: Item::Close,
+        },
+        Event::Send {
+            from: NodeId(1),
+            to: NodeId(255),
+            slot: 7,
+        },
+        Event::Ack {
+            from: NodeId(1),
+            to: NodeId(0),
+            slot: u64::MAX,
+        },
+        Event::Arrive {
+            from: NodeId(2),
+            seq: 3,
+        },
+        Event::Crash { node: NodeId(4) },
+    ])
+}
+
+#[test]
+fn writes_every_event(rt: HostRuntime) -> Result<(), Fail> {
+    let script = read_script(rt.alloc(), EVERYTHING.as_bytes())?;
+    let events = every_core_event(rt.alloc())?;
+    let mut writer = Meter::new(Vec::new(rt.alloc()));
+    write_script(&script.config, &events, &mut writer)?;
+    assert_eq!(rt; writer.into_inner().as_slice(), REPLAY.as_bytes());
+    Ok(())
+}
+
+#[test]
+fn reads_what_it_wrote(rt: HostRuntime) -> Result<(), Fail> {
+    let script = read_script(rt.alloc(), REPLAY.as_bytes())?;
+    let events = every_core_event(rt.alloc())?;
+    is_read_back(&script.config, &events);
+    let read = script.events.as_slice();
+    assert_eq!(rt; read.len(), events.len());
+    for (one, other) in read.iter().zip(events.iter()) {
+        match one {
+            ScriptEvent::Core(event) => assert_eq!(rt; event, other),
+            ScriptEvent::Settle => panic!(rt; "a settle"),
+        }
+    }
+    assert_eq!(rt; script.config.first_stamp(), u64::MAX);
+    assert_eq!(rt; script.config.mode(), Mode::Uniform);
+    assert_eq!(rt; script.turns, 4_000_000);
+    Ok(())
+}
+
+#[test]
+fn writes_a_script_with_no_events(rt: HostRuntime) -> Result<(), Fail> {
+    let script = read_script(rt.alloc(), NOTHING.as_bytes())?;
+    let mut writer = Meter::new(Vec::new(rt.alloc()));
+    write_script(&script.config, &[], &mut writer)?;
+    let wanted =
+        "{\"nodes\":2,\"faults\":0,\"choices\":1,\"item_limit\":4096,\"log_limit\":65536,\"box_size\":64,\"first_stamp\":0,\"mode\":\"basic\",\"events\":[\n]}";
+    let text = writer.into_inner();
+    assert_eq!(rt; text.as_slice(), wanted.as_bytes());
+    assert!(rt;
+        read_script(rt.alloc(), text.as_slice())?
+            .events
+            .as_slice()
+            .is_empty()
+    );
     Ok(())
 }

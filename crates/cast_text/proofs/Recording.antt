@@ -54,6 +54,7 @@ going_breaks new g piece rest (faults.Script why) going breaks = absurd breaks
 going_breaks new g piece rest faults.Write going breaks = (breaks.0, front_in rest going breaks.1)
 going_breaks new g piece rest faults.Memory going breaks = (breaks.0, front_in rest going breaks.1)
 going_breaks new g piece rest faults.NotV1 going breaks = absurd breaks
+going_breaks new g piece rest (faults.Live why) going breaks = absurd breaks
 
 pub record_text-append : (xs ys : List Line) → record_text (xs ++ ys) ≡ record_text xs ++ record_text ys
 record_text-append xs ys = flat_map-append (λ line. line_text line ++ 10 ∷ []) xs ys

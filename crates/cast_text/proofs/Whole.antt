@@ -29,3 +29,4 @@ text_fails input old new read_failed failed script (Err (faults.Script why)) rea
 text_fails input old new read_failed failed script (Err faults.Write) read breaks = record { script = script; read = read; breaks = breaks }
 text_fails input old new read_failed failed script (Err faults.Memory) read breaks = inr (record { script = script; read = read; breaks = breaks })
 text_fails input old new read_failed failed script (Err faults.NotV1) read breaks = absurd breaks
+text_fails input old new read_failed failed script (Err (faults.Live why)) read breaks = absurd breaks

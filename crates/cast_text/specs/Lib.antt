@@ -4,3 +4,5 @@ pub mod Recorded
 pub mod Judging
 pub mod Migrating
 pub mod Ranges
+pub mod Replayed
+pub mod Live

@@ -31,3 +31,4 @@ MigratingFails input read_failed old new failed faults.NotV1 = IfSome input (λ 
 MigratingFails input read_failed old new failed faults.Write = MigratedBreaksOff input old new failed
 MigratingFails input read_failed old new failed faults.Memory = Keeps old new
 MigratingFails input read_failed old new failed (faults.Script fault) = ⊥
+MigratingFails input read_failed old new failed (faults.Live fault) = ⊥

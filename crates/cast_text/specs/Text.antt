@@ -44,6 +44,14 @@ pub record RecordBreaksOff (broken : TextFault) (input old new : Option (List �
   pub read : IsScriptIn input script
   pub breaks : BreaksOff broken old new failed (record_text (record_of script))
 
+-- the faults of reading a script, each with its cause
+abbrev pub IsOfScript : Option (List ℕ) → Bool → TextFault → Type 0
+IsOfScript input read_failed faults.Read = read_failed ≡ true
+IsOfScript input read_failed faults.TooLong = IfSome input (λ bytes. input_limit < length bytes)
+IsOfScript input read_failed (faults.Script fault) = IfSome input (λ bytes. (length bytes ≤ input_limit) × Reads (Err fault) bytes)
+IsOfScript input read_failed faults.Memory = Unit {0}
+IsOfScript input read_failed fault = ⊥
+
 -- Each fault has its cause, and nothing was written but where the record broke off.
 abbrev pub Fails : Option (List ℕ) → Bool → Option (List ℕ) → Option (List ℕ) → Bool → TextFault → Type 0
 Fails input read_failed old new failed faults.Read = (read_failed ≡ true) × Keeps old new
@@ -52,6 +60,7 @@ Fails input read_failed old new failed (faults.Script fault) = IfSome input (λ 
 Fails input read_failed old new failed faults.Write = RecordBreaksOff faults.Write input old new failed
 Fails input read_failed old new failed faults.Memory = Keeps old new ⊎ RecordBreaksOff faults.Memory input old new failed
 Fails input read_failed old new failed faults.NotV1 = ⊥
+Fails input read_failed old new failed (faults.Live fault) = ⊥
 
 -- the faults of reading alone
 abbrev pub IsOfReading : TextFault → Type 0
@@ -61,3 +70,4 @@ IsOfReading (faults.Script fault) = ⊥
 IsOfReading faults.Write = ⊥
 IsOfReading faults.Memory = Unit {0}
 IsOfReading faults.NotV1 = ⊥
+IsOfReading (faults.Live fault) = ⊥

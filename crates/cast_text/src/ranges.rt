@@ -26,7 +26,8 @@ fn tell_script_range(event: &ScriptEvent)
     }
 }
 
-fn tell_event_range(event: &Event)
+/// The same of one event of the group.
+pub fn tell_event_range(event: &Event)
     ensures { HasEventRange event.now }
 {
     match event {

@@ -34,7 +34,7 @@ pub fn write_script_record<W: Write>(
     put_line(&Line::End, writer)
 }
 
-fn put_head<W: Write>(config: &Config, writer: &mut Meter<W>) -> Result<(), TextFault>
+pub fn put_head<W: Write>(config: &Config, writer: &mut Meter<W>) -> Result<(), TextFault>
     requires { writer.old.failed ≡ false }
     ensures { Writes (W.contents writer.old.inner) (W.contents writer.new.inner) writer.new.failed result (line_text (head_of config.now) ++ 10 ∷ []) }
 {
@@ -42,7 +42,7 @@ fn put_head<W: Write>(config: &Config, writer: &mut Meter<W>) -> Result<(), Text
     put_line(&head, writer)
 }
 
-fn put_line<W: Write>(line: &Line, writer: &mut Meter<W>) -> Result<(), TextFault>
+pub fn put_line<W: Write>(line: &Line, writer: &mut Meter<W>) -> Result<(), TextFault>
     requires { writer.old.failed ≡ false }
     ensures { Writes (W.contents writer.old.inner) (W.contents writer.new.inner) writer.new.failed result (line_text line.now ++ 10 ∷ []) }
 {

@@ -1,12 +1,13 @@
 //! From bytes to bytes.
-ghost use Rattle.std.specs.Prelude.{◌≡◌, false, IfErr, OnOk};
-ghost use Rattle.cast_text.specs.Text.{Fails, WritesRecord};
+ghost use Rattle.std.specs.Prelude.{◌≡◌, false, IfOk, IfErr, OnOk};
+ghost use Rattle.cast_text.specs.Text.{Fails, IsOfScript, IsScriptIn, WritesRecord};
 
 use crate::input::read_input;
 use crate::ranges::tell_ranges;
 use crate::record::write_script_record;
 use cast_record::{Meter, WriteFault};
-use cast_script::{ScriptFault, read_script};
+use cast_run::LiveFault;
+use cast_script::{Script, ScriptFault, read_script};
 use std::alloc::{AllocError, Global};
 use std::io::{Read, Write};
 use thiserror::Error;
@@ -23,6 +24,9 @@ pub enum TextFault {
     /// The input is no script. Want of memory while it is read is `Memory`.
     #[error("the input is no script: {0}")]
     Script(ScriptFault),
+    /// The group of the script does not run. Want of memory while it runs is `Memory`.
+    #[error("the group does not run: {0}")]
+    Live(LiveFault),
     /// The writer failed, or took no byte.
     #[error("the output could not be written")]
     Write,
@@ -69,12 +73,24 @@ pub fn run_text<R: Read, W: Write>(
     ensures ok { OnOk result (WritesRecord (R.remaining reader.old.inner) (W.contents writer.old.inner) (W.contents writer.new.inner)) }
     ensures err { IfErr result (Fails (R.remaining reader.old.inner) reader.new.failed (W.contents writer.old.inner) (W.contents writer.new.inner) writer.new.failed) }
 {
-    let input = read_input(alloc, reader)?;
-    let script = match read_script(alloc, input.as_slice()) {
-        Ok(script) => script,
-        Err(ScriptFault::Memory) => return Err(TextFault::Memory),
-        Err(fault) => return Err(TextFault::Script(fault)),
-    };
+    let script = read_script_text(alloc, reader)?;
     tell_ranges(script.events.as_slice());
     write_script_record(alloc, &script, writer)
+}
+
+/// The script that is all the reader has left.
+pub fn read_script_text<R: Read>(
+    alloc: Global,
+    reader: &mut Meter<R>,
+) -> Result<Script, TextFault>
+    requires { reader.old.failed ≡ false }
+    ensures ok { IfOk result (IsScriptIn (R.remaining reader.old.inner)) }
+    ensures err { IfErr result (IsOfScript (R.remaining reader.old.inner) reader.new.failed) }
+{
+    let input = read_input(alloc, reader)?;
+    match read_script(alloc, input.as_slice()) {
+        Ok(script) => Ok(script),
+        Err(ScriptFault::Memory) => Err(TextFault::Memory),
+        Err(fault) => Err(TextFault::Script(fault)),
+    }
 }

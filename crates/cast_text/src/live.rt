@@ -1,0 +1,115 @@
+//! Running the group of a script in threads, and telling what became of it.
+ghost use Rattle.std.specs.Prelude.{◌≡◌, ◌++◌, ◌∷◌, [], false, IfOk, IfErr, OnOk};
+ghost use Rattle.cast_run.specs.Jobs.{told_job};
+ghost use Rattle.cast_text.specs.Live.{IsFinished, IsNewJob, AreNewJobs, IsOfRunning, WritesSummary, LiveFails};
+
+use crate::summary::{Summary, summarize, write_summary};
+use crate::text::{TextFault, read_script_text};
+use cast_merge::{Assembly, GroupReport, assemble};
+use cast_message::{Item, List, NodeId};
+use cast_record::Meter;
+use cast_run::{LiveFault, LiveRun, OpenGate, SubmitAll, run_live};
+use cast_script::Script;
+use std::alloc::{AllocError, Global};
+use std::io::{Read, Write};
+use std::sync::Wait;
+use std::thread::Threads;
+
+/// What came back of a group that ran in threads, and its logs merged and taken by the group as one value.
+#[derive(Drop)]
+pub struct FinishedRun {
+    pub report: GroupReport,
+    pub assembly: Assembly,
+}
+
+/// Reads a script to its end, runs its group in threads, with its plan and a client for each of its jobs, and writes the
+/// summary of the run. The events of the script are left aside. Nothing is written before all threads have ended: after
+/// `Write` a front of the summary stands, or nothing, after any other fault nothing.
+pub fn live_text<R: Read, W: Write, T: Threads + Wait + Copy + Send + 'static>(
+    rt: T,
+    alloc: Global,
+    reader: &mut Meter<R>,
+    writer: &mut Meter<W>,
+) -> Result<Summary, TextFault>
+    requires reader { reader.old.failed ≡ false }
+    requires writer { writer.old.failed ≡ false }
+    // The summary is that of a run of the script that was read, and the writer has its text and nothing else.
+    ensures ok { IfOk result (WritesSummary (R.remaining reader.old.inner) (W.contents writer.old.inner) (W.contents writer.new.inner)) }
+    ensures err { IfErr result (LiveFails (R.remaining reader.old.inner) reader.new.failed (W.contents writer.old.inner) (W.contents writer.new.inner) writer.new.failed) }
+{
+    let script = read_script_text(alloc, reader)?;
+    let run = run_script(rt, alloc, script)?;
+    let summary = summarize(alloc, &run)?;
+    write_summary(&run, summary, writer)?;
+    Ok(summary)
+}
+
+/// Runs the group of a script in threads, with its plan and a client for each of its jobs, and merges its logs. The events of
+/// the script are left aside. All threads have ended when it returns.
+pub fn run_script<T: Threads + Wait + Copy + Send + 'static>(
+    rt: T,
+    alloc: Global,
+    script: Script,
+) -> Result<FinishedRun, TextFault>
+    ensures config { IfOk result (λ run. run.report.config ≡ script.config) }
+    ensures ok { IfOk result IsFinished }
+    ensures err { IfErr result (IsOfRunning script) }
+{
+    let Script {
+        config,
+        turns,
+        plan,
+        jobs,
+        ..
+    } = script;
+    let gates = open_gates(alloc, config.nodes())?;
+    let jobs = submit_all(alloc, jobs)?;
+    match run_live(rt, alloc, config, &plan, jobs, gates, turns) {
+        Ok(LiveRun { report, .. }) => Ok(merge_logs(alloc, report)?),
+        Err(LiveFault::Memory) => Err(TextFault::Memory),
+        Err(fault) => Err(TextFault::Live(fault)),
+    }
+}
+
+fn merge_logs(alloc: Global, report: GroupReport) -> Result<FinishedRun, AllocError>
+    ensures config { IfOk result (λ run. run.report.config ≡ report.config) }
+    ensures ok { IfOk result IsFinished }
+{
+    let assembly = assemble(alloc, &report)?;
+    let _linked = report.reports();
+    Ok(FinishedRun { report, assembly })
+}
+
+// An open gate for each node.
+fn open_gates(alloc: Global, nodes: u64) -> Result<Vec<OpenGate>, AllocError> {
+    let mut gates = Vec::new(alloc);
+    for _node in 0..nodes {
+        gates.push(OpenGate)?;
+    }
+    Ok(gates)
+}
+
+// For each job of the script the one that submits its items.
+fn submit_all(
+    alloc: Global,
+    jobs: List<(NodeId, List<Item>)>,
+) -> Result<Vec<(NodeId, SubmitAll)>, AllocError>
+    ensures { IfOk result (λ all. AreNewJobs all.items) }
+{
+    let mut all = Vec::new(alloc);
+    for (node, items) in jobs.into_vec() {
+        add_job(&mut all, node, items)?;
+    }
+    Ok(all)
+}
+
+fn add_job(
+    all: &mut Vec<(NodeId, SubmitAll)>,
+    node: NodeId,
+    items: List<Item>,
+) -> Result<(), AllocError>
+    ensures { OnOk result ((job : SubmitAll) × IsNewJob job × (all.new.items ≡ all.old.items ++ told_job node job ∷ [])) }
+{
+    all.push((node, SubmitAll::new(items)))?;
+    Ok(())
+}
