@@ -1,15 +1,20 @@
 //! Running the group of a script in threads, and telling what became of it.
 ghost use Rattle.std.specs.Prelude.{◌≡◌, ◌++◌, ◌∷◌, [], false, IfOk, IfErr, OnOk};
+ghost use Rattle.cast_record.specs.Text.{record_text};
 ghost use Rattle.cast_run.specs.Jobs.{told_job};
+ghost use Rattle.cast_script.specs.Replay.{script_text};
 ghost use Rattle.cast_text.specs.Live.{IsFinished, IsNewJob, AreNewJobs, IsOfRunning, WritesSummary, LiveFails};
+ghost use Rattle.cast_text.specs.Recorded.{Writes};
+ghost use Rattle.cast_text.specs.Replayed.{record_of_accepted, RecordsReplay};
 
+use crate::replay::{is_replayed, write_run_record};
 use crate::summary::{Summary, summarize, write_summary};
 use crate::text::{TextFault, read_script_text};
 use cast_merge::{Assembly, GroupReport, assemble};
 use cast_message::{Item, List, NodeId};
 use cast_record::Meter;
 use cast_run::{LiveFault, LiveRun, OpenGate, SubmitAll, run_live};
-use cast_script::Script;
+use cast_script::{Script, write_script};
 use std::alloc::{AllocError, Global};
 use std::io::{Read, Write};
 use std::sync::Wait;
@@ -78,6 +83,45 @@ fn merge_logs(alloc: Global, report: GroupReport) -> Result<FinishedRun, AllocEr
     let assembly = assemble(alloc, &report)?;
     let _linked = report.reports();
     Ok(FinishedRun { report, assembly })
+}
+
+/// Writes the record of what happened in the run: of the merged events, and the replies to them. After a fault a front of it
+/// was written, or nothing.
+pub fn write_record_of<W: Write>(
+    alloc: Global,
+    run: &FinishedRun,
+    writer: &mut Meter<W>,
+) -> Result<(), TextFault>
+    requires run { IsFinished run.now }
+    requires writer { writer.old.failed ≡ false }
+    ensures { Writes (W.contents writer.old.inner) (W.contents writer.new.inner) writer.new.failed result (record_text (record_of_accepted run.now.report.config run.now.assembly.events)) }
+{
+    write_run_record(
+        alloc,
+        run.report.config(),
+        run.assembly.events.as_slice(),
+        run.assembly.replies.as_slice(),
+        writer,
+    )
+}
+
+/// Writes the script that says what happened in the run: its configuration, and the merged events. It takes no memory. After
+/// a fault a front of it was written, or nothing.
+pub fn write_replay_of<W: Write>(
+    run: &FinishedRun,
+    writer: &mut Meter<W>,
+) -> Result<(), TextFault>
+    requires run { IsFinished run.now }
+    requires writer { writer.old.failed ≡ false }
+    ensures text { Writes (W.contents writer.old.inner) (W.contents writer.new.inner) writer.new.failed result (script_text run.now.report.config run.now.assembly.events) }
+    // Running that script writes the record of the run, and no line of it is a refusal.
+    ensures law { RecordsReplay run.now.report.config run.now.assembly.events }
+{
+    let config = run.report.config();
+    let events = run.assembly.events.as_slice();
+    is_replayed(config, events);
+    write_script(config, events, writer)?;
+    Ok(())
 }
 
 // An open gate for each node.

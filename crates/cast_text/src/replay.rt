@@ -1,21 +1,18 @@
 //! The record of a run whose events and replies are at hand, and that of the script which says what happened in it.
-ghost use Rattle.std.specs.Prelude.{◌≡◌, ◌^◌, ◌<◌, false, length, OnOk};
+ghost use Rattle.std.specs.Prelude.{◌≡◌, ◌^◌, ◌<◌, false, length};
 ghost use Rattle.std.specs.List.{All};
-ghost use Rattle.std.specs.Io.KnownBytes.{Appends};
-ghost use Rattle.cast_message.specs.Replies.{replies};
 ghost use Rattle.cast_record.specs.Lines.{lines_for};
 ghost use Rattle.cast_record.specs.Text.{record_text};
-ghost use Rattle.cast_script.specs.Replay.{script_text};
 ghost use Rattle.cast_text.specs.Ranges.{HasEventRange};
 ghost use Rattle.cast_text.specs.Recorded.{Writes};
-ghost use Rattle.cast_text.specs.Replayed.{run_record, record_of_accepted, RecordsReplay};
+ghost use Rattle.cast_text.specs.Replayed.{run_record, RecordsReplay};
 
 use crate::ranges::tell_event_range;
 use crate::record::{put_head, put_line};
 use crate::text::TextFault;
 use cast_message::{Config, Event, Reply};
 use cast_record::{Line, Meter, lines_of, write_record};
-use cast_script::{is_read_back, write_script};
+use cast_script::is_read_back;
 use std::alloc::Global;
 use std::io::Write;
 
@@ -57,30 +54,6 @@ pub fn write_run_record<W: Write>(
         put_lines(alloc, index as u64, event, &replies[index], writer)?;
     }
     put_line(&Line::End, writer)
-}
-
-/// Writes the record of a run, whose events got these replies, and the script that says what happened in it. After `Ok` the
-/// one writer has that record and the other that script, and nothing else.
-pub fn write_run<S: Write, W: Write>(
-    alloc: Global,
-    config: &Config,
-    events: &[Event],
-    results: &[Reply],
-    replayer: &mut Meter<S>,
-    writer: &mut Meter<W>,
-) -> Result<(), TextFault>
-    requires replayer { replayer.old.failed ≡ false }
-    requires writer { writer.old.failed ≡ false }
-    requires replies { results.now ≡ replies config.now events.now }
-    ensures script { OnOk result (Appends (S.contents replayer.old.inner) (S.contents replayer.new.inner) (script_text config.now events.now)) }
-    ensures told { OnOk result (Appends (W.contents writer.old.inner) (W.contents writer.new.inner) (record_text (record_of_accepted config.now events.now))) }
-    // Running that script writes that record.
-    ensures law { RecordsReplay config.now events.now }
-{
-    is_replayed(config, events);
-    write_run_record(alloc, config, events, results, writer)?;
-    write_script(config, events, replayer)?;
-    Ok(())
 }
 
 fn put_lines<W: Write>(

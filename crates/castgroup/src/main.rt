@@ -1,15 +1,25 @@
 //! The program `castgroup`: the command line, files and exit statuses over the library `cast_text`.
 #![tactic(auto)]
 
+ghost use Rattle.std.specs.Prelude.{◌≡◌, IfOk};
+ghost use Rattle.cast_text.specs.Live.{IsFinished};
+
 use cast_record::Meter;
+use cast_run::LiveFault;
 use cast_script::ScriptFault;
-use cast_text::{TextFault, Verdict, judge_text, migrate_text, run_text};
+use cast_text::{
+    Counted, FinishedRun, INPUT_LIMIT, Summary, TextFault, Verdict, judge_text, migrate_text,
+    read_script_text, run_script as run_group, run_text, summarize, write_record_of, write_replay_of,
+    write_summary,
+};
 use clap::error::ErrorKind;
 use clap::{Arg, ArgMatches, Command, Error};
 use std::alloc::{AllocError, Global};
 use std::io::{BufWriter, Write};
 use std::process::ExitCode;
 use std::rt::Runtime;
+use std::sync::Wait;
+use std::thread::Threads;
 use std::{fs, io};
 
 /// What the process ends with.
@@ -23,6 +33,8 @@ enum Status {
     Refused,
     /// The record is bad.
     Bad,
+    /// The record is good, and the group is not at rest at the end.
+    Restless,
     /// Memory was wanted.
     Resources,
     /// A read or a write failed.
@@ -36,6 +48,7 @@ impl Status {
             Status::Usage => 1,
             Status::Refused => 2,
             Status::Bad => 3,
+            Status::Restless => 4,
             Status::Resources => 5,
             Status::Channel => 6,
         }
@@ -46,7 +59,7 @@ fn main(rt: HostRuntime) -> ExitCode {
     ExitCode::from(run(&rt).code())
 }
 
-fn run<R: Runtime + AllocGlobal>(rt: &R) -> Status {
+fn run<R: Runtime + AllocGlobal + Threads + Wait + Copy + Send + 'static>(rt: &R) -> Status {
     let Ok(words) = command_words(rt) else {
         return refuse(rt, TextFault::Memory);
     };
@@ -73,6 +86,20 @@ fn castgroup_command<'a>(alloc: Global) -> Result<Command<'a>, AllocError> {
     let judge = Command::new(alloc, "judge")
         .about("Says whether a record is good, or which line breaks which rule")
         .arg(record)?;
+    let live_script = Arg::new(alloc, "SCRIPT").help("The script; standard input if absent");
+    let kept_record = Arg::new(alloc, "record")
+        .long("record")
+        .value_name("FILE")
+        .help("Also write the record of the run to FILE");
+    let replay = Arg::new(alloc, "replay")
+        .long("replay")
+        .value_name("FILE")
+        .help("Also write to FILE a script that runs the same step by step");
+    let live = Command::new(alloc, "live")
+        .about("Runs a script's group in threads, by its plan and jobs, and writes what became of it")
+        .arg(kept_record)?
+        .arg(replay)?
+        .arg(live_script)?;
     let old_record = Arg::new(alloc, "RECORD").help("The record; standard input if absent");
     let migrate = Command::new(alloc, "migrate")
         .about("Writes a cast/1 record with the head of cast/2")
@@ -83,13 +110,18 @@ fn castgroup_command<'a>(alloc: Global) -> Result<Command<'a>, AllocError> {
         .subcommand_required(true)
         .subcommand(run)?
         .subcommand(judge)?
+        .subcommand(live)?
         .subcommand(migrate)
 }
 
-fn run_matches<R: Runtime + AllocGlobal>(rt: &R, matches: &ArgMatches<'_>) -> Status {
+fn run_matches<R: Runtime + AllocGlobal + Threads + Wait + Copy + Send + 'static>(
+    rt: &R,
+    matches: &ArgMatches<'_>,
+) -> Status {
     match matches.subcommand() {
         Some(("run", inner)) => run_script(rt, inner.get_str("SCRIPT")),
         Some(("judge", inner)) => judge_record(rt, inner.get_str("RECORD")),
+        Some(("live", inner)) => live_script(rt, inner),
         Some(("migrate", inner)) => migrate_record(rt, inner.get_str("RECORD")),
         _ => Status::Usage,
     }
@@ -172,6 +204,130 @@ fn migrate_record<R: Runtime + AllocGlobal>(rt: &R, path: Option<&str>) -> Statu
     }
 }
 
+/// Runs the group of the script in the file, or of that on standard input, in threads, writes the files that are asked for,
+/// and then the summary. A file that can't be made or written takes nothing from the rest.
+fn live_script<R: Runtime + AllocGlobal + Threads + Wait + Copy + Send + 'static>(
+    rt: &R,
+    matches: &ArgMatches<'_>,
+) -> Status {
+    let run = match run_live_script(rt, matches.get_str("SCRIPT")) {
+        Ok(run) => run,
+        Err(fault) => return refuse(rt, fault),
+    };
+    let kept = keep_files(rt, matches, &run);
+    let told = tell_summary(rt, &run);
+    match (told, kept) {
+        (Err(TextFault::Memory), _) | (_, Err(TextFault::Memory)) => refuse(rt, TextFault::Memory),
+        (Err(fault), _) | (_, Err(fault)) => refuse(rt, fault),
+        (Ok(summary), Ok(())) => status_of(summary),
+    }
+}
+
+fn status_of(summary: Summary) -> Status {
+    match summary {
+        Summary {
+            verdict: Verdict::Bad { .. },
+            ..
+        } => Status::Bad,
+        Summary { rest: false, .. } => Status::Restless,
+        Summary { rest: true, .. } => Status::Good,
+    }
+}
+
+fn run_live_script<R: Runtime + AllocGlobal + Threads + Wait + Copy + Send + 'static>(
+    rt: &R,
+    path: Option<&str>,
+) -> Result<FinishedRun, TextFault>
+    ensures { IfOk result IsFinished }
+{
+    let script = match path {
+        Some(path) => match fs::open(rt, path) {
+            Ok(file) => read_script_text(rt.alloc(), &mut Meter::new(file))?,
+            Err(_) => return Err(TextFault::Read),
+        },
+        None => read_script_text(rt.alloc(), &mut Meter::new(rt.reader()))?,
+    };
+    run_group(*rt, rt.alloc(), script)
+}
+
+/// What is kept of a run in a file.
+#[derive(Clone, Copy)]
+enum Kept {
+    /// The record of what happened.
+    Record,
+    /// The script that says what happened.
+    Replay,
+}
+
+/// Writes the record and the replay to the files that are named, each whatever became of the other.
+fn keep_files<R: Runtime + AllocGlobal>(
+    rt: &R,
+    matches: &ArgMatches<'_>,
+    run: &FinishedRun,
+) -> Result<(), TextFault>
+    requires { IsFinished run.now }
+{
+    let record = keep(rt, matches.get_str("record"), run, Kept::Record);
+    let replay = keep(rt, matches.get_str("replay"), run, Kept::Replay);
+    record?;
+    replay
+}
+
+/// Writes to the file, if one is named, and says so where the text is longer than this program reads.
+fn keep<R: Runtime + AllocGlobal>(
+    rt: &R,
+    path: Option<&str>,
+    run: &FinishedRun,
+    kept: Kept,
+) -> Result<(), TextFault>
+    requires { IsFinished run.now }
+{
+    let Some(path) = path else {
+        return Ok(());
+    };
+    let Ok(file) = fs::create(rt, path) else {
+        return Err(TextFault::Write);
+    };
+    let mut counted = Counted::new(file);
+    let Ok(mut output) = BufWriter::new(rt.alloc(), &mut counted) else {
+        return Err(TextFault::Memory);
+    };
+    let mut writer = Meter::new(&mut output);
+    let outcome = match kept {
+        Kept::Record => write_record_of(rt.alloc(), run, &mut writer),
+        Kept::Replay => write_replay_of(run, &mut writer),
+    };
+    let flushed = output.flush();
+    drop(output);
+    outcome?;
+    if flushed.is_err() {
+        return Err(TextFault::Write);
+    }
+    if counted.count() > INPUT_LIMIT as u64 {
+        let said = match kept {
+            Kept::Record => eprintln!(rt; "castgroup: record longer than judge reads"),
+            Kept::Replay => eprintln!(rt; "castgroup: replay longer than run reads"),
+        };
+        // Where standard error fails there is nowhere left to say so.
+        let _ = said;
+    }
+    Ok(())
+}
+
+fn tell_summary<R: Runtime + AllocGlobal>(rt: &R, run: &FinishedRun) -> Result<Summary, TextFault>
+    requires { IsFinished run.now }
+{
+    let summary = summarize(rt.alloc(), run)?;
+    let Ok(mut output) = BufWriter::new(rt.alloc(), io::writer(rt)) else {
+        return Err(TextFault::Memory);
+    };
+    write_summary(run, summary, &mut Meter::new(&mut output))?;
+    if output.flush().is_err() {
+        return Err(TextFault::Write);
+    }
+    Ok(summary)
+}
+
 /// Says on standard error why nothing more was done.
 fn refuse<R: Eprint>(rt: &R, fault: TextFault) -> Status {
     let (said, status) = match fault {
@@ -182,8 +338,20 @@ fn refuse<R: Eprint>(rt: &R, fault: TextFault) -> Status {
             eprintln!(rt; "castgroup: not a cast/1 record"),
             Status::Refused,
         ),
-        TextFault::Memory | TextFault::Script(ScriptFault::Memory) => {
+        TextFault::Memory
+        | TextFault::Script(ScriptFault::Memory)
+        | TextFault::Live(LiveFault::Memory) => {
             (eprintln!(rt; "castgroup: out of memory"), Status::Resources)
+        }
+        TextFault::Live(LiveFault::Threads) => {
+            (eprintln!(rt; "castgroup: thread refused"), Status::Resources)
+        }
+        TextFault::Live(fault) => {
+            let code = fault.code();
+            (
+                eprintln!(rt; "castgroup: live: fault {code}"),
+                Status::Refused,
+            )
         }
         TextFault::Script(ScriptFault::NotJson) => {
             (
