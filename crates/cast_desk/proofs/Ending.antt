@@ -118,6 +118,9 @@ module _ (all : List ClientState) (orders : TakerEnd OrderIn) (trays : List (Put
       pub same_taken : now.taken ≡ orders.taken
       same_taken = ap (λ (t : TakerEnd OrderIn). t.taken) e.now_is
 
+      pub same_size : now.size ≡ orders.size
+      same_size = ap (λ (t : TakerEnd OrderIn). t.size) e.now_is
+
       pub all_took : (c : ℕ) (client : ClientState) (tray : PutterEnd Notice) → slice_get all c ≡ Some client → slice_get trays c ≡ Some tray
           → StartsWith tray.put (map (λ (m : ℕ × Notice). m.1) client.tray.taken)
       all_took c client tray p q = e.took c client tray (ap (λ l. slice_get l c) (sym all_seen) ∙ p) (ap (λ l. slice_get l c) (sym all_trays) ∙ q)

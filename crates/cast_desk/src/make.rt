@@ -75,7 +75,7 @@ fn sole(mut all: Vec<Putter<Notice>>) -> Putter<Notice>
 
 /// Ends all boxes of a desk, whose ends these all are, the clients in the order of their numbers. What the desk took of a
 /// client, followed by what is left of it, is what that client submitted; and what a client took is the beginning of what it
-/// was notified. It takes no memory.
+/// was notified. No more is left than the desk has places. It takes no memory.
 pub fn end_desk<R: Wait>(rt: &R, clients: Vec<Client>, desk: Desk) -> Gathered<OrderIn>
     requires { IsDeskOf clients.items desk.orders desk.trays.items }
     ensures orders { (c : ℕ) (client : ClientState) → slice_get clients.items c ≡ Some client → of c (desk.orders.taken ++ result.left) ≡ client.orders.put }
@@ -83,6 +83,7 @@ pub fn end_desk<R: Wait>(rt: &R, clients: Vec<Client>, desk: Desk) -> Gathered<O
         → StartsWith tray.put (map (λ m. m.1) client.tray.taken) }
     ensures fair { IsFair (map (λ c. c.orders.put) clients.items) desk.orders.taken result.left }
     ensures gathered { (result.taken ≡ desk.orders.taken) × (result.put ≡ map (λ c. c.orders.put) clients.items) }
+    ensures room { length result.left ≤ desk.orders.size }
 {
     let Desk { mut orders, trays } = desk;
     let mut trays = trays.into_iter();

@@ -1,10 +1,10 @@
-use Rattle.std.proofs.Common.{◌≡◌, ◌∙◌, ◌∷◌, ◌++◌, [], List, ℕ, map, length, ap, sym, subst, rules}
+use Rattle.std.proofs.Common.{◌≡◌, ◌∙◌, ◌∷◌, ◌++◌, ◌≤◌, [], List, ℕ, map, length, ap, sym, subst, rules}
 use Rattle.std.specs.Option.{option_to_list}
 use Rattle.cast_box.specs.Lists.{StartsWith, IsFair}
 use Rattle.cast_box.specs.Ends.{PutterEnd, TakerEnd, AreAllEnds, IsNextToEnd}
 use Rattle.cast_desk.specs.declared.desk.OrderIn.{OrderIn}
 use Rattle.cast_desk.specs.declared.notice.Notice.{Notice}
-use Rattle.cast_desk.proofs.Ending.{with_ended, ending_none, next_to_end, tray_ends, ending_more, have_ended, put_all, same_taken, all_took, orders_fair}
+use Rattle.cast_desk.proofs.Ending.{with_ended, ending_none, next_to_end, tray_ends, ending_more, have_ended, put_all, same_taken, same_size, all_took, orders_fair}
 use Rattle.cast_desk.proofs.make.end_desk.Goals as goal
 
 pub loop-client-init : goal.loop-client-init
@@ -70,3 +70,9 @@ returns-clause-gathered g c =
       b.ensures.taken ∙ same_taken c.args.clients.items c.args.desk.orders c.args.desk.trays.items c.requires c.loop-client.yielded _ _ c.loop-client.orders c.loop-client.invariant.2 done,
       b.ensures.put ∙ put_all c.args.clients.items c.args.desk.orders c.args.desk.trays.items c.requires c.loop-client.yielded _ _ c.loop-client.orders c.loop-client.invariant.2 done,
     )
+
+pub returns-clause-room : goal.returns-clause-room
+returns-clause-room g c =
+    let done : length c.loop-client.client-iterator.rest.items ≡ 0 = search rules in
+    let b = c.gather in
+    subst (λ n. length b.result.left ≤ n) (same_size c.args.clients.items c.args.desk.orders c.args.desk.trays.items c.requires c.loop-client.yielded _ _ c.loop-client.orders c.loop-client.invariant.2 done) b.ensures.room

@@ -1,0 +1,66 @@
+//! The lists that a run gives back, whose room is made before the threads start: once they have ended, nothing wants memory.
+ghost use Rattle.std.specs.Prelude.{◌≡◌, IfOk};
+ghost use Rattle.cast_run.specs.Rooms.{IsRoomFor};
+
+use crate::ending::EndRoom;
+use crate::reports::{ClientReport, Draft};
+use std::alloc::{AllocError, Global};
+
+/// Empty lists, with room for what is gathered.
+#[derive(Drop)]
+pub struct Room<J> {
+    pub ends: EndRoom,
+    pub jobs: Vec<J>,
+    pub drafts: Vec<Draft>,
+    pub left: Vec<[u64; 4]>,
+    pub clients: Vec<ClientReport>,
+}
+
+impl EndRoom {
+    /// Room for the reports of so many nodes.
+    fn new(alloc: Global, nodes: usize) -> Result<EndRoom, AllocError>
+        ensures takers { IfOk result (λ r. IsRoomFor nodes r.takers) }
+        ensures reports { IfOk result (λ r. IsRoomFor nodes r.reports) }
+        ensures desks { IfOk result (λ r. IsRoomFor nodes r.desks) }
+    {
+        let takers = Vec::with_capacity(alloc, nodes)?;
+        let reports = Vec::with_capacity(alloc, nodes)?;
+        let desks = Vec::with_capacity(alloc, nodes)?;
+        let mut dones = Vec::new(alloc);
+        for _node in 0..nodes {
+            dones.push(true)?;
+        }
+        Ok(EndRoom {
+            takers,
+            reports,
+            desks,
+            dones,
+        })
+    }
+}
+
+impl<J: Drop> Room<J> {
+    /// Room for the reports of so many nodes and clients.
+    pub fn new(alloc: Global, nodes: usize, clients: usize) -> Result<Room<J>, AllocError>
+        ensures takers { IfOk result (λ r. IsRoomFor nodes r.ends.takers) }
+        ensures reports { IfOk result (λ r. IsRoomFor nodes r.ends.reports) }
+        ensures desks { IfOk result (λ r. IsRoomFor nodes r.ends.desks) }
+        ensures left { IfOk result (λ r. IsRoomFor nodes r.left) }
+        ensures jobs { IfOk result (λ r. IsRoomFor clients r.jobs) }
+        ensures drafts { IfOk result (λ r. IsRoomFor clients r.drafts) }
+        ensures clients { IfOk result (λ r. IsRoomFor clients r.clients) }
+    {
+        let ends = EndRoom::new(alloc, nodes)?;
+        let jobs = Vec::with_capacity(alloc, clients)?;
+        let drafts = Vec::with_capacity(alloc, clients)?;
+        let left = Vec::with_capacity(alloc, nodes)?;
+        let clients = Vec::with_capacity(alloc, clients)?;
+        Ok(Room {
+            ends,
+            jobs,
+            drafts,
+            left,
+            clients,
+        })
+    }
+}

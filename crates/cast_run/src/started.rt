@@ -1,0 +1,135 @@
+//! Engines, carriers and jobs in threads of their own, started, stopped and joined.
+ghost use Rattle.std.specs.Prelude.{◌≡◌, ℕ, false, length, map, slice_get, Some, IfOk, OnOk, vec_len};
+ghost use Rattle.cast_run.specs.declared.jobs.Seat.{Seat};
+ghost use Rattle.cast_run.specs.Engines.{IsSameEngine};
+ghost use Rattle.cast_run.specs.Group.{IsGroup, AreSame};
+ghost use Rattle.cast_run.specs.Jobs.{told, submitted, got};
+ghost use Rattle.cast_run.specs.Rooms.{IsRoomFor};
+ghost use Rattle.cast_run.specs.Seats.{seat_client, AreEnded};
+
+use crate::board::Board;
+use crate::carrier::Carrier;
+use crate::engine::Engine;
+use crate::fault::StartFault;
+use crate::gate::Gate;
+use crate::job::ClientJob;
+use crate::jobs::{Ended, JobThread, Seat, join_jobs, start_jobs};
+use crate::threads::{
+    CarrierThread, EngineThread, join_all, join_carriers, join_engines, start_carriers,
+    start_engines,
+};
+use std::alloc::{AllocError, Global};
+use std::sync::{Arc, Wait};
+use std::thread::Threads;
+
+// The threads that were started.
+#[derive(Drop)]
+struct Running<J: ClientJob> {
+    engines: Vec<EngineThread>,
+    carriers: Vec<CarrierThread>,
+    jobs: Vec<JobThread<J>>,
+}
+
+impl<J: ClientJob + Drop> Running<J> {
+    fn new(alloc: Global, nodes: usize, clients: usize) -> Result<Running<J>, AllocError>
+        ensures engines { IfOk result (λ r. IsRoomFor nodes r.engines) }
+        ensures carriers { IfOk result (λ r. IsRoomFor nodes r.carriers) }
+        ensures jobs { IfOk result (λ r. IsRoomFor clients r.jobs) }
+    {
+        let engines = Vec::with_capacity(alloc, nodes)?;
+        let carriers = Vec::with_capacity(alloc, nodes)?;
+        let jobs = Vec::with_capacity(alloc, clients)?;
+        Ok(Running {
+            engines,
+            carriers,
+            jobs,
+        })
+    }
+
+    // Joins them, and drops what they give.
+    fn abandon<R: Threads>(self, rt: &R) {
+        let Running {
+            engines,
+            carriers,
+            jobs,
+        } = self;
+        join_all(rt, engines);
+        join_all(rt, carriers);
+        join_all(rt, jobs);
+    }
+}
+
+/// The engines and the carriers of a group.
+pub type Group = (Vec<Engine>, Vec<Carrier>);
+
+// Starts all threads. Those that were started stand in `threads`, at `Err` too.
+fn start_all<
+    J: ClientJob + Send + Drop + 'static,
+    G: Gate + Send + Drop + 'static,
+    R: Threads + Wait + Copy + Send + 'static,
+>(
+    rt: R,
+    alloc: Global,
+    board: &Arc<Board, Global>,
+    threads: &mut Running<J>,
+    group: Group,
+    seats: Vec<Seat<J>>,
+    gates: Vec<G>,
+    turns: u64,
+) -> Result<(), StartFault>
+    requires facts { (i : ℕ) (s : Seat J) → slice_get seats.items i ≡ Some s → J.fact s.job (submitted s.client) (got s.client) false }
+    requires gates { length gates.items ≡ length group.0.items }
+    requires room { IsRoomFor (vec_len group.0) threads.old.engines × IsRoomFor (vec_len group.1) threads.old.carriers
+        × IsRoomFor (vec_len seats) threads.old.jobs }
+    ensures engines { OnOk result (map (λ t. t.promise.was.value) threads.new.engines.items ≡ group.0.items) }
+    ensures carriers { OnOk result (map (λ t. t.promise.was.value) threads.new.carriers.items ≡ group.1.items) }
+    ensures jobs { OnOk result (map (λ t. told t.promise.node t.promise.was.value) threads.new.jobs.items ≡ map seat_client seats.items) }
+{
+    let (engines, carriers) = group;
+    start_engines(rt, alloc, board, &mut threads.engines, engines, gates)?;
+    start_carriers(rt, board, &mut threads.carriers, carriers)?;
+    start_jobs(rt, board, &mut threads.jobs, seats, turns)
+}
+
+/// Runs each engine, each carrier and each job in a thread of its own, and joins them. Where a thread isn't started, or
+/// memory runs out, those that were started are told to stop and are joined.
+pub fn run_threads<
+    J: ClientJob + Send + Drop + 'static,
+    G: Gate + Send + Drop + 'static,
+    R: Threads + Wait + Copy + Send + 'static,
+>(
+    rt: R,
+    alloc: Global,
+    group: Group,
+    seats: Vec<Seat<J>>,
+    gates: Vec<G>,
+    board: Arc<Board, Global>,
+    turns: u64,
+) -> Result<(Group, Vec<Ended<J>>), StartFault>
+    requires group { IsGroup group.0.items group.1.items × (length group.1.items ≡ length group.0.items) }
+    requires gates { length gates.items ≡ length group.0.items }
+    requires facts { (i : ℕ) (s : Seat J) → slice_get seats.items i ≡ Some s → J.fact s.job (submitted s.client) (got s.client) false }
+    ensures group { IfOk result (λ r. IsGroup r.0.0.items r.0.1.items) }
+    ensures many { IfOk result (λ r. (length r.0.0.items ≡ length group.0.items) × (length r.0.1.items ≡ length group.1.items)) }
+    ensures same { IfOk result (λ r. AreSame IsSameEngine group.0.items r.0.0.items) }
+    ensures jobs { IfOk result (λ r. AreEnded J.fact (map seat_client seats.items) r.1.items) }
+{
+    let engines_back = Vec::with_capacity(alloc, group.0.len())?;
+    let carriers_back = Vec::with_capacity(alloc, group.1.len())?;
+    let jobs_back = Vec::with_capacity(alloc, seats.len())?;
+    let mut threads = Running::new(alloc, group.0.len(), seats.len())?;
+    if let Err(fault) = start_all(rt, alloc, &board, &mut threads, group, seats, gates, turns) {
+        board.stop();
+        threads.abandon(&rt);
+        return Err(fault);
+    }
+    let Running {
+        engines,
+        carriers,
+        jobs,
+    } = threads;
+    let engines = join_engines(&rt, engines, engines_back);
+    let carriers = join_carriers(&rt, carriers, carriers_back);
+    let jobs = join_jobs(&rt, jobs, jobs_back);
+    Ok(((engines, carriers), jobs))
+}
