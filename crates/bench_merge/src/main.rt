@@ -1,6 +1,6 @@
 //! How long the logs of a group take to be merged: with the argument `time` the program writes logs of growing length, and
-//! prints nanoseconds an entry of `assemble` and, of these, of the replies to the merged events; with none, how it is used.
-//! Where the merge is in proportion to the entries, a row of equal logs has equal times.
+//! prints nanoseconds an entry of `assemble` and, of these, of the replies to the merged events; with `time LOGS ENTRIES` it
+//! does so for so many logs of so many entries each; with no argument it prints how it is used.
 #![tactic(auto)]
 
 use anyhow::Result;
@@ -25,9 +25,15 @@ const SIZES: [(u64, u64); 7] = [
 ];
 
 fn main(rt: HostRuntime) -> Result<()> {
-    if env::args(&rt)?.count() < 2 {
-        println!(rt; "usage: bench_merge time")?;
+    let mut args = env::args(&rt)?.skip(1);
+    if args.next().is_none() {
+        println!(rt; "usage: bench_merge time [LOGS ENTRIES]")?;
         return Ok(());
+    }
+    let logs = args.next().and_then(|text| text.parse::<u64>().ok());
+    let entries = args.next().and_then(|text| text.parse::<u64>().ok());
+    if let (Some(logs), Some(entries)) = (logs, entries) {
+        return measure(&rt, rt.alloc(), logs, entries);
     }
     for (logs, entries) in SIZES {
         measure(&rt, rt.alloc(), logs, entries)?;
