@@ -2,9 +2,9 @@
 use Rattle.std.proofs.Common.{◌≡◌, ◌⊎◌, ℕ, ◌<◌, ◌≤◌, refl, sym, ◌∙◌, ap, List, [], ◌∷◌, ◌++◌, inl, inr, arith}
 use Rattle.std.proofs.lemmas.Bool.{cases_lt}
 use Rattle.cast_node.specs.declared.entry.Entry.{Entry}
-use Rattle.cast_merge.specs.declared.merge.Place.{Place}
-use Rattle.cast_merge.specs.Places.{before, from, merge, stamp_of, places, merged_places}
-use Rattle.cast_merge.proofs.Folds.{before-more, from-more, before-none, from-none}
+use Rattle.cast_merge.specs.declared.merge.LoggedStep.{LoggedStep}
+use Rattle.cast_merge.specs.ByStamp.{before, from, merge, stamp_of, logged_steps, merged_logs}
+use Rattle.cast_merge.proofs.ByKey.{before-more, from-more, before-none, from-none}
 
 module _ {X : Type 0} (key : X → ℕ) where
   -- nothing to merge with
@@ -76,11 +76,11 @@ module _ {X : Type 0} (key : X → ℕ) where
   merge-assoc (x ∷ xs) ys zs = of_second x xs (merge-assoc xs) ys zs
 
 -- the steps of all logs are those of the first ones merged with those of the others
-pub merged_halves : (xs ys : List (List Entry)) → merged_places (xs ++ ys) ≡ merge stamp_of (merged_places xs) (merged_places ys)
-unfolding merged_places merge
+pub merged_halves : (xs ys : List (List Entry)) → merged_logs (xs ++ ys) ≡ merge stamp_of (merged_logs xs) (merged_logs ys)
+unfolding merged_logs merge
 merged_halves [] ys = refl
-merged_halves (log ∷ xs) ys = ap (merge stamp_of (places log)) (merged_halves xs ys) ∙ sym (merge-assoc stamp_of (places log) (merged_places xs) (merged_places ys))
+merged_halves (log ∷ xs) ys = ap (merge stamp_of (logged_steps log)) (merged_halves xs ys) ∙ sym (merge-assoc stamp_of (logged_steps log) (merged_logs xs) (merged_logs ys))
 
-pub merged_one : (log : List Entry) → merged_places (log ∷ []) ≡ places log
-unfolding merged_places
-merged_one log = merge-nil stamp_of (places log)
+pub merged_one : (log : List Entry) → merged_logs (log ∷ []) ≡ logged_steps log
+unfolding merged_logs
+merged_one log = merge-nil stamp_of (logged_steps log)
