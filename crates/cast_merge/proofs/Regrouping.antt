@@ -2,7 +2,6 @@
 use Rattle.std.proofs.Common.{◌≡◌, ◌⊎◌, ℕ, ◌<◌, ◌≤◌, refl, sym, ◌∙◌, ap, List, [], ◌∷◌, ◌++◌, inl, inr, arith}
 use Rattle.std.proofs.lemmas.Bool.{cases_lt}
 use Rattle.cast_node.specs.declared.entry.Entry.{Entry}
-use Rattle.cast_merge.specs.declared.merge.LoggedStep.{LoggedStep}
 use Rattle.cast_merge.specs.ByStamp.{before, from, merge, stamp_of, logged_steps, merged_logs}
 use Rattle.cast_merge.proofs.ByKey.{before-more, from-more, before-none, from-none}
 
