@@ -1,0 +1,85 @@
+//! How long the logs of a group take to be merged: with the argument `time` the program writes logs of growing length, and
+//! prints nanoseconds an entry of `assemble` and, of these, of the replies to the merged events; with `time LOGS ENTRIES` it
+//! does so for so many logs of so many entries each; with no argument it prints how it is used.
+#![tactic(auto)]
+
+use anyhow::Result;
+use cast_merge::{Assembly, GroupReport, assemble};
+use cast_message::{Config, Item, Mode, NodeId};
+use cast_world::run_events;
+use std::alloc::Global;
+use std::env;
+use std::rt::{Clock, Env};
+use std::time::Instant;
+use test_merge::Weave;
+
+// How many logs there are, and how many entries each has.
+const SIZES: [(u64, u64); 7] = [
+    (2, 65_536),
+    (16, 1_024),
+    (16, 8_192),
+    (16, 65_536),
+    (64, 256),
+    (64, 2_048),
+    (64, 16_384),
+];
+
+fn main(rt: HostRuntime) -> Result<()> {
+    let mut args = env::args(&rt)?.skip(1);
+    if args.next().is_none() {
+        println!(rt; "usage: bench_merge time [LOGS ENTRIES]")?;
+        return Ok(());
+    }
+    let logs = args.next().and_then(|text| text.parse::<u64>().ok());
+    let entries = args.next().and_then(|text| text.parse::<u64>().ok());
+    if let (Some(logs), Some(entries)) = (logs, entries) {
+        return measure(&rt, rt.alloc(), logs, entries);
+    }
+    for (logs, entries) in SIZES {
+        measure(&rt, rt.alloc(), logs, entries)?;
+    }
+    Ok(())
+}
+
+// Prints what an entry takes, where there are so many logs with so many entries each.
+fn measure(rt: &(impl Clock + Print), alloc: Global, logs: u64, entries: u64) -> Result<()> {
+    let report = write_logs(alloc, logs, entries)?;
+    let since = Instant::now(rt)?;
+    let assembly = assemble(alloc, &report)?;
+    let whole = since.elapsed(rt)?.as_nanos();
+    let since = Instant::now(rt)?;
+    let group = run_events(alloc, report.config().copy(), assembly.events.as_slice())?;
+    let replies = since.elapsed(rt)?.as_nanos();
+    let events = u128::from(count(&assembly)).max(1);
+    println!(rt;
+        "{logs:>2} logs of {entries:>6} entries: {:>6} ns an entry, {:>6} ns of them for its reply",
+        whole / events,
+        replies / events
+    )?;
+    Ok(())
+}
+
+// Each node orders an item; then all nodes make a frame for the next one and all of these arrive, again and again. The
+// nodes do so with equal stamps, so that a merge goes from log to log with each entry.
+fn write_logs(alloc: Global, logs: u64, entries: u64) -> Result<GroupReport> {
+    let config = Config::check(logs, 0, 1, 4096, 65_536, 16, 0, Mode::Basic)?;
+    let mut weave = Weave::new(alloc, config)?;
+    for stamp in 0..entries {
+        for place in 0..logs as u8 {
+            let node = NodeId(place);
+            let next = NodeId(((u64::from(place) + 1) % logs) as u8);
+            weave = if stamp == 0 {
+                weave.order(stamp, node, &Item::Close)?
+            } else if stamp % 2 == 1 {
+                weave.send(stamp, node, next, 0)?
+            } else {
+                weave.arrive(stamp, node, stamp / 2 - 1)?
+            };
+        }
+    }
+    Ok(weave.finish())
+}
+
+fn count(assembly: &Assembly) -> u64 {
+    assembly.events.as_slice().len() as u64
+}
