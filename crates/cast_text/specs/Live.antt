@@ -1,12 +1,13 @@
 -- What became of a group that ran in threads, and what is told of it.
---     IsMergedRun config events ends       the events are the merge of the linked logs of a group, whose engines ended so
+--     IsMergedRun config reports events    the events are the merge of these linked logs
+--     IsRunOf script reports               these are the reports of a run of the script, with a client for each of its jobs
 --     IsFinished run                       the report's logs are merged, and the world stands for the merged events
 --     end_word ended                       the word of an end
 --     node_text config past p ended        the line of node p: its end, and how many items it delivered from each node
 --     summary_text config past ends said   the whole summary
 --     WritesSummary input old new said     the writer has the summary of a run of the script that was read
 --     LiveFails                            what each fault means
-use Rattle.std.specs.Prelude.{◌≡◌, ◌≢◌, ℕ, ◌+◌, ◌<◌, ◌≤◌, ◌++◌, ◌↔◌, [], ◌∷◌, List, Bool, true, false, IsTrue, length, map, flat_map, codes, decimal, reverse, slice_get, Some, Option, IfSome}
+use Rattle.std.specs.Prelude.{◌≡◌, ℕ, ◌+◌, ◌<◌, ◌≤◌, ◌++◌, ◌↔◌, [], ◌∷◌, List, Bool, true, false, IsTrue, length, map, flat_map, codes, decimal, reverse, slice_get, Some, None, Option}
 use Rattle.std.specs.List.{range_with_len}
 use Rattle.std.specs.Io.KnownBytes.{Appends, Keeps}
 use Rattle.cast_message.specs.declared.config.Config.{Config}
@@ -24,6 +25,14 @@ use Rattle.cast_merge.specs.Linked.{Linked}
 use Rattle.cast_merge.specs.Merge.{TellsMerge}
 use Rattle.cast_record.specs.declared.verdict.Verdict.TheVariants.{Good}
 use Rattle.cast_record.specs.VerdictText.{verdict_text}
+use Rattle.cast_desk.specs.declared.desk.OrderIn.{OrderIn}
+use Rattle.cast_desk.specs.declared.notice.Notice.{Notice}
+use Rattle.cast_run.specs.declared.reports.ClientReport.{ClientReport}
+use Rattle.cast_run.specs.Faults.{JobsFit}
+use Rattle.cast_run.specs.Plans.{ArePlanned, crash_from}
+use Rattle.cast_run.specs.Jobs.{Submits}
+use Rattle.cast_run.specs.Journals.{EndsAs}
+use Rattle.cast_run.specs.Serves.{AreServed, HaveOrigins}
 use Rattle.cast_run.specs.declared.fault.LiveFault.{LiveFault}
 use Rattle.cast_run.specs.declared.fault.LiveFault.TheVariants as lives
 use Rattle.cast_run.specs.declared.submit_all.SubmitAll.{SubmitAll}
@@ -39,19 +48,16 @@ use Rattle.cast_text.specs.Text.{IsScriptIn, IsOfScript, WroteFront}
 abbrev pub ends_of : List NodeReport → List EngineEnd
 ends_of reports = map (λ report. report.ended) reports
 
--- the events are the merge of linked logs of a group with this configuration, which accepts each of them, and whose engines ended so
-pub record IsMergedRun (config : Config) (events : List Event) (ends : List EngineEnd) : Type 0 where
-  pub reports : List NodeReport
+-- the events are the merge of the linked logs of a group with this configuration, and the group accepts each of them
+pub record IsMergedRun (config : Config) (reports : List NodeReport) (events : List Event) : Type 0 where
   pub linked : Linked config reports
-  pub ended : ends ≡ ends_of reports
   pub merge : TellsMerge (map (λ report. report.log) reports) events (replies config events)
   pub accepted : AreAccepted config [] events
   pub whole : history config events ≡ reverse events
 
 -- the run's events and replies are those of its linked logs, and its world stands for them
 pub record IsFinished (run : FinishedRun) : Type 0 where
-  pub merged : IsMergedRun run.report.config run.assembly.events (ends_of run.report.reports)
-  pub size : length run.report.reports ≡ run.report.config.nodes
+  pub merged : IsMergedRun run.report.config run.report.reports run.assembly.events
   pub replies : run.assembly.replies ≡ replies run.report.config run.assembly.events
   pub stands : Stands run.report.config (history run.report.config run.assembly.events) run.assembly.world
 
@@ -61,6 +67,25 @@ IsNewJob job = (job.next ≡ 0) × (job.replies ≡ 0)
 
 abbrev pub AreNewJobs : List (ℕ × SubmitAll) → Type 0
 AreNewJobs jobs = (i : ℕ) (job : ℕ × SubmitAll) → slice_get jobs i ≡ Some job → IsNewJob job.1
+
+-- the node of a job, and the items that it submits
+abbrev pub items_of : ℕ × SubmitAll → ℕ × List Item
+items_of job = (job.0, job.1.items)
+
+abbrev pub fact_of : SubmitAll → List OrderIn → List Notice → Bool → Type 0
+fact_of job sent got done = Submits job.items job.next job.replies sent got done
+
+-- these are reports of a run of the script: each log ends as plan and limits say, and each job of the script had a client
+pub record IsRunOf (script : Script) (reports : List NodeReport) : Type 0 where
+  pub logs : (p : ℕ) (report : NodeReport) → slice_get reports p ≡ Some report → EndsAs script.config.log_limit (crash_from p None script.plan.faults) (Some report.ended) report.log
+  -- the jobs that were handed in, and what came back of them
+  pub handed : List (ℕ × SubmitAll)
+  pub back : List SubmitAll
+  pub clients : List ClientReport
+  pub items : map items_of handed ≡ script.jobs
+  pub new : AreNewJobs handed
+  pub served : AreServed script.config fact_of handed reports back clients
+  pub origins : HaveOrigins handed reports
 
 -- ---- its summary
 
@@ -103,37 +128,50 @@ pub record IsSummaryOf (config : Config) (events : List Event) (said : Summary) 
 pub record WritesSummary (input old new : Option (List ℕ)) (said : Summary) : Type 0 where
   pub script : Script
   pub read : IsScriptIn input script
+  pub reports : List NodeReport
+  pub ran : IsRunOf script reports
   pub events : List Event
-  pub ends : List EngineEnd
-  pub run : IsMergedRun script.config events ends
+  pub merged : IsMergedRun script.config reports events
   pub told : IsSummaryOf script.config events said
-  pub appends : Appends old new (summary_text script.config (history script.config events) ends said)
+  pub appends : Appends old new (summary_text script.config (history script.config events) (ends_of reports) said)
 
 -- ---- faults
 
--- why the group of a script does not run; want of memory is told otherwise
+-- want of memory is told as such
+abbrev pub fault_of_live : LiveFault → TextFault
+fault_of_live lives.Memory = faults.Memory
+fault_of_live why = faults.Live why
+
+-- why the group of a script is not run: the first cause that holds, where all is well a thread that was not started
+abbrev pub IsRefusedFor : Script → LiveFault → Type 0
+IsRefusedFor script lives.Jobs = ¬ JobsFit script.config.nodes script.jobs
+IsRefusedFor script lives.Plan = JobsFit script.config.nodes script.jobs × ¬ ArePlanned script.config.nodes script.plan.faults
+IsRefusedFor script lives.Threads = JobsFit script.config.nodes script.jobs × ArePlanned script.config.nodes script.plan.faults
+IsRefusedFor script _ = ⊥
+
 abbrev pub IsOfRunning : Script → TextFault → Type 0
-IsOfRunning script (faults.Live why) = why ≢ lives.Memory
+IsOfRunning script (faults.Live why) = IsRefusedFor script why
 IsOfRunning script faults.Memory = Unit {0}
 IsOfRunning script fault = ⊥
 
--- the script that was read does not run for this
+-- the script that was read is not run for this
 pub record DoesNotRun (input : Option (List ℕ)) (why : LiveFault) : Type 0 where
   pub script : Script
   pub read : IsScriptIn input script
-  pub cause : IsOfRunning script (faults.Live why)
+  pub cause : IsRefusedFor script why
 
 -- the summary of a run of the script that was read broke off
 pub record SummaryBreaksOff (input old new : Option (List ℕ)) (failed : Bool) : Type 0 where
   pub script : Script
   pub read : IsScriptIn input script
+  pub reports : List NodeReport
+  pub ran : IsRunOf script reports
   pub events : List Event
-  pub ends : List EngineEnd
-  pub run : IsMergedRun script.config events ends
+  pub merged : IsMergedRun script.config reports events
   pub said : Summary
   pub told : IsSummaryOf script.config events said
   pub broken : failed ≡ true
-  pub front : WroteFront old new (summary_text script.config (history script.config events) ends said)
+  pub front : WroteFront old new (summary_text script.config (history script.config events) (ends_of reports) said)
 
 -- each fault has its cause, and nothing was written but where the summary broke off
 abbrev pub LiveFails : Option (List ℕ) → Bool → Option (List ℕ) → Option (List ℕ) → Bool → TextFault → Type 0

@@ -1,9 +1,9 @@
 //! Running the group of a script in threads, and telling what became of it.
-ghost use Rattle.std.specs.Prelude.{◌≡◌, ◌++◌, ◌∷◌, [], false, IfOk, IfErr, OnOk};
+ghost use Rattle.std.specs.Prelude.{◌≡◌, ◌++◌, ◌∷◌, [], false, IfOk, IfErr, OnOk, map, vec_len};
 ghost use Rattle.cast_record.specs.Text.{record_text};
 ghost use Rattle.cast_run.specs.Jobs.{told_job};
 ghost use Rattle.cast_script.specs.Replay.{script_text};
-ghost use Rattle.cast_text.specs.Live.{IsFinished, IsNewJob, AreNewJobs, IsOfRunning, WritesSummary, LiveFails};
+ghost use Rattle.cast_text.specs.Live.{IsFinished, IsNewJob, AreNewJobs, items_of, IsOfRunning, IsRunOf, WritesSummary, LiveFails};
 ghost use Rattle.cast_text.specs.Recorded.{Writes};
 ghost use Rattle.cast_text.specs.Replayed.{record_of_accepted, RecordsReplay};
 
@@ -13,7 +13,7 @@ use crate::text::{TextFault, read_script_text};
 use cast_merge::{Assembly, GroupReport, assemble};
 use cast_message::{Item, List, NodeId};
 use cast_record::Meter;
-use cast_run::{LiveFault, LiveRun, OpenGate, SubmitAll, run_live};
+use cast_run::{OpenGate, SubmitAll, run_live};
 use cast_script::{Script, write_script};
 use std::alloc::{AllocError, Global};
 use std::io::{Read, Write};
@@ -57,6 +57,7 @@ pub fn run_script<T: Threads + Wait + Copy + Send + 'static>(
     script: Script,
 ) -> Result<FinishedRun, TextFault>
     ensures config { IfOk result (λ run. run.report.config ≡ script.config) }
+    ensures ran { IfOk result (λ run. IsRunOf script run.report.reports) }
     ensures ok { IfOk result IsFinished }
     ensures err { IfErr result (IsOfRunning script) }
 {
@@ -69,15 +70,12 @@ pub fn run_script<T: Threads + Wait + Copy + Send + 'static>(
     } = script;
     let gates = open_gates(alloc, config.nodes())?;
     let jobs = submit_all(alloc, jobs)?;
-    match run_live(rt, alloc, config, &plan, jobs, gates, turns) {
-        Ok(LiveRun { report, .. }) => Ok(merge_logs(alloc, report)?),
-        Err(LiveFault::Memory) => Err(TextFault::Memory),
-        Err(fault) => Err(TextFault::Live(fault)),
-    }
+    let run = run_live(rt, alloc, config, &plan, jobs, gates, turns)?;
+    Ok(merge_logs(alloc, run.report)?)
 }
 
 fn merge_logs(alloc: Global, report: GroupReport) -> Result<FinishedRun, AllocError>
-    ensures config { IfOk result (λ run. run.report.config ≡ report.config) }
+    ensures report { IfOk result (λ run. run.report ≡ report) }
     ensures ok { IfOk result IsFinished }
 {
     let assembly = assemble(alloc, &report)?;
@@ -125,7 +123,9 @@ pub fn write_replay_of<W: Write>(
 }
 
 // An open gate for each node.
-fn open_gates(alloc: Global, nodes: u64) -> Result<Vec<OpenGate>, AllocError> {
+fn open_gates(alloc: Global, nodes: u64) -> Result<Vec<OpenGate>, AllocError>
+    ensures { IfOk result (λ gates. vec_len gates ≡ nodes) }
+{
     let mut gates = Vec::new(alloc);
     for _node in 0..nodes {
         gates.push(OpenGate)?;
@@ -138,7 +138,8 @@ fn submit_all(
     alloc: Global,
     jobs: List<(NodeId, List<Item>)>,
 ) -> Result<Vec<(NodeId, SubmitAll)>, AllocError>
-    ensures { IfOk result (λ all. AreNewJobs all.items) }
+    ensures new { IfOk result (λ all. AreNewJobs all.items) }
+    ensures items { IfOk result (λ all. map items_of all.items ≡ jobs) }
 {
     let mut all = Vec::new(alloc);
     for (node, items) in jobs.into_vec() {
@@ -152,7 +153,7 @@ fn add_job(
     node: NodeId,
     items: List<Item>,
 ) -> Result<(), AllocError>
-    ensures { OnOk result ((job : SubmitAll) × IsNewJob job × (all.new.items ≡ all.old.items ++ told_job node job ∷ [])) }
+    ensures { OnOk result ((job : SubmitAll) × IsNewJob job × (job.items ≡ items) × (all.new.items ≡ all.old.items ++ told_job node job ∷ [])) }
 {
     all.push((node, SubmitAll::new(items)))?;
     Ok(())

@@ -49,6 +49,20 @@ impl From<AllocError> for TextFault {
     }
 }
 
+impl From<LiveFault> for TextFault {
+    ghost use Rattle.std.specs.Prelude.{◌≡◌};
+    ghost use Rattle.cast_text.specs.Live.{fault_of_live};
+
+    ghost from_gives = { λ why fault. fault ≡ fault_of_live why };
+
+    fn from(why: LiveFault) -> TextFault {
+        match why {
+            LiveFault::Memory => TextFault::Memory,
+            other => TextFault::Live(other),
+        }
+    }
+}
+
 impl From<WriteFault> for TextFault {
     ghost use Rattle.std.specs.Prelude.{◌≡◌};
     ghost use Rattle.cast_text.specs.declared.text.TextFault.TheVariants.{Write};
