@@ -2,14 +2,15 @@
 ghost use Rattle.std.specs.Prelude.{◌≡◌, ◌<◌, ◌+◌, [], IfOk, length, vec_len, vec_capacity};
 ghost use Rattle.cast_desk.specs.Desk.{IsSameClient};
 ghost use Rattle.cast_run.specs.Jobs.{submitted, got};
-ghost use Rattle.test_run.specs.Silence.{IsSilent, KeptSilent};
+ghost use Rattle.test_run.specs.NewJobs.{AreNewKeepers, AreNewSilent};
+ghost use Rattle.test_run.specs.Silence.{KeptSilent};
 
 use crate::runs::{RowFault, TURNS};
 use anyhow::Result;
 use cast_desk::{Client, Notice};
 use cast_message::{Item, List, NodeId};
 use cast_node::EntryKind;
-use cast_run::{ClientJob, LiveFault, LiveRun, run_live};
+use cast_run::{ClientJob, LiveRun, run_live};
 use run_setup::{Shape, data_items, no_faults, open_gates};
 use std::alloc::{AllocError, Global};
 use std::fmt;
@@ -126,7 +127,9 @@ impl Display for Told<'_> {
     }
 }
 
-fn one_keeper(alloc: Global) -> Result<Vec<(NodeId, Keeper)>, AllocError> {
+fn one_keeper(alloc: Global) -> Result<Vec<(NodeId, Keeper)>, AllocError>
+    ensures { IfOk result (λ jobs. AreNewKeepers jobs.items) }
+{
     let mut jobs = Vec::new(alloc);
     jobs.push((NodeId(0), Keeper::new(alloc, 3)?))?;
     Ok(jobs)
@@ -152,7 +155,9 @@ pub fn replies_kept<R: Threads + Wait + Print + Copy + Send + 'static>(rt: R, al
     Ok(())
 }
 
-fn one_silent(alloc: Global) -> Result<Vec<(NodeId, Silent)>, AllocError> {
+fn one_silent(alloc: Global) -> Result<Vec<(NodeId, Silent)>, AllocError>
+    ensures { IfOk result (λ jobs. AreNewSilent jobs.items) }
+{
     let mut jobs = Vec::new(alloc);
     let items = data_items(alloc, 100)?;
     jobs.push((NodeId(0), Silent { items, next: 0 }))?;
@@ -165,6 +170,7 @@ fn run_silent<R: Threads + Wait + Copy + Send + 'static>(
     alloc: Global,
     jobs: Vec<(NodeId, Silent)>,
 ) -> Result<LiveRun<Silent>>
+    requires { AreNewSilent jobs.items }
     ensures { IfOk result (λ run. KeptSilent run.jobs.items run.clients.items) }
 {
     let mut shape = Shape::new(1, 0, 1);
