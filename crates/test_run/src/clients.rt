@@ -1,5 +1,5 @@
 //! Rows of jobs of their own: one keeps each notice, one never takes any.
-ghost use Rattle.std.specs.Prelude.{◌≡◌, ◌<◌, ◌+◌, [], IfOk, length, vec_len, vec_capacity};
+ghost use Rattle.std.specs.Prelude.{◌≡◌, ◌<◌, ◌+◌, ◌^◌, [], IfOk, length};
 ghost use Rattle.cast_desk.specs.Desk.{IsSameClient};
 ghost use Rattle.cast_run.specs.Jobs.{submitted, got};
 ghost use Rattle.test_run.specs.NewJobs.{AreNewKeepers, AreNewSilent};

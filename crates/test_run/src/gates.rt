@@ -1,6 +1,6 @@
 //! The rows that only threads beside one another can pass: engines wait at their gates for what other nodes' threads do.
-ghost use Rattle.std.specs.Prelude.{◌≡◌, IfOk};
-ghost use Rattle.test_run.specs.NewJobs.{AreNewSignals};
+ghost use Rattle.std.specs.Prelude.{IfOk, OnOk};
+ghost use Rattle.test_run.specs.NewJobs.{AreNewSignals, IsNewSignal};
 
 use crate::runs::{RowFault, TURNS};
 use anyhow::Result;
@@ -116,6 +116,7 @@ impl SignalReply {
 pub fn meet<R: Threads + Wait + Print + Copy + Send + 'static>(
     rt: R,
     alloc: Global,
+    row: &str,
     nodes: u8,
 ) -> Result<()> {
     let meeting = Arc::new(alloc, Meeting::new())?;
@@ -128,7 +129,7 @@ pub fn meet<R: Threads + Wait + Print + Copy + Send + 'static>(
     let gave_up = meeting.gave_up.load(Ordering::SeqCst);
     let host = meeting.host_replies.load(Ordering::SeqCst);
     let guests = meeting.guest_replies.load(Ordering::SeqCst);
-    println!(&rt; "gates of {nodes} nodes: {gave_up} gave up, replies at node 0 {host}, at the others {guests}")?;
+    println!(&rt; "{row}: {gave_up} gave up, replies at node 0 {host}, at the others {guests}")?;
     Ok(())
 }
 
@@ -147,9 +148,22 @@ fn signal_jobs(
             meeting: Arc::try_clone(meeting)?,
             at_host: node == 0,
         };
-        jobs.push((NodeId(node), job))?;
+        add_signal(&mut jobs, NodeId(node), job)?;
     }
     Ok(jobs)
+}
+
+fn add_signal(
+    jobs: &mut Vec<(NodeId, SignalReply)>,
+    node: NodeId,
+    job: SignalReply,
+) -> Result<(), AllocError>
+    requires new { IsNewSignal job }
+    requires others { AreNewSignals jobs.old.items }
+    ensures { OnOk result (AreNewSignals jobs.new.items) }
+{
+    jobs.push((node, job))?;
+    Ok(())
 }
 
 fn meeting_gates(

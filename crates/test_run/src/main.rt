@@ -55,8 +55,8 @@ fn run_row<R: Threads + Wait + Print + Copy + Send + 'static>(
     name: &str,
 ) -> Result<()> {
     match name {
-        "gates" => gates::meet(rt, alloc, 2),
-        "gates-of-three" => gates::meet(rt, alloc, 3),
+        "gates" => gates::meet(rt, alloc, name, 2),
+        "gates-of-three" => gates::meet(rt, alloc, name, 3),
         "live-refusals" => refusals::live_refusals(rt, alloc),
         "live-losses" => losses::live_losses(rt, alloc),
         "live-losses-crash" => crashes::live_losses_crash(rt, alloc),
