@@ -31,8 +31,6 @@ pub struct SeenNode {
 pub enum SeenFault {
     #[error("a reported node and the world differ in what was delivered")]
     Deliveries,
-    #[error("the record was not written")]
-    Record,
 }
 
 impl Seen {
@@ -89,8 +87,9 @@ fn count<T>(delivered: Option<&[T]>) -> usize {
 fn record_of(alloc: Global, config: &Config, assembly: &Assembly) -> Result<Vec<u8>> {
     let lines = record_lines(alloc, config, assembly)?;
     let mut writer = Meter::new(Vec::new(alloc));
+    // A list of bytes refuses what is written where it can't grow, and never else.
     if write_record(lines.as_slice(), &mut writer).is_err() {
-        return Err(SeenFault::Record.into());
+        return Err(AllocError.into());
     }
     Ok(writer.into_inner())
 }
