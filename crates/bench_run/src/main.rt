@@ -68,7 +68,10 @@ fn from_arguments<R: Runtime>(rt: &R) -> Result<Option<Wanted>> {
     }))
 }
 
-fn short_runs<R: Threads + Wait + Print + Copy + Send + 'static>(rt: R, alloc: Global) -> Result<()> {
+fn short_runs<R: Threads + Wait + Print + Copy + Send + 'static>(
+    rt: R,
+    alloc: Global,
+) -> Result<()> {
     for nodes in [1, 2, 4] {
         for lost in [0, 10, 2] {
             let outcome = run(
@@ -85,7 +88,10 @@ fn short_runs<R: Threads + Wait + Print + Copy + Send + 'static>(rt: R, alloc: G
             } else {
                 "not stopped"
             };
-            println!(&rt; "{nodes} nodes, lost {lost}: {} deliveries, {stopped}", outcome.deliveries)?;
+            println!(&rt;
+                "{nodes} nodes, lost {lost}: {} deliveries, {stopped}",
+                outcome.deliveries
+            )?;
         }
     }
     Ok(())

@@ -136,7 +136,10 @@ fn one_keeper(alloc: Global) -> Result<Vec<(NodeId, Keeper)>, AllocError>
 }
 
 /// A job that keeps each notice has those of its feed, up to its last reply.
-pub fn replies_kept<R: Threads + Wait + Print + Copy + Send + 'static>(rt: R, alloc: Global) -> Result<()> {
+pub fn replies_kept<R: Threads + Wait + Print + Copy + Send + 'static>(
+    rt: R,
+    alloc: Global,
+) -> Result<()> {
     let config = Shape::new(1, 0, 1).config()?;
     let jobs = one_keeper(alloc)?;
     let gates = open_gates(alloc, 1)?;
@@ -184,7 +187,10 @@ fn run_silent<R: Threads + Wait + Copy + Send + 'static>(
 }
 
 /// A job whose tray stays full holds nobody up: all that it submitted is taken.
-pub fn never_calls_next<R: Threads + Wait + Print + Copy + Send + 'static>(rt: R, alloc: Global) -> Result<()> {
+pub fn never_calls_next<R: Threads + Wait + Print + Copy + Send + 'static>(
+    rt: R,
+    alloc: Global,
+) -> Result<()> {
     let run = run_silent(rt, alloc, one_silent(alloc)?)?;
     let mut steps: u64 = 0;
     for node in run.report.reports() {
@@ -194,7 +200,10 @@ pub fn never_calls_next<R: Threads + Wait + Print + Copy + Send + 'static>(rt: R
         }
     }
     for client in run.clients.iter() {
-        println!(&rt; "never-calls-next: {steps} steps, tickets {}, left {}", client.tickets, client.left)?;
+        println!(&rt;
+            "never-calls-next: {steps} steps, tickets {}, left {}",
+            client.tickets, client.left
+        )?;
     }
     Ok(())
 }

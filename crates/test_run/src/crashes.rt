@@ -30,17 +30,27 @@ fn run_crash<R: Threads + Wait + Copy + Send + 'static>(
 }
 
 /// A node that crashes after its fifth entry has broadcast at most five items.
-pub fn live_losses_crash<R: Threads + Wait + Print + Copy + Send + 'static>(rt: R, alloc: Global) -> Result<()> {
+pub fn live_losses_crash<R: Threads + Wait + Print + Copy + Send + 'static>(
+    rt: R,
+    alloc: Global,
+) -> Result<()> {
     let run = run_crash(rt, alloc, 5)?;
     let seen = see(alloc, &run.report)?;
     let crashed = seen.ended(1) == Some(EngineEnd::Crashed);
     let few = seen.count(0, 1).is_some_and(|count| count <= 5);
-    println!(&rt; "live-losses-crash: node 1 crashed {crashed}, at most 5 of it {few}, rest {}, good {}", seen.rest, seen.is_good())?;
+    println!(&rt;
+        "live-losses-crash: node 1 crashed {crashed}, at most 5 of it {few}, rest {}, good {}",
+        seen.rest,
+        seen.is_good()
+    )?;
     Ok(())
 }
 
 /// A node that is to crash once its log has so many entries has the crash as the next, and as its last.
-pub fn at_each_entry<R: Threads + Wait + Print + Copy + Send + 'static>(rt: R, alloc: Global) -> Result<()> {
+pub fn at_each_entry<R: Threads + Wait + Print + Copy + Send + 'static>(
+    rt: R,
+    alloc: Global,
+) -> Result<()> {
     let mut in_place: u64 = 0;
     let mut good: u64 = 0;
     for entries in 0..=30 {

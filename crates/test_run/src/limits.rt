@@ -6,12 +6,18 @@ use std::alloc::Global;
 use std::sync::Wait;
 use std::thread::Threads;
 
-pub fn live_limits<R: Threads + Wait + Print + Copy + Send + 'static>(rt: R, alloc: Global) -> Result<()> {
+pub fn live_limits<R: Threads + Wait + Print + Copy + Send + 'static>(
+    rt: R,
+    alloc: Global,
+) -> Result<()> {
     print_full_clock(rt, alloc, "live-limits", 1, u64::MAX)?;
     print_full_log(rt, alloc, "live-limits", 2, 1)
 }
 
-pub fn five_items<R: Threads + Wait + Print + Copy + Send + 'static>(rt: R, alloc: Global) -> Result<()> {
+pub fn five_items<R: Threads + Wait + Print + Copy + Send + 'static>(
+    rt: R,
+    alloc: Global,
+) -> Result<()> {
     print_full_log(rt, alloc, "limits-of-five-items", 5, 3)?;
     print_full_clock(rt, alloc, "limits-of-five-items", 5, u64::MAX - 2)
 }

@@ -8,7 +8,10 @@ use std::alloc::{AllocError, Global};
 use std::sync::Wait;
 use std::thread::Threads;
 
-pub fn live_refusals<R: Threads + Wait + Print + Copy + Send + 'static>(rt: R, alloc: Global) -> Result<()> {
+pub fn live_refusals<R: Threads + Wait + Print + Copy + Send + 'static>(
+    rt: R,
+    alloc: Global,
+) -> Result<()> {
     let itself = Link { from: 0, to: 0 }.lose(FrameKind::Carry, 0, 1);
     let nobody = Fault::Crash {
         node: NodeId(2),
@@ -48,12 +51,14 @@ fn refusal<R: Threads + Wait + Copy + Send + 'static>(
     let config = Shape::new(2, 0, 1).config()?;
     let jobs = submit_each(alloc, nodes, 1)?;
     let gates = open_gates(alloc, gates)?;
-    Ok(match run_live(rt, alloc, config, &plan, jobs, gates, 1000) {
-        Ok(_) => "none",
-        Err(LiveFault::Jobs) => "jobs",
-        Err(LiveFault::Gates) => "gates",
-        Err(LiveFault::Plan) => "plan",
-        Err(LiveFault::Memory) => "memory",
-        Err(LiveFault::Threads) => "threads",
-    })
+    Ok(
+        match run_live(rt, alloc, config, &plan, jobs, gates, 1000) {
+            Ok(_) => "none",
+            Err(LiveFault::Jobs) => "jobs",
+            Err(LiveFault::Gates) => "gates",
+            Err(LiveFault::Plan) => "plan",
+            Err(LiveFault::Memory) => "memory",
+            Err(LiveFault::Threads) => "threads",
+        },
+    )
 }

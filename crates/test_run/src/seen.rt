@@ -94,7 +94,11 @@ fn record_of(alloc: Global, config: &Config, assembly: &Assembly) -> Result<Vec<
     Ok(writer.into_inner())
 }
 
-fn record_lines(alloc: Global, config: &Config, assembly: &Assembly) -> Result<List<Line>, AllocError> {
+fn record_lines(
+    alloc: Global,
+    config: &Config,
+    assembly: &Assembly,
+) -> Result<List<Line>, AllocError> {
     let mut lines = List::new(alloc);
     lines.push(Line::head(config))?;
     let events = assembly.events.as_slice().iter();
