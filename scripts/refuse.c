@@ -1,22 +1,40 @@
 /* Loaded before a program, this library refuses one allocation: the one whose number, from 1 on, the variable REFUSE_NTH
-   names. All others go to the C library. */
+   names. All others go to the C library. In the same way it refuses the thread that REFUSE_THREAD names. Threads may allocate
+   at the same time: each allocation has a number of its own. */
 #define _GNU_SOURCE
 #include <dlfcn.h>
 #include <errno.h>
+#include <pthread.h>
 #include <stdlib.h>
+
+/* Counts down to the one that is refused; at first the variable wasn't read. */
+static int counts_down(const char *variable, long *left) {
+    const long unread = -1;
+    long now = __atomic_load_n(left, __ATOMIC_SEQ_CST);
+    if (now == unread) {
+        const char *number = getenv(variable);
+        long wanted = number ? atol(number) : 0;
+        if (__atomic_compare_exchange_n(left, &now, wanted, 0, __ATOMIC_SEQ_CST, __ATOMIC_SEQ_CST)) now = wanted;
+    }
+    while (now > 0 && !__atomic_compare_exchange_n(left, &now, now - 1, 0, __ATOMIC_SEQ_CST, __ATOMIC_SEQ_CST)) {}
+    return now == 1;
+}
 
 static int refused(void) {
     static long left = -1;
-    if (left == -1) {
-        const char *number = getenv("REFUSE_NTH");
-        left = number ? atol(number) : 0;
-    }
-    if (left <= 0 || --left > 0) return 0;
+    if (!counts_down("REFUSE_NTH", &left)) return 0;
     errno = ENOMEM;
     return 1;
 }
 
 static void *next_of(const char *name) { return dlsym(RTLD_NEXT, name); }
+
+int pthread_create(pthread_t *thread, const pthread_attr_t *attributes, void *(*start)(void *), void *argument) {
+    static int (*next)(pthread_t *, const pthread_attr_t *, void *(*)(void *), void *);
+    static long left = -1;
+    if (!next) next = next_of("pthread_create");
+    return counts_down("REFUSE_THREAD", &left) ? EAGAIN : next(thread, attributes, start, argument);
+}
 
 void *malloc(size_t size) {
     static void *(*next)(size_t);

@@ -1,0 +1,54 @@
+//! Jobs that submit items, and gates that are open.
+ghost use Rattle.std.specs.Prelude.{IfOk, OnOk};
+ghost use Rattle.run_setup.specs.NewJobs.{AreNew};
+
+use bytes::Bytes;
+use cast_message::{Item, List, NodeId, Payload};
+use cast_run::{OpenGate, SubmitAll};
+use std::alloc::{AllocError, Global};
+
+/// So many items, each a payload of one byte, the letter a.
+pub fn data_items(alloc: Global, count: u64) -> Result<List<Item>, AllocError> {
+    let mut items = List::new(alloc);
+    for _ in 0..count {
+        items.push(Item::Data(Payload::new(Bytes::copy_from_slice(alloc, b"a")?)))?;
+    }
+    Ok(items)
+}
+
+/// A job that submits so many items at each of these nodes, in their order. None has submitted or got anything so far.
+pub fn submit_each(
+    alloc: Global,
+    nodes: &[u8],
+    items: u64,
+) -> Result<Vec<(NodeId, SubmitAll)>, AllocError>
+    ensures { IfOk result (λ jobs. AreNew jobs.items) }
+{
+    let mut jobs = Vec::new(alloc);
+    for node in nodes {
+        add_new(&mut jobs, NodeId(*node), data_items(alloc, items)?)?;
+    }
+    Ok(jobs)
+}
+
+// Adds a job that submits these items.
+fn add_new(
+    jobs: &mut Vec<(NodeId, SubmitAll)>,
+    node: NodeId,
+    items: List<Item>,
+) -> Result<(), AllocError>
+    requires { AreNew jobs.old.items }
+    ensures { OnOk result (AreNew jobs.new.items) }
+{
+    jobs.push((node, SubmitAll::new(items)))?;
+    Ok(())
+}
+
+/// A gate for each of so many nodes that lets every turn pass.
+pub fn open_gates(alloc: Global, nodes: u64) -> Result<Vec<OpenGate>, AllocError> {
+    let mut gates = Vec::new(alloc);
+    for _ in 0..nodes {
+        gates.push(OpenGate)?;
+    }
+    Ok(gates)
+}

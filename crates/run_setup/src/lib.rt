@@ -1,0 +1,11 @@
+//! What a group is run with: its configuration, the plan of its faults, its jobs and its gates. For the rows of running
+//! threads (`test_run`) and their benchmark (`bench_run`).
+#![tactic(auto)]
+
+mod jobs;
+mod plan;
+mod shape;
+
+pub use jobs::{data_items, open_gates, submit_each};
+pub use plan::{Link, links, lose_every, no_faults};
+pub use shape::Shape;

@@ -1,0 +1,77 @@
+//! Plans of what goes wrong.
+use cast_message::{List, NodeId};
+use cast_script::{Fault, FaultPlan, FrameKind};
+use std::alloc::{AllocError, Global};
+
+/// The way from one node to another.
+#[derive(Clone, Copy, Debug)]
+pub struct Link {
+    pub from: u8,
+    pub to: u8,
+}
+
+impl Link {
+    /// Every `step`th frame of this kind is lost, from number `first` on, or that one alone where the step is 0.
+    pub fn lose(self, kind: FrameKind, first: u64, step: u64) -> Fault {
+        Fault::Lose {
+            kind,
+            from: NodeId(self.from),
+            to: NodeId(self.to),
+            first,
+            step,
+        }
+    }
+
+    /// Every `step`th frame of this kind, from number `first` on, is handed on twice.
+    pub fn repeat(self, kind: FrameKind, first: u64, step: u64) -> Fault {
+        Fault::Repeat {
+            kind,
+            from: NodeId(self.from),
+            to: NodeId(self.to),
+            first,
+            step,
+        }
+    }
+
+    /// Every `step`th frame of this kind, from number `first` on, is kept until `count` more frames were taken.
+    pub fn delay(self, kind: FrameKind, first: u64, step: u64, count: u64) -> Fault {
+        Fault::Delay {
+            kind,
+            from: NodeId(self.from),
+            to: NodeId(self.to),
+            first,
+            step,
+            count,
+        }
+    }
+}
+
+/// All ways between these nodes.
+pub fn links(alloc: Global, nodes: u8) -> Result<Vec<Link>, AllocError> {
+    let mut links = Vec::new(alloc);
+    for from in 0..nodes {
+        for to in 0..nodes {
+            if from != to {
+                links.push(Link { from, to })?;
+            }
+        }
+    }
+    Ok(links)
+}
+
+/// The plan in which nothing goes wrong.
+pub fn no_faults(alloc: Global) -> FaultPlan {
+    FaultPlan {
+        faults: List::new(alloc),
+    }
+}
+
+/// The plan in which every `step`th frame of either kind is lost on each way between these nodes, the first frame too.
+pub fn lose_every(alloc: Global, nodes: u8, step: u64) -> Result<FaultPlan, AllocError> {
+    let mut faults = List::new(alloc);
+    for link in links(alloc, nodes)? {
+        faults.push(link.lose(FrameKind::Carry, 0, step))?;
+        faults.push(link.lose(FrameKind::Took, 0, step))?;
+    }
+    Ok(FaultPlan { faults })
+}

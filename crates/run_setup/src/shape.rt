@@ -1,0 +1,41 @@
+//! Configurations, of which a run names what is not as usual.
+use cast_message::{Config, ConfigFault, Mode};
+
+/// The values of a configuration in basic mode, before its check.
+#[derive(Clone, Copy, Debug)]
+pub struct Shape {
+    pub nodes: u64,
+    pub faults: u64,
+    pub choices: u64,
+    pub log_limit: u64,
+    pub box_size: u64,
+    pub first_stamp: u64,
+}
+
+impl Shape {
+    /// A group with so many nodes, faults and choices. A log has 65,536 entries, a box 64 places, and clocks begin at 0.
+    pub fn new(nodes: u64, faults: u64, choices: u64) -> Shape {
+        Shape {
+            nodes,
+            faults,
+            choices,
+            log_limit: 65_536,
+            box_size: 64,
+            first_stamp: 0,
+        }
+    }
+
+    /// The configuration with these values and 4,096 items at most.
+    pub fn config(&self) -> Result<Config, ConfigFault> {
+        Config::check(
+            self.nodes,
+            self.faults,
+            self.choices,
+            4096,
+            self.log_limit,
+            self.box_size,
+            self.first_stamp,
+            Mode::Basic,
+        )
+    }
+}

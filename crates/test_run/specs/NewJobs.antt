@@ -1,0 +1,26 @@
+-- Jobs that have not begun: none of these has submitted or got anything.
+use Rattle.std.specs.Prelude.{◌≡◌, ℕ, List, [], false}
+use Rattle.cast_run.specs.Jobs.{Submits}
+use Rattle.run_setup.specs.NewJobs.{EachJob}
+use Rattle.test_run.specs.Silence.{IsSilent}
+use Rattle.test_run.specs.declared.clients.Keeper.{Keeper}
+use Rattle.test_run.specs.declared.clients.Silent.{Silent}
+use Rattle.test_run.specs.declared.gates.SignalReply.{SignalReply}
+
+abbrev pub IsNewSignal : SignalReply → Type 0
+IsNewSignal job = Submits job.all.items job.all.next job.all.replies [] [] false
+
+abbrev pub AreNewSignals : List (ℕ × SignalReply) → Type 0
+AreNewSignals jobs = EachJob IsNewSignal jobs
+
+abbrev pub IsNewKeeper : Keeper → Type 0
+IsNewKeeper job = job.kept.items ≡ []
+
+abbrev pub AreNewKeepers : List (ℕ × Keeper) → Type 0
+AreNewKeepers jobs = EachJob IsNewKeeper jobs
+
+abbrev pub IsNewSilent : Silent → Type 0
+IsNewSilent job = IsSilent job [] [] false
+
+abbrev pub AreNewSilent : List (ℕ × Silent) → Type 0
+AreNewSilent jobs = EachJob IsNewSilent jobs

@@ -1,0 +1,81 @@
+//! Rows in which a node crashes.
+use crate::runs::{RowFault, TURNS, run_jobs};
+use crate::seen::see;
+use anyhow::Result;
+use cast_merge::{EngineEnd, NodeReport};
+use cast_message::{Event, NodeId};
+use cast_node::EntryKind;
+use cast_run::{LiveRun, SubmitAll};
+use cast_script::Fault;
+use run_setup::{Shape, lose_every};
+use std::alloc::Global;
+use std::sync::Wait;
+use std::thread::Threads;
+
+// Two nodes that lose every second frame; node 1 crashes once its log has so many entries.
+fn run_crash<R: Threads + Wait + Copy + Send + 'static>(
+    rt: R,
+    alloc: Global,
+    entries: u64,
+) -> Result<LiveRun<SubmitAll>> {
+    let mut plan = lose_every(alloc, 2, 2)?;
+    let node = NodeId(1);
+    plan.faults.push(Fault::Crash { node, entries })?;
+    let mut shape = Shape::new(2, 0, 1);
+    shape.box_size = 4;
+    match run_jobs(rt, alloc, shape, &plan, &[0, 1], 20, TURNS)? {
+        Ok(run) => Ok(run),
+        Err(_) => Err(RowFault::NotRun.into()),
+    }
+}
+
+/// A node that crashes after its fifth entry has broadcast at most five items.
+pub fn live_losses_crash<R: Threads + Wait + Print + Copy + Send + 'static>(
+    rt: R,
+    alloc: Global,
+) -> Result<()> {
+    let run = run_crash(rt, alloc, 5)?;
+    let seen = see(alloc, &run.report)?;
+    let crashed = seen.ended(1) == Some(EngineEnd::Crashed);
+    let few = seen.count(0, 1).is_some_and(|count| count <= 5);
+    println!(&rt;
+        "live-losses-crash: node 1 crashed {crashed}, at most 5 of it {few}, rest {}, good {}",
+        seen.rest,
+        seen.is_good()
+    )?;
+    Ok(())
+}
+
+/// A node that is to crash once its log has so many entries has the crash as the next, and as its last.
+pub fn at_each_entry<R: Threads + Wait + Print + Copy + Send + 'static>(
+    rt: R,
+    alloc: Global,
+) -> Result<()> {
+    let mut in_place: u64 = 0;
+    let mut good: u64 = 0;
+    for entries in 0..=30 {
+        let run = run_crash(rt, alloc, entries)?;
+        let crashed = run
+            .report
+            .reports()
+            .get(1)
+            .is_some_and(|node| ends_in_crash(node, entries));
+        in_place = in_place.saturating_add(u64::from(crashed));
+        good = good.saturating_add(u64::from(see(alloc, &run.report)?.is_good()));
+    }
+    println!(&rt; "crash-at-each-entry: {in_place} of 31 in place, {good} good")?;
+    Ok(())
+}
+
+// Whether the log has so many entries before a crash, which is the last.
+fn ends_in_crash(node: &NodeReport, entries: u64) -> bool {
+    let log = node.log.as_slice();
+    let Some(last) = log.last() else {
+        return false;
+    };
+    let crash = match &last.kind {
+        EntryKind::Step { event, .. } => matches!(event, Event::Crash { .. }),
+        EntryKind::Refused { .. } => false,
+    };
+    crash && log.len() as u64 - 1 == entries && node.ended == EngineEnd::Crashed
+}

@@ -1,0 +1,107 @@
+//! Rows in which carriers lose, repeat and delay frames, and those in which they don't.
+use crate::runs::{RowFault, TURNS, run_jobs, seen_of_jobs};
+use crate::seen::see;
+use anyhow::Result;
+use cast_message::List;
+use cast_run::LiveFault;
+use cast_script::{FaultPlan, FrameKind};
+use run_setup::{Link, Shape, links, lose_every, no_faults};
+use std::alloc::{AllocError, Global};
+use std::sync::Wait;
+use std::thread::Threads;
+
+/// Every second frame of either kind is lost, and all is delivered.
+pub fn live_losses<R: Threads + Wait + Print + Copy + Send + 'static>(
+    rt: R,
+    alloc: Global,
+) -> Result<()> {
+    let plan = lose_every(alloc, 2, 2)?;
+    let mut shape = Shape::new(2, 0, 1);
+    shape.box_size = 4;
+    let seen = seen_of_jobs(rt, alloc, shape, &plan, &[0, 1], 20)?;
+    println!(&rt; "live-losses: {seen}")?;
+    Ok(())
+}
+
+/// All that node 0 carries to node 1 is lost: the group never rests, and the turns run out.
+pub fn live_all_lost<R: Threads + Wait + Print + Copy + Send + 'static>(
+    rt: R,
+    alloc: Global,
+) -> Result<()> {
+    let mut faults = List::new(alloc);
+    faults.push(Link { from: 0, to: 1 }.lose(FrameKind::Carry, 0, 1))?;
+    let plan = FaultPlan { faults };
+    let Ok(run) = run_jobs(rt, alloc, Shape::new(2, 0, 1), &plan, &[0], 1, 1_000_000)? else {
+        return Err(RowFault::NotRun.into());
+    };
+    let seen = see(alloc, &run.report)?;
+    let lost = seen.count(1, 0) == Some(0) && seen.count(1, 1) == Some(0);
+    let own = seen.count(0, 0) == Some(1) && seen.count(0, 1) == Some(0);
+    println!(&rt;
+        "live-all-lost: own item alone {own}, nothing there {lost}, rest {}, good {}",
+        seen.rest,
+        seen.is_good()
+    )?;
+    Ok(())
+}
+
+/// Three nodes with an item each. A run that is refused says so: it is the row whose allocations are refused in turn.
+pub fn live_three_nodes<R: Threads + Wait + Print + Copy + Send + 'static>(
+    rt: R,
+    alloc: Global,
+) -> Result<()> {
+    let plan = no_faults(alloc);
+    match run_jobs(rt, alloc, Shape::new(3, 1, 2), &plan, &[0, 1, 2], 1, TURNS)? {
+        Ok(run) => {
+            let seen = see(alloc, &run.report)?;
+            println!(&rt; "live-three-nodes: {seen}")?;
+        }
+        Err(LiveFault::Memory) => println!(&rt; "live-three-nodes: out of memory")?,
+        Err(LiveFault::Threads) => println!(&rt; "live-three-nodes: a thread was refused")?,
+        Err(_) => println!(&rt; "live-three-nodes: refused")?,
+    }
+    Ok(())
+}
+
+/// Boxes with one place lose what finds them full. However the nodes end, the record is good.
+pub fn one_place<R: Threads + Wait + Print + Copy + Send + 'static>(
+    rt: R,
+    alloc: Global,
+) -> Result<()> {
+    let mut shape = Shape::new(3, 1, 2);
+    shape.box_size = 1;
+    let seen = seen_of_jobs(rt, alloc, shape, &no_faults(alloc), &[0, 1, 2], 20)?;
+    let within = seen
+        .nodes
+        .iter()
+        .all(|node| node.counts.iter().all(|count| *count <= 20));
+    println!(&rt;
+        "one-place: at most 20 of each {within}, good {}",
+        seen.is_good()
+    )?;
+    Ok(())
+}
+
+/// On each way between three nodes frames are lost, repeated and delayed, and all is delivered.
+pub fn every_fault<R: Threads + Wait + Print + Copy + Send + 'static>(
+    rt: R,
+    alloc: Global,
+) -> Result<()> {
+    let plan = faults_on_each(alloc)?;
+    let mut shape = Shape::new(3, 1, 2);
+    shape.box_size = 4;
+    let seen = seen_of_jobs(rt, alloc, shape, &plan, &[0, 1, 2], 20)?;
+    println!(&rt; "every-fault-on-every-link: {seen}")?;
+    Ok(())
+}
+
+fn faults_on_each(alloc: Global) -> Result<FaultPlan, AllocError> {
+    let mut faults = List::new(alloc);
+    for link in links(alloc, 3)? {
+        faults.push(link.lose(FrameKind::Carry, 0, 2))?;
+        faults.push(link.lose(FrameKind::Took, 0, 2))?;
+        faults.push(link.repeat(FrameKind::Carry, 1, 2))?;
+        faults.push(link.delay(FrameKind::Took, 1, 2, 3))?;
+    }
+    Ok(FaultPlan { faults })
+}

@@ -1,0 +1,77 @@
+//! The worked rows of groups that run in threads, each with what came of it on one line: with no argument all of them, else
+//! those that the arguments name. Only what every schedule gives is printed. `scripts/run-rows` runs each many times over,
+//! and with each allocation refused in turn.
+#![tactic(auto)]
+
+mod clients;
+mod crashes;
+mod gates;
+mod limits;
+mod losses;
+mod refusals;
+mod runs;
+mod seen;
+
+use anyhow::Result;
+use std::alloc::Global;
+use std::env;
+use std::sync::Wait;
+use std::thread::Threads;
+
+const ROWS: [&str; 14] = [
+    "gates",
+    "gates-of-three",
+    "live-refusals",
+    "live-losses",
+    "live-losses-crash",
+    "live-all-lost",
+    "live-three-nodes",
+    "live-limits",
+    "limits-of-five-items",
+    "replies-kept",
+    "never-calls-next",
+    "one-place",
+    "every-fault-on-every-link",
+    "crash-at-each-entry",
+];
+
+fn main(rt: HostRuntime) -> Result<()> {
+    let mut named = false;
+    for name in env::args(&rt)?.skip(1) {
+        named = true;
+        run_row(rt, rt.alloc(), name.as_str())?;
+    }
+    if !named {
+        for name in ROWS {
+            run_row(rt, rt.alloc(), name)?;
+        }
+    }
+    Ok(())
+}
+
+fn run_row<R: Threads + Wait + Print + Copy + Send + 'static>(
+    rt: R,
+    alloc: Global,
+    name: &str,
+) -> Result<()> {
+    match name {
+        "gates" => gates::meet(rt, alloc, name, 2),
+        "gates-of-three" => gates::meet(rt, alloc, name, 3),
+        "live-refusals" => refusals::live_refusals(rt, alloc),
+        "live-losses" => losses::live_losses(rt, alloc),
+        "live-losses-crash" => crashes::live_losses_crash(rt, alloc),
+        "live-all-lost" => losses::live_all_lost(rt, alloc),
+        "live-three-nodes" => losses::live_three_nodes(rt, alloc),
+        "live-limits" => limits::live_limits(rt, alloc),
+        "limits-of-five-items" => limits::five_items(rt, alloc),
+        "replies-kept" => clients::replies_kept(rt, alloc),
+        "never-calls-next" => clients::never_calls_next(rt, alloc),
+        "one-place" => losses::one_place(rt, alloc),
+        "every-fault-on-every-link" => losses::every_fault(rt, alloc),
+        "crash-at-each-entry" => crashes::at_each_entry(rt, alloc),
+        other => {
+            println!(&rt; "{other}: no such row")?;
+            Ok(())
+        }
+    }
+}

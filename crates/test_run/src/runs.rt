@@ -1,0 +1,51 @@
+//! Runs with a job of some items at each node and open gates.
+use crate::seen::{Seen, see};
+use anyhow::Result;
+use cast_run::{LiveFault, LiveRun, SubmitAll, run_live};
+use cast_script::FaultPlan;
+use run_setup::{Shape, open_gates, submit_each};
+use std::alloc::Global;
+use std::sync::Wait;
+use std::thread::Threads;
+use thiserror::Error;
+
+/// As many turns as a script without a word on them has.
+pub const TURNS: u64 = 4_000_000;
+
+/// Why a row has nothing to show.
+#[derive(Clone, Copy, Debug, Error)]
+pub enum RowFault {
+    #[error("the group did not run")]
+    NotRun,
+}
+
+/// Runs a job of so many items at each of these nodes.
+pub fn run_jobs<R: Threads + Wait + Copy + Send + 'static>(
+    rt: R,
+    alloc: Global,
+    shape: Shape,
+    plan: &FaultPlan,
+    nodes: &[u8],
+    items: u64,
+    turns: u64,
+) -> Result<Result<LiveRun<SubmitAll>, LiveFault>> {
+    let config = shape.config()?;
+    let jobs = submit_each(alloc, nodes, items)?;
+    let gates = open_gates(alloc, shape.nodes)?;
+    Ok(run_live(rt, alloc, config, plan, jobs, gates, turns))
+}
+
+/// What came of such a run, where it is to succeed.
+pub fn seen_of_jobs<R: Threads + Wait + Copy + Send + 'static>(
+    rt: R,
+    alloc: Global,
+    shape: Shape,
+    plan: &FaultPlan,
+    nodes: &[u8],
+    items: u64,
+) -> Result<Seen> {
+    match run_jobs(rt, alloc, shape, plan, nodes, items, TURNS)? {
+        Ok(run) => see(alloc, &run.report),
+        Err(_) => Err(RowFault::NotRun.into()),
+    }
+}
