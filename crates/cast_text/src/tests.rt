@@ -1,4 +1,6 @@
 //! Scripts by their records, records by their verdicts, and readers and writers that fail in the middle.
+mod live;
+
 use crate::{TextFault, Verdict, judge_text, migrate_text, run_text};
 use cast_record::Meter;
 use cast_script::ScriptFault;
