@@ -105,10 +105,7 @@ pub fn write_record_of<W: Write>(
 
 /// Writes the script that says what happened in the run: its configuration, and the merged events. It takes no memory. After
 /// a fault a front of it was written, or nothing.
-pub fn write_replay_of<W: Write>(
-    run: &FinishedRun,
-    writer: &mut Meter<W>,
-) -> Result<(), TextFault>
+pub fn write_replay_of<W: Write>(run: &FinishedRun, writer: &mut Meter<W>) -> Result<(), TextFault>
     requires run { IsFinished run.now }
     requires writer { writer.old.failed ≡ false }
     ensures text { Writes (W.contents writer.old.inner) (W.contents writer.new.inner) writer.new.failed result (script_text run.now.report.config run.now.assembly.events) }

@@ -56,7 +56,12 @@ pub fn write_summary<W: Write>(
     ensures { Writes (W.contents writer.old.inner) (W.contents writer.new.inner) writer.new.failed result
         (summary_text run.now.report.config (history run.now.report.config run.now.assembly.events) (ends_of run.now.report.reports) said) }
 {
-    write_nodes(run.report.config(), &run.assembly.world, run.report.reports(), writer)?;
+    write_nodes(
+        run.report.config(),
+        &run.assembly.world,
+        run.report.reports(),
+        writer,
+    )?;
     write_bytes(rest_line(said.rest), writer)?;
     write_bytes(b"verdict ", writer)?;
     write_verdict(said.verdict, writer)
@@ -100,11 +105,7 @@ fn write_node<W: Write>(
 }
 
 // The number of a node, and how it ended.
-fn write_end<W: Write>(
-    node: u64,
-    ended: EngineEnd,
-    writer: &mut Meter<W>,
-) -> Result<(), WriteFault>
+fn write_end<W: Write>(node: u64, ended: EngineEnd, writer: &mut Meter<W>) -> Result<(), WriteFault>
     requires { writer.old.failed ≡ false }
     ensures { Writes (W.contents writer.old.inner) (W.contents writer.new.inner) writer.new.failed result (end_text node ended) }
 {

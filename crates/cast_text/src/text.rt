@@ -93,10 +93,7 @@ pub fn run_text<R: Read, W: Write>(
 }
 
 /// The script that is all the reader has left.
-pub fn read_script_text<R: Read>(
-    alloc: Global,
-    reader: &mut Meter<R>,
-) -> Result<Script, TextFault>
+pub fn read_script_text<R: Read>(alloc: Global, reader: &mut Meter<R>) -> Result<Script, TextFault>
     requires { reader.old.failed ≡ false }
     ensures ok { IfOk result (IsScriptIn (R.remaining reader.old.inner)) }
     ensures err { IfErr result (IsOfScript (R.remaining reader.old.inner) reader.new.failed) }

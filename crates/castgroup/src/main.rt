@@ -9,8 +9,8 @@ use cast_run::LiveFault;
 use cast_script::ScriptFault;
 use cast_text::{
     Counted, FinishedRun, INPUT_LIMIT, Summary, TextFault, Verdict, judge_text, migrate_text,
-    read_script_text, run_script as run_group, run_text, summarize, write_record_of, write_replay_of,
-    write_summary,
+    read_script_text, run_script as run_group, run_text, summarize, write_record_of,
+    write_replay_of, write_summary,
 };
 use clap::error::ErrorKind;
 use clap::{Arg, ArgMatches, Command, Error};
@@ -21,6 +21,42 @@ use std::rt::Runtime;
 use std::sync::Wait;
 use std::thread::Threads;
 use std::{fs, io};
+
+/// What the lines `r EVENT CODE` of a record mean.
+const REFUSALS: &str = "Refused events (r EVENT CODE):
+   1  a node that does not exist
+   2  a link from a node to itself
+   3  a node that has crashed
+   4  a stream that is closed
+   5  a payload of more than 1,024 bytes
+   6  a second proposal in an instance
+   7  a stream that is full: its last place is kept for the close
+   8  a slot that was not given
+   9  a slot that was acknowledged
+  10  a slot that was not taken
+  11  a frame that was not made
+  12  a node that has made all its frames";
+
+/// What the line `bad LINE RULE` means.
+const RULES: &str = "Rules (bad LINE RULE):
+  0  what is no line of a record, a head or an end that is missing or stands twice, or bytes after the end
+  1  a broadcast or a delivery out of turn, or a delivery of what was not broadcast
+  2  a broadcast after its node's close
+  3  a decided value that was not proposed
+  4  more decided values in an instance than choices, where fewer nodes may crash
+  5  a line of a node that has crashed
+  6  a second proposal of a node in an instance";
+
+/// What the lines of a summary mean.
+const ENDS: &str =
+    "A line for each node, with its end and how many items it delivered from each node. Ends:
+  stopped    all clients are done, and nothing is owed to a node that runs
+  crashed    the plan crashed it
+  turnlimit  its turns, or those of a client, were used up
+  logfull    its log has as many entries as it may have
+  clockfull  no greater stamp is left
+rest: whether all that live nodes gave live nodes was acknowledged
+verdict: what the judge says of the record of what happened";
 
 /// What the process ends with.
 #[derive(Clone, Copy)]
@@ -81,10 +117,12 @@ fn castgroup_command<'a>(alloc: Global) -> Result<Command<'a>, AllocError> {
     let script = Arg::new(alloc, "SCRIPT").help("The script; standard input if absent");
     let run = Command::new(alloc, "run")
         .about("Writes the record of a script's events")
+        .after_help(REFUSALS)
         .arg(script)?;
     let record = Arg::new(alloc, "RECORD").help("The record; standard input if absent");
     let judge = Command::new(alloc, "judge")
         .about("Says whether a record is good, or which line breaks which rule")
+        .after_help(RULES)
         .arg(record)?;
     let live_script = Arg::new(alloc, "SCRIPT").help("The script; standard input if absent");
     let kept_record = Arg::new(alloc, "record")
@@ -96,7 +134,10 @@ fn castgroup_command<'a>(alloc: Global) -> Result<Command<'a>, AllocError> {
         .value_name("FILE")
         .help("Also write to FILE a script that runs the same step by step");
     let live = Command::new(alloc, "live")
-        .about("Runs a script's group in threads, by its plan and jobs, and writes what became of it")
+        .about(
+            "Runs a script's group in threads, by its plan and jobs, and writes what became of it",
+        )
+        .after_help(ENDS)
         .arg(kept_record)?
         .arg(replay)?
         .arg(live_script)?;
@@ -344,7 +385,10 @@ fn refuse<R: Eprint>(rt: &R, fault: TextFault) -> Status {
             (eprintln!(rt; "castgroup: out of memory"), Status::Resources)
         }
         TextFault::Live(LiveFault::Threads) => {
-            (eprintln!(rt; "castgroup: thread refused"), Status::Resources)
+            (
+                eprintln!(rt; "castgroup: thread refused"),
+                Status::Resources,
+            )
         }
         TextFault::Live(fault) => {
             let code = fault.code();

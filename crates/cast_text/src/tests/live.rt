@@ -1,8 +1,8 @@
 //! Groups that run in threads by their summaries, their records and their replays.
 use super::{Failing, Halting, Stopping};
 use crate::{
-    Counted, Summary, TextFault, Verdict, live_text, read_script_text, run_script, run_text, summarize,
-    write_record_of, write_replay_of, write_summary,
+    Counted, Summary, TextFault, Verdict, live_text, read_script_text, run_script, run_text,
+    summarize, write_record_of, write_replay_of, write_summary,
 };
 use cast_record::Meter;
 use cast_run::LiveFault;
@@ -148,5 +148,8 @@ fn counted_summary<T: Threads + Wait + Copy + Send + 'static>(
 
 #[test]
 fn counts_what_a_writer_took(rt: HostRuntime) {
-    assert_eq!(rt; counted_summary(rt, rt.alloc()), Ok(TWO_NODES_SUMMARY.len() as u64));
+    assert_eq!(rt;
+        counted_summary(rt, rt.alloc()),
+        Ok(TWO_NODES_SUMMARY.len() as u64)
+    );
 }
