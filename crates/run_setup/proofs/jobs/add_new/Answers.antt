@@ -1,4 +1,4 @@
-use Rattle.std.proofs.Common.{◌≡◌, ◌++◌, ◌∷◌, [], sym, subst}
+use Rattle.std.proofs.Common.{sym, subst}
 use Rattle.run_setup.specs.NewJobs.{AreNew, IsNew}
 use Rattle.run_setup.proofs.NewJobs.{each_with, is_new}
 use Rattle.run_setup.proofs.jobs.add_new.Goals as goal

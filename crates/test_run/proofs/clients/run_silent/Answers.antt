@@ -1,5 +1,4 @@
-use Rattle.std.proofs.Common.{◌≡◌, ◌+◌, length, ◌∙◌}
-use Rattle.test_run.specs.Silence.{IsSilent}
+use Rattle.std.proofs.Common.{◌∙◌}
 use Rattle.test_run.proofs.clients.run_silent.Goals as goal
 
 pub returns-in-Ok : goal.returns-in-Ok

@@ -1,4 +1,4 @@
-use Rattle.std.proofs.Common.{◌≡◌, sym, subst}
+use Rattle.std.proofs.Common.{sym, subst}
 use Rattle.run_setup.proofs.NewJobs.{each_with}
 use Rattle.test_run.specs.NewJobs.{AreNewSignals, IsNewSignal}
 use Rattle.test_run.proofs.gates.add_signal.Goals as goal
