@@ -1,4 +1,4 @@
-use Rattle.std.proofs.Common.{◌≡◌, ◌∙◌, ◌<◌, ◌≤◌, arith, ℕ, List, subst}
+use Rattle.std.proofs.Common.{◌∙◌, arith}
 use Rattle.cast_run.proofs.Outer.{all_seated, enough_clients, new_fresh, desks_unused}
 use Rattle.cast_run.proofs.prepared.prepare.Goals as goal
 

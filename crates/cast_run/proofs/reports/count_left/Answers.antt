@@ -1,4 +1,4 @@
-use Rattle.std.proofs.Common.{◌≡◌, ◌≤◌, length, rules, arith}
+use Rattle.std.proofs.Common.{◌≤◌, length, rules}
 use Rattle.cast_run.proofs.Counted.{counted_all, counted_done}
 use Rattle.cast_run.proofs.reports.count_left.Goals as goal
 
