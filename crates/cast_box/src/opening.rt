@@ -2,7 +2,7 @@
 ghost use Rattle.std.specs.Prelude.{◌≡◌, ◌+◌, ◌<◌, [], IfOk, IfErr};
 ghost use Rattle.crossbeam_queue.specs.Passes.{view as known, IsPassOf, IsSamePass};
 ghost use Rattle.cast_box.specs.Rule.{taker};
-ghost use Rattle.cast_box.specs.Ends.{PutterEnd, TakerEnd, OpeningBox, AreAllEnds, AreNew, IsFaultOf};
+ghost use Rattle.cast_box.specs.Ends.{PutterEnd, TakerEnd, OpeningBox, AreAllEnds, AreNew, IsSize, IsPutters, IsFaultOf};
 
 use crate::ends::{Putter, Taker};
 use crate::rule::{BoxPass, BoxQueue, Limits, NextPutter, SetLimits};
@@ -31,6 +31,7 @@ pub fn make_box<T: Drop>(
     putters: u64,
 ) -> Result<(Vec<Putter<T>>, Taker<T>), BoxFault>
     ensures ends { IfOk result (λ ends. AreAllEnds ends.0.items ends.1 × AreNew ends.0.items ends.1 × (ends.1.size ≡ size) × (ends.1.putters ≡ putters)) }
+    ensures limits { IfOk result (λ _. IsSize size × IsPutters putters) }
     ensures fault { IfErr result (IsFaultOf size putters) }
 {
     if size < 1 || size > 4096 {

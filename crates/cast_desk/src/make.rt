@@ -1,9 +1,9 @@
 //! The making of a desk with its clients, and its end.
 ghost use Rattle.std.specs.Prelude.{◌≡◌, ◌<◌, ◌≤◌, ◌∷◌, ◌++◌, [], ℕ, List, length, map, slice_get, Some, IfOk, IfErr};
 ghost use Rattle.cast_box.specs.Lists.{of, StartsWith, IsFair};
-ghost use Rattle.cast_box.specs.Ends.{PutterEnd, TakerEnd, AreAllEnds, AreNew};
+ghost use Rattle.cast_box.specs.Ends.{PutterEnd, TakerEnd, AreAllEnds, AreNew, IsSize};
 ghost use Rattle.cast_desk.specs.declared.notice.Notice.{Notice};
-ghost use Rattle.cast_desk.specs.Desk.{ClientState, IsDeskOf, IsNewDesk, IsFaultOf};
+ghost use Rattle.cast_desk.specs.Desk.{ClientState, IsDeskOf, IsNewDesk, IsClients, IsFaultOf};
 
 use crate::client::Client;
 use crate::desk::{Desk, OrderIn};
@@ -22,6 +22,7 @@ pub fn make_desk(
     first_ticket: u64,
 ) -> Result<(Vec<Client>, Desk), BoxFault>
     ensures ends { IfOk result (λ r. IsDeskOf r.0.items r.1.orders r.1.trays.items × (length r.0.items ≡ clients) × IsNewDesk size first_ticket r.0.items r.1.orders r.1.trays.items) }
+    ensures limits { IfOk result (λ _. IsSize size × IsClients clients) }
     ensures fault { IfErr result (IsFaultOf size clients) }
 {
     if size < 1 || size > 4096 {

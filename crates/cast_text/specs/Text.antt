@@ -4,6 +4,8 @@ use Rattle.std.specs.Io.KnownBytes.{Appends, Keeps}
 use Rattle.cast_record.specs.declared.verdict.Verdict.TheVariants.{Good}
 use Rattle.cast_record.specs.Text.{record_text}
 use Rattle.cast_record.specs.Verdicts.{verdict}
+use Rattle.cast_run.specs.declared.fault.LiveFault.TheVariants as lives
+use Rattle.cast_script.specs.declared.script.ScriptFault.TheVariants as scripts
 use Rattle.cast_script.specs.declared.script.Script.{Script}
 use Rattle.cast_script.specs.Script.{Reads}
 use Rattle.cast_text.specs.declared.text.TextFault.{TextFault}
@@ -61,6 +63,14 @@ Fails input read_failed old new failed faults.Write = RecordBreaksOff faults.Wri
 Fails input read_failed old new failed faults.Memory = Keeps old new ⊎ RecordBreaksOff faults.Memory input old new failed
 Fails input read_failed old new failed faults.NotV1 = ⊥
 Fails input read_failed old new failed (faults.Live fault) = ⊥
+
+-- A fault that is told names the stream that failed, and no other failed; want of memory is `Memory` alone.
+abbrev pub IsTold : TextFault → Bool → Bool → Type 0
+IsTold faults.Read read_failed write_failed = (read_failed ≡ true) × (write_failed ≡ false)
+IsTold faults.Write read_failed write_failed = (read_failed ≡ false) × (write_failed ≡ true)
+IsTold (faults.Script scripts.Memory) read_failed write_failed = ⊥
+IsTold (faults.Live lives.Memory) read_failed write_failed = ⊥
+IsTold fault read_failed write_failed = (read_failed ≡ false) × (write_failed ≡ false)
 
 -- the faults of reading alone
 abbrev pub IsOfReading : TextFault → Type 0

@@ -1,6 +1,6 @@
 //! Reading an input to its end, or to the byte past its limit.
-ghost use Rattle.std.specs.Prelude.{◌≡◌, ◌<◌, ◌≤◌, length, true, false, IfOk, IfSome, IsErrOf, IfErr};
-ghost use Rattle.cast_text.specs.Text.{IsOfReading};
+ghost use Rattle.std.specs.Prelude.{◌≡◌, ◌<◌, ◌≤◌, length, false, IfOk, OnOk, IfSome, IsErrOf, IfErr};
+ghost use Rattle.cast_text.specs.Text.{IsOfReading, IsTold};
 
 use crate::text::TextFault;
 use cast_record::Meter;
@@ -10,19 +10,21 @@ use std::io::Read;
 /// The most bytes of an input.
 pub const INPUT_LIMIT: usize = 67_108_864;
 
-/// All that the reader has left.
+/// All that the reader has left. No byte is asked for past the one that tells that there are too many.
 pub fn read_input<R: Read>(alloc: Global, reader: &mut Meter<R>) -> Result<Vec<u8>, TextFault>
     requires { reader.old.failed ≡ false }
     ensures whole { IfOk result (λ v. IfSome (R.remaining reader.old.inner) (λ input. v.items ≡ input)) }
     ensures short { IfOk result (λ v. length v.items ≤ INPUT_LIMIT) }
     ensures long { IsErrOf result TextFault.TooLong → IfSome (R.remaining reader.old.inner) (λ input. INPUT_LIMIT < length input) }
-    ensures read { IsErrOf result TextFault.Read → reader.new.failed ≡ true }
     ensures faults { IfErr result IsOfReading }
+    ensures sound { OnOk result (reader.new.failed ≡ false) }
+    ensures told { IfErr result (λ fault. IsTold fault reader.new.failed false) }
 {
     let mut bytes = Vec::new(alloc);
     let mut chunk = [0; 4096];
     loop {
-        let Ok(count) = reader.read(&mut chunk) else {
+        let most = chunk.len().min(INPUT_LIMIT + 1 - bytes.len());
+        let Ok(count) = reader.read(&mut chunk[..most]) else {
             return Err(TextFault::Read);
         };
         if count == 0 {

@@ -1,6 +1,7 @@
 //! Judging the text of a record as it is read.
-ghost use Rattle.std.specs.Prelude.{◌≡◌, false, IfOk, IfErr};
+ghost use Rattle.std.specs.Prelude.{◌≡◌, false, IfOk, IfErr, OnOk};
 ghost use Rattle.cast_text.specs.Judging.{JudgesInput, IsOfJudging, SaysVerdict, JudgingFails};
+ghost use Rattle.cast_text.specs.Text.{IsTold};
 
 use crate::input::INPUT_LIMIT;
 use crate::text::TextFault;
@@ -22,23 +23,29 @@ pub fn judge_text<R: Read, W: Write>(
     // The verdict is that on the bytes, and the writer has its line and nothing else.
     ensures ok { IfOk result (SaysVerdict (R.remaining reader.old.inner) (W.contents writer.old.inner) (W.contents writer.new.inner)) }
     ensures err { IfErr result (JudgingFails (R.remaining reader.old.inner) reader.new.failed (W.contents writer.old.inner) (W.contents writer.new.inner) writer.new.failed) }
+    // What failed is told, and nothing else is.
+    ensures sound { OnOk result ((reader.new.failed ≡ false) × (writer.new.failed ≡ false)) }
+    ensures told { IfErr result (λ fault. IsTold fault reader.new.failed writer.new.failed) }
 {
     let verdict = judge_input(alloc, reader)?;
     write_verdict(verdict, writer)?;
     Ok(verdict)
 }
 
-// The verdict on all that the reader has left.
+// The verdict on all that the reader has left. No byte is asked for past the one that tells that there are too many.
 fn judge_input<R: Read>(alloc: Global, reader: &mut Meter<R>) -> Result<Verdict, TextFault>
     requires { reader.old.failed ≡ false }
     ensures ok { IfOk result (JudgesInput (R.remaining reader.old.inner)) }
     ensures err { IfErr result (IsOfJudging (R.remaining reader.old.inner) reader.new.failed) }
+    ensures sound { OnOk result (reader.new.failed ≡ false) }
+    ensures told { IfErr result (λ fault. IsTold fault reader.new.failed false) }
 {
     let mut judging = Judging::new(alloc);
     let mut chunk = [0; 16_384];
     let mut length = 0usize;
     loop {
-        let Ok(count) = reader.read(&mut chunk) else {
+        let most = chunk.len().min(INPUT_LIMIT + 1 - length);
+        let Ok(count) = reader.read(&mut chunk[..most]) else {
             return Err(TextFault::Read);
         };
         if count == 0 {

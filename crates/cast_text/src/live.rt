@@ -1,10 +1,11 @@
 //! Running the group of a script in threads, and telling what became of it.
-ghost use Rattle.std.specs.Prelude.{◌≡◌, ◌++◌, ◌∷◌, [], false, IfOk, IfErr, OnOk, map, vec_len};
+ghost use Rattle.std.specs.Prelude.{◌≡◌, ◌++◌, ◌∷◌, [], false, IfOk, IfErr, OnOk, map};
 ghost use Rattle.cast_record.specs.Text.{record_text};
 ghost use Rattle.cast_run.specs.Jobs.{told_job};
 ghost use Rattle.cast_script.specs.Replay.{script_text};
 ghost use Rattle.cast_text.specs.Live.{IsFinished, IsNewJob, AreNewJobs, items_of, IsOfRunning, IsRunOf, WritesSummary, LiveFails};
 ghost use Rattle.cast_text.specs.Recorded.{Writes};
+ghost use Rattle.cast_text.specs.Text.{IsTold};
 ghost use Rattle.cast_text.specs.Replayed.{record_of_accepted, RecordsReplay};
 
 use crate::replay::{is_replayed, write_run_record};
@@ -13,11 +14,11 @@ use crate::text::{TextFault, read_script_text};
 use cast_merge::{Assembly, GroupReport, assemble};
 use cast_message::{Item, List, NodeId};
 use cast_record::Meter;
-use cast_run::{OpenGate, SubmitAll, run_live};
+use cast_run::{CountingGate, Progress, SubmitAll, run_live};
 use cast_script::{Script, write_script};
 use std::alloc::{AllocError, Global};
 use std::io::{Read, Write};
-use std::sync::Wait;
+use std::sync::{Arc, Wait};
 use std::thread::Threads;
 
 /// What came back of a group that ran in threads, and its logs merged and taken by the group as one value.
@@ -41,20 +42,26 @@ pub fn live_text<R: Read, W: Write, T: Threads + Wait + Copy + Send + 'static>(
     // The summary is that of a run of the script that was read, and the writer has its text and nothing else.
     ensures ok { IfOk result (WritesSummary (R.remaining reader.old.inner) (W.contents writer.old.inner) (W.contents writer.new.inner)) }
     ensures err { IfErr result (LiveFails (R.remaining reader.old.inner) reader.new.failed (W.contents writer.old.inner) (W.contents writer.new.inner) writer.new.failed) }
+    // What failed is told, and nothing else is.
+    ensures sound { OnOk result ((reader.new.failed ≡ false) × (writer.new.failed ≡ false)) }
+    ensures told { IfErr result (λ fault. IsTold fault reader.new.failed writer.new.failed) }
 {
     let script = read_script_text(alloc, reader)?;
-    let run = run_script(rt, alloc, script)?;
+    let progress = Progress::shared(alloc, script.config.nodes())?;
+    let run = run_script(rt, alloc, script, &progress)?;
     let summary = summarize(alloc, &run)?;
     write_summary(&run, summary, writer)?;
     Ok(summary)
 }
 
 /// Runs the group of a script in threads, with its plan and a client for each of its jobs, and merges its logs. The events of
-/// the script are left aside. All threads have ended when it returns.
+/// the script are left aside. All threads have ended when it returns; until then `progress`, which has room for each node of
+/// the script, tells another thread how far the run is.
 pub fn run_script<T: Threads + Wait + Copy + Send + 'static>(
     rt: T,
     alloc: Global,
     script: Script,
+    progress: &Arc<Progress, Global>,
 ) -> Result<FinishedRun, TextFault>
     ensures config { IfOk result (λ run. run.report.config ≡ script.config) }
     ensures ran { IfOk result (λ run. IsRunOf script run.report.reports) }
@@ -68,7 +75,7 @@ pub fn run_script<T: Threads + Wait + Copy + Send + 'static>(
         jobs,
         ..
     } = script;
-    let gates = open_gates(alloc, config.nodes())?;
+    let gates = CountingGate::for_nodes(alloc, config.nodes(), progress)?;
     let jobs = submit_all(alloc, jobs)?;
     let run = run_live(rt, alloc, config, &plan, jobs, gates, turns)?;
     Ok(merge_logs(alloc, run.report)?)
@@ -117,17 +124,6 @@ pub fn write_replay_of<W: Write>(run: &FinishedRun, writer: &mut Meter<W>) -> Re
     is_replayed(config, events);
     write_script(config, events, writer)?;
     Ok(())
-}
-
-// An open gate for each node.
-fn open_gates(alloc: Global, nodes: u64) -> Result<Vec<OpenGate>, AllocError>
-    ensures { IfOk result (λ gates. vec_len gates ≡ nodes) }
-{
-    let mut gates = Vec::new(alloc);
-    for _node in 0..nodes {
-        gates.push(OpenGate)?;
-    }
-    Ok(gates)
 }
 
 // For each job of the script the one that submits its items.

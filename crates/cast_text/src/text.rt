@@ -1,6 +1,6 @@
 //! From bytes to bytes.
 ghost use Rattle.std.specs.Prelude.{◌≡◌, false, IfOk, IfErr, OnOk};
-ghost use Rattle.cast_text.specs.Text.{Fails, IsOfScript, IsScriptIn, WritesRecord};
+ghost use Rattle.cast_text.specs.Text.{Fails, IsOfScript, IsScriptIn, IsTold, WritesRecord};
 
 use crate::input::read_input;
 use crate::ranges::tell_ranges;
@@ -86,6 +86,9 @@ pub fn run_text<R: Read, W: Write>(
     // The bytes are a script's, and the writer has its record, which is good, and nothing else.
     ensures ok { OnOk result (WritesRecord (R.remaining reader.old.inner) (W.contents writer.old.inner) (W.contents writer.new.inner)) }
     ensures err { IfErr result (Fails (R.remaining reader.old.inner) reader.new.failed (W.contents writer.old.inner) (W.contents writer.new.inner) writer.new.failed) }
+    // What failed is told, and nothing else is.
+    ensures sound { OnOk result ((reader.new.failed ≡ false) × (writer.new.failed ≡ false)) }
+    ensures told { IfErr result (λ fault. IsTold fault reader.new.failed writer.new.failed) }
 {
     let script = read_script_text(alloc, reader)?;
     tell_ranges(script.events.as_slice());
@@ -97,6 +100,8 @@ pub fn read_script_text<R: Read>(alloc: Global, reader: &mut Meter<R>) -> Result
     requires { reader.old.failed ≡ false }
     ensures ok { IfOk result (IsScriptIn (R.remaining reader.old.inner)) }
     ensures err { IfErr result (IsOfScript (R.remaining reader.old.inner) reader.new.failed) }
+    ensures sound { OnOk result (reader.new.failed ≡ false) }
+    ensures told { IfErr result (λ fault. IsTold fault reader.new.failed false) }
 {
     let input = read_input(alloc, reader)?;
     match read_script(alloc, input.as_slice()) {

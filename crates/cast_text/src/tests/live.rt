@@ -1,14 +1,17 @@
 //! Groups that run in threads by their summaries, their records and their replays.
+ghost use Rattle.std.specs.Prelude.{IfOk};
+ghost use Rattle.cast_text.specs.Live.{IsFinished};
+
 use super::{Failing, Halting, Stopping};
 use crate::{
-    Counted, Summary, TextFault, Verdict, live_text, read_script_text, run_script, run_text,
-    summarize, write_record_of, write_replay_of, write_summary,
+    Counted, FinishedRun, Summary, TextFault, Verdict, live_text, read_script_text, run_script,
+    run_text, summarize, write_record_of, write_replay_of, write_summary,
 };
 use cast_record::Meter;
-use cast_run::LiveFault;
+use cast_run::{LiveFault, Progress};
 use std::alloc::Global;
 use std::io::Write;
-use std::sync::Wait;
+use std::sync::{Arc, Wait};
 use std::test::Fail;
 use std::thread::Threads;
 
@@ -103,13 +106,24 @@ fn refuses_jobs_and_plans_that_name_no_node(rt: HostRuntime) {
     }
 }
 
+/// A run of two nodes in threads, which counted what it did.
+fn run_two<T: Threads + Wait + Copy + Send + 'static>(
+    rt: T,
+    alloc: Global,
+    progress: &Arc<Progress, Global>,
+) -> Result<FinishedRun, TextFault>
+    ensures { IfOk result IsFinished }
+{
+    let script = read_script_text(alloc, &mut Meter::new(TWO_NODES))?;
+    run_script(rt, alloc, script, progress)
+}
+
 /// The record of a run in threads, and that of its replay run step by step.
 fn both_records<T: Threads + Wait + Copy + Send + 'static>(
     rt: T,
     alloc: Global,
 ) -> Result<(Vec<u8>, Vec<u8>), TextFault> {
-    let script = read_script_text(alloc, &mut Meter::new(TWO_NODES))?;
-    let run = run_script(rt, alloc, script)?;
+    let run = run_two(rt, alloc, &Progress::shared(alloc, 2)?)?;
     let mut record = Meter::new(Vec::new(alloc));
     write_record_of(alloc, &run, &mut record)?;
     let mut replay = Meter::new(Vec::new(alloc));
@@ -138,8 +152,7 @@ fn counted_summary<T: Threads + Wait + Copy + Send + 'static>(
     rt: T,
     alloc: Global,
 ) -> Result<u64, TextFault> {
-    let script = read_script_text(alloc, &mut Meter::new(TWO_NODES))?;
-    let run = run_script(rt, alloc, script)?;
+    let run = run_two(rt, alloc, &Progress::shared(alloc, 2)?)?;
     let summary = summarize(alloc, &run)?;
     let mut counted = Counted::new(Vec::new(alloc));
     write_summary(&run, summary, &mut Meter::new(&mut counted))?;
@@ -152,4 +165,19 @@ fn counts_what_a_writer_took(rt: HostRuntime) {
         counted_summary(rt, rt.alloc()),
         Ok(TWO_NODES_SUMMARY.len() as u64)
     );
+}
+
+/// The deliveries that were counted of a run, and whether any turn was.
+fn counted_run<T: Threads + Wait + Copy + Send + 'static>(
+    rt: T,
+    alloc: Global,
+) -> Result<(u64, bool), TextFault> {
+    let progress = Progress::shared(alloc, 2)?;
+    let _run = run_two(rt, alloc, &progress)?;
+    Ok((progress.deliveries(), progress.turns() > 0))
+}
+
+#[test]
+fn counts_the_deliveries_of_a_run(rt: HostRuntime) {
+    assert_eq!(rt; counted_run(rt, rt.alloc()), Ok((4, true)));
 }

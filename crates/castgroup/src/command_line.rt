@@ -1,0 +1,126 @@
+//! The command line: the commands with their arguments and texts, and the words that the program was called with.
+use crate::status::{Status, refuse};
+use cast_text::TextFault;
+use clap::error::ErrorKind;
+use clap::{Arg, ArgAction, Command, Error};
+use std::alloc::{AllocError, Global};
+use std::io;
+use std::rt::Runtime;
+
+/// What the lines `r EVENT CODE` of a record mean.
+const REFUSALS: &str = "Refused events (r EVENT CODE):
+   1  a node that does not exist
+   2  a link from a node to itself
+   3  a node that has crashed
+   4  a stream that is closed
+   5  a payload of more than 1,024 bytes
+   6  a second proposal in an instance
+   7  a stream that is full: its last place is kept for the close
+   8  a slot that was not given
+   9  a slot that was acknowledged
+  10  a slot that was not taken
+  11  a frame that was not made
+  12  a node that has made all its frames";
+
+/// What the line `bad LINE RULE` means.
+const RULES: &str = "Rules (bad LINE RULE):
+  0  what is no line of a record, a head or an end that is missing or stands twice, or bytes after the end
+  1  a broadcast or a delivery out of turn, or a delivery of what was not broadcast
+  2  a broadcast after its node's close
+  3  a decided value that was not proposed
+  4  more decided values in an instance than choices, where fewer nodes may crash
+  5  a line of a node that has crashed
+  6  a second proposal of a node in an instance";
+
+/// What the lines of a summary mean.
+const ENDS: &str =
+    "A line for each node, with its end and how many items it delivered from each node. Ends:
+  stopped    all clients are done, and nothing is owed to a node that runs
+  crashed    the plan crashed it
+  turnlimit  its turns, or those of a client, were used up
+  logfull    its log has as many entries as it may have
+  clockfull  no greater stamp is left
+rest: whether all that live nodes gave live nodes was acknowledged
+verdict: what the judge says of the record of what happened";
+
+/// The words that the program was called with.
+pub fn command_words<R: Runtime + AllocGlobal>(rt: &R) -> io::Result<Vec<String>> {
+    let words = std::env::args(rt)?.collect(rt.alloc())?;
+    Ok(words)
+}
+
+/// Says why there are no words: one is not UTF-8, or memory is wanting.
+pub fn refuse_words<R: Runtime + AllocGlobal>(rt: &R, error: &io::Error) -> Status {
+    if let io::ErrorKind::InvalidData = error.kind() {
+        // Where standard error fails there is nowhere left to say so: the status tells it.
+        let _ = eprintln!(rt; "error: a word of the command line is not UTF-8");
+        return Status::Usage;
+    }
+    refuse(rt, TextFault::Memory)
+}
+
+/// The commands of the program.
+pub fn castgroup_command<'a>(alloc: Global) -> Result<Command<'a>, AllocError> {
+    let script = Arg::new(alloc, "SCRIPT").help("The script; standard input if absent");
+    let run = Command::new(alloc, "run")
+        .about("Writes the record of a script's events")
+        .after_help(REFUSALS)
+        .arg(script)?;
+    let record = Arg::new(alloc, "RECORD").help("The record; standard input if absent");
+    let judge = Command::new(alloc, "judge")
+        .about("Says whether a record is good, or which line breaks which rule")
+        .after_help(RULES)
+        .arg(record)?;
+    let live = live_command(alloc)?;
+    let old_record = Arg::new(alloc, "RECORD").help("The record; standard input if absent");
+    let migrate = Command::new(alloc, "migrate")
+        .about("Writes a cast/1 record with the head of cast/2")
+        .arg(old_record)?;
+    Command::new(alloc, "castgroup")
+        .about("A FIFO broadcast group with k-set agreement")
+        .version("0.1.0")
+        .subcommand_required(true)
+        .subcommand(run)?
+        .subcommand(judge)?
+        .subcommand(live)?
+        .subcommand(migrate)
+}
+
+// The command that runs a group in threads.
+fn live_command<'a>(alloc: Global) -> Result<Command<'a>, AllocError> {
+    let script = Arg::new(alloc, "SCRIPT").help("The script; standard input if absent");
+    let kept_record = Arg::new(alloc, "record")
+        .long("record")
+        .value_name("FILE")
+        .help("Also write the record of the run to FILE");
+    let replay = Arg::new(alloc, "replay")
+        .long("replay")
+        .value_name("FILE")
+        .help("Also write to FILE a script that runs the same step by step");
+    let progress = Arg::new(alloc, "progress")
+        .long("progress")
+        .action(ArgAction::SetTrue)
+        .help("Say on standard error each second how far the run is, as on a terminal");
+    Command::new(alloc, "live")
+        .about(
+            "Runs a script's group in threads, by its plan and jobs, and writes what became of it",
+        )
+        .after_help(ENDS)
+        .arg(kept_record)?
+        .arg(replay)?
+        .arg(progress)?
+        .arg(script)
+}
+
+/// Shows help or the version on standard output, or a usage fault on standard error.
+pub fn show<R: Runtime + AllocGlobal>(rt: &R, error: &Error) -> Status {
+    if let ErrorKind::OutOfMemory = error.kind() {
+        return refuse(rt, TextFault::Memory);
+    }
+    let shown = error.print(rt);
+    match (error.exit_code(), shown) {
+        (0, Ok(())) => Status::Good,
+        (0, Err(_)) => refuse(rt, TextFault::Write),
+        _ => Status::Usage,
+    }
+}

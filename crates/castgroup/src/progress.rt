@@ -1,0 +1,81 @@
+//! How far a long run of `live` is, a line a second on standard error.
+use cast_run::Progress;
+use cast_script::Script;
+use std::alloc::{AllocError, Global};
+use std::rt::Runtime;
+use std::sync::atomic::{AtomicBool, Ordering};
+use std::sync::{Arc, Wait};
+use std::thread;
+use std::thread::{JoinHandle, Parker, Threads};
+use std::time::Duration;
+
+const SECONDS: u64 = 1;
+
+/// What the thread that tells shares with the one that waits for the run.
+#[derive(Drop)]
+struct Bell {
+    ended: AtomicBool,
+    parker: Parker,
+}
+
+/// A thread that tells how far a run is, until it is told that the run has ended.
+#[derive(Drop)]
+pub struct Teller {
+    bell: Arc<Bell, Global>,
+    thread: JoinHandle<()>,
+}
+
+/// How many deliveries a run of the script makes where no node crashes, no item is refused and no log is full: each item at
+/// each node.
+pub fn due_deliveries(script: &Script) -> u64 {
+    let mut items = 0u64;
+    for (_node, job) in script.jobs.as_slice() {
+        items = items.saturating_add(job.as_slice().len() as u64);
+    }
+    items.saturating_mul(script.config.nodes())
+}
+
+impl Teller {
+    /// Starts to tell. Where no thread can be had for it, nothing is told, and the run goes on all the same.
+    pub fn start<R: Runtime + AllocGlobal + Threads + Wait + Copy + Send + 'static>(
+        rt: &R,
+        progress: &Arc<Progress, Global>,
+        due: u64,
+    ) -> Result<Option<Teller>, AllocError> {
+        let bell = Arc::new(
+            rt.alloc(),
+            Bell {
+                ended: AtomicBool::new(false),
+                parker: Parker::new(),
+            },
+        )?;
+        let progress = Arc::try_clone(progress)?;
+        let heard = Arc::try_clone(&bell)?;
+        let rt = *rt;
+        match thread::spawn(&rt, move || tell_each_second(&rt, &progress, due, &heard)) {
+            Ok(thread) => Ok(Some(Teller { bell, thread })),
+            Err(_refused) => Ok(None),
+        }
+    }
+
+    /// The run has ended: nothing more is told.
+    pub fn stop<R: Threads>(self, rt: &R) {
+        let Teller { bell, thread } = self;
+        bell.ended.store(true, Ordering::SeqCst);
+        bell.parker.unpark();
+        thread.join(rt);
+    }
+}
+
+fn tell_each_second<R: Runtime + Wait>(rt: &R, progress: &Progress, due: u64, bell: &Bell) {
+    for _ in rt.forever() {
+        bell.parker.park_timeout(rt, Duration::from_secs(SECONDS));
+        if bell.ended.load(Ordering::SeqCst) {
+            return;
+        }
+        let deliveries = progress.deliveries();
+        let turns = progress.turns();
+        // Where standard error fails there is nobody to tell.
+        let _ = eprintln!(rt; "castgroup: {deliveries} of {due} deliveries, {turns} turns");
+    }
+}
