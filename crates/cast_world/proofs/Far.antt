@@ -6,7 +6,7 @@ use Rattle.cast_message.specs.declared.event.Event.TheVariants.{Order, Send, Ack
 use Rattle.cast_message.specs.declared.event.Answer.{Answer}
 use Rattle.cast_message.specs.declared.event.StepFault.{StepFault}
 use Rattle.cast_message.specs.History.{History}
-use Rattle.cast_message.specs.Replies.{IsAccepted, IsRefused, fault, answer}
+use Rattle.cast_message.specs.Replies.{IsAccepted, IsRefused, fault, reply, answer}
 use Rattle.cast_message.proofs.Accepted.{Send-slot, Ack-taken}
 use Rattle.cast_message.proofs.Ready.{took_in_given}
 use Rattle.cast_message.proofs.Sound.{sound}
@@ -29,6 +29,7 @@ module _ (config : Config) (past : History) (accepted : IsAccepted config past) 
   has_cause (Crash node) far none = far
 
   pub refused_far : (event : Event) (reply : Result Answer StepFault) (new : State) → IsFar event → Continues config past event reply new → IsRefusedForCause config past event reply
+  unfolding reply
   refused_far event (Ok answered) new far goes_on = has_cause event far (no_fault (fault config past event) (answer config past event) answered goes_on.0)
   refused_far event (Err refusal) new far goes_on = by_cause (fault config past event) (has_cause event far) goes_on.0
     where
