@@ -1,15 +1,15 @@
 -- What is owed to peers stays within the limits.
-use Rattle.std.specs.Prelude.{◌≡◌, ℕ, zero, suc, ◌+◌, ◌<◌, Bool, true, false, cond, if◌then◌else◌, List, [], ◌∷◌, replicate, slice_set, slice_index_or, Option, Some, None, option_map, refl}
+use Rattle.std.specs.Prelude.{◌≡◌, ℕ, zero, suc, ◌+◌, ◌<◌, Bool, true, false, cond, if◌then◌else◌, List, [], ◌∷◌, ◌++◌, replicate, slice_set, slice_index_or, Option, Some, None, option_map, unwrap_or, refl}
 use Rattle.std.specs.Ordering.{nat_cmp, eq_by_cmp}
 use Rattle.std.specs.Cmp.{nat_cmp_total}
 use Rattle.std.specs.FinMap as finite
-use Rattle.std.specs.FinMap.{get-insert, get-remove, get-empty}
+use Rattle.std.specs.FinMap.{get-insert, get-remove, get-empty, empty_of_len}
 use Rattle.std.proofs.Common.{sym, ap, ◌∙◌, subst, arith}
 use Rattle.cast_message.specs.declared.message.Message.{Message}
 use Rattle.cast_link.specs.Links.{Link}
 use Rattle.cast_relay.specs.Held.{Held, relays_to}
 use Rattle.cast_node.specs.Turns.{given_one, given_from}
-use Rattle.cast_node.specs.Sound.{Owes}
+use Rattle.cast_node.specs.Sound.{Owes, OwesNothing}
 
 abbrev no_link : Link
 no_link = record { given = 0; owed = finite.empty }
@@ -90,3 +90,27 @@ owes_pair nodes limit links place slot link pair e p h = go (finite.get link.owe
         let sender : pair.0 ≡ m.sender = ap (λ o. (pair_in o).0) g in
         let number : pair.1 ≡ m.number = ap (λ o. (pair_in o).1) g in
         (omega (arith, within.0, sender), omega (arith, within.1, number))
+
+-- its numbers, where the message is told with a default
+pub owed_numbers : (o : Option Message) (none : Message) (pair : ℕ × ℕ) → Some pair ≡ option_map (λ (m : Message). let p : ℕ × ℕ = (m.sender, m.number) in p) o → (pair.0 ≡ (unwrap_or o none).sender) × (pair.1 ≡ (unwrap_or o none).number)
+owed_numbers None none pair e = absurd (no e)
+  where
+    no : ◌≡◌ {A = Option (ℕ × ℕ)} (Some pair) None → ⊥
+    no e = cc
+owed_numbers (Some m) none pair e = (ap (λ o. (pair_in o).0) e, ap (λ o. (pair_in o).1) e)
+  where
+    pair_in : Option (ℕ × ℕ) → ℕ × ℕ
+    pair_in None = pair
+    pair_in (Some x) = x
+
+-- nothing is owed, and still nothing with one link more that owes nothing
+pub nothing_yet : (n : ℕ) → OwesNothing (replicate n (record { given = 0; owed = finite.empty }))
+nothing_yet zero q = refl
+nothing_yet (suc n) zero = refl
+nothing_yet (suc n) (suc q) = nothing_yet n q
+
+pub nothing_last : (links : List Link) (last : Link) → OwesNothing links → finite.len last.owed ≡ 0 → OwesNothing (links ++ last ∷ [])
+nothing_last [] last h e zero = empty_of_len last.owed e
+nothing_last [] last h e (suc q) = refl
+nothing_last (x ∷ links) last h e zero = h zero
+nothing_last (x ∷ links) last h e (suc q) = nothing_last links last (λ q. h (suc q)) e q

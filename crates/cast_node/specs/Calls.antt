@@ -1,22 +1,32 @@
 -- What a node's calls answer, as the answers of steps.
 --     is_peer kept q          another node
---     may_carry kept slot m   a peer could carry this message in this slot
+--     may_carry kept slot s i      a peer could carry this pair in this slot
+--     carried_frame me from ..     the frame to this node that carries the message of these numbers; took_frame: a word that a slot
+--                                  was taken
 use Rattle.std.specs.Prelude.{ℕ, ◌*◌, ◌==◌, nat_lt, Bool, not, ◌&&◌, Result, Ok, Err}
 use Rattle.cast_message.specs.declared.event.Outcome.{Outcome}
 use Rattle.cast_message.specs.declared.event.Answer.{Answer}
 use Rattle.cast_message.specs.declared.event.Answer.TheVariants.{Ordered, Sent, Arrived, Down}
 use Rattle.cast_message.specs.declared.event.StepFault.{StepFault}
 use Rattle.cast_message.specs.declared.message.Frame.{Frame}
-use Rattle.cast_message.specs.declared.message.Message.{Message}
+use Rattle.cast_message.specs.declared.message.Item.{Item}
+use Rattle.cast_message.specs.declared.message.FrameBody.TheVariants.{Carry, Took}
+use Rattle.cast_node.specs.declared.node.Numbers.{Numbers}
 use Rattle.cast_node.specs.Kept.{Kept}
 
 -- another node
 abbrev pub is_peer : Kept → ℕ → Bool
 is_peer kept q = nat_lt q kept.config.nodes && not (q == kept.me)
 
--- a message that a peer could carry in a slot
-abbrev pub may_carry : Kept → ℕ → Message → Bool
-may_carry kept slot message = is_peer kept message.sender && (nat_lt message.number kept.config.item_limit && nat_lt slot (kept.config.nodes * kept.config.item_limit))
+-- a pair that a peer could carry in a slot
+abbrev pub may_carry : Kept → ℕ → ℕ → ℕ → Bool
+may_carry kept slot sender number = is_peer kept sender && (nat_lt number kept.config.item_limit && nat_lt slot (kept.config.nodes * kept.config.item_limit))
+
+abbrev pub carried_frame : ℕ → ℕ → ℕ → ℕ → ℕ → ℕ → Item → Frame
+carried_frame me from seq slot sender number item = record { from = from; seq = seq; to = me; body = Carry slot (record { sender = sender; number = number; item = item }) }
+
+abbrev pub took_frame : ℕ → ℕ → ℕ → ℕ → Frame
+took_frame me from seq slot = record { from = from; seq = seq; to = me; body = Took slot }
 
 abbrev pub ordered_reply : Result (ℕ × Outcome) StepFault → Result Answer StepFault
 ordered_reply (Ok told) = Ok (Ordered told.0 told.1)
@@ -25,6 +35,14 @@ ordered_reply (Err refusal) = Err refusal
 abbrev pub sent_reply : Result Frame StepFault → Result Answer StepFault
 sent_reply (Ok frame) = Ok (Sent frame.seq)
 sent_reply (Err refusal) = Err refusal
+
+abbrev pub number_reply : Result ℕ StepFault → Result Answer StepFault
+number_reply (Ok seq) = Ok (Sent seq)
+number_reply (Err refusal) = Err refusal
+
+abbrev pub numbered_reply : Result Numbers StepFault → Result Answer StepFault
+numbered_reply (Ok sent) = Ok (Sent sent.seq)
+numbered_reply (Err refusal) = Err refusal
 
 abbrev pub arrived_reply : ℕ → Result Outcome StepFault → Result Answer StepFault
 arrived_reply me (Ok outcome) = Ok (Arrived me outcome)

@@ -1,7 +1,8 @@
 -- What a node's fields keep, and how what it keeps is told apart.
 --     Owes          what is owed to peers has a sender and a number within the limits
+--     OwesNothing   no slot is owed to any peer
 --     IsNode        the lists have a place for each node, and what is cached of the stream is so
-use Rattle.std.specs.Prelude.{◌≡◌, ℕ, ◌+◌, ◌≤◌, ◌<◌, Bool, false, List, length, slice_index_or, Some, refl}
+use Rattle.std.specs.Prelude.{◌≡◌, ℕ, ◌+◌, ◌≤◌, ◌<◌, Bool, true, false, List, length, slice_index_or, Some, refl}
 use Rattle.std.specs.List.{list_any}
 use Rattle.std.specs.Ordering.{nat_cmp}
 use Rattle.std.specs.FinSet as set
@@ -23,7 +24,11 @@ use Rattle.cast_node.specs.Code.{sets_code, held_back_code}
 abbrev pub Owes : ℕ → ℕ → List Link → Type 0
 Owes nodes limit links = (q slot : ℕ) (message : Message) → finite.get (slice_index_or links q (record { given = 0; owed = finite.empty })).owed slot ≡ Some message → (message.sender < nodes) × (message.number < limit)
 
-pub record IsNode (config : Config) (me : ℕ) (stream : List Item) (closed : Bool) (proposed : set.FinSet nat_cmp) (relay : Held) (outgoing : List Link) (incoming : List (set.FinSet nat_cmp)) (deliveries : Delivering) : Type 0 where
+-- no slot is owed to any peer
+abbrev pub OwesNothing : List Link → Type 0
+OwesNothing links = (q : ℕ) → (slice_index_or links q (record { given = 0; owed = finite.empty })).owed ≡ finite.empty
+
+pub record IsNode (config : Config) (me : ℕ) (stream : List Item) (closed : Bool) (proposed : set.FinSet nat_cmp) (relay : Held) (outgoing : List Link) (incoming : List (set.FinSet nat_cmp)) (deliveries : Delivering) (quiet : Bool) : Type 0 where
   pub place : me < config.nodes
   pub relay_me : relay.me ≡ me
   pub relay_own : relay.own ≡ length stream
@@ -37,6 +42,7 @@ pub record IsNode (config : Config) (me : ℕ) (stream : List Item) (closed : Bo
   pub senders : length deliveries.hold_back ≡ config.nodes
   pub rows : length deliveries.knowers ≡ config.nodes
   pub owes : Owes config.nodes config.item_limit outgoing
+  pub silent : quiet ≡ true → OwesNothing outgoing
 
 abbrev pub kept_code : Coded Config → Coded Item → Coded Message → Coded Waiting → Coded Kept
 kept_code config item message waiting =

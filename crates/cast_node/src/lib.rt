@@ -12,7 +12,7 @@ mod taking;
 mod tests;
 
 pub use entry::{Entry, EntryKind, Origin};
-pub use node::Node;
+pub use node::{Node, Numbers};
 
 /// A law of every node, whatever steps it took and whatever frames came to it: a new node stands for no steps; a node that
 /// stands for its steps answers the next as the definitions say of them, or wants memory in the place of an answer, and

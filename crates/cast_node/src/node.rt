@@ -1,17 +1,20 @@
 //! A node of a broadcast group: what it holds, gives, waits for, delivers and decides.
-ghost use Rattle.std.specs.Prelude.{◌≡◌, ◌≢◌, ◌<◌, ◌≤◌, ◌+◌, ◌∷◌, ◌++◌, [], false, true, length, nat_lt, Some, None, option_map, slice_get, MatchOption, if◌then◌else◌, IfOk, IfErr, OnOk, OnErr};
+ghost use Rattle.std.specs.Prelude.{◌≡◌, ◌≢◌, ℕ, ◌<◌, ◌≤◌, ◌+◌, ◌∷◌, ◌++◌, [], false, true, IsTrue, length, nat_lt, Some, None, option_map, slice_get, MatchOption, if◌then◌else◌, IfOk, IfErr, OnOk, OnErr};
 ghost use Rattle.std.specs.FinMap as finite;
 ghost use Rattle.std.specs.FinSet as set;
 ghost use Rattle.cast_message.specs.Steps.{Ordered, Sent, Acknowledged, Arrived, Stopped};
 ghost use Rattle.cast_message.specs.declared.event.StepFault.TheVariants.{NoNode, Memory};
+ghost use Rattle.cast_message.specs.declared.message.Frame.{Frame as Arriving};
+ghost use Rattle.cast_message.specs.declared.message.Item.{Item as Carried};
 ghost use Rattle.cast_agree.specs.Counted.{decision};
 ghost use Rattle.cast_link.specs.Links.{IsLeastFrom};
 ghost use Rattle.cast_relay.specs.Held.{holds};
 ghost use Rattle.cast_node.specs.Kept.{nothing_kept, link_to, knowers_of};
-ghost use Rattle.cast_node.specs.Turns.{Gives, kept_fault, carry_of, took_of, ordered, carried, acknowledged, with_taken, may_arrive};
+ghost use Rattle.cast_node.specs.Turns.{Gives, kept_fault, carry_of, took_of, message_owed, ordered, carried, acknowledged, with_taken, may_arrive};
 ghost use Rattle.cast_message.specs.Replies.{is_close, is_too_long, is_second_proposal};
+ghost use Rattle.cast_node.specs.Sound.{OwesNothing};
 ghost use Rattle.cast_node.specs.Taking.{with_proposal, without_proposal};
-ghost use Rattle.cast_node.specs.Calls.{is_peer, may_carry, ordered_reply, sent_reply, arrived_reply, crashed_reply};
+ghost use Rattle.cast_node.specs.Calls.{is_peer, may_carry, carried_frame, took_frame, ordered_reply, sent_reply, number_reply, numbered_reply, arrived_reply, crashed_reply};
 
 use crate::deliveries::{Deliveries, no_news};
 use crate::taking::{Fresh, first_members, take_up_carried, take_up_own};
@@ -27,6 +30,17 @@ const PAYLOAD_LIMIT: usize = 1_024;
 
 // The most frames that a node makes.
 const FRAME_LIMIT: u64 = 1_048_576;
+
+/// A frame that carries a message, told by numbers.
+#[derive(Clone, Copy, Debug)]
+pub struct Numbers {
+    /// Its number among the frames of its maker.
+    pub seq: u64,
+    /// The message's sender.
+    pub sender: NodeId,
+    /// The message's number in the sender's stream.
+    pub number: u64,
+}
 
 /// A node of a group.
 #[derive(Debug, Drop)]
@@ -50,6 +64,8 @@ pub struct Node {
     // What it took of each peer.
     incoming: Vec<LinkIn>,
     deliveries: Deliveries,
+    // It owes no peer anything; false also where that was not looked for.
+    quiet: bool,
 }
 
 impl Model for Node {
@@ -66,7 +82,7 @@ impl Model for Node {
 
     ghost view = { λ n. record { config = n.config; me = n.me; live = n.live; frames = n.frames; stream = n.stream.items; relay = n.relay; outgoing = n.outgoing.items; incoming = n.incoming.items; hold_back = n.deliveries.hold_back; knowers = n.deliveries.knowers; delivered = n.deliveries.delivered; agree = n.deliveries.agree } };
 
-    ghost invariant = { λ n. IsNode n.config n.me n.stream.items n.closed n.proposed n.relay n.outgoing.items n.incoming.items n.deliveries };
+    ghost invariant = { λ n. IsNode n.config n.me n.stream.items n.closed n.proposed n.relay n.outgoing.items n.incoming.items n.deliveries n.quiet };
 }
 
 impl Node {
@@ -125,6 +141,37 @@ impl Node {
         Ok(self.make_frame(to, FrameBody::Took { slot }))
     }
 
+    /// Makes a frame as `send` does, for who knows the items of each stream: the frame's number, and the sender and the number
+    /// of its message, are all that is answered. It takes no memory. A refusal changes nothing.
+    pub fn send_numbers(&mut self, to: NodeId, slot: u64) -> Result<Numbers, StepFault>
+        ensures exact { Gives self.old (Sent to slot) (numbered_reply result) self.new }
+        ensures message { IfOk result (λ sent. (sent.sender ≡ (message_owed self.old to slot).sender) × (sent.number ≡ (message_owed self.old to slot).number)) }
+        ensures small { IfOk result (λ sent. sent.number < 4096) }
+    {
+        if let Some(refusal) = self.send_fault(to, slot) {
+            return Err(refusal);
+        }
+        let Some(pair) = self.outgoing[usize::from(to.0)].pair(slot) else {
+            return Err(StepFault::Memory);
+        };
+        let seq = self.count_frame();
+        Ok(Numbers {
+            seq,
+            sender: pair.0,
+            number: pair.1,
+        })
+    }
+
+    /// Makes a frame as `ack` does, and answers its number. It takes no memory. A refusal changes nothing.
+    pub fn ack_number(&mut self, to: NodeId, slot: u64) -> Result<u64, StepFault>
+        ensures exact { Gives self.old (Acknowledged to slot) (number_reply result) self.new }
+    {
+        if let Some(refusal) = self.ack_fault(to, slot) {
+            return Err(refusal);
+        }
+        Ok(self.count_frame())
+    }
+
     /// Takes a frame that arrives, and answers what is delivered and decided. The frame is for this node. Refused is an arrival
     /// at a crashed node. A frame that no node of the group could have made for this node changes nothing, and nothing comes of
     /// it.
@@ -144,6 +191,42 @@ impl Node {
             FrameBody::Took { slot } => self.take_acknowledged(frame.from, *slot)?,
         };
         Ok(outcome)
+    }
+
+    /// Takes a frame that arrives from a peer with a message that the node holds, told by its slot and its numbers, as `arrive`
+    /// does whatever the message's item.
+    #[tactic(auto, using(std::proofs::lemmas::Bool::Decides::nat_tests), unfolding(cast_message::specs::Replies::first_fault, crate::specs::Turns::kept_causes, crate::specs::Turns::kept_fault))]
+    pub fn arrive_again(
+        &mut self,
+        from: NodeId,
+        slot: u64,
+        sender: NodeId,
+        number: u64,
+    ) -> Result<Outcome, StepFault>
+        requires { holds self.old.relay sender number ≡ true }
+        ensures exact { (seq : ℕ) (item : Carried) → Gives self.old (Arrived (carried_frame self.old.me from seq slot sender number item)) (arrived_reply self.old.me result) self.new }
+    {
+        if !self.live {
+            return Err(StepFault::Crashed);
+        }
+        if !self.is_peer(from) || !self.may_carry(slot, sender, number) {
+            return Ok(no_news(self.alloc));
+        }
+        Ok(self.take_again(from, slot, sender, number)?)
+    }
+
+    /// Takes a frame that arrives from a peer with its word that it took a slot, as `arrive` does.
+    #[tactic(auto, using(std::proofs::lemmas::Bool::Decides::nat_tests), unfolding(cast_message::specs::Replies::first_fault, crate::specs::Turns::kept_causes, crate::specs::Turns::kept_fault))]
+    pub fn arrive_took(&mut self, from: NodeId, slot: u64) -> Result<Outcome, StepFault>
+        ensures exact { (seq : ℕ) → Gives self.old (Arrived (took_frame self.old.me from seq slot)) (arrived_reply self.old.me result) self.new }
+    {
+        if !self.live {
+            return Err(StepFault::Crashed);
+        }
+        if !self.is_peer(from) || slot >= self.outgoing[usize::from(from.0)].given() {
+            return Ok(no_news(self.alloc));
+        }
+        Ok(self.take_acknowledged(from, slot)?)
     }
 
     /// Stops for good. Refused is a second crash.
@@ -223,6 +306,20 @@ impl Node {
         self.outgoing[usize::from(to.0)].least_owed(from)
     }
 
+    /// Whether it is known to owe no peer anything: so it is once the last slot owed was acknowledged. It takes no memory.
+    pub fn owes_nothing(&self) -> bool
+        ensures { IsTrue result → (q : ℕ) → (link_to self.now q).owed ≡ finite.empty }
+    {
+        self.quiet
+    }
+
+    /// Whether it holds a pair. It takes no memory.
+    pub fn holds(&self, sender: NodeId, number: u64) -> bool
+        ensures { result ≡ holds self.now.relay sender number }
+    {
+        self.relay.holds(sender, number)
+    }
+
     /// How many nodes it knows to hold a pair: none where it doesn't hold it itself.
     pub fn known_by(&self, sender: NodeId, number: u64) -> u64
         ensures { result ≡ set.len (knowers_of self.now sender number) }
@@ -249,18 +346,20 @@ impl Node {
             return false;
         }
         match &frame.body {
-            FrameBody::Carry { slot, message } => self.may_carry(*slot, message),
+            FrameBody::Carry { slot, message } => {
+                self.may_carry(*slot, message.sender, message.number)
+            }
             FrameBody::Took { slot } => *slot < self.outgoing[usize::from(frame.from.0)].given(),
         }
     }
 
     // Whether a peer could carry this message in this slot.
     #[tactic(auto, using(std::proofs::lemmas::Bool::Decides::nat_tests))]
-    fn may_carry(&self, slot: u64, message: &Message) -> bool
-        ensures { result ≡ may_carry self.now slot message.now }
+    fn may_carry(&self, slot: u64, sender: NodeId, number: u64) -> bool
+        ensures { result ≡ may_carry self.now slot sender number }
     {
-        self.is_peer(message.sender)
-            && message.number < self.config.item_limit()
+        self.is_peer(sender)
+            && number < self.config.item_limit()
             && slot < self.config.nodes() * self.config.item_limit()
     }
 
@@ -280,21 +379,14 @@ impl Node {
     {
         let place = usize::from(from.0);
         if self.relay.holds(message.sender, message.number) {
-            let mut members = self.deliveries.members(message.sender, message.number);
-            members.insert(from);
-            return self.deliveries.tell_carried(
-                message.sender,
-                message.number,
-                members,
-                &mut self.incoming[place],
-                slot,
-            );
+            return self.take_again(from, slot, message.sender, message.number);
         }
         let fresh = Fresh {
             message: message.copy()?,
             source: from,
             members: first_members(self.me, message.sender, from),
         };
+        self.quiet = false;
         take_up_carried(
             &mut self.relay,
             self.outgoing.as_mut_slice(),
@@ -303,6 +395,29 @@ impl Node {
             slot,
             fresh,
         )
+    }
+
+    // Takes a slot of a peer with a message that the node holds in it.
+    fn take_again(
+        &mut self,
+        from: NodeId,
+        slot: u64,
+        sender: NodeId,
+        number: u64,
+    ) -> Result<Outcome, AllocError>
+        requires from { from < self.old.config.nodes }
+        requires sender { is_peer self.old sender ≡ true }
+        requires number { number < self.old.config.item_limit }
+        requires held { holds self.old.relay sender number ≡ true }
+        ensures outcome { (item : Carried) → IfOk result (λ outcome. outcome ≡ (carried (with_taken self.old from slot) from (record { sender = sender; number = number; item = item })).outcome) }
+        ensures ok { (item : Carried) → OnOk result (self.new ≡ (carried (with_taken self.old from slot) from (record { sender = sender; number = number; item = item })).kept) }
+        ensures err { OnErr result (self.new ≡ self.old) }
+    {
+        let place = usize::from(from.0);
+        let mut members = self.deliveries.members(sender, number);
+        members.insert(from);
+        self.deliveries
+            .tell_carried(sender, number, members, &mut self.incoming[place], slot)
     }
 
     // Takes a peer's word that it took a slot.
@@ -322,6 +437,7 @@ impl Node {
         members.insert(from);
         let outcome = self.deliveries.tell(sender, number, members)?;
         self.outgoing[place].acked(slot);
+        self.quiet = owe_nothing(self.outgoing.as_slice());
         Ok(outcome)
     }
 
@@ -349,7 +465,19 @@ impl Node {
             outgoing,
             incoming,
             deliveries: Deliveries::new(alloc, config)?,
+            quiet: true,
         })
+    }
+
+    // Counts one frame more, and answers its number.
+    fn count_frame(&mut self) -> u64
+        requires { self.old.frames < 1048576 }
+        ensures number { result ≡ self.old.frames }
+        ensures after { self.new ≡ record self.old { frames = self.old.frames + 1 } }
+    {
+        let seq = self.frames;
+        self.frames += 1;
+        seq
     }
 
     // Makes a frame for a peer.
@@ -358,8 +486,7 @@ impl Node {
         ensures frame { result ≡ record { from = self.old.me; seq = self.old.frames; to = to; body = body } }
         ensures after { self.new ≡ record self.old { frames = self.old.frames + 1 } }
     {
-        let seq = self.frames;
-        self.frames += 1;
+        let seq = self.count_frame();
         Frame {
             from: self.me,
             seq,
@@ -441,6 +568,17 @@ impl Node {
         None
     }
 
+    /// Why the arrival of a frame is refused, if it is, want of memory aside. It takes no memory.
+    #[tactic(auto, using(std::proofs::lemmas::Bool::Decides::nat_tests), unfolding(cast_message::specs::Replies::first_fault, crate::specs::Turns::kept_causes, crate::specs::Turns::kept_fault))]
+    pub fn arrive_fault(&self) -> Option<StepFault>
+        ensures { (frame : Arriving) → result ≡ kept_fault self.now (Arrived frame) }
+    {
+        if self.live {
+            return None;
+        }
+        Some(StepFault::Crashed)
+    }
+
     // Whether an item proposes in an instance in which the node proposed before.
     fn has_proposed(&self, item: &Item) -> bool
         ensures { result ≡ is_second_proposal self.now.stream item.now }
@@ -461,6 +599,7 @@ impl Node {
         self.stream.reserve(1)?;
         let kept = item.copy()?;
         propose(&mut self.proposed, &kept)?;
+        self.quiet = false;
         match take_up_own(
             &mut self.relay,
             self.outgoing.as_mut_slice(),
@@ -478,6 +617,16 @@ impl Node {
                 Err(refused)
             }
         }
+    }
+}
+
+// Whether no slot is owed to any of these peers.
+fn owe_nothing(links: &[LinkOut]) -> bool
+    ensures { IsTrue result → OwesNothing links.now }
+{
+    match links.split_last() {
+        None => true,
+        Some((last, rest)) => last.owed() == 0 && owe_nothing(rest),
     }
 }
 

@@ -1,8 +1,12 @@
-//! Nodes by hand: rows of the worked examples, frames that no node could have made, and each refusal.
+//! Nodes by hand: rows of the worked examples, frames that no node could have made, and each refusal; and the same of frames
+//! that are told by their numbers.
 use crate::Node;
 use cast_message::{Config, Frame, FrameBody, Item, Message, Mode, NodeId, StepFault};
 use std::alloc::{AllocError, Global};
 use std::test::Fail;
+
+// How often a node can make a frame.
+const MOST_FRAMES: u64 = 1_048_576;
 
 // A node of a group that has decided by the proposals of all but the faults.
 fn node(alloc: Global, nodes: u64, faults: u64, mode: Mode, id: u8) -> Result<Node, StepFault> {
@@ -59,6 +63,33 @@ fn carry(from: &mut Node, to: &mut Node, slot: u64) -> Result<usize, StepFault> 
 fn acknowledge(from: &mut Node, to: &mut Node, slot: u64) -> Result<usize, StepFault> {
     let frame = from.ack(to.id(), slot)?;
     bring(to, &frame)
+}
+
+// A frame that carries a slot: its number, and the sender and the number of its message.
+fn send_numbers(node: &mut Node, to: u8, slot: u64) -> Result<(u64, u8, u64), StepFault> {
+    let sent = node.send_numbers(NodeId(to), slot)?;
+    Ok((sent.seq, sent.sender.0, sent.number))
+}
+
+// How many messages a frame brings that carries a pair which the node holds.
+fn bring_again(
+    node: &mut Node,
+    from: u8,
+    sender: u8,
+    number: u64,
+    slot: u64,
+) -> Result<usize, StepFault> {
+    if !node.holds(NodeId(sender), number) {
+        return Err(StepFault::NoFrame);
+    }
+    let outcome = node.arrive_again(NodeId(from), slot, NodeId(sender), number)?;
+    Ok(outcome.deliveries.as_slice().len())
+}
+
+// How many messages a peer's word brings that it took a slot.
+fn bring_word(node: &mut Node, from: u8, slot: u64) -> Result<usize, StepFault> {
+    let outcome = node.arrive_took(NodeId(from), slot)?;
+    Ok(outcome.deliveries.as_slice().len())
 }
 
 fn send(node: &mut Node, to: u8, slot: u64) -> Option<StepFault> {
@@ -185,5 +216,120 @@ fn leaves_alone_what_no_node_could_have_made(rt: HostRuntime) -> Result<(), Fail
     let mut node = node(rt.alloc(), 2, 0, Mode::Basic, 0)?;
     assert!(rt; leaves_alone(&mut node));
     assert_eq!(rt; bring_close(&mut node, 1, 1, 0, 8191)?, 1);
+    Ok(())
+}
+
+#[test]
+fn sends_by_numbers(rt: HostRuntime) -> Result<(), Fail> {
+    let mut node = node(rt.alloc(), 3, 1, Mode::Basic, 0)?;
+    assert_eq!(rt; send_numbers(&mut node, 1, 0), Err(StepFault::NoSlot));
+    assert_eq!(rt; bring_close(&mut node, 1, 1, 0, 0)?, 1);
+    assert_eq!(rt; order(&mut node, Item::Close)?, 1);
+    assert_eq!(rt; send_numbers(&mut node, 2, 0)?, (0, 1, 0));
+    assert_eq!(rt; send_numbers(&mut node, 2, 1)?, (1, 0, 0));
+    assert_eq!(rt; send_numbers(&mut node, 1, 0)?, (2, 0, 0));
+    assert_eq!(rt; node.frames(), 3);
+    assert_eq!(rt; send_numbers(&mut node, 3, 0), Err(StepFault::NoNode));
+    assert_eq!(rt; send_numbers(&mut node, 0, 0), Err(StepFault::SelfLink));
+    assert_eq!(rt; send_numbers(&mut node, 1, 1), Err(StepFault::NoSlot));
+    assert_eq!(rt; bring_word(&mut node, 1, 0)?, 0);
+    assert_eq!(rt; send_numbers(&mut node, 1, 0), Err(StepFault::Acked));
+    assert_eq!(rt; crash(&mut node), None);
+    assert_eq!(rt; send_numbers(&mut node, 2, 0), Err(StepFault::Crashed));
+    assert_eq!(rt; node.frames(), 3);
+    Ok(())
+}
+
+#[test]
+fn acknowledges_by_number(rt: HostRuntime) -> Result<(), Fail> {
+    let mut node = node(rt.alloc(), 3, 1, Mode::Basic, 0)?;
+    assert_eq!(rt; node.ack_number(NodeId(1), 0), Err(StepFault::NotTaken));
+    assert_eq!(rt; bring_close(&mut node, 1, 1, 0, 0)?, 1);
+    for seq in 0..2 {
+        assert_eq!(rt; node.ack_number(NodeId(1), 0)?, seq);
+    }
+    assert_eq!(rt; node.ack_number(NodeId(3), 0), Err(StepFault::NoNode));
+    assert_eq!(rt; node.ack_number(NodeId(0), 0), Err(StepFault::SelfLink));
+    assert_eq!(rt; node.ack_number(NodeId(1), 1), Err(StepFault::NotTaken));
+    assert_eq!(rt; crash(&mut node), None);
+    assert_eq!(rt; node.ack_number(NodeId(1), 0), Err(StepFault::Crashed));
+    assert_eq!(rt; node.frames(), 2);
+    Ok(())
+}
+
+#[test]
+fn makes_no_more_frames_than_it_can(rt: HostRuntime) -> Result<(), Fail> {
+    let mut node = node(rt.alloc(), 2, 0, Mode::Basic, 0)?;
+    assert_eq!(rt; bring_close(&mut node, 1, 1, 0, 0)?, 1);
+    assert_eq!(rt; order(&mut node, Item::Close)?, 1);
+    for _frame in 0..MOST_FRAMES {
+        node.ack_number(NodeId(1), 0)?;
+    }
+    assert_eq!(rt; node.ack_number(NodeId(1), 0), Err(StepFault::FramesFull));
+    assert_eq!(rt; send_numbers(&mut node, 1, 0), Err(StepFault::FramesFull));
+    assert_eq!(rt; node.frames(), MOST_FRAMES);
+    Ok(())
+}
+
+// In uniform mode, of a group of five that tolerates two faults, the third holder is the last that a delivery waits for.
+#[test]
+fn hears_of_a_pair_again(rt: HostRuntime) -> Result<(), Fail> {
+    let mut node = node(rt.alloc(), 5, 2, Mode::Uniform, 0)?;
+    assert!(rt; !node.holds(NodeId(1), 0));
+    assert_eq!(rt; bring_close(&mut node, 1, 1, 0, 0)?, 0);
+    assert!(rt; node.holds(NodeId(1), 0));
+    assert!(rt; !node.holds(NodeId(1), 1));
+    assert!(rt; !node.holds(NodeId(9), 0));
+
+    // None of these could a peer have made.
+    assert_eq!(rt; bring_again(&mut node, 0, 1, 0, 0)?, 0);
+    assert_eq!(rt; bring_again(&mut node, 5, 1, 0, 0)?, 0);
+    assert_eq!(rt; bring_again(&mut node, 2, 1, 0, 20_480)?, 0);
+    assert_eq!(rt; node.known_by(NodeId(1), 0), 2);
+
+    assert_eq!(rt; bring_again(&mut node, 2, 1, 0, 20_479)?, 1);
+    assert_eq!(rt; bring_again(&mut node, 3, 1, 0, 0)?, 0);
+    assert_eq!(rt; node.known_by(NodeId(1), 0), 4);
+    assert_eq!(rt; node.ack_number(NodeId(2), 20_479)?, 0);
+    assert_eq!(rt; node.ack_number(NodeId(3), 0)?, 1);
+    assert_eq!(rt; crash(&mut node), None);
+    assert_eq!(rt; bring_again(&mut node, 4, 1, 0, 0), Err(StepFault::Crashed));
+    Ok(())
+}
+
+// Its own pair is none that a peer could carry to it.
+#[test]
+fn leaves_its_own_pair_alone(rt: HostRuntime) -> Result<(), Fail> {
+    let mut node = node(rt.alloc(), 3, 1, Mode::Uniform, 0)?;
+    assert_eq!(rt; order(&mut node, Item::Close)?, 0);
+    assert!(rt; node.holds(NodeId(0), 0));
+    assert_eq!(rt; bring_again(&mut node, 1, 0, 0, 0)?, 0);
+    assert_eq!(rt; node.known_by(NodeId(0), 0), 1);
+    assert_eq!(rt; node.ack_number(NodeId(1), 0), Err(StepFault::NotTaken));
+    Ok(())
+}
+
+#[test]
+fn hears_that_a_slot_was_taken(rt: HostRuntime) -> Result<(), Fail> {
+    let mut node = node(rt.alloc(), 3, 1, Mode::Uniform, 0)?;
+    assert!(rt; node.owes_nothing());
+    assert_eq!(rt; order(&mut node, Item::Close)?, 0);
+    assert!(rt; !node.owes_nothing());
+
+    // Neither a peer nor a slot that was given.
+    for (from, slot) in [(0, 0), (3, 0), (1, 1)] {
+        assert_eq!(rt; bring_word(&mut node, from, slot)?, 0);
+    }
+    assert_eq!(rt; node.known_by(NodeId(0), 0), 1);
+
+    assert_eq!(rt; bring_word(&mut node, 1, 0)?, 1);
+    assert_eq!(rt; bring_word(&mut node, 1, 0)?, 0);
+    assert!(rt; !node.owes_nothing());
+    assert_eq!(rt; bring_word(&mut node, 2, 0)?, 0);
+    assert!(rt; node.owes_nothing());
+    assert_eq!(rt; node.arrive_fault(), None);
+    assert_eq!(rt; crash(&mut node), None);
+    assert_eq!(rt; node.arrive_fault(), Some(StepFault::Crashed));
+    assert_eq!(rt; bring_word(&mut node, 2, 0), Err(StepFault::Crashed));
     Ok(())
 }

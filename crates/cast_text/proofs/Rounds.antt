@@ -23,7 +23,7 @@ use Rattle.cast_text.specs.Text.{BreaksOff}
 use Rattle.cast_text.proofs.Recording.{IsTrying, trying_done, going_breaks, record_text-append, tried_on, tried_end, went_on, went_no_further}
 use Rattle.cast_world.specs.Group.{State, Stands}
 use Rattle.cast_world.specs.Plans.{events_from}
-use Rattle.cast_world.proofs.Stepping.{made_all}
+use Rattle.cast_world.proofs.Stepping.{made_count}
 
 -- ---- events one list after another
 
@@ -119,9 +119,9 @@ module _ (config : Config) (index : ℕ) where
   unfolding events_for Counted
   slot_events past now before ds d world st going =
       λ k. Send d.from d.to d.slot
-      ∷ Arrive d.from ((ap length (made_all config now world st d.from) ∙ going.counted d.from) k)
+      ∷ Arrive d.from ((made_count config now world st d.from ∙ going.counted d.from) k)
       ∷ Ack d.to d.from d.slot
-      ∷ Arrive d.to ((ap length (made_all config now world st d.to) ∙ going.counted d.to) k)
+      ∷ Arrive d.to ((made_count config now world st d.to ∙ going.counted d.to) k)
       ∷ []
 
   plan_next : (past : History) (before ds : List Due) (d : Due) → plan_from past before (d ∷ ds) ≡ events_for past before d ++ plan_from past (before ++ d ∷ []) ds

@@ -8,3 +8,5 @@ pub mod Planning
 pub mod Rounding
 pub mod Resting
 pub mod Numbering
+mod Marks
+pub mod Far

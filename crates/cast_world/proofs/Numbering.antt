@@ -15,7 +15,7 @@ use Rattle.cast_message.proofs.Round.{frames_for-push}
 use Rattle.cast_world.specs.Group.{State, Stands}
 use Rattle.cast_world.specs.Rounds.{events_after}
 use Rattle.cast_world.proofs.Rounding.{drop-next}
-use Rattle.cast_world.proofs.Stepping.{made_all}
+use Rattle.cast_world.proofs.Stepping.{made_count}
 
 -- of these slots so many frames were counted, by the node
 pub record AreCounted (ds : List Due) (made : List ℕ) : Type 0 where
@@ -84,9 +84,9 @@ module _ (config : Config) (past : History) (world : State) (st : Stands config 
       let from = count.counted d.from (let l = ok.from_in in omega (arith, l, nodes)) in
       let to = count.counted d.to (let l = ok.to_in in omega (arith, l, nodes)) in
       λ k. Send d.from d.to d.slot
-      ∷ Arrive d.from (length (made_all config past world st d.from k) + from k)
+      ∷ Arrive d.from (made_count config past world st d.from k + from k)
       ∷ Ack d.to d.from d.slot
-      ∷ Arrive d.to (length (made_all config past world st d.to k) + to k)
+      ∷ Arrive d.to (made_count config past world st d.to k + to k)
       ∷ []
 
   pub plan_more : (ds : List Due) (i : ℕ) (d : Due) (made : List ℕ) (before new : List Event) → ds ≡ due config past → i < length ds → d ≡ get_or ds i d → AreCounted (take i ds) made → before ≡ plan_from past [] (take i ds) → new ≡ before ++ events_after world made d → new ≡ plan_from past [] (take (i + 1) ds)

@@ -12,6 +12,7 @@ use Rattle.cast_message.specs.declared.config.Config.{Config}
 use Rattle.cast_message.specs.declared.message.Message.{Message}
 use Rattle.cast_message.specs.History.{History, is_live, first, given, given_of}
 use Rattle.cast_message.specs.Delivery.{nodes_of}
+use Rattle.cast_message.specs.Replies.{IsAccepted}
 use Rattle.cast_message.specs.Rounds.{Due, owed, due_between, live_nodes, due}
 use Rattle.cast_message.specs.Steps.{steps_of, copy_of}
 use Rattle.cast_message.specs.OwnSteps.{own_given, own_acked, own_owed, message_in}
@@ -89,6 +90,16 @@ length-filter_le p (x ∷ xs) = by_test (p x) (length-filter_le p xs)
     by_test true h = omega (arith, h)
     by_test false h = omega (arith, h)
 
+-- of each of at most 64 nodes at most 4096 items are given
+pub gives_few : (config : Config) (past : History) → IsAccepted config past → (p q : ℕ) → length (given past p q) < 2 ^ 32
+unfolding given given_of
+gives_few config past accepted p q =
+    let within = length-filter_le (λ copy. not (copy.sender == q) && not (copy.source == q)) (first past p) in
+    let bound = held_bounded config past accepted p in
+    let nodes = mul-le-mul_right config.item_limit config.nodes_in_range in
+    let items = mul-le-mul_left 64 config.items_in_range in
+    omega (arith, within, bound, nodes, items)
+
 module _ (config : Config) (past : History) (world : State) (st : Stands config past world) where
   node_in : (p : ℕ) → Member p (nodes_of config) → p < config.nodes
   node_in p m = let l = (range_bounds config.nodes 0 p m).1 in omega (arith, l)
@@ -106,15 +117,11 @@ module _ (config : Config) (past : History) (world : State) (st : Stands config 
       past_all n k l = grind (arith, nat_tests)
 
   few_given : (p q : ℕ) → p < config.nodes → q < config.nodes → q ≢ p → (link_to (node_at world p) q).given < 2 ^ 64
-  unfolding given given_of
   few_given p q l m e =
       let given = (out p q l m e).given in
       let copies = sym (length-map copy_of (own_given p (steps_of past p) q)) ∙ ap length (own_given-steps_of past p q) in
-      let within = length-filter_le (λ copy. not (copy.sender == q) && not (copy.source == q)) (first past p) in
-      let bound = held_bounded config past st.accepted p in
-      let nodes = mul-le-mul_right config.item_limit config.nodes_in_range in
-      let items = mul-le-mul_left 64 config.items_in_range in
-      omega (arith, given, copies, within, bound, nodes, items)
+      let few = gives_few config past st.accepted p q in
+      omega (arith, given, copies, few)
 
   pub is_bounded : IsBounded world
   is_bounded = record {

@@ -1,15 +1,22 @@
 -- What holds at rest, and how rest is found.
-use Rattle.std.proofs.Common.{◌≡◌, ◌∙◌, ap, ◌++◌, drop}
+use Rattle.std.proofs.Common.{◌≡◌, ◌≢◌, ℕ, ◌<◌, refl, sym, ◌∙◌, ap, List, [], ◌∷◌, ◌++◌, drop, length, arith}
+use Rattle.std.specs.FinMap as finite
+use Rattle.std.specs.FinMap.{len-empty}
+use Rattle.std.specs.Ordering.{nat_cmp}
 use Rattle.std.proofs.lemmas.List.{take-append-drop}
 use Rattle.cast_message.specs.declared.config.Config.{Config}
 use Rattle.cast_message.specs.declared.config.Mode.TheVariants.{Uniform}
+use Rattle.cast_message.specs.declared.message.Message.{Message}
 use Rattle.cast_message.specs.History.{History}
 use Rattle.cast_message.specs.Delivery.{delivered, next}
 use Rattle.cast_message.specs.Replies.{IsAccepted}
-use Rattle.cast_message.specs.Rounds.{Rest, FewCrashedIn}
+use Rattle.cast_message.specs.Rounds.{Rest, FewCrashedIn, owed}
 use Rattle.cast_message.proofs.DecidedAtRest.{all_delivered_same, live_stream_delivered, all_decided_same, decided_where_proposed}
 use Rattle.cast_message.proofs.UniformRest.{delivered_everywhere}
-use Rattle.cast_world.specs.Rounds.{AgreesAtRest, HaveWhatAnyDelivered}
+use Rattle.cast_node.specs.Kept.{link_to}
+use Rattle.cast_world.specs.Group.{State, node_at, Stands}
+use Rattle.cast_world.specs.Rounds.{AgreesAtRest, HaveWhatAnyDelivered, IsSettled}
+use Rattle.cast_world.proofs.Showing.{owed_shown}
 
 module _ (config : Config) (past : History) (accepted : IsAccepted config past) (rest : Rest config past) where
   pub agrees : FewCrashedIn config.mode config past → AgreesAtRest config past
@@ -24,3 +31,12 @@ module _ (config : Config) (past : History) (accepted : IsAccepted config past) 
   have_all uniform few p q s live =
       let h = delivered_everywhere config past accepted rest uniform few p live.in_group live.alive q s in
       (drop (next config past q s) (delivered config past p s), ap (λ xs. xs ++ drop (next config past q s) (delivered config past p s)) h ∙ take-append-drop (next config past q s) (delivered config past p s))
+
+-- a node that owes nothing is settled with each
+no_length : (slots : List ℕ) → length slots ≡ 0 → slots ≡ []
+no_length [] e = refl
+no_length (slot ∷ slots) e = absurd (omega (arith, e))
+
+pub settled_quiet : (config : Config) (past : History) (world : State) → Stands config past world → (p q : ℕ) → p < config.nodes → q < config.nodes → (link_to (node_at world p) q).owed ≡ finite.empty → IsSettled past p q
+settled_quiet config past world st p q l m none live_p live_q apart =
+    no_length (owed past p q) (sym (owed_shown config past world st p q l m (λ e. apart (sym e))) ∙ ap finite.len none ∙ len-empty nat_cmp Message)

@@ -16,7 +16,7 @@ use Rattle.cast_message.proofs.TwoRounds.{round_frames, holds_all, holds_no_more
 use Rattle.cast_world.specs.Group.{State, Stands, Continues}
 use Rattle.cast_world.specs.Plans.{events_from}
 use Rattle.cast_world.specs.Rounds.{Stops, TakesAll, StopsFor, StopsRound, EndsRound, Spreads}
-use Rattle.cast_world.proofs.Stepping.{made_all}
+use Rattle.cast_world.proofs.Stepping.{made_count}
 
 -- the rest of a list begins with the element whose turn it is
 pub drop-next : {A : Type 0} (xs : List A) (i : ℕ) (x : A) → i < length xs → x ≡ get_or xs i x → drop i xs ≡ x ∷ drop (i + 1) xs
@@ -94,9 +94,9 @@ module _ (config : Config) (past : History) where
     unfolding events_for Counted
     slot_events =
         λ k. Send d.from d.to d.slot
-        ∷ Arrive d.from ((ap length (made_all config now world round.stands d.from) ∙ round.going.counted d.from) k)
+        ∷ Arrive d.from ((made_count config now world round.stands d.from ∙ round.going.counted d.from) k)
         ∷ Ack d.to d.from d.slot
-        ∷ Arrive d.to ((ap length (made_all config now world round.stands d.to) ∙ round.going.counted d.to) k)
+        ∷ Arrive d.to ((made_count config now world round.stands d.to ∙ round.going.counted d.to) k)
         ∷ []
 
     split_next : plan config past ≡ round.front ++ (events_for past before d ++ plan_from past (before ++ d ∷ []) ds)

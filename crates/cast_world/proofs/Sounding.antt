@@ -14,15 +14,16 @@ use Rattle.cast_message.specs.declared.message.Message.{Message}
 use Rattle.cast_message.specs.declared.message.Frame.{Frame}
 use Rattle.cast_message.specs.declared.message.FrameBody.{FrameBody}
 use Rattle.cast_message.specs.declared.message.FrameBody.TheVariants.{Carry, Took}
-use Rattle.cast_message.specs.Replies.{Cause, no_node, first_fault}
+use Rattle.cast_message.specs.Replies.{Cause, IsRefused, no_node, first_fault}
 use Rattle.cast_message.specs.Steps.{Step, Ordered, Sent, Acknowledged, Arrived, Stopped}
 use Rattle.std.specs.FinMap as finite
 use Rattle.cast_relay.specs.Held.{holds}
 use Rattle.cast_node.specs.Kept.{Kept, nothing_kept, link_to, is_enough}
 use Rattle.cast_node.specs.Turns.{told, released, unmoved, own_taken_up, acknowledged, arrived_body, may_arrive, taken_up, with_taken, with_acked, with_knower, kept_causes, kept_fault, kept_after, Gives}
 use Rattle.cast_node.proofs.Places.{length-slice_set, at_set, same_number, other_number}
-use Rattle.cast_world.specs.Group.{State, node_at, frames_at}
-use Rattle.cast_world.specs.Moves.{frames_after, Takes, TakesStep, ArrivesBy, StepsTo, IsSound}
+use Rattle.cast_world.specs.declared.frames.Mark.{Mark}
+use Rattle.cast_world.specs.Group.{State, node_at, marks_at, frame_by}
+use Rattle.cast_world.specs.Moves.{marks_after, Takes, TakesStep, ArrivesBy, StepsTo, IsSound}
 
 -- a step leaves a node's number and its configuration
 record SamePlace (kept new : Kept) : Type 0 where
@@ -70,7 +71,7 @@ gives_place kept step (Ok answer) new g = subst (SamePlace kept) (sym g.2) (afte
 gives_place kept step (Err refusal) new g = subst (SamePlace kept) (sym g.1) (record { me = refl; config = refl })
 
 -- one more frame at the end of a row
-last_frame : (row : List Frame) (frame : Frame) (seq : ℕ) (found : Frame) → slice_get (row ++ frame ∷ []) seq ≡ Some found → (slice_get row seq ≡ Some found) ⊎ (found ≡ frame)
+last_frame : (row : List Mark) (frame : Mark) (seq : ℕ) (found : Mark) → slice_get (row ++ frame ∷ []) seq ≡ Some found → (slice_get row seq ≡ Some found) ⊎ (found ≡ frame)
 last_frame [] frame zero found e = inr (let f : frame ≡ found = cc in sym f)
 last_frame [] frame (suc seq) found e = absurd (cc)
 last_frame (x ∷ row) frame zero found e = inl e
@@ -84,7 +85,7 @@ module _ (world : State) (sound : IsSound world) (p : ℕ) (within : p < length 
   node_after q = at_set world.nodes p q kept (nothing_kept world.config 0) within
 
   -- no frame is made
-  pub sound_after : IsSound (record { config = world.config; nodes = slice_set world.nodes p kept; frames = world.frames })
+  pub sound_after : IsSound (record { config = world.config; nodes = slice_set world.nodes p kept; marks = world.marks })
   sound_after = record {
     size = length-slice_set world.nodes p kept ∙ sound.size;
     rows = sound.rows;
@@ -106,39 +107,39 @@ module _ (world : State) (sound : IsSound world) (p : ℕ) (within : p < length 
       ]
 
   -- one frame is
-  pub sound_made : (frame : Frame) → frame.to < world.config.nodes → IsSound (record { config = world.config; nodes = slice_set world.nodes p kept; frames = slice_set world.frames p (frames_at world p ++ frame ∷ []) })
+  pub sound_made : (frame : Mark) → frame.to < world.config.nodes → IsSound (record { config = world.config; nodes = slice_set world.nodes p kept; marks = slice_set world.marks p (marks_at world p ++ frame ∷ []) })
   sound_made frame goes = record {
     size = sound_after.size;
-    rows = length-slice_set world.frames p (frames_at world p ++ frame ∷ []) ∙ sound.rows;
+    rows = length-slice_set world.marks p (marks_at world p ++ frame ∷ []) ∙ sound.rows;
     places = sound_after.places;
     configs = sound_after.configs;
-    targets = λ q seq found e. by_place q seq found (cases_eq q p) (sym (ap (λ row. slice_get row seq) (at_set world.frames p q (frames_at world p ++ frame ∷ []) [] (subst (λ n. p < n) (sym sound.rows) p_in))) ∙ e);
+    targets = λ q seq found e. by_place q seq found (cases_eq q p) (sym (ap (λ row. slice_get row seq) (at_set world.marks p q (marks_at world p ++ frame ∷ []) [] (subst (λ n. p < n) (sym sound.rows) p_in))) ∙ e);
   }
     where
-      by_place : (q seq : ℕ) (found : Frame) → (q ≡ p) ⊎ (q ≢ p) → slice_get (cond (q == p) (frames_at world p ++ frame ∷ []) (frames_at world q)) seq ≡ Some found → found.to < world.config.nodes
-      by_place q seq found (inl e) f = elim (last_frame (frames_at world p) frame seq found (sym (ap (λ b. slice_get (cond b (frames_at world p ++ frame ∷ []) (frames_at world q)) seq) (same_number q p e)) ∙ f)) [
+      by_place : (q seq : ℕ) (found : Mark) → (q ≡ p) ⊎ (q ≢ p) → slice_get (cond (q == p) (marks_at world p ++ frame ∷ []) (marks_at world q)) seq ≡ Some found → found.to < world.config.nodes
+      by_place q seq found (inl e) f = elim (last_frame (marks_at world p) frame seq found (sym (ap (λ b. slice_get (cond b (marks_at world p ++ frame ∷ []) (marks_at world q)) seq) (same_number q p e)) ∙ f)) [
         | inl old ↦ sound.targets p seq found old
         | inr new ↦ subst (λ x. x.to < world.config.nodes) (sym new) goes
       ]
-      by_place q seq found (inr e) f = sound.targets q seq found (sym (ap (λ b. slice_get (cond b (frames_at world p ++ frame ∷ []) (frames_at world q)) seq) (other_number q p e)) ∙ f)
+      by_place q seq found (inr e) f = sound.targets q seq found (sym (ap (λ b. slice_get (cond b (marks_at world p ++ frame ∷ []) (marks_at world q)) seq) (other_number q p e)) ∙ f)
 
 -- the code's lists, where the node took the step
-pub takes_by : (world : State) (p : ℕ) (step : Step) (made : List Frame) (answer : Answer) (kept : Kept) (frames : List (List Frame)) → p < length world.nodes → frames ≡ frames_after world.frames p made → Gives (node_at world p) step (Ok answer) kept →
-    Takes world (record { config = world.config; nodes = slice_set world.nodes p kept; frames = frames }) p step made answer
+pub takes_by : (world : State) (p : ℕ) (step : Step) (made : List Mark) (answer : Answer) (kept : Kept) (marks : List (List Mark)) → p < length world.nodes → marks ≡ marks_after world.marks p made → Gives (node_at world p) step (Ok answer) kept →
+    Takes world (record { config = world.config; nodes = slice_set world.nodes p kept; marks = marks }) p step made answer
 takes_by world p step made answer kept frames within rows gives = record {
   within = within;
   gives = subst (λ k. Gives (node_at world p) step (Ok answer) k) (sym itself) gives;
-  moves = λ i. record { config = world.config; nodes = slice_set world.nodes p (sym itself i); frames = rows i };
+  moves = λ i. record { config = world.config; nodes = slice_set world.nodes p (sym itself i); marks = rows i };
 }
   where
     itself : slice_index_or (slice_set world.nodes p kept) p (nothing_kept world.config 0) ≡ kept
     itself = get_or-set_same world.nodes p kept (nothing_kept world.config 0) within
 
 -- and where it refused it
-pub refuses_by : (world : State) (p : ℕ) (step : Step) (made : List Frame) (refusal : StepFault) (kept : Kept) (frames : List (List Frame)) → p < length world.nodes → frames ≡ world.frames → Gives (node_at world p) step (Err refusal) kept →
-    TakesStep world p step made (Err refusal) (record { config = world.config; nodes = slice_set world.nodes p kept; frames = frames })
+pub refuses_by : (world : State) (p : ℕ) (step : Step) (made : List Mark) (refusal : StepFault) (kept : Kept) (marks : List (List Mark)) → p < length world.nodes → marks ≡ world.marks → Gives (node_at world p) step (Err refusal) kept →
+    TakesStep world p step made (Err refusal) (record { config = world.config; nodes = slice_set world.nodes p kept; marks = marks })
 refuses_by world p step made refusal kept frames within rows gives = (
-  (λ i. record { config = world.config; nodes = (ap (slice_set world.nodes p) gives.1 ∙ set-get_or world.nodes p (nothing_kept world.config 0)) i; frames = rows i }),
+  (λ i. record { config = world.config; nodes = (ap (slice_set world.nodes p) gives.1 ∙ set-get_or world.nodes p (nothing_kept world.config 0)) i; marks = rows i }),
   inl (within, gives.0),
 )
 
@@ -147,11 +148,11 @@ pub refused_same : (world : State) (event : Event) (refusal : StepFault) (new : 
 refused_same world (Order node item) refusal new t = t.0
 refused_same world (Send from to slot) refusal new t = t.0
 refused_same world (Ack from to slot) refusal new t = t.0
-refused_same world (Arrive from seq) refusal new t = by_frame (slice_get (frames_at world from) seq) t
+refused_same world (Arrive from seq) refusal new t = by_mark (slice_get (marks_at world from) seq) t
   where
-    by_frame : (o : Option Frame) → ArrivesBy world from o (Err refusal) new → new ≡ world
-    by_frame None h = h.0
-    by_frame (Some frame) h = h.0
+    by_mark : (o : Option Mark) → ArrivesBy world from seq o (Err refusal) new → new ≡ world
+    by_mark None h = h.0
+    by_mark (Some mark) h = h.0
 refused_same world (Crash node) refusal new t = t.0
 
 -- what the code found at a place is the node there
@@ -163,7 +164,7 @@ found_at world p before within found = found ∙ by_list world.nodes p within
     by_list (x ∷ xs) zero l = refl
     by_list (x ∷ xs) (suc i) l = by_list xs i (omega (arith, l))
 
-pub sound_stepped : (world : State) → IsSound world → (p : ℕ) → p < length world.nodes → (before kept : Kept) → before ≡ get_or world.nodes p before → (step : Step) (reply : Result Answer StepFault) → Gives before step reply kept → IsSound (record { config = world.config; nodes = slice_set world.nodes p kept; frames = world.frames })
+pub sound_stepped : (world : State) → IsSound world → (p : ℕ) → p < length world.nodes → (before kept : Kept) → before ≡ get_or world.nodes p before → (step : Step) (reply : Result Answer StepFault) → Gives before step reply kept → IsSound (record { config = world.config; nodes = slice_set world.nodes p kept; marks = world.marks })
 sound_stepped world sound p within before kept found step reply gives = sound_after world sound p within step reply kept (subst (λ k. Gives k step reply kept) (found_at world p before within found) gives)
 
 -- a node that sends or acknowledges names another of the group
@@ -184,64 +185,76 @@ unfolding kept_fault kept_causes
 acknowledged_in kept to slot e = in_group kept.config to _ e
 
 -- rows of frames as the code keeps them
-module _ {A : Type 0} (items : A → List Frame) (config : Config) (nodes : List Kept) (rows : List A) where
+module _ {A : Type 0} (items : A → List Mark) (config : Config) (nodes : List Kept) (rows : List A) where
   abbrev pub world_of : State
-  world_of = record { config = config; nodes = nodes; frames = map items rows }
+  world_of = record { config = config; nodes = nodes; marks = map items rows }
 
   module _ (p : ℕ) (before : A) (found : before ≡ get_or rows p before) (v : A) where
     pub rows_same : items v ≡ items before → map items (slice_set rows p v) ≡ map items rows
     rows_same same = map-set_same items rows p v before (same ∙ ap items found)
 
-    pub rows_more : (frame : Frame) → p < length rows → items v ≡ items before ++ frame ∷ [] → map items (slice_set rows p v) ≡ frames_after (map items rows) p (frame ∷ [])
+    pub rows_more : (frame : Mark) → p < length rows → items v ≡ items before ++ frame ∷ [] → map items (slice_set rows p v) ≡ marks_after (map items rows) p (frame ∷ [])
     rows_more frame within more = map-set items rows p v ∙ ap (slice_set (map items rows) p) (more ∙ ap (λ row. row ++ frame ∷ []) (ap items found ∙ sym (get_or-map items rows p before [] within)))
 
   length-rows : (xs : List A) → length (map items xs) ≡ length xs
   length-rows [] = refl
   length-rows (x ∷ xs) = ap suc (length-rows xs)
 
-  module _ (sound : IsSound (record { config = config; nodes = nodes; frames = map items rows })) (p : ℕ) (within : p < length nodes) (kept new : Kept) (found : kept ≡ get_or nodes p kept) (step : Step) (before : A) (row_found : before ≡ get_or rows p before) (v : A) (frame : Kept → Frame) where
+  module _ (sound : IsSound (record { config = config; nodes = nodes; marks = map items rows })) (p : ℕ) (within : p < length nodes) (kept new : Kept) (found : kept ≡ get_or nodes p kept) (step : Step) (before : A) (row_found : before ≡ get_or rows p before) (v : A) (frame : Kept → Mark) where
     in_rows : p < length rows
     in_rows = let a = sound.size in let b = sound.rows in let c = length-rows rows in omega (arith, within, a, b, c)
 
-    at : kept ≡ node_at (record { config = config; nodes = nodes; frames = map items rows }) p
-    at = found_at (record { config = config; nodes = nodes; frames = map items rows }) p kept within found
+    at : kept ≡ node_at (record { config = config; nodes = nodes; marks = map items rows }) p
+    at = found_at (record { config = config; nodes = nodes; marks = map items rows }) p kept within found
 
     -- a node is asked for a frame
     pub sound_sent : (reply : Result Answer StepFault) → Gives kept step reply new → (kept_fault kept step ≡ None → (frame kept).to < kept.config.nodes) → OnOk reply (items v ≡ items before ++ frame kept ∷ []) → OnErr reply (items v ≡ items before) →
-        IsSound (record { config = config; nodes = slice_set nodes p new; frames = map items (slice_set rows p v) })
+        IsSound (record { config = config; nodes = slice_set nodes p new; marks = map items (slice_set rows p v) })
     sound_sent (Ok answer) gives goes more same =
-        subst (λ frames. IsSound (record { config = config; nodes = slice_set nodes p new; frames = frames })) (sym (rows_more p before row_found v (frame kept) in_rows more))
-        (sound_made (record { config = config; nodes = nodes; frames = map items rows }) sound p within step (Ok answer) new (subst (λ k. Gives k step (Ok answer) new) at gives) (frame kept)
+        subst (λ marks. IsSound (record { config = config; nodes = slice_set nodes p new; marks = marks })) (sym (rows_more p before row_found v (frame kept) in_rows more))
+        (sound_made (record { config = config; nodes = nodes; marks = map items rows }) sound p within step (Ok answer) new (subst (λ k. Gives k step (Ok answer) new) at gives) (frame kept)
         (subst (λ c. (frame kept).to < c.nodes) (ap (λ k. k.config) at ∙ sound.configs p (subst (λ n. p < n) sound.size within)) (goes gives.0)))
     sound_sent (Err refusal) gives goes more same =
-        subst (λ frames. IsSound (record { config = config; nodes = slice_set nodes p new; frames = frames })) (sym (rows_same p before row_found v same))
-        (sound_stepped (record { config = config; nodes = nodes; frames = map items rows }) sound p within kept new found step (Err refusal) gives)
+        subst (λ marks. IsSound (record { config = config; nodes = slice_set nodes p new; marks = marks })) (sym (rows_same p before row_found v same))
+        (sound_stepped (record { config = config; nodes = nodes; marks = map items rows }) sound p within kept new found step (Err refusal) gives)
 
-    pub sent_rows : (world : State) → world ≡ record { config = config; nodes = nodes; frames = map items rows } → (reply : Result Answer StepFault) → Gives kept step reply new → OnOk reply (items v ≡ items before ++ frame kept ∷ []) → OnErr reply (items v ≡ items before) →
-        TakesStep world p step (frame (node_at world p) ∷ []) reply (record { config = config; nodes = slice_set nodes p new; frames = map items (slice_set rows p v) })
+    pub sent_rows : (world : State) → world ≡ record { config = config; nodes = nodes; marks = map items rows } → (reply : Result Answer StepFault) → Gives kept step reply new → OnOk reply (items v ≡ items before ++ frame kept ∷ []) → OnErr reply (items v ≡ items before) →
+        TakesStep world p step (frame (node_at world p) ∷ []) reply (record { config = config; nodes = slice_set nodes p new; marks = map items (slice_set rows p v) })
     sent_rows world is (Ok answer) gives more same =
-        subst (λ w. Takes w (record { config = config; nodes = slice_set nodes p new; frames = map items (slice_set rows p v) }) p step (frame (node_at w p) ∷ []) answer) (sym is)
-        (subst (λ k. Takes (record { config = config; nodes = nodes; frames = map items rows }) (record { config = config; nodes = slice_set nodes p new; frames = map items (slice_set rows p v) }) p step (frame k ∷ []) answer) at
-        (takes_by (record { config = config; nodes = nodes; frames = map items rows }) p step (frame kept ∷ []) answer new (map items (slice_set rows p v)) within (rows_more p before row_found v (frame kept) in_rows more) (subst (λ k. Gives k step (Ok answer) new) at gives)))
+        subst (λ w. Takes w (record { config = config; nodes = slice_set nodes p new; marks = map items (slice_set rows p v) }) p step (frame (node_at w p) ∷ []) answer) (sym is)
+        (subst (λ k. Takes (record { config = config; nodes = nodes; marks = map items rows }) (record { config = config; nodes = slice_set nodes p new; marks = map items (slice_set rows p v) }) p step (frame k ∷ []) answer) at
+        (takes_by (record { config = config; nodes = nodes; marks = map items rows }) p step (frame kept ∷ []) answer new (map items (slice_set rows p v)) within (rows_more p before row_found v (frame kept) in_rows more) (subst (λ k. Gives k step (Ok answer) new) at gives)))
     sent_rows world is (Err refusal) gives more same =
-        subst (λ w. TakesStep w p step (frame (node_at w p) ∷ []) (Err refusal) (record { config = config; nodes = slice_set nodes p new; frames = map items (slice_set rows p v) })) (sym is)
-        (refuses_by (record { config = config; nodes = nodes; frames = map items rows }) p step [] refusal new (map items (slice_set rows p v)) within (rows_same p before row_found v same) (subst (λ k. Gives k step (Err refusal) new) at gives))
+        subst (λ w. TakesStep w p step (frame (node_at w p) ∷ []) (Err refusal) (record { config = config; nodes = slice_set nodes p new; marks = map items (slice_set rows p v) })) (sym is)
+        (refuses_by (record { config = config; nodes = nodes; marks = map items rows }) p step [] refusal new (map items (slice_set rows p v)) within (rows_same p before row_found v same) (subst (λ k. Gives k step (Err refusal) new) at gives))
 
 -- a frame arrives
-module _ (world : State) (sound : IsSound world) (from seq : ℕ) (frame : Frame) (found_frame : slice_get (frames_at world from) seq ≡ Some frame) (p : ℕ) (target : p ≡ frame.to) (kept new : Kept) (found : kept ≡ get_or world.nodes p kept) (reply : Result Answer StepFault) (gives : Gives kept (Arrived frame) reply new) where
+module _ (world : State) (sound : IsSound world) (from seq : ℕ) (mark : Mark) (found_mark : slice_get (marks_at world from) seq ≡ Some mark) (p : ℕ) (target : p ≡ mark.to) (kept : Kept) (found : kept ≡ get_or world.nodes p kept) where
   target_in : p < length world.nodes
-  target_in = let t = sound.targets from seq frame found_frame in let n = sound.size in omega (arith, t, n, target)
+  target_in = let t = sound.targets from seq mark found_mark in let n = sound.size in omega (arith, t, n, target)
 
-  pub sound_arrived : IsSound (record { config = world.config; nodes = slice_set world.nodes p new; frames = world.frames })
-  sound_arrived = sound_stepped world sound p target_in kept new found (Arrived frame) reply gives
+  pub arrived_me : kept.me ≡ mark.to
+  arrived_me = ap (λ k. k.me) (found_at world p kept target_in found) ∙ sound.places p (subst (λ n. p < n) sound.size target_in) ∙ target
 
-  pub arrived_steps : (shown : State) → shown ≡ world → ArrivesBy shown from (slice_get (frames_at shown from) seq) reply (record { config = world.config; nodes = slice_set world.nodes p new; frames = world.frames })
-  arrived_steps shown is =
-      subst (λ w. ArrivesBy w from (slice_get (frames_at w from) seq) reply (record { config = world.config; nodes = slice_set world.nodes p new; frames = world.frames })) (sym is)
-      (subst (λ o. ArrivesBy world from o reply (record { config = world.config; nodes = slice_set world.nodes p new; frames = world.frames })) (sym found_frame)
-      (subst (λ q. TakesStep world q (Arrived frame) [] reply (record { config = world.config; nodes = slice_set world.nodes p new; frames = world.frames })) target
-      (by_reply reply (subst (λ k. Gives k (Arrived frame) reply new) (found_at world p kept target_in found) gives))))
-    where
-      by_reply : (reply : Result Answer StepFault) → Gives (node_at world p) (Arrived frame) reply new → TakesStep world p (Arrived frame) [] reply (record { config = world.config; nodes = slice_set world.nodes p new; frames = world.frames })
-      by_reply (Ok answer) g = takes_by world p (Arrived frame) [] answer new world.frames target_in refl g
-      by_reply (Err refusal) g = refuses_by world p (Arrived frame) [] refusal new world.frames target_in refl g
+  -- it is refused
+  pub arrival_refused : (refusal : StepFault) → IsRefused (kept_fault kept (Arrived (frame_by world from seq mark))) refusal → (shown : State) → shown ≡ world → ArrivesBy shown from seq (slice_get (marks_at shown from) seq) (Err refusal) shown
+  arrival_refused refusal why shown is =
+      subst (λ w. ArrivesBy w from seq (slice_get (marks_at w from) seq) (Err refusal) w) (sym is)
+      (subst (λ o. ArrivesBy world from seq o (Err refusal) world) (sym found_mark)
+      (subst (λ q. TakesStep world q (Arrived (frame_by world from seq mark)) [] (Err refusal) world) target
+      (refl, inl (target_in, subst (λ k. IsRefused (kept_fault k (Arrived (frame_by world from seq mark))) refusal) (found_at world p kept target_in found) why))))
+
+  module _ (frame : Frame) (frame_is : frame ≡ frame_by world from seq mark) (new : Kept) (reply : Result Answer StepFault) (gives : Gives kept (Arrived frame) reply new) where
+    pub sound_arrived : IsSound (record { config = world.config; nodes = slice_set world.nodes p new; marks = world.marks })
+    sound_arrived = sound_stepped world sound p target_in kept new found (Arrived frame) reply gives
+
+    pub arrived_steps : (shown : State) → shown ≡ world → ArrivesBy shown from seq (slice_get (marks_at shown from) seq) reply (record { config = world.config; nodes = slice_set world.nodes p new; marks = world.marks })
+    arrived_steps shown is =
+        subst (λ w. ArrivesBy w from seq (slice_get (marks_at w from) seq) reply (record { config = world.config; nodes = slice_set world.nodes p new; marks = world.marks })) (sym is)
+        (subst (λ o. ArrivesBy world from seq o reply (record { config = world.config; nodes = slice_set world.nodes p new; marks = world.marks })) (sym found_mark)
+        (subst (λ q. TakesStep world q (Arrived (frame_by world from seq mark)) [] reply (record { config = world.config; nodes = slice_set world.nodes p new; marks = world.marks })) target
+        (by_reply reply (subst (λ f. Gives (node_at world p) (Arrived f) reply new) frame_is (subst (λ k. Gives k (Arrived frame) reply new) (found_at world p kept target_in found) gives)))))
+      where
+        by_reply : (reply : Result Answer StepFault) → Gives (node_at world p) (Arrived (frame_by world from seq mark)) reply new → TakesStep world p (Arrived (frame_by world from seq mark)) [] reply (record { config = world.config; nodes = slice_set world.nodes p new; marks = world.marks })
+        by_reply (Ok answer) g = takes_by world p (Arrived (frame_by world from seq mark)) [] answer new world.marks target_in refl g
+        by_reply (Err refusal) g = refuses_by world p (Arrived (frame_by world from seq mark)) [] refusal new world.marks target_in refl g

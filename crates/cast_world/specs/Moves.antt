@@ -1,5 +1,5 @@
 -- What a step changes of a world: one node takes a step, and may make a frame.
---     TakesStep world p step made reply new     node p is asked for the step, and makes these frames where it takes it
+--     TakesStep world p step made reply new     node p is asked for the step, and makes frames with these marks where it takes it
 --     StepsTo world event reply new             the world answers the event so, and is this then
 --     IsSound world                             the nodes are those of the group, and frames go to them
 use Rattle.std.specs.Prelude.{◌≡◌, ◌⊎◌, ℕ, ◌<◌, ◌≤◌, nat_lt, if◌then◌else◌, List, [], ◌∷◌, ◌++◌, length, slice_get, slice_index_or, slice_set, Option, Some, None, Result, Ok, Err}
@@ -8,27 +8,27 @@ use Rattle.cast_message.specs.declared.event.Event.TheVariants.{Order, Send, Ack
 use Rattle.cast_message.specs.declared.event.Answer.{Answer}
 use Rattle.cast_message.specs.declared.event.StepFault.{StepFault}
 use Rattle.cast_message.specs.declared.event.StepFault.TheVariants.{NoNode, NoFrame}
-use Rattle.cast_message.specs.declared.message.Frame.{Frame}
 use Rattle.cast_message.specs.Replies.{IsRefused}
 use Rattle.cast_message.specs.Steps.{Step, Ordered, Sent, Acknowledged, Arrived, Stopped}
 use Rattle.cast_node.specs.Kept.{Kept}
 use Rattle.cast_node.specs.Turns.{kept_fault, carry_of, took_of, Gives}
-use Rattle.cast_world.specs.Group.{State, node_at, frames_at}
+use Rattle.cast_world.specs.declared.frames.Mark.{Mark}
+use Rattle.cast_world.specs.Group.{State, node_at, marks_at, mark_of, frame_by}
 
--- the frames of node p
-abbrev pub row_at : List (List Frame) → ℕ → List Frame
+-- the marks of node p
+abbrev pub row_at : List (List Mark) → ℕ → List Mark
 row_at all p = slice_index_or all p []
 
--- the frames with these more of node p
-abbrev pub frames_after : List (List Frame) → ℕ → List Frame → List (List Frame)
-frames_after all p [] = all
-frames_after all p (frame ∷ more) = slice_set all p (slice_index_or all p [] ++ frame ∷ more)
+-- the marks with these more of node p
+abbrev pub marks_after : List (List Mark) → ℕ → List Mark → List (List Mark)
+marks_after all p [] = all
+marks_after all p (mark ∷ more) = slice_set all p (slice_index_or all p [] ++ mark ∷ more)
 
-abbrev pub moved : State → ℕ → Kept → List Frame → State
-moved world p kept made = record world { nodes = slice_set world.nodes p kept; frames = frames_after world.frames p made }
+abbrev pub moved : State → ℕ → Kept → List Mark → State
+moved world p kept made = record world { nodes = slice_set world.nodes p kept; marks = marks_after world.marks p made }
 
 -- node p took the step
-pub record Takes (world new : State) (p : ℕ) (step : Step) (made : List Frame) (answer : Answer) : Type 0 where
+pub record Takes (world new : State) (p : ℕ) (step : Step) (made : List Mark) (answer : Answer) : Type 0 where
   pub within : p < length world.nodes
   pub gives : Gives (node_at world p) step (Ok answer) (node_at new p)
   pub moves : new ≡ moved world p (node_at new p) made
@@ -38,7 +38,7 @@ abbrev pub Refuses : State → ℕ → Step → StepFault → Type 0
 Refuses world p step refusal =
     ((p < length world.nodes) × IsRefused (kept_fault (node_at world p) step) refusal) ⊎ ((length world.nodes ≤ p) × (refusal ≡ NoNode))
 
-abbrev pub TakesStep : State → ℕ → Step → List Frame → Result Answer StepFault → State → Type 0
+abbrev pub TakesStep : State → ℕ → Step → List Mark → Result Answer StepFault → State → Type 0
 TakesStep world p step made (Ok answer) new = Takes world new p step made answer
 TakesStep world p step made (Err refusal) new = (new ≡ world) × Refuses world p step refusal
 
@@ -46,21 +46,21 @@ TakesStep world p step made (Err refusal) new = (new ≡ world) × Refuses world
 abbrev pub missing : ℕ → ℕ → StepFault
 missing nodes from = if nat_lt from nodes then NoFrame else NoNode
 
-abbrev pub ArrivesBy : State → ℕ → Option Frame → Result Answer StepFault → State → Type 0
-ArrivesBy world from (Some frame) reply new = TakesStep world frame.to (Arrived frame) [] reply new
-ArrivesBy world from None (Ok answer) new = ⊥
-ArrivesBy world from None (Err refusal) new = (new ≡ world) × (refusal ≡ missing (length world.nodes) from)
+abbrev pub ArrivesBy : State → ℕ → ℕ → Option Mark → Result Answer StepFault → State → Type 0
+ArrivesBy world from seq (Some mark) reply new = TakesStep world mark.to (Arrived (frame_by world from seq mark)) [] reply new
+ArrivesBy world from seq None (Ok answer) new = ⊥
+ArrivesBy world from seq None (Err refusal) new = (new ≡ world) × (refusal ≡ missing (length world.nodes) from)
 
 abbrev pub StepsTo : State → Event → Result Answer StepFault → State → Type 0
 StepsTo world (Order node item) reply new = TakesStep world node (Ordered item) [] reply new
-StepsTo world (Send from to slot) reply new = TakesStep world from (Sent to slot) (carry_of (node_at world from) to slot ∷ []) reply new
-StepsTo world (Ack from to slot) reply new = TakesStep world from (Acknowledged to slot) (took_of (node_at world from) to slot ∷ []) reply new
-StepsTo world (Arrive from seq) reply new = ArrivesBy world from (slice_get (frames_at world from) seq) reply new
+StepsTo world (Send from to slot) reply new = TakesStep world from (Sent to slot) (mark_of (carry_of (node_at world from) to slot) ∷ []) reply new
+StepsTo world (Ack from to slot) reply new = TakesStep world from (Acknowledged to slot) (mark_of (took_of (node_at world from) to slot) ∷ []) reply new
+StepsTo world (Arrive from seq) reply new = ArrivesBy world from seq (slice_get (marks_at world from) seq) reply new
 StepsTo world (Crash node) reply new = TakesStep world node Stopped [] reply new
 
 pub record IsSound (world : State) : Type 0 where
   pub size : length world.nodes ≡ world.config.nodes
-  pub rows : length world.frames ≡ world.config.nodes
+  pub rows : length world.marks ≡ world.config.nodes
   pub places : (p : ℕ) → p < world.config.nodes → (node_at world p).me ≡ p
   pub configs : (p : ℕ) → p < world.config.nodes → (node_at world p).config ≡ world.config
-  pub targets : (p seq : ℕ) (frame : Frame) → slice_get (frames_at world p) seq ≡ Some frame → frame.to < world.config.nodes
+  pub targets : (p seq : ℕ) (mark : Mark) → slice_get (marks_at world p) seq ≡ Some mark → mark.to < world.config.nodes

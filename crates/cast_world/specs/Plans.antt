@@ -12,7 +12,7 @@ use Rattle.cast_message.specs.Delivery.{nodes_of}
 use Rattle.cast_message.specs.Rounds.{Due}
 use Rattle.cast_link.specs.Links.{Link}
 use Rattle.cast_node.specs.Kept.{link_to}
-use Rattle.cast_world.specs.Group.{State, node_at, frames_at}
+use Rattle.cast_world.specs.Group.{State, node_at, marks_at}
 
 abbrev pub live_at : State → List ℕ
 live_at world = filter (λ p. (node_at world p).live) (nodes_of world.config)
@@ -42,7 +42,7 @@ due_at world = flat_map (λ p. flat_map (due_between_at world p) (live_at world)
 abbrev pub events_from : State → Due → List Event
 events_from world d =
     Send d.from d.to d.slot
-    ∷ Arrive d.from (length (frames_at world d.from))
+    ∷ Arrive d.from (length (marks_at world d.from))
     ∷ Ack d.to d.from d.slot
-    ∷ Arrive d.to (length (frames_at world d.to))
+    ∷ Arrive d.to (length (marks_at world d.to))
     ∷ []

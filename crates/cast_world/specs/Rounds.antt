@@ -16,7 +16,7 @@ use Rattle.cast_message.specs.History.{History, is_live, broadcast, has_pair, fi
 use Rattle.cast_message.specs.Delivery.{delivered, decision}
 use Rattle.cast_message.specs.Replies.{IsRefused, IsPrefixOf, fault, history_from}
 use Rattle.cast_message.specs.Rounds.{owed, Due, Live, AreAccepted, makes_frame, plan, after_round, proposers}
-use Rattle.cast_world.specs.Group.{State, Stands, frames_at}
+use Rattle.cast_world.specs.Group.{State, Stands, marks_at}
 
 -- these were taken, and the next one was refused
 pub record Stops (config : Config) (past : History) (events : List Event) (refusal : StepFault) (world : State) : Type 0 where
@@ -81,7 +81,7 @@ HaveWhatAnyDelivered config past = (p q s : ℕ) → Live config past p → IsPr
 abbrev pub events_after : State → List ℕ → Due → List Event
 events_after world made d =
     Send d.from d.to d.slot
-    ∷ Arrive d.from (length (frames_at world d.from) + slice_index_or made d.from 0)
+    ∷ Arrive d.from (length (marks_at world d.from) + slice_index_or made d.from 0)
     ∷ Ack d.to d.from d.slot
-    ∷ Arrive d.to (length (frames_at world d.to) + slice_index_or made d.to 0)
+    ∷ Arrive d.to (length (marks_at world d.to) + slice_index_or made d.to 0)
     ∷ []

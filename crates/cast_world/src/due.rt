@@ -85,6 +85,9 @@ fn add_due_from(world: &World, giver: NodeId, due: &mut Vec<DueSlot>) -> Result<
     requires { giver < length world.now.nodes }
     ensures { IsBounded world.now → OnOk result (due.new.items ≡ due.old.items ++ flat_map (due_between_at world.now giver) (live_at world.now)) }
 {
+    if world.node_of(giver).owes_nothing() {
+        return Ok(());
+    }
     for taker in 0..world.node_count() {
         if world.is_up(NodeId(taker)) {
             add_due_between(world, giver, NodeId(taker), due)?;

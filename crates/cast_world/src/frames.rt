@@ -1,57 +1,180 @@
-//! Frames on their way: a node makes one, which goes to the end of those that it made, and one arrives. The room for a frame
+//! Frames on their way: a node makes one, whose mark goes to the end of those that it made, and one arrives. The room for a mark
 //! is there before its node takes the step, so that a refusal changes neither.
-ghost use Rattle.std.specs.Prelude.{◌≡◌, ◌++◌, ◌∷◌, [], Some, None, OnOk, OnErr, MatchResult, length, map, slice_get};
+ghost use Rattle.std.specs.Prelude.{◌≡◌, ℕ, ◌==◌, true, false, List, ◌++◌, ◌∷◌, [], Some, None, IfOk, OnOk, OnErr, MatchResult, length, map, slice_get, slice_index_or};
+ghost use Rattle.cast_message.specs.declared.message.Item.TheVariants.{Close};
+ghost use Rattle.cast_message.specs.declared.config.Config.{Config as Settings};
 ghost use Rattle.cast_message.specs.Steps.{Sent, Acknowledged, Arrived};
-ghost use Rattle.cast_node.specs.Turns.{Gives, carry_of, took_of};
+ghost use Rattle.cast_message.specs.Replies.{IsRefused};
+ghost use Rattle.cast_node.specs.Kept.{Kept};
+ghost use Rattle.cast_relay.specs.Held.{holds};
+ghost use Rattle.cast_node.specs.Turns.{Gives, kept_fault, carry_of, took_of};
+ghost use Rattle.cast_world.specs.Group.{mark_of, node_in, body_in, frame_in};
 ghost use Rattle.cast_world.specs.Moves.{row_at, missing};
 
-use cast_message::{Answer, Frame, NodeId, Reply, StepFault};
+use cast_message::{Answer, Frame, FrameBody, Item, Message, NodeId, Reply, StepFault};
 use cast_node::Node;
+use std::alloc::AllocError;
+
+// The sender of an acknowledgement's mark, which is no node's number.
+const NOBODY: u8 = 255;
+
+// The greatest slot of a mark. No link gives so many.
+const LAST_SLOT: u64 = 0xffff_ffff;
+
+/// What is kept of a frame: neither its maker nor its number, which its place tells, nor its message's item, which stands in
+/// the sender's stream.
+#[derive(Clone, Copy, Debug)]
+pub struct Mark {
+    pub slot: u32,
+    pub number: u16,
+    pub to: NodeId,
+    /// The message's sender; of an acknowledgement a number that is no node's.
+    pub sender: NodeId,
+}
 
 /// The frame that carries a slot. It is answered by its number.
-pub fn send(node: &mut Node, made: &mut Vec<Frame>, to: NodeId, slot: u64) -> Reply
+pub fn send(node: &mut Node, made: &mut Vec<Mark>, to: NodeId, slot: u64) -> Reply
     ensures gives { Gives node.old (Sent to slot) result node.new }
-    ensures made { OnOk result (made.new.items ≡ made.old.items ++ carry_of node.old to slot ∷ []) }
+    ensures made { OnOk result (made.new.items ≡ made.old.items ++ mark_of (carry_of node.old to slot) ∷ []) }
     ensures same { OnErr result (made.new.items ≡ made.old.items) }
 {
-    if let Some(fault) = node.send_fault(to, slot) {
-        return Err(fault);
+    if slot > LAST_SLOT || made.reserve(1).is_err() {
+        return Err(or_memory(node.send_fault(to, slot)));
     }
-    made.reserve(1)?;
-    let frame = node.send(to, slot)?;
-    let seq = frame.seq;
-    made.push_reserved(frame);
-    Ok(Answer::Sent { seq })
+    let sent = node.send_numbers(to, slot)?;
+    made.push_reserved(Mark {
+        slot: slot as u32,
+        number: sent.number as u16,
+        to,
+        sender: sent.sender,
+    });
+    Ok(Answer::Sent { seq: sent.seq })
 }
 
 /// The frame that acknowledges a slot. It is answered by its number.
-pub fn acknowledge(node: &mut Node, made: &mut Vec<Frame>, to: NodeId, slot: u64) -> Reply
+pub fn acknowledge(node: &mut Node, made: &mut Vec<Mark>, to: NodeId, slot: u64) -> Reply
     ensures gives { Gives node.old (Acknowledged to slot) result node.new }
-    ensures made { OnOk result (made.new.items ≡ made.old.items ++ took_of node.old to slot ∷ []) }
+    ensures made { OnOk result (made.new.items ≡ made.old.items ++ mark_of (took_of node.old to slot) ∷ []) }
     ensures same { OnErr result (made.new.items ≡ made.old.items) }
 {
-    if let Some(fault) = node.ack_fault(to, slot) {
-        return Err(fault);
+    if slot > LAST_SLOT || made.reserve(1).is_err() {
+        return Err(or_memory(node.ack_fault(to, slot)));
     }
-    made.reserve(1)?;
-    let frame = node.ack(to, slot)?;
-    let seq = frame.seq;
-    made.push_reserved(frame);
+    let seq = node.ack_number(to, slot)?;
+    made.push_reserved(Mark {
+        slot: slot as u32,
+        number: 0,
+        to,
+        sender: NodeId(NOBODY),
+    });
     Ok(Answer::Sent { seq })
 }
 
-/// The frame of this number that a node made, or why there is none.
-pub fn find(frames: &Vec<Vec<Frame>>, from: NodeId, seq: u64) -> Result<&Frame, StepFault>
-    ensures { MatchResult result (λ frame. slice_get (row_at (map (λ row. row.items) frames.now.items) from) seq ≡ Some frame.now)
-        (λ fault. (slice_get (row_at (map (λ row. row.items) frames.now.items) from) seq ≡ None) × (fault ≡ missing (length frames.now.items) from)) }
+/// The mark of the frame of this number that a node made, or why there is none.
+pub fn find(marks: &Vec<Vec<Mark>>, from: NodeId, seq: u64) -> Result<Mark, StepFault>
+    ensures { MatchResult result (λ mark. slice_get (row_at (map (λ row. row.items) marks.now.items) from) seq ≡ Some mark)
+        (λ fault. (slice_get (row_at (map (λ row. row.items) marks.now.items) from) seq ≡ None) × (fault ≡ missing (length marks.now.items) from)) }
 {
-    let Some(row) = frames.get(usize::from(from.0)) else {
+    let Some(row) = marks.get(usize::from(from.0)) else {
         return Err(StepFault::NoNode);
     };
-    let Some(frame) = row.get(seq as usize) else {
+    let Some(mark) = row.get(seq as usize) else {
         return Err(StepFault::NoFrame);
     };
-    Ok(frame)
+    Ok(*mark)
+}
+
+/// The frame of a mark, from its maker and its number.
+pub fn rebuild(nodes: &Vec<Node>, from: NodeId, seq: u64, mark: Mark) -> Result<Frame, AllocError>
+    ensures frame { (config : Settings) → IfOk result (λ frame. frame ≡ frame_in config nodes.now.items from seq mark) }
+{
+    let to = mark.to;
+    let body = body_of(nodes, mark)?;
+    Ok(Frame {
+        from,
+        seq,
+        to,
+        body,
+    })
+}
+
+// What a marked frame says, with the item from the stream of its message's sender.
+fn body_of(nodes: &Vec<Node>, mark: Mark) -> Result<FrameBody, AllocError>
+    ensures { (config : Settings) → IfOk result (λ body. body ≡ body_in config nodes.now.items mark) }
+{
+    let slot = u64::from(mark.slot);
+    if mark.sender.0 == NOBODY {
+        return Ok(FrameBody::Took { slot });
+    }
+    let number = u64::from(mark.number);
+    let item = item_of(nodes, mark.sender, number)?;
+    Ok(FrameBody::Carry {
+        slot,
+        message: Message {
+            sender: mark.sender,
+            number,
+            item,
+        },
+    })
+}
+
+// The item of a number in a node's stream.
+fn item_of(nodes: &Vec<Node>, sender: NodeId, number: u64) -> Result<Item, AllocError>
+    ensures { (config : Settings) → IfOk result (λ item. item ≡ slice_index_or (node_in config nodes.now.items sender).stream number Close) }
+{
+    let Some(node) = nodes.get(usize::from(sender.0)) else {
+        return Ok(Item::Close);
+    };
+    let Some(item) = node.stream().get(number as usize) else {
+        return Ok(Item::Close);
+    };
+    item.copy()
+}
+
+/// Whether a mark is that of an acknowledgement.
+pub fn is_word(mark: &Mark) -> bool
+    ensures { result ≡ (mark.now.sender == 255) }
+{
+    mark.sender.0 == NOBODY
+}
+
+/// An acknowledgement arrives at its target.
+pub fn arrive_word(node: &mut Node, from: NodeId, mark: &Mark) -> Reply
+    requires word { (mark.now.sender == 255) ≡ true }
+    requires target { mark.now.to ≡ node.old.me }
+    ensures { (config : Settings) (nodes : List Kept) (seq : ℕ) → Gives node.old (Arrived (frame_in config nodes from seq mark.now)) result node.new }
+{
+    let outcome = node.arrive_took(from, u64::from(mark.slot))?;
+    Ok(Answer::Arrived {
+        node: mark.to,
+        outcome,
+    })
+}
+
+/// Whether a node holds the message of a mark, so that its item is nothing to the node.
+pub fn is_held(node: &Node, mark: &Mark) -> bool
+    ensures { result ≡ holds node.now.relay mark.now.sender mark.now.number }
+{
+    node.holds(mark.sender, u64::from(mark.number))
+}
+
+/// A frame arrives at its target, which holds its message.
+pub fn arrive_again(node: &mut Node, from: NodeId, mark: &Mark) -> Reply
+    requires carries { (mark.now.sender == 255) ≡ false }
+    requires held { holds node.old.relay mark.now.sender mark.now.number ≡ true }
+    requires target { mark.now.to ≡ node.old.me }
+    ensures { (config : Settings) (nodes : List Kept) (seq : ℕ) → Gives node.old (Arrived (frame_in config nodes from seq mark.now)) result node.new }
+{
+    let outcome = node.arrive_again(
+        from,
+        u64::from(mark.slot),
+        mark.sender,
+        u64::from(mark.number),
+    )?;
+    Ok(Answer::Arrived {
+        node: mark.to,
+        outcome,
+    })
 }
 
 /// A frame arrives at its target.
@@ -64,4 +187,14 @@ pub fn arrive(node: &mut Node, frame: &Frame) -> Reply
         node: frame.to,
         outcome,
     })
+}
+
+// Why a step is refused that wants memory.
+fn or_memory(fault: Option<StepFault>) -> StepFault
+    ensures { IsRefused fault result }
+{
+    match fault {
+        Some(fault) => fault,
+        None => StepFault::Memory,
+    }
 }

@@ -11,7 +11,7 @@ use crate::world::World;
 use cast_message::NodeId;
 
 impl World {
-    /// Whether no live node owes a live node a slot. It takes no memory, and looks at each link once.
+    /// Whether no live node owes a live node a slot. It takes no memory, and looks at each link once at most.
     ///
     /// At rest, in uniform mode where no more nodes have crashed than the faults that are tolerated, all live nodes have
     /// delivered the same from each sender, the whole stream of a live one; an instance that one of them decided, or of which
@@ -34,12 +34,25 @@ impl World {
     fn owes_nobody(&self, giver: NodeId) -> bool
         ensures { (config : Settings) (past : History) → Stands config past self.now → giver < config.nodes → (IsTrue result ↔ ((taker : ℕ) → taker < config.nodes → IsSettled past giver taker)) }
     {
+        if self.is_quiet(giver) {
+            return true;
+        }
         for taker in 0..self.node_count() {
             if !self.is_settled(giver, NodeId(taker)) {
                 return false;
             }
         }
         true
+    }
+
+    // Whether a node is known to owe nobody anything, so that its links need not be looked at.
+    fn is_quiet(&self, giver: NodeId) -> bool
+        ensures { (config : Settings) (past : History) → Stands config past self.now → giver < config.nodes → IsTrue result → (taker : ℕ) → taker < config.nodes → IsSettled past giver taker }
+    {
+        match self.node(giver) {
+            Some(node) => node.owes_nothing(),
+            None => false,
+        }
     }
 
     // Whether one of the two is not live, or the first owes the other nothing.

@@ -185,6 +185,30 @@ fn settles_slot_by_slot(rt: HostRuntime) -> Result<(), Fail> {
 }
 
 #[test]
+fn takes_each_item_from_its_place(rt: HostRuntime) -> Result<(), Fail> {
+    let alloc = rt.alloc();
+    let mut world = World::new(alloc, group(2, 0, 1)?)?;
+    let both = [data(alloc, b"a")?, data(alloc, b"b")?];
+    for item in both.iter() {
+        world.step(&order(0, item.copy()?))?;
+    }
+    take_all(&mut world, &[send(0, 1, 1), send(0, 1, 0)])?;
+
+    // Each frame comes twice, the second item's first.
+    for (seq, count) in [(0, 0), (0, 0), (1, 2), (1, 2)] {
+        world.step(&arrive(0, seq))?;
+        let delivered = world.delivered(NodeId(1), NodeId(0));
+        assert_eq!(rt;
+            delivered.map(|items| items.len()),
+            Some(count),
+            "after {seq}"
+        );
+    }
+    assert!(rt; world.delivered(NodeId(1), NodeId(0)) == Some(&both[..]));
+    Ok(())
+}
+
+#[test]
 fn stops_at_a_crash(rt: HostRuntime) -> Result<(), Fail> {
     let mut world = World::new(rt.alloc(), group(2, 1, 2)?)?;
     assert!(rt; world.live(NodeId(0)));
@@ -194,6 +218,9 @@ fn stops_at_a_crash(rt: HostRuntime) -> Result<(), Fail> {
     assert!(rt; !world.live(NodeId(2)));
     Ok(())
 }
+
+/// The least slot that a mark has no room for.
+const PAST_MARKS: u64 = 4_294_967_296;
 
 /// The code of a refusal, 0 of an answer.
 fn code_of(reply: Reply) -> u64 {
@@ -211,8 +238,10 @@ fn refuses_with_the_first_cause(rt: HostRuntime) -> Result<(), Fail> {
         (order(2, Item::Close), 1),
         (send(0, 0, 0), 2),
         (send(0, 1, 0), 8),
+        (send(0, 1, PAST_MARKS), 8),
         (arrive(0, 0), 11),
         (ack(1, 0, 0), 10),
+        (ack(1, 0, PAST_MARKS), 10),
         (order(0, data(alloc, &[0; 1_025])?), 5),
         (propose(0, 7, 4), 0),
         (propose(0, 7, 5), 6),
@@ -226,6 +255,8 @@ fn refuses_with_the_first_cause(rt: HostRuntime) -> Result<(), Fail> {
         (crash(0), 0),
         (order(0, Item::Close), 3),
         (crash(0), 3),
+        (arrive(1, 0), 3),
+        (arrive(0, 0), 0),
     ];
     for (event, code) in rows.iter() {
         assert_eq!(rt; code_of(world.step(event)), *code, "{event:?}");

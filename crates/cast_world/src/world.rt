@@ -5,23 +5,23 @@ ghost use Rattle.cast_message.specs.declared.config.Config.{Config as Settings};
 ghost use Rattle.cast_message.specs.History.{History, is_live};
 ghost use Rattle.cast_message.specs.Delivery.{decision};
 ghost use Rattle.cast_message.specs.Shown.{ShowsDelivered, ShowsStream, ShowsOwed};
-ghost use Rattle.cast_world.specs.Group.{Stands, Continues, node_at, frames_at};
+ghost use Rattle.cast_world.specs.Group.{Stands, Continues, IsFar, IsRefusedForCause, node_at, marks_at};
 ghost use Rattle.cast_world.specs.Moves.{StepsTo};
 
-use crate::frames;
-use cast_message::{Answer, Config, Event, Frame, Item, NodeId, Reply, StepFault};
+use crate::frames::{self, Mark};
+use cast_message::{Answer, Config, Event, Item, NodeId, Reply, StepFault};
 use cast_node::Node;
 use std::alloc::{AllocError, Global};
 use std::marker::Model;
 
-/// All nodes of a group, and the frames that they made.
+/// All nodes of a group, and marks of the frames that they made.
 #[derive(Debug, Drop)]
 pub struct World {
     alloc: Global,
     config: Config,
     nodes: Vec<Node>,
     // By the node that made them.
-    frames: Vec<Vec<Frame>>,
+    marks: Vec<Vec<Mark>>,
 }
 
 impl Model for World {
@@ -30,16 +30,16 @@ impl Model for World {
     ghost use Rattle.cast_world.specs.Moves.{IsSound};
     ghost use Rattle.cast_world.specs.Code.{state_code};
     ghost use Rattle.cast_message.specs.contracts.config.Config as settings;
-    ghost use Rattle.cast_message.specs.contracts.message.Frame as frame;
     ghost use Rattle.cast_node.specs.contracts.node.Node as node;
+    ghost use Rattle.cast_world.specs.contracts.frames.Mark as mark;
 
     ghost Value = { State };
 
-    ghost coded = { state_code settings.the_row.coded node.the_row.coded frame.the_row.coded };
+    ghost coded = { state_code settings.the_row.coded node.the_row.coded mark.the_row.coded };
 
-    ghost view = { λ w. record { config = w.config; nodes = w.nodes.items; frames = map (λ row. row.items) w.frames.items } };
+    ghost view = { λ w. record { config = w.config; nodes = w.nodes.items; marks = map (λ row. row.items) w.marks.items } };
 
-    ghost invariant = { λ w. IsSound (record { config = w.config; nodes = w.nodes.items; frames = map (λ row. row.items) w.frames.items }) };
+    ghost invariant = { λ w. IsSound (record { config = w.config; nodes = w.nodes.items; marks = map (λ row. row.items) w.marks.items }) };
 }
 
 impl World {
@@ -49,19 +49,19 @@ impl World {
     {
         let count = config.nodes();
         let mut nodes = Vec::with_capacity(alloc, count as usize)?;
-        let mut frames = Vec::with_capacity(alloc, count as usize)?;
+        let mut marks = Vec::with_capacity(alloc, count as usize)?;
         for id in 0..count as u8 {
             match Node::new(alloc, &config, NodeId(id)) {
                 Ok(node) => nodes.push(node)?,
                 Err(_) => return Err(AllocError),
             }
-            frames.push(Vec::new(alloc))?;
+            marks.push(Vec::new(alloc))?;
         }
         Ok(World {
             alloc,
             config,
             nodes,
-            frames,
+            marks,
         })
     }
 
@@ -69,6 +69,9 @@ impl World {
     pub fn step(&mut self, event: &Event) -> Reply
         ensures stands { (config : Settings) (past : History) → Stands config past self.old → Continues config past event.now result self.new }
         ensures err { OnErr result (self.new ≡ self.old) }
+
+        // No slot is given that a mark has no room for: its event has a cause of refusal, and never wants memory.
+        ensures far { (config : Settings) (past : History) → Stands config past self.old → IsFar event.now → IsRefusedForCause config past event.now result }
     {
         match event {
             Event::Order { node, item } => self.order(*node, item),
@@ -101,7 +104,7 @@ impl World {
         if place >= self.nodes.len() {
             return Err(StepFault::NoNode);
         }
-        frames::send(&mut self.nodes[place], &mut self.frames[place], to, slot)
+        frames::send(&mut self.nodes[place], &mut self.marks[place], to, slot)
     }
 
     fn ack(&mut self, from: NodeId, to: NodeId, slot: u64) -> Reply
@@ -111,18 +114,28 @@ impl World {
         if place >= self.nodes.len() {
             return Err(StepFault::NoNode);
         }
-        frames::acknowledge(&mut self.nodes[place], &mut self.frames[place], to, slot)
+        frames::acknowledge(&mut self.nodes[place], &mut self.marks[place], to, slot)
     }
 
     fn arrive(&mut self, from: NodeId, seq: u64) -> Reply
         ensures { StepsTo self.old (Event.Arrive from seq) result self.new }
     {
-        let frame = match frames::find(&self.frames, from, seq) {
-            Ok(frame) => frame,
+        let mark = match frames::find(&self.marks, from, seq) {
+            Ok(mark) => mark,
             Err(fault) => return Err(fault),
         };
-        let target = frame.to;
-        frames::arrive(&mut self.nodes[usize::from(target.0)], frame)
+        let place = usize::from(mark.to.0);
+        if frames::is_word(&mark) {
+            return frames::arrive_word(&mut self.nodes[place], from, &mark);
+        }
+        if frames::is_held(&self.nodes[place], &mark) {
+            return frames::arrive_again(&mut self.nodes[place], from, &mark);
+        }
+        if let Some(fault) = self.nodes[place].arrive_fault() {
+            return Err(fault);
+        }
+        let frame = frames::rebuild(&self.nodes, from, seq, mark)?;
+        frames::arrive(&mut self.nodes[place], &frame)
     }
 
     fn crash(&mut self, node: NodeId) -> Reply
@@ -189,10 +202,10 @@ impl World {
 
     /// How many frames a node made; none where it is no node.
     pub(crate) fn frame_count(&self, node: NodeId) -> u64
-        ensures value { result ≡ length (frames_at self.now node) }
+        ensures value { result ≡ length (marks_at self.now node) }
         ensures bound { result < 2 ^ 63 }
     {
-        match self.frames.get(usize::from(node.0)) {
+        match self.marks.get(usize::from(node.0)) {
             Some(row) => row.len() as u64,
             None => 0,
         }

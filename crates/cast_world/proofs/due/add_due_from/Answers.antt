@@ -1,6 +1,6 @@
 use Rattle.std.proofs.Common.{◌∙◌, sym, ap}
-use Rattle.cast_world.specs.Plans.{due_between_at}
-use Rattle.cast_world.proofs.Planning.{nodes_more, nodes_same}
+use Rattle.cast_world.specs.Plans.{due_between_at, live_at}
+use Rattle.cast_world.proofs.Planning.{nodes_more, nodes_same, none_due}
 use Rattle.cast_world.proofs.due.add_due_from.Goals.{then-is_up+in_ok-add_due_between, else-is_up}
 use Rattle.cast_world.proofs.due.add_due_from.Goals as goal
 
@@ -11,3 +11,7 @@ loop-taker-preserved c bounded = elim c.if-is_up.branch [
   | else-is_up w ↦
       nodes_same (due_between_at c.args.world.now c.args.giver) _ c.loop-taker.taker c.args.due.now.items c.loop-taker.due.items c.if-is_up.due.items (sym c.is_up.ensures ∙ w.if-is_up.false) (c.loop-taker.invariant bounded) (ap (λ v. v.items) w.due-is)
 ]
+
+pub returns-then-owes_nothing : goal.returns-then-owes_nothing
+returns-then-owes_nothing c bounded =
+    none_due c.args.world.now c.args.giver c.node_of.result.now (live_at c.args.world.now) c.args.due.now.items c.node_of.ensures.node (c.owes_nothing.ensures c.if-owes_nothing.true)

@@ -8,8 +8,8 @@ use Rattle.std.specs.List.{list_any}
 use Rattle.cast_relay.specs.Held.{Held}
 use Rattle.cast_node.specs.Delivering.{Delivering}
 use Rattle.cast_link.specs.Links.{Link}
-use Rattle.cast_node.specs.Sound.{Owes}
-use Rattle.cast_node.proofs.Owing.{owes_none}
+use Rattle.cast_node.specs.Sound.{Owes, OwesNothing}
+use Rattle.cast_node.proofs.Owing.{owes_none, nothing_yet}
 use Rattle.cast_node.proofs.Parts.{length-replicate}
 use Rattle.cast_node.proofs.node.Node.make.Goals as goal
 
@@ -35,4 +35,5 @@ invariant_of-result c =
       senders = ap (λ (d : Delivering). length d.hold_back) ds ∙ length-replicate _ _ ∙ sym count;
       rows = ap (λ (d : Delivering). length d.knowers) ds ∙ length-replicate _ _ ∙ sym count;
       owes = subst (λ (links : List Link). Owes c.copy.result.nodes c.copy.result.item_limit links) (sym c.loop-peer.invariant.outgoing) (owes_none c.copy.result.nodes c.copy.result.item_limit c.loop-peer._peer);
+      silent = λ _. subst OwesNothing (sym c.loop-peer.invariant.outgoing) (nothing_yet c.loop-peer._peer);
     }

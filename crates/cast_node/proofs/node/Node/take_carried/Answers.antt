@@ -1,13 +1,14 @@
 use Rattle.std.proofs.Common.{◌≡◌, ◌<◌, ◌∙◌, List, refl, ap, sym, subst, length, slice_index_or, slice_set, arith}
 use Rattle.std.specs.FinSet as set
 use Rattle.std.proofs.Math.ListN.{length-set}
+use Rattle.std.proofs.lemmas.Bool.{false≢true}
 use Rattle.std.proofs.lemmas.List.{get_or_default}
 use Rattle.cast_message.specs.declared.message.Message.{Message}
 use Rattle.cast_link.specs.Links.{Link}
 use Rattle.cast_relay.specs.Held.{Held, with_pair}
 use Rattle.cast_node.specs.Kept.{Kept}
 use Rattle.cast_node.specs.Delivering.{Delivering, outcome_in, waiting_in, told_in}
-use Rattle.cast_node.proofs.Wholes.{ok_both, ok_four, if_ok, slice_back, length-given, told_keeps, held_again, held_again_gives, fresh, fresh_gives, peer_below, done_or_not, given_at}
+use Rattle.cast_node.proofs.Wholes.{ok_four, if_ok, slice_back, length-given, told_keeps, fresh, fresh_gives, peer_below, done_or_not, given_at}
 use Rattle.cast_node.specs.Sound.{Owes}
 use Rattle.cast_node.proofs.Owing.{owes_given}
 use Rattle.cast_node.proofs.Keeping.{keeps_rows}
@@ -15,26 +16,13 @@ use Rattle.cast_node.specs.Turns.{given_from}
 use Rattle.cast_node.proofs.node.Node.take_carried.Goals as goal
 
 pub returns-then-holds-clause-outcome : goal.returns-then-holds-clause-outcome
-returns-then-holds-clause-outcome c =
-    let message = c.args.message.now in
-    let sender : message.sender < length c.self.inside.deliveries.knowers = omega (arith, c.self.invariant.rows, peer_below c.args.self.now message.sender c.requires.sender, ap (λ (k : Kept). k.config.nodes) c.self.view_is) in
-    if_ok c.tell_carried.result _ _ c.tell_carried.ensures.outcome
-    (held_again_gives c.self.inside.config c.self.inside.me c.self.inside.live c.self.inside.frames c.self.inside.stream.items c.self.inside.relay c.self.inside.outgoing.items c.self.inside.incoming.items c.self.inside.deliveries c.args.self.now c.self.view_is c.self.invariant.mode c.self.invariant.faults c.args.from c.args.slot message c.insert.new.self sender (sym c.holds.ensures ∙ c.if-holds.true) (c.insert.ensures.members ∙ ap (λ members. set.insert members c.args.from) c.members-members.ensures))
+returns-then-holds-clause-outcome c = c.take_again.ensures.outcome c.args.message.now.item
 
 pub returns-then-holds-clause-ok : goal.returns-then-holds-clause-ok
-returns-then-holds-clause-ok c =
-    let message = c.args.message.now in
-    let at = c.from-place.ensures ∙ c.from.view_is in
-    let links = c.self.inside.incoming.items in
-    let place : c.from-place.result < length links = omega (arith, at, c.requires.from, c.self.invariant.peers_in, ap (λ (k : Kept). k.config.nodes) c.self.view_is) in
-    let sender : message.sender < length c.self.inside.deliveries.knowers = omega (arith, c.self.invariant.rows, peer_below c.args.self.now message.sender c.requires.sender, ap (λ (k : Kept). k.config.nodes) c.self.view_is) in
-    ok_both c.tell_carried.result c.tell_carried.ensures.ok c.tell_carried.ensures.taken
-    (λ told taken. held_again c.self.inside.config c.self.inside.me c.self.inside.live c.self.inside.frames c.self.inside.stream.items c.self.inside.relay c.self.inside.outgoing.items c.self.inside.incoming.items c.self.inside.deliveries c.args.self.now c.self.view_is c.self.invariant.mode c.self.invariant.faults c.args.from c.args.slot message c.insert.new.self
-    (slice_set links c.from-place.result c.tell_carried.new.link) c.tell_carried.new.self sender (sym c.holds.ensures ∙ c.if-holds.true) (c.insert.ensures.members ∙ ap (λ members. set.insert members c.args.from) c.members-members.ensures)
-    (ap (slice_set links c.from-place.result) (taken ∙ ap (λ s. set.insert s c.args.slot) (c.index_mut.ensures.value ∙ get_or_default links c.from-place.result _ set.empty place)) ∙ ap (λ p. slice_set links p (set.insert (slice_index_or links p set.empty) c.args.slot)) at) told)
+returns-then-holds-clause-ok c = c.take_again.ensures.ok c.args.message.now.item
 
-pub invariant_of-self-2 : goal.invariant_of-self-2
-invariant_of-self-2 c =
+pub invariant_of-self : goal.invariant_of-self
+invariant_of-self c =
     let all = c.self.inside.outgoing.items in
     let message = c.in_ok-copy.field-0 in
     let ds = c.self.inside.deliveries in
@@ -60,11 +48,11 @@ invariant_of-self-2 c =
     let before = subst Limits (sym c.as_mut_slice.ensures.value) c.self.invariant.owes in
     let owes = done_or_not c.take_up_carried.result Limits c.as_mut_slice.result.now gave c.take_up_carried.new.links ends.links ends.same_links before
     (owes_given c.self.inside.config.nodes c.self.inside.config.item_limit 0 (with_pair relay message.sender message.number) c.args.from message c.as_mut_slice.result.now within before) in
-    keeps_rows c.self.inside.config c.self.inside.me c.self.inside.stream.items c.self.inside.closed c.self.inside.proposed relay _ all _ c.self.inside.incoming.items _ ds c.take_up_carried.new.deliveries c.self.invariant relays.0 relays.1
+    keeps_rows c.self.inside.config c.self.inside.me c.self.inside.stream.items c.self.inside.closed c.self.inside.proposed relay _ all _ c.self.inside.incoming.items _ ds c.take_up_carried.new.deliveries c.self.inside.quiet _ c.self.invariant relays.0 relays.1
     (ap length (slice_back c.self.inside.outgoing.len c.take_up_carried.new.links all long c.self.inside.outgoing.ok.0) ∙ long)
     (length-set c.self.inside.incoming.items c.from-place.result c.take_up_carried.new.link)
     told_ds.0 told_ds.1 told_ds.2 told_ds.3
-    (subst Limits (sym (slice_back c.self.inside.outgoing.len c.take_up_carried.new.links all long c.self.inside.outgoing.ok.0)) owes)
+    (subst Limits (sym (slice_back c.self.inside.outgoing.len c.take_up_carried.new.links all long c.self.inside.outgoing.ok.0)) owes) (λ e. absurd (false≢true e))
 
 pub returns-clause-outcome : goal.returns-clause-outcome
 returns-clause-outcome c =
@@ -91,5 +79,5 @@ returns-clause-ok c =
     (λ r gave told taken. fresh c.self.inside.config c.self.inside.me c.self.inside.live c.self.inside.frames c.self.inside.stream.items c.self.inside.relay c.self.inside.outgoing.items c.self.inside.incoming.items c.self.inside.deliveries c.args.self.now c.self.view_is c.self.invariant.mode c.self.invariant.faults c.args.from c.args.slot message c.first_members.result c.take_up_carried.new.relay _ (slice_set links c.from-place.result c.take_up_carried.new.link) c.take_up_carried.new.deliveries sender (sym c.holds.ensures ∙ c.if-holds.false) c.first_members.ensures
     (r ∙ (λ k. with_pair relay (copied k).sender (copied k).number))
     (given_at c.self.inside.outgoing.len c.take_up_carried.new.links all c.as_mut_slice.result.now 0 (with_pair relay copy.sender copy.number) c.args.from copy gave c.as_mut_slice.ensures.value c.self.inside.outgoing.ok.0 ∙ (λ k. given_from 0 (with_pair relay (copied k).sender (copied k).number) c.args.from (copied k) all))
-    (ap (slice_set links c.from-place.result) (taken ∙ ap (λ s. set.insert s c.args.slot) (c.index_mut-2.ensures.value ∙ get_or_default links c.from-place.result _ set.empty place)) ∙ ap (λ p. slice_set links p (set.insert (slice_index_or links p set.empty) c.args.slot)) at)
+    (ap (slice_set links c.from-place.result) (taken ∙ ap (λ s. set.insert s c.args.slot) (c.index_mut.ensures.value ∙ get_or_default links c.from-place.result _ set.empty place)) ∙ ap (λ p. slice_set links p (set.insert (slice_index_or links p set.empty) c.args.slot)) at)
     (told ∙ (λ k. told_in (waiting_in c.self.inside.deliveries (copied k)) (copied k).sender (copied k).number c.first_members.result)))

@@ -7,5 +7,5 @@ use Rattle.cast_world.proofs.world.World.new.Given as goal
 abbrev pub invariant-loop-id : goal.invariant-loop-id
 invariant-loop-id l = record {
   nodes : l.nodes.items ≡ map (nothing_kept l.fn.config) (range_with_len 0 l.id);
-  rows : map (λ row. row.items) l.frames.items ≡ replicate l.id [];
+  rows : map (λ row. row.items) l.marks.items ≡ replicate l.id [];
 }

@@ -1,5 +1,6 @@
 use Rattle.cast_message.specs.declared.event.Event.TheVariants.{Order, Send, Ack, Arrive, Crash}
 use Rattle.cast_world.proofs.Stepping.{continues_to}
+use Rattle.cast_world.proofs.Far.{refused_far}
 use Rattle.cast_world.proofs.world.World.step.Goals as goal
 
 pub returns-in-Order-clause-stands : goal.returns-in-Order-clause-stands
@@ -16,3 +17,18 @@ returns-in-Arrive-clause-stands c config past st = rw c.in-Arrive.is (continues_
 
 pub returns-in-Crash-clause-stands : goal.returns-in-Crash-clause-stands
 returns-in-Crash-clause-stands c config past st = rw c.in-Crash.is (continues_to config past c.args.self.now st (Crash c.in-Crash.node) c.crash.result c.crash.new.self c.crash.ensures)
+
+pub returns-in-Order-clause-far : goal.returns-in-Order-clause-far
+returns-in-Order-clause-far c config past st far = refused_far config past st.accepted c.args.event.now c.order.result c.order.new.self far (returns-in-Order-clause-stands c config past st)
+
+pub returns-in-Send-clause-far : goal.returns-in-Send-clause-far
+returns-in-Send-clause-far c config past st far = refused_far config past st.accepted c.args.event.now c.send.result c.send.new.self far (returns-in-Send-clause-stands c config past st)
+
+pub returns-in-Ack-clause-far : goal.returns-in-Ack-clause-far
+returns-in-Ack-clause-far c config past st far = refused_far config past st.accepted c.args.event.now c.ack.result c.ack.new.self far (returns-in-Ack-clause-stands c config past st)
+
+pub returns-in-Arrive-clause-far : goal.returns-in-Arrive-clause-far
+returns-in-Arrive-clause-far c config past st far = refused_far config past st.accepted c.args.event.now c.arrive.result c.arrive.new.self far (returns-in-Arrive-clause-stands c config past st)
+
+pub returns-in-Crash-clause-far : goal.returns-in-Crash-clause-far
+returns-in-Crash-clause-far c config past st far = refused_far config past st.accepted c.args.event.now c.crash.result c.crash.new.self far (returns-in-Crash-clause-stands c config past st)

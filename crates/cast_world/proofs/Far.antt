@@ -1,0 +1,38 @@
+-- A slot that is too great for a mark was neither given nor taken.
+use Rattle.std.proofs.Common.{◌≡◌, ℕ, ◌<◌, refl, sym, ap, Option, Some, None, arith, Result, Ok, Err}
+use Rattle.cast_message.specs.declared.config.Config.{Config}
+use Rattle.cast_message.specs.declared.event.Event.{Event}
+use Rattle.cast_message.specs.declared.event.Event.TheVariants.{Order, Send, Ack, Arrive, Crash}
+use Rattle.cast_message.specs.declared.event.Answer.{Answer}
+use Rattle.cast_message.specs.declared.event.StepFault.{StepFault}
+use Rattle.cast_message.specs.History.{History}
+use Rattle.cast_message.specs.Replies.{IsAccepted, IsRefused, fault, reply, answer}
+use Rattle.cast_message.proofs.Accepted.{Send-slot, Ack-taken}
+use Rattle.cast_message.proofs.Ready.{took_in_given}
+use Rattle.cast_message.proofs.Sound.{sound}
+use Rattle.cast_world.specs.Group.{State, Continues, IsFar, IsRefusedForCause}
+use Rattle.cast_world.proofs.Owing.{gives_few}
+use Rattle.cast_world.proofs.Stepping.{no_fault}
+
+module _ (config : Config) (past : History) (accepted : IsAccepted config past) where
+  has_cause : (event : Event) → IsFar event → fault config past event ≡ None → ⊥
+  has_cause (Send from to slot) far none =
+      let given = Send-slot config past from to slot none in
+      let few = gives_few config past accepted from to in
+      absurd (omega (arith, far, given, few))
+  has_cause (Ack from to slot) far none =
+      let given = took_in_given past (sound config past accepted) from to slot (Ack-taken config past from to slot none) in
+      let few = gives_few config past accepted to from in
+      absurd (omega (arith, far, given, few))
+  has_cause (Order node item) far none = far
+  has_cause (Arrive from seq) far none = far
+  has_cause (Crash node) far none = far
+
+  pub refused_far : (event : Event) (reply : Result Answer StepFault) (new : State) → IsFar event → Continues config past event reply new → IsRefusedForCause config past event reply
+  unfolding reply
+  refused_far event (Ok answered) new far goes_on = has_cause event far (no_fault (fault config past event) (answer config past event) answered goes_on.0)
+  refused_far event (Err refusal) new far goes_on = by_cause (fault config past event) (has_cause event far) goes_on.0
+    where
+      by_cause : (o : Option StepFault) → (o ≡ None → ⊥) → IsRefused o refusal → o ≡ Some refusal
+      by_cause None cause refused = absurd (cause refl)
+      by_cause (Some found) cause refused = ap Some (sym refused)
