@@ -162,7 +162,7 @@ impl Judging {
         ensures ok { OnOk result (is_refused self.new ≡ false) }
     {
         if self.tail.is_empty() {
-            let broken = judge_line(self.alloc, &mut self.kept, part)?;
+            let broken = judge_line(&mut self.kept, part)?;
             self.count(broken);
             return Ok(());
         }
@@ -171,7 +171,7 @@ impl Judging {
             return Ok(());
         }
         self.tail.extend_from_slice(part)?;
-        let broken = judge_line(self.alloc, &mut self.kept, self.tail.as_slice())?;
+        let broken = judge_line(&mut self.kept, self.tail.as_slice())?;
         self.tail.clear();
         self.count(broken);
         Ok(())
