@@ -1,6 +1,7 @@
 -- What becomes of one line.
 --     Takes bytes old new b        the bytes spell a line that breaks no rule and is kept, or nothing changed
---     Judges past bytes o kept     the line that the bytes spell, after those lines, breaks rule o, or none, and is kept
+--     Judges past bytes o kept     the line that the bytes spell, after those lines, breaks rule o and is not kept, or
+--                                  breaks none and is kept
 use Rattle.std.specs.Prelude.{◌≡◌, ℕ, List, ◌∷◌, Bool, true, false, Option, Some, None, Ok, Err}
 use Rattle.cast_record.specs.declared.line.Line.{Line}
 use Rattle.cast_record.specs.Reading.{line_of}
@@ -14,9 +15,13 @@ pub record IsKept (past : List Line) (bytes : List ℕ) (kept : Kept) : Type 0 w
   pub goes : with_line past (line_of bytes) ≡ Ok (line ∷ past)
   pub stands : StandsFor (line ∷ past) kept
 
+pub record IsRefused (past : List Line) (bytes : List ℕ) (rule : ℕ) (kept : Kept) : Type 0 where
+  pub breaks : with_line past (line_of bytes) ≡ Err rule
+  pub stands : StandsFor past kept
+
 abbrev pub Judges : List Line → List ℕ → Option ℕ → Kept → Type 0
 Judges past bytes None kept = IsKept past bytes kept
-Judges past bytes (Some rule) kept = with_line past (line_of bytes) ≡ Err rule
+Judges past bytes (Some rule) kept = IsRefused past bytes rule kept
 
 pub record IsTakenBy (bytes : List ℕ) (old new : Kept) : Type 0 where
   pub line : Line
