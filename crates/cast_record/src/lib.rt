@@ -34,3 +34,5 @@ pub use writing::{
 
 #[cfg(test)]
 mod tests;
+#[cfg(test)]
+mod word_tests;
