@@ -154,14 +154,13 @@ fn a_record_is_judged_alike_wherever_it_is_cut(rt: HostRuntime) -> Result<(), Fa
 
 #[test]
 fn what_follows_an_offence_is_skipped(rt: HostRuntime) -> Result<(), Fail> {
-    let mut judging = Judging::new(rt.alloc());
-    judging.feed(b"cast/1 1 0 1\nx 1\nb 0 0 data:61\nd 0".as_slice())?;
-    for _ in 0..100 {
-        judging.feed(b" 0 0 data:61\nb 0 0 data:61".as_slice())?;
+    let mut text = String::new(rt.alloc());
+    text.push_str("cast/1 1 0 1\nx 1\nb 0 0 data:61\n")?;
+    for _ in 0..1_000 {
+        text.push_str("d 0 0 0 data:61")?;
     }
-    judging.feed(b"\nend\n".as_slice())?;
-    assert_eq!(&rt; judging.finish()?, bad(2, 0));
-    Ok(())
+    text.push_str("\nend\n")?;
+    expect_verdict(&rt, text.as_str(), bad(2, 0))
 }
 
 #[test]

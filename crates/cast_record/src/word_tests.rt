@@ -6,62 +6,62 @@ use std::test::Fail;
 
 /// What is read of the word of an item.
 #[derive(Clone, Copy, Debug, PartialEq)]
-enum Read {
+enum Meaning {
     Data,
     Proposal(u64, u64),
     Close,
     Nothing,
 }
 
-fn read(word: &[u8]) -> Read {
+fn read(word: &[u8]) -> Meaning {
     let Some(item) = ItemWord::read(word) else {
-        return Read::Nothing;
+        return Meaning::Nothing;
     };
     match item.proposal() {
-        Some((instance, value)) => Read::Proposal(instance, value),
-        None if item.is_close() => Read::Close,
-        None => Read::Data,
+        Some((instance, value)) => Meaning::Proposal(instance, value),
+        None if item.is_close() => Meaning::Close,
+        None => Meaning::Data,
     }
 }
 
 #[test]
 fn reads_the_words_of_items(rt: HostRuntime) -> Result<(), Fail> {
     let rows = [
-        ("close", Read::Close),
-        ("data:", Read::Data),
-        ("data:61", Read::Data),
-        ("data:00099a9fff", Read::Data),
-        ("prop:0:0", Read::Proposal(0, 0)),
-        ("prop:7:3", Read::Proposal(7, 3)),
+        ("close", Meaning::Close),
+        ("data:", Meaning::Data),
+        ("data:61", Meaning::Data),
+        ("data:00099a9fff", Meaning::Data),
+        ("prop:0:0", Meaning::Proposal(0, 0)),
+        ("prop:7:3", Meaning::Proposal(7, 3)),
         (
             "prop:10:18446744073709551615",
-            Read::Proposal(10, 18_446_744_073_709_551_615),
+            Meaning::Proposal(10, 18_446_744_073_709_551_615),
         ),
-        ("", Read::Nothing),
-        ("clos", Read::Nothing),
-        ("Close", Read::Nothing),
-        ("close ", Read::Nothing),
-        ("closed", Read::Nothing),
-        ("data", Read::Nothing),
-        ("data:6", Read::Nothing),
-        ("data:616", Read::Nothing),
-        ("data:6A", Read::Nothing),
-        ("data:6g", Read::Nothing),
-        ("data:6/", Read::Nothing),
-        ("data:6:", Read::Nothing),
-        ("data:6`", Read::Nothing),
-        ("data: 61", Read::Nothing),
-        ("Data:61", Read::Nothing),
-        ("prop:", Read::Nothing),
-        ("prop:7", Read::Nothing),
-        ("prop:7:", Read::Nothing),
-        ("prop::7", Read::Nothing),
-        ("prop:7:3:1", Read::Nothing),
-        ("prop:07:3", Read::Nothing),
-        ("prop:7:00", Read::Nothing),
-        ("prop:7:-3", Read::Nothing),
-        ("prop:7:3 ", Read::Nothing),
-        ("prop:18446744073709551616:3", Read::Nothing),
+        ("", Meaning::Nothing),
+        ("clos", Meaning::Nothing),
+        ("Close", Meaning::Nothing),
+        ("close ", Meaning::Nothing),
+        ("closed", Meaning::Nothing),
+        ("data", Meaning::Nothing),
+        ("data:6", Meaning::Nothing),
+        ("data:616", Meaning::Nothing),
+        ("data:6A", Meaning::Nothing),
+        ("data:6g", Meaning::Nothing),
+        ("data:6/", Meaning::Nothing),
+        ("data:6:", Meaning::Nothing),
+        ("data:6`", Meaning::Nothing),
+        ("data: 61", Meaning::Nothing),
+        ("Data:61", Meaning::Nothing),
+        ("prop:", Meaning::Nothing),
+        ("prop:7", Meaning::Nothing),
+        ("prop:7:", Meaning::Nothing),
+        ("prop::7", Meaning::Nothing),
+        ("prop:7:3:1", Meaning::Nothing),
+        ("prop:07:3", Meaning::Nothing),
+        ("prop:7:00", Meaning::Nothing),
+        ("prop:7:-3", Meaning::Nothing),
+        ("prop:7:3 ", Meaning::Nothing),
+        ("prop:18446744073709551616:3", Meaning::Nothing),
     ];
     for (word, wanted) in rows {
         assert_eq!(rt; read(word.as_bytes()), wanted, "{word}");
@@ -72,11 +72,11 @@ fn reads_the_words_of_items(rt: HostRuntime) -> Result<(), Fail> {
 #[test]
 fn reads_long_items_up_to_their_limit(rt: HostRuntime) -> Result<(), Fail> {
     for (digits, wanted) in [
-        (2_046, Read::Data),
-        (2_048, Read::Data),
-        (2_047, Read::Nothing),
-        (2_049, Read::Nothing),
-        (2_050, Read::Nothing),
+        (2_046, Meaning::Data),
+        (2_048, Meaning::Data),
+        (2_047, Meaning::Nothing),
+        (2_049, Meaning::Nothing),
+        (2_050, Meaning::Nothing),
     ] {
         let mut word = b"data:".to_vec(rt.alloc())?;
         for _ in 0..digits {
@@ -239,7 +239,9 @@ fn reads_deliveries_but_for_their_words(rt: HostRuntime) -> Result<(), Fail> {
         ),
     ];
     for (text, (node, sender, number, word)) in rows {
-        let delivery = read_delivery(text.as_bytes()).ok_or("no delivery")?;
+        let Some(delivery) = read_delivery(text.as_bytes()) else {
+            return Err(Fail::new("no delivery"));
+        };
         assert_eq!(rt; delivery.node, NodeId(node), "{text}");
         assert_eq!(rt; delivery.sender, NodeId(sender), "{text}");
         assert_eq!(rt; delivery.number, number, "{text}");
