@@ -13,16 +13,16 @@ use Rattle.cast_judge.specs.declared.kept.Kept.{Kept}
 use Rattle.cast_judge.specs.declared.kept.Place.TheVariants.{Body, Ended}
 use Rattle.cast_judge.specs.Kept.{is_ended_at, rule_by, Keeps, IsNew}
 use Rattle.cast_judge.specs.Stands.{StandsFor, place_of}
-use Rattle.cast_judge.specs.Judges.{IsKept, Judges}
-use Rattle.cast_judge.specs.Judged.{HasNone, verdict_of, IsReading, Offends, StandsAs, is_reading_state, is_refused_state, state_with, lines_with}
+use Rattle.cast_judge.specs.Judges.{IsKept, IsRefused, Judges}
+use Rattle.cast_judge.specs.Judged.{HasNone, verdict_of, IsReading, Offends, HasOffended, StandsAs, is_reading_state, is_refused_state, state_with, lines_with}
 use Rattle.cast_judge.proofs.RuleLemmas.{rule_same}
 use Rattle.cast_judge.proofs.StandingLemmas.{stands_on, stands_for_none}
 use Rattle.cast_judge.proofs.TextLemmas.{line_goes, line_offends, at_end, ended_offends, long_offends, clean_both}
 
 -- ---- one line
 
-pub judges_broken : (past : List Line) (bytes : List ℕ) (line : Line) (rule : ℕ) (kept : Kept) → StandsFor past kept → line_of bytes ≡ Some line → rule_by kept line ≡ Some rule → with_line past (line_of bytes) ≡ Err rule
-judges_broken past bytes line rule kept s read e = ap (with_line past) read ∙ ap (kept_by past line) (sym (rule_same past kept line s) ∙ e)
+pub judges_broken : (past : List Line) (bytes : List ℕ) (line : Line) (rule : ℕ) (kept : Kept) → StandsFor past kept → line_of bytes ≡ Some line → rule_by kept line ≡ Some rule → IsRefused past bytes rule kept
+judges_broken past bytes line rule kept s read e = record { breaks = ap (with_line past) read ∙ ap (kept_by past line) (sym (rule_same past kept line s) ∙ e); stands = s }
 
 pub judges_kept : (past : List Line) (bytes : List ℕ) (line : Line) (old new : Kept) → StandsFor past old → length past < 2 ^ 63 → line_of bytes ≡ Some line → rule_by old line ≡ None → Keeps old new line → IsKept past bytes new
 judges_kept past bytes line old new s short read e w =
@@ -77,11 +77,22 @@ line_counted text tail part old new lines None h clean short judges =
           ∙ ap (verdict_of h.past) (ap (λ r. tail ++ r) (append_assoc part (10 ∷ []) more) ∙ sym (append_assoc tail part (10 ∷ more)))
           ∙ line_goes h.past (kept.line ∷ h.past) (tail ++ part) more (clean_both tail part h.clean clean) kept.goes;
     }
-line_counted text tail part old new lines (Some rule) h clean short judges = λ more.
-    ap verdict (append_assoc text (part ++ 10 ∷ []) more) ∙ h.same ((part ++ 10 ∷ []) ++ more)
-    ∙ ap (verdict_of h.past) (ap (λ r. tail ++ r) (append_assoc part (10 ∷ []) more) ∙ sym (append_assoc tail part (10 ∷ more)))
-    ∙ line_offends h.past rule (tail ++ part) more (clean_both tail part h.clean clean) (judges h.past h.stands (omega (arith, h.count)))
-    ∙ ap (λ n. Bad (n + 1) rule) h.count
+line_counted text tail part old new lines (Some rule) h clean short judges =
+    let refused = judges h.past h.stands (omega (arith, h.count)) in
+    record {
+      past = h.past;
+      stands = refused.stands;
+      count = h.count;
+      empty = refl;
+      offends = λ more. ap verdict (append_assoc text (part ++ 10 ∷ []) more) ∙ h.same ((part ++ 10 ∷ []) ++ more)
+          ∙ ap (verdict_of h.past) (ap (λ r. tail ++ r) (append_assoc part (10 ∷ []) more) ∙ sym (append_assoc tail part (10 ∷ more)))
+          ∙ line_offends h.past rule (tail ++ part) more (clean_both tail part h.clean clean) refused.breaks
+          ∙ ap (λ n. Bad (n + 1) rule) h.count;
+    }
+
+-- the unfinished line offends
+pub let_go : (text more tail : List ℕ) (kept : Kept) (lines rule : ℕ) → IsReading text kept tail lines → Offends more lines rule → HasOffended more kept [] lines rule
+let_go text more tail kept lines rule h offends = record { past = h.past; stands = h.stands; count = h.count; empty = refl; offends = offends }
 
 -- an unfinished line is too long, whatever follows
 pub too_long : (text tail part rest : List ℕ) (kept : Kept) (lines : ℕ) → IsReading text kept tail lines → HasNone 10 part → 4096 < length tail + length part → Offends (text ++ (part ++ rest)) lines 0
@@ -127,18 +138,26 @@ finished text tail kept lines h =
 -- a line offended
 pub offended_said : (state : State) (text : List ℕ) (kept : Kept) (tail : List ℕ) (lines rule : ℕ) → state ≡ Offended rule → StandsAs state text kept tail lines → verdict text ≡ Bad (lines + 1) rule
 offended_said state text kept tail lines rule is h =
-    let offends = subst (λ s. StandsAs s text kept tail lines) is h in
-    ap verdict (sym (append-nil text)) ∙ offends []
+    let offended = subst (λ s. StandsAs s text kept tail lines) is h in
+    ap verdict (sym (append-nil text)) ∙ offended.offends []
+
+still_offended : (text more : List ℕ) (kept : Kept) (tail : List ℕ) (lines rule : ℕ) → HasOffended text kept tail lines rule → HasOffended (text ++ more) kept tail lines rule
+still_offended text more kept tail lines rule h = record {
+  past = h.past;
+  stands = h.stands;
+  count = h.count;
+  empty = h.empty;
+  offends = λ rest. ap verdict (append_assoc text more rest) ∙ h.offends (more ++ rest);
+}
 
 -- whatever follows, it stays so
 pub offended_on : (state : State) (text more : List ℕ) (kept : Kept) (tail : List ℕ) (lines rule : ℕ) → state ≡ Offended rule → StandsAs state text kept tail lines → StandsAs state (text ++ more) kept tail lines
 offended_on state text more kept tail lines rule is h =
-    let offends = subst (λ s. StandsAs s text kept tail lines) is h in
-    let on : Offends (text ++ more) lines rule = λ rest. ap verdict (append_assoc text more rest) ∙ offends (more ++ rest) in
-    subst (λ s. StandsAs s (text ++ more) kept tail lines) (sym is) on
+    let offended = subst (λ s. StandsAs s text kept tail lines) is h in
+    subst (λ s. StandsAs s (text ++ more) kept tail lines) (sym is) (still_offended text more kept tail lines rule offended)
 
 -- a state in which nothing more is read
 pub done_on : (state : State) (text more : List ℕ) (kept : Kept) (tail : List ℕ) (lines : ℕ) → is_reading_state state ≡ false → is_refused_state state ≡ false → StandsAs state text kept tail lines → StandsAs state (text ++ more) kept tail lines
 done_on Reading text more kept tail lines e f h = absurd (cc)
-done_on (Offended rule) text more kept tail lines e f h = λ rest. ap verdict (append_assoc text more rest) ∙ h (more ++ rest)
+done_on (Offended rule) text more kept tail lines e f h = still_offended text more kept tail lines rule h
 done_on Refused text more kept tail lines e f h = absurd (cc)

@@ -4,3 +4,6 @@ pub mod StandingLemmas
 pub mod TextLemmas
 pub mod JudgedLemmas
 pub mod PieceLemmas
+pub mod ItemLemmas
+pub mod FindLemmas
+pub mod DueLemmas

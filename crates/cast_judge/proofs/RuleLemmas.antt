@@ -150,7 +150,7 @@ module _ (past : List Line) (k : Kept) (s : StandsFor past k) where
   many_same (Delivered q m) = refl
   many_same (Decided q d) =
       let instance = s.instances d.instance in
-      let count = counted (kept.has_value (kept.instance_at k.instances.entries d.instance).decided d.value) (kept.has_value (said.values_in past d.instance) d.value) (length (kept.instance_at k.instances.entries d.instance).decided) 0 d.value (said.different (said.values_in past d.instance)) (instance.decided d.value) instance.count in
+      let count = counted (kept.has_value (kept.instance_at k.instances d.instance).decided d.value) (kept.has_value (said.values_in past d.instance) d.value) (length (kept.instance_at k.instances d.instance).decided) 0 d.value (said.different (said.values_in past d.instance)) (instance.decided d.value) instance.count in
       (λ i. nat_lt (s.faults i) (s.choices i) && nat_lt (s.choices i) (count i))
   many_same (Crashed q) = refl
   many_same (Refused i c) = refl

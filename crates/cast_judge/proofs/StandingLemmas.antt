@@ -414,7 +414,7 @@ body_on past line old new plain short sound h k = record {
   few = omega (arith, same_size, h.few);
   nodes = λ p within. one p (omega (arith, same_size));
   numbered = numbered_on past line sound h.numbered;
-  instances = λ j. subst (StandsForInstance (line ∷ past) j) (sym (k.instances j)) (instance_on past line j (kept.instance_at old.instances.entries j) (h.instances j));
+  instances = λ j. subst (StandsForInstance (line ∷ past) j) (sym (k.instances j)) (instance_on past line j (kept.instance_at old.instances j) (h.instances j));
 }
   where
     same_size : length new.nodes.items ≡ length old.nodes.items
@@ -461,7 +461,7 @@ opened head n f k old new h s w = record {
   few = omega (arith, size, h.few);
   nodes = λ p within. one p (omega (arith, size));
   numbered = numbered_on [] head h.plain s.numbered;
-  instances = λ j. subst (StandsForInstance (head ∷ []) j) (sym (w.instances j)) (instance_on [] head j (kept.instance_at old.instances.entries j) (s.instances j));
+  instances = λ j. subst (StandsForInstance (head ∷ []) j) (sym (w.instances j)) (instance_on [] head j (kept.instance_at old.instances j) (s.instances j));
 }
   where
     all : new.nodes.items ≡ replicate n kept.nobody

@@ -1,6 +1,7 @@
 -- What a judging stands for: the text that was fed.
 --     Stands text judging     the judging is that of this text
-use Rattle.std.specs.Prelude.{◌≡◌, ℕ, ◌+◌, ◌==◌, Bool, true, false, List, ◌++◌, length, Option, Some, None}
+--     IsSkipped old new       nothing was kept of a piece
+use Rattle.std.specs.Prelude.{◌≡◌, ℕ, ◌+◌, ◌==◌, Bool, true, false, List, [], ◌++◌, length, Option, Some, None}
 use Rattle.std.specs.List.{slice_split, All}
 use Rattle.cast_record.specs.declared.line.Line.{Line}
 use Rattle.cast_record.specs.declared.verdict.Verdict.{Verdict}
@@ -64,10 +65,26 @@ pub record IsReading (text : List ℕ) (kept : Kept) (tail : List ℕ) (lines : 
 abbrev pub Offends : List ℕ → ℕ → ℕ → Type 0
 Offends text lines rule = (more : List ℕ) → verdict (text ++ more) ≡ Bad (lines + 1) rule
 
+-- The text offends there, and what is kept is what the lines before showed: nothing of the line that offended, nor of what
+-- came after it.
+pub record HasOffended (text : List ℕ) (kept : Kept) (tail : List ℕ) (lines rule : ℕ) : Type 0 where
+  pub past : List Line
+  pub stands : StandsFor past kept
+  pub count : length past ≡ lines
+  pub empty : tail ≡ []
+  pub offends : Offends text lines rule
+
 abbrev pub StandsAs : State → List ℕ → Kept → List ℕ → ℕ → Type 0
 StandsAs Reading text kept tail lines = IsReading text kept tail lines
-StandsAs (Offended rule) text kept tail lines = Offends text lines rule
+StandsAs (Offended rule) text kept tail lines = HasOffended text kept tail lines rule
 StandsAs Refused text kept tail lines = Unit {0}
 
 abbrev pub Stands : List ℕ → Judging → Type 0
 Stands text judging = StandsAs judging.state text judging.kept judging.tail.items judging.lines
+
+-- all is as it was, but for how many bytes were fed
+pub record IsSkipped (old new : Judging) : Type 0 where
+  pub state : new.state ≡ old.state
+  pub kept : new.kept ≡ old.kept
+  pub lines : new.lines ≡ old.lines
+  pub tail : new.tail ≡ old.tail

@@ -10,9 +10,12 @@ use Rattle.cast_message.specs.declared.message.Item.{Item}
 use Rattle.cast_message.specs.declared.message.Item.TheVariants.{Propose}
 use Rattle.cast_record.specs.declared.line.Line.{Line}
 use Rattle.cast_record.specs.declared.line.Line.TheVariants.{Head, Head2, Broadcast, Delivered, Decided, Crashed, End}
+use Rattle.cast_record.specs.declared.word_line.Delivery.{Delivery}
+use Rattle.cast_record.specs.Reading.{item_of}
 use Rattle.cast_record.specs.Rules as said
 use Rattle.cast_judge.specs.declared.instances.Proposal.{Proposal}
 use Rattle.cast_judge.specs.declared.instances.Instance.{Instance}
+use Rattle.cast_judge.specs.declared.instances.Instances.{Instances}
 use Rattle.cast_judge.specs.declared.instances.Addition.{Addition}
 use Rattle.cast_judge.specs.declared.instances.Addition.TheVariants as adds
 use Rattle.cast_judge.specs.declared.kept.Place.{Place}
@@ -44,8 +47,12 @@ abbrev pub changed : Instance → Addition → Instance
 changed instance (adds.Proposed proposal) = record instance { proposals = instance.proposals ++ proposal ∷ [] }
 changed instance (adds.Decided value) = record instance { decided = with_value instance.decided value }
 
-abbrev pub instance_at : List (ℕ × Instance) → ℕ → Instance
-instance_at entries j = unwrap_or (lookup (is_at (nat_cmp j)) entries) no_instance
+abbrev pub other_at : List (ℕ × Instance) → ℕ → Instance
+other_at entries j = unwrap_or (lookup (is_at (nat_cmp j)) entries) no_instance
+
+-- an instance of the row, or one past it
+abbrev pub instance_at : Instances → ℕ → Instance
+instance_at instances j = if nat_lt j (length instances.row.items) then slice_index_or instances.row.items j no_instance else other_at instances.others.entries j
 
 -- instance q, where this is added to instance j
 abbrev pub changed_at : ℕ → Addition → ℕ → Instance → Instance
@@ -119,7 +126,7 @@ pub record Keeps (old new : Kept) (line : Line) : Type 0 where
   pub faults : new.faults ≡ faults_after old.faults line
   pub choices : new.choices ≡ choices_after old.choices line
   pub nodes : new.nodes.items ≡ nodes_after old.nodes.items line
-  pub instances : (q : ℕ) → instance_at new.instances.entries q ≡ instance_after line q (instance_at old.instances.entries q)
+  pub instances : (q : ℕ) → instance_at new.instances q ≡ instance_after line q (instance_at old.instances q)
 
 -- nothing is kept
 pub record IsNew (kept : Kept) : Type 0 where
@@ -127,7 +134,7 @@ pub record IsNew (kept : Kept) : Type 0 where
   pub faults : kept.faults ≡ 0
   pub choices : kept.choices ≡ 0
   pub nodes : kept.nodes.items ≡ []
-  pub instances : (q : ℕ) → instance_at kept.instances.entries q ≡ no_instance
+  pub instances : (q : ℕ) → instance_at kept.instances q ≡ no_instance
 
 -- ---- the rules
 
@@ -154,11 +161,11 @@ is_after_close kept (Broadcast m) = (node_at kept.nodes.items m.sender).closed
 is_after_close kept line = false
 
 abbrev pub is_not_proposed : Kept → Line → Bool
-is_not_proposed kept (Decided q d) = not (list_any (is_for d.value) (instance_at kept.instances.entries d.instance).proposals)
+is_not_proposed kept (Decided q d) = not (list_any (is_for d.value) (instance_at kept.instances d.instance).proposals)
 is_not_proposed kept line = false
 
 abbrev pub is_of_too_many : Kept → Line → Bool
-is_of_too_many kept (Decided q d) = nat_lt kept.faults kept.choices && nat_lt kept.choices (count_with (instance_at kept.instances.entries d.instance).decided d.value)
+is_of_too_many kept (Decided q d) = nat_lt kept.faults kept.choices && nat_lt kept.choices (count_with (instance_at kept.instances d.instance).decided d.value)
 is_of_too_many kept line = false
 
 abbrev pub is_after_crash : Kept → Line → Bool
@@ -169,7 +176,7 @@ is_after_crash kept (Crashed q) = (node_at kept.nodes.items q).crashed
 is_after_crash kept line = false
 
 abbrev pub is_second_proposal : Kept → ℕ → Item → Bool
-is_second_proposal kept p (Propose j w) = list_any (is_by p) (instance_at kept.instances.entries j).proposals
+is_second_proposal kept p (Propose j w) = list_any (is_by p) (instance_at kept.instances j).proposals
 is_second_proposal kept p item = false
 
 abbrev pub is_proposed_twice : Kept → Line → Bool
@@ -189,3 +196,24 @@ rules_by kept line =
 
 abbrev pub rule_by : Kept → Line → Option ℕ
 rule_by kept line = said.first_broken (rules_by kept line)
+
+-- ---- a line `d` by its word
+
+-- the line, where its word spells this item
+abbrev pub delivered_as : Delivery → Item → Line
+delivered_as d item = Delivered d.node (record { sender = d.sender; number = d.number; item = item })
+
+-- the word spells an item, and the line with that item breaks no rule
+pub record IsDue (kept : Kept) (d : Delivery) : Type 0 where
+  pub item : Item
+  pub spells : item_of d.word.now ≡ Some item
+  pub sound : rule_by kept (delivered_as d item) ≡ None
+  pub body : kept.place ≡ Body
+
+pub record IsTaken (old new : Kept) (d : Delivery) : Type 0 where
+  pub due : IsDue old d
+  pub keeps : Keeps old new (delivered_as d due.item)
+
+abbrev pub Delivers : Kept → Kept → Delivery → Bool → Type 0
+Delivers old new d true = IsTaken old new d
+Delivers old new d false = new ≡ old

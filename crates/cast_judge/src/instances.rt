@@ -1,7 +1,7 @@
 //! What was proposed and decided, by instance.
-ghost use Rattle.std.specs.Prelude.{◌≡◌, ℕ, OnOk};
+ghost use Rattle.std.specs.Prelude.{◌≡◌, ◌≢◌, ℕ, OnOk, MatchOption};
 ghost use Rattle.std.specs.List.{list_any};
-ghost use Rattle.cast_judge.specs.Kept.{is_by, is_for, changed, changed_at, instance_at, count_with, has_value, no_instance};
+ghost use Rattle.cast_judge.specs.Kept.{is_by, is_for, changed, changed_at, instance_at, other_at, count_with, has_value, no_instance};
 
 use cast_message::{List, NodeId};
 use std::alloc::{AllocError, Global};
@@ -95,14 +95,62 @@ fn has_value(values: &[u64], value: u64) -> bool
     values.iter().any(|other| *other == value)
 }
 
-/// Takes what a line adds to the instance of this number.
-pub fn add_at(
+/// What was proposed and decided, by the numbers of the instances. Where those begin at 0 and come in order they stand in a row,
+/// and a look-up takes the same time however many there are.
+#[derive(Debug, Drop)]
+pub struct Instances {
+    /// The instances from 0 on.
+    row: Vec<Instance>,
+    /// The instances past the row.
+    others: BTreeMap<u64, Instance>,
+}
+
+impl Instances {
+    /// Nothing was proposed. It takes no memory.
+    pub fn new(alloc: Global) -> Instances
+        ensures { (q : ℕ) → instance_at result q ≡ no_instance }
+    {
+        Instances {
+            row: Vec::new(alloc),
+            others: BTreeMap::new(alloc),
+        }
+    }
+
+    /// The instance of this number, if anything was said of it.
+    pub fn get(&self, number: u64) -> Option<&Instance>
+        ensures { MatchOption result (instance_at self.now number ≡ no_instance) (λ found. found.now ≡ instance_at self.now number) }
+    {
+        match self.row.get(number as usize) {
+            Some(instance) => Some(instance),
+            None => self.others.get(&number),
+        }
+    }
+
+    /// Takes what a line adds to the instance of this number.
+    pub fn add(&mut self, alloc: Global, number: u64, addition: Addition) -> Result<(), AllocError>
+        ensures { OnOk result ((q : ℕ) → instance_at self.new q ≡ changed_at number addition q (instance_at self.old q)) }
+    {
+        let place = number as usize;
+        if place < self.row.len() {
+            return self.row[place].add(addition);
+        }
+        if place > self.row.len() {
+            return add_at(alloc, &mut self.others, number, addition);
+        }
+        let mut instance = take_at(alloc, &mut self.others, number);
+        instance.add(addition)?;
+        self.row.push(instance)?;
+        Ok(())
+    }
+}
+
+fn add_at(
     alloc: Global,
     instances: &mut BTreeMap<u64, Instance>,
     number: u64,
     addition: Addition,
 ) -> Result<(), AllocError>
-    ensures { OnOk result ((q : ℕ) → instance_at instances.new.entries q ≡ changed_at number addition q (instance_at instances.old.entries q)) }
+    ensures { OnOk result ((q : ℕ) → other_at instances.new.entries q ≡ changed_at number addition q (other_at instances.old.entries q)) }
 {
     match instances.get_mut(&number) {
         Some(instance) => instance.add(addition),
@@ -112,5 +160,16 @@ pub fn add_at(
             instances.insert(number, instance)?;
             Ok(())
         }
+    }
+}
+
+// Takes the instance of this number out. Nothing may have been said of it.
+fn take_at(alloc: Global, instances: &mut BTreeMap<u64, Instance>, number: u64) -> Instance
+    ensures taken { result ≡ other_at instances.old.entries number }
+    ensures others { (q : ℕ) → q ≢ number → other_at instances.new.entries q ≡ other_at instances.old.entries q }
+{
+    match instances.remove(&number) {
+        Some(instance) => instance,
+        None => Instance::new(alloc),
     }
 }

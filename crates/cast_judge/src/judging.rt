@@ -1,5 +1,5 @@
 //! Reading a text piece by piece.
-ghost use Rattle.std.specs.Prelude.{◌≡◌, ℕ, ◌+◌, ◌^◌, ◌<◌, ◌≤◌, ◌++◌, [], ◌∷◌, List, length, nat_lt, true, false, IfOk, OnOk, OnErr, IsOk, IsErr};
+ghost use Rattle.std.specs.Prelude.{◌≡◌, ℕ, ◌+◌, ◌^◌, ◌<◌, ◌≤◌, ◌++◌, [], ◌∷◌, List, length, nat_lt, true, false, Some, IfOk, OnOk, OnErr, IsOk, IsErr};
 ghost use Rattle.cast_record.specs.Verdicts.{verdict};
 
 use crate::kept::Kept;
@@ -51,7 +51,7 @@ pub fn judge(alloc: Global, text: &[u8]) -> Result<Verdict, AllocError>
 }
 
 impl Judging {
-    ghost use Rattle.cast_judge.specs.Judged.{Stands, HasNone, lines_with, state_with, is_reading, is_offended, is_refused};
+    ghost use Rattle.cast_judge.specs.Judged.{Stands, IsSkipped, HasNone, lines_with, state_with, is_reading, is_offended, is_refused};
 
     /// Nothing was fed. It takes no memory.
     pub fn new(alloc: Global) -> Judging
@@ -77,6 +77,7 @@ impl Judging {
         ensures stands { (text : List ℕ) → Stands text self.old → OnOk result (Stands (text ++ piece.now) self.new) }
         ensures refused { is_refused self.old ≡ true → IsErr result }
         ensures skipped { is_offended self.old ≡ true → IsOk result }
+        ensures unchanged { is_offended self.old ≡ true → IsSkipped self.old self.new }
         ensures err { OnErr result (is_refused self.new ≡ true) }
         ensures ok { OnOk result (is_refused self.new ≡ false) }
     {
@@ -162,16 +163,16 @@ impl Judging {
         ensures ok { OnOk result (is_refused self.new ≡ false) }
     {
         if self.tail.is_empty() {
-            let broken = judge_line(self.alloc, &mut self.kept, part)?;
+            let broken = judge_line(&mut self.kept, part)?;
             self.count(broken);
             return Ok(());
         }
         if self.is_too_long(part) {
-            self.count(Some(0));
+            self.offend();
             return Ok(());
         }
         self.tail.extend_from_slice(part)?;
-        let broken = judge_line(self.alloc, &mut self.kept, self.tail.as_slice())?;
+        let broken = judge_line(&mut self.kept, self.tail.as_slice())?;
         self.tail.clear();
         self.count(broken);
         Ok(())
@@ -182,6 +183,19 @@ impl Judging {
         ensures { result ≡ nat_lt 4096 (length self.now.tail.items + length part.now) }
     {
         part.len() > LONGEST_LINE || self.tail.len() > LONGEST_LINE - part.len()
+    }
+
+    // Lets go of the unfinished line, which offends.
+    fn offend(&mut self)
+        requires { self.old.lines < self.old.fed }
+        ensures kept { self.new.kept ≡ self.old.kept }
+        ensures tail { self.new.tail.items ≡ [] }
+        ensures fed { self.new.fed ≡ self.old.fed }
+        ensures lines { self.new.lines ≡ self.old.lines }
+        ensures state { self.new.state ≡ state_with (Some 0) self.old.state }
+    {
+        self.tail.clear();
+        self.count(Some(0));
     }
 
     // Counts a line that broke no rule, or tells the rule that it broke.
@@ -212,7 +226,7 @@ impl Judging {
             return Ok(());
         }
         if self.kept.is_ended() || self.is_too_long(part) {
-            self.count(Some(0));
+            self.offend();
             return Ok(());
         }
         self.tail.extend_from_slice(part)

@@ -1,14 +1,17 @@
 //! What is kept of the lines read so far, and what it says of the next line.
-ghost use Rattle.std.specs.Prelude.{◌≡◌, ℕ, ◌<◌, ◌≤◌, length, replicate, slice_set, slice_index, IfOk, OnOk, MatchOption};
-ghost use Rattle.cast_record.specs.Rules.{is_close, is_item, is_head, names_below};
+ghost use Rattle.std.specs.Prelude.{◌≡◌, ℕ, ◌<◌, ◌≤◌, length, replicate, slice_set, slice_index, true, IfOk, OnOk, MatchOption};
+ghost use Rattle.cast_record.specs.Rules.{is_head, names_below};
+ghost use Rattle.cast_record.specs.WordLines.{line_said};
+ghost use Rattle.cast_message.specs.declared.message.Item.{Item};
 ghost use Rattle.cast_judge.specs.Kept.{rule_by, is_ended_at, is_out_of_place, breaks_prefix, is_after_close, is_not_proposed, is_of_too_many, is_after_crash, is_proposed_twice, is_second_proposal};
-ghost use Rattle.cast_judge.specs.Kept.{node_at, has_item, nobody, count_with, instance_at, nodes_after, instance_after, with_item, with_delivery, with_crash, Keeps, IsNew};
+ghost use Rattle.cast_judge.specs.ItemList.{IsWordAt};
+ghost use Rattle.cast_judge.specs.Kept.{Delivers, IsDue, node_at, has_item, nobody, count_with, instance_at, item_changes, with_item, with_delivery, with_crash, Keeps, IsNew};
 
-use crate::instances::{Addition, Instance, Proposal, add_at};
-use cast_message::{Decision, Item, List, Message, NodeId};
-use cast_record::Line;
+use crate::instances::{Addition, Instances, Proposal};
+use crate::items::Items;
+use cast_message::{Decision, NodeId};
+use cast_record::{Delivery, ItemWord, WordLine};
 use std::alloc::{AllocError, Global};
-use std::collections::BTreeMap;
 
 /// Where the lines read so far end.
 #[derive(Clone, Copy, Debug)]
@@ -25,7 +28,7 @@ pub enum Place {
 #[derive(Debug, Drop)]
 pub struct Sender {
     /// The items that it broadcast, in order.
-    pub items: List<Item>,
+    pub items: Items,
     pub closed: bool,
     pub crashed: bool,
     /// How many items it delivered, by their sender.
@@ -40,7 +43,7 @@ pub struct Kept {
     pub faults: u64,
     pub choices: u64,
     pub nodes: Vec<Sender>,
-    pub instances: BTreeMap<u64, Instance>,
+    pub instances: Instances,
 }
 
 impl Kept {
@@ -54,7 +57,7 @@ impl Kept {
             faults: 0,
             choices: 0,
             nodes: Vec::new(alloc),
-            instances: BTreeMap::new(alloc),
+            instances: Instances::new(alloc),
         }
     }
 
@@ -66,8 +69,8 @@ impl Kept {
     }
 
     /// The least rule that the line breaks, if it breaks one.
-    pub fn broken(&self, line: &Line) -> Option<u64>
-        ensures { result ≡ rule_by self.now line.now }
+    pub fn broken(&self, line: &WordLine<'_>) -> Option<u64>
+        ensures { result ≡ rule_by self.now (line_said line.now) }
     {
         if self.is_out_of_place(line) {
             Some(0)
@@ -89,42 +92,74 @@ impl Kept {
     }
 
     /// Takes a line that breaks no rule.
-    pub fn keep(&mut self, line: Line) -> Result<(), AllocError>
-        ensures { OnOk result (Keeps self.old self.new line) }
+    pub fn keep(&mut self, line: &WordLine<'_>) -> Result<(), AllocError>
+        ensures { OnOk result (Keeps self.old self.new (line_said line.now)) }
     {
         self.place = Place::Body;
         match line {
-            Line::Head {
+            WordLine::Head {
                 nodes,
                 faults,
                 choices,
-            } => self.open(nodes, faults, choices),
-            Line::Head2 {
+            } => self.open(*nodes, *faults, *choices),
+            WordLine::Head2 {
                 nodes,
                 faults,
                 choices,
                 ..
-            } => self.open(nodes, faults, choices),
-            Line::Broadcast(message) => self.keep_broadcast(message),
-            Line::Delivered { node, message } => {
-                put_delivery(&mut self.nodes, node, message.sender);
+            } => self.open(*nodes, *faults, *choices),
+            WordLine::Broadcast { sender, item, .. } => self.keep_broadcast(*sender, item),
+            WordLine::Delivered { node, sender, .. } => {
+                put_delivery(&mut self.nodes, *node, *sender);
                 Ok(())
             }
-            Line::Decided { decision, .. } => add_at(
+            WordLine::Decided { decision, .. } => self.instances.add(
                 self.alloc,
-                &mut self.instances,
                 decision.instance,
                 Addition::Decided(decision.value),
             ),
-            Line::Crashed { node } => {
-                put_crash(&mut self.nodes, node);
+            WordLine::Crashed { node } => {
+                put_crash(&mut self.nodes, *node);
                 Ok(())
             }
-            Line::Refused { .. } => Ok(()),
-            Line::End => {
+            WordLine::Refused { .. } => Ok(()),
+            WordLine::End => {
                 self.place = Place::Ended;
                 Ok(())
             }
+        }
+    }
+
+    /// Takes a delivery that breaks no rule, and whose word is the one that is kept of its item. Any other line changes nothing.
+    pub fn deliver(&mut self, delivery: &Delivery<'_>) -> bool
+        ensures { Delivers self.old self.new delivery.now result }
+    {
+        if !self.is_due(delivery) {
+            return false;
+        }
+        put_delivery(&mut self.nodes, delivery.node, delivery.sender);
+        true
+    }
+
+    // Whether the delivery breaks no rule, by its word.
+    fn is_due(&self, delivery: &Delivery<'_>) -> bool
+        ensures { result ≡ true → IsDue self.now delivery.now }
+    {
+        let Place::Body = self.place else {
+            return false;
+        };
+        let Some(node) = self.node(delivery.node) else {
+            return false;
+        };
+        if node.crashed {
+            return false;
+        }
+        if node.count_from(delivery.sender) != delivery.number {
+            return false;
+        }
+        match self.node(delivery.sender) {
+            Some(sender) => sender.has_word(delivery.number, delivery.word),
+            None => false,
         }
     }
 
@@ -141,31 +176,26 @@ impl Kept {
         Ok(())
     }
 
-    fn keep_broadcast(&mut self, message: Message) -> Result<(), AllocError>
+    fn keep_broadcast(&mut self, sender: NodeId, item: &ItemWord<'_>) -> Result<(), AllocError>
         ensures place { self.new.place ≡ self.old.place }
         ensures faults { self.new.faults ≡ self.old.faults }
         ensures choices { self.new.choices ≡ self.old.choices }
-        ensures nodes { OnOk result (self.new.nodes.items ≡ nodes_after self.old.nodes.items (Line.Broadcast message)) }
-        ensures instances { OnOk result ((q : ℕ) → instance_at self.new.instances.entries q ≡ instance_after (Line.Broadcast message) q (instance_at self.old.instances.entries q)) }
+        ensures nodes { OnOk result (self.new.nodes.items ≡ slice_set self.old.nodes.items sender (with_item (node_at self.old.nodes.items sender) item.now)) }
+        ensures instances { OnOk result ((q : ℕ) → instance_at self.new.instances q ≡ item_changes sender item.now q (instance_at self.old.instances q)) }
     {
-        let Message { sender, item, .. } = message;
-        if let Item::Propose { instance, value } = &item {
+        if let Some((instance, value)) = item.proposal() {
             let proposal = Proposal {
                 node: sender,
-                value: *value,
+                value,
             };
-            add_at(
-                self.alloc,
-                &mut self.instances,
-                *instance,
-                Addition::Proposed(proposal),
-            )?;
+            self.instances
+                .add(self.alloc, instance, Addition::Proposed(proposal))?;
         }
         put_item(&mut self.nodes, sender, item)
     }
 
-    fn is_out_of_place(&self, line: &Line) -> bool
-        ensures { result ≡ is_out_of_place self.now line.now }
+    fn is_out_of_place(&self, line: &WordLine<'_>) -> bool
+        ensures { result ≡ is_out_of_place self.now (line_said line.now) }
     {
         match self.place {
             Place::Start => !is_head(line),
@@ -174,23 +204,28 @@ impl Kept {
         }
     }
 
-    fn breaks_prefix(&self, line: &Line) -> bool
-        ensures { result ≡ breaks_prefix self.now line.now }
+    fn breaks_prefix(&self, line: &WordLine<'_>) -> bool
+        ensures { result ≡ breaks_prefix self.now (line_said line.now) }
     {
         match line {
-            Line::Broadcast(message) => message.number != self.item_count(message.sender),
-            Line::Delivered { node, message } => {
-                message.number != self.delivered(*node, message.sender) || !self.has_item(message)
+            WordLine::Broadcast { sender, number, .. } => *number != self.item_count(*sender),
+            WordLine::Delivered {
+                node,
+                sender,
+                number,
+                item,
+            } => {
+                *number != self.delivered(*node, *sender) || !self.has_item(*sender, *number, item)
             }
             _ => false,
         }
     }
 
-    fn is_after_close(&self, line: &Line) -> bool
-        ensures { result ≡ is_after_close self.now line.now }
+    fn is_after_close(&self, line: &WordLine<'_>) -> bool
+        ensures { result ≡ is_after_close self.now (line_said line.now) }
     {
         match line {
-            Line::Broadcast(message) => match self.node(message.sender) {
+            WordLine::Broadcast { sender, .. } => match self.node(*sender) {
                 Some(node) => node.closed,
                 None => false,
             },
@@ -198,11 +233,11 @@ impl Kept {
         }
     }
 
-    fn is_not_proposed(&self, line: &Line) -> bool
-        ensures { result ≡ is_not_proposed self.now line.now }
+    fn is_not_proposed(&self, line: &WordLine<'_>) -> bool
+        ensures { result ≡ is_not_proposed self.now (line_said line.now) }
     {
         match line {
-            Line::Decided { decision, .. } => match self.instances.get(&decision.instance) {
+            WordLine::Decided { decision, .. } => match self.instances.get(decision.instance) {
                 Some(instance) => !instance.is_proposed(decision.value),
                 None => true,
             },
@@ -210,47 +245,47 @@ impl Kept {
         }
     }
 
-    fn is_of_too_many(&self, line: &Line) -> bool
-        ensures { result ≡ is_of_too_many self.now line.now }
+    fn is_of_too_many(&self, line: &WordLine<'_>) -> bool
+        ensures { result ≡ is_of_too_many self.now (line_said line.now) }
     {
         match line {
-            Line::Decided { decision, .. } => {
+            WordLine::Decided { decision, .. } => {
                 self.faults < self.choices && self.choices < self.count_with(*decision)
             }
             _ => false,
         }
     }
 
-    fn is_after_crash(&self, line: &Line) -> bool
-        ensures { result ≡ is_after_crash self.now line.now }
+    fn is_after_crash(&self, line: &WordLine<'_>) -> bool
+        ensures { result ≡ is_after_crash self.now (line_said line.now) }
     {
         match line {
-            Line::Broadcast(message) => self.has_crashed(message.sender),
-            Line::Delivered { node, .. } => self.has_crashed(*node),
-            Line::Decided { node, .. } => self.has_crashed(*node),
-            Line::Crashed { node } => self.has_crashed(*node),
+            WordLine::Broadcast { sender, .. } => self.has_crashed(*sender),
+            WordLine::Delivered { node, .. } => self.has_crashed(*node),
+            WordLine::Decided { node, .. } => self.has_crashed(*node),
+            WordLine::Crashed { node } => self.has_crashed(*node),
             _ => false,
         }
     }
 
-    fn is_proposed_twice(&self, line: &Line) -> bool
-        ensures { result ≡ is_proposed_twice self.now line.now }
+    fn is_proposed_twice(&self, line: &WordLine<'_>) -> bool
+        ensures { result ≡ is_proposed_twice self.now (line_said line.now) }
     {
         match line {
-            Line::Broadcast(message) => self.is_second_proposal(message.sender, &message.item),
+            WordLine::Broadcast { sender, item, .. } => self.is_second_proposal(*sender, item),
             _ => false,
         }
     }
 
-    fn is_second_proposal(&self, sender: NodeId, item: &Item) -> bool
+    fn is_second_proposal(&self, sender: NodeId, item: &ItemWord<'_>) -> bool
         ensures { result ≡ is_second_proposal self.now sender item.now }
     {
-        match item {
-            Item::Propose { instance, .. } => match self.instances.get(instance) {
+        match item.proposal() {
+            Some((instance, _)) => match self.instances.get(instance) {
                 Some(instance) => instance.has_proposed(sender),
                 None => false,
             },
-            _ => false,
+            None => false,
         }
     }
 
@@ -273,7 +308,7 @@ impl Kept {
         ensures { result ≡ length (node_at self.now.nodes.items node).items }
     {
         match self.node(node) {
-            Some(node) => node.items.as_slice().len() as u64,
+            Some(node) => node.items.len() as u64,
             None => 0,
         }
     }
@@ -287,19 +322,19 @@ impl Kept {
         }
     }
 
-    fn has_item(&self, message: &Message) -> bool
-        ensures { result ≡ has_item (node_at self.now.nodes.items message.now.sender).items message.now.number message.now.item }
+    fn has_item(&self, sender: NodeId, number: u64, item: &ItemWord<'_>) -> bool
+        ensures { result ≡ has_item (node_at self.now.nodes.items sender).items number item.now }
     {
-        match self.node(message.sender) {
-            Some(node) => node.has_item(message.number, &message.item),
+        match self.node(sender) {
+            Some(node) => node.has_item(number, item),
             None => false,
         }
     }
 
     fn count_with(&self, decision: Decision) -> u64
-        ensures { result ≡ count_with (instance_at self.now.instances.entries decision.instance).decided decision.value }
+        ensures { result ≡ count_with (instance_at self.now.instances decision.instance).decided decision.value }
     {
-        match self.instances.get(&decision.instance) {
+        match self.instances.get(decision.instance) {
             Some(instance) => instance.count_with(decision.value) as u64,
             None => 1,
         }
@@ -311,7 +346,7 @@ impl Sender {
         ensures { result ≡ nobody }
     {
         Sender {
-            items: List::new(alloc),
+            items: Items::new(alloc),
             closed: false,
             crashed: false,
             delivered: [0; 64],
@@ -327,19 +362,29 @@ impl Sender {
         }
     }
 
-    fn has_item(&self, number: u64, item: &Item) -> bool
+    fn has_item(&self, number: u64, item: &ItemWord<'_>) -> bool
         ensures { result ≡ has_item self.now.items number item.now }
     {
-        match self.items.as_slice().get(number as usize) {
-            Some(other) => is_item(other, item),
+        match self.items.word(number) {
+            Some(word) => word == item.as_slice(),
             None => false,
         }
     }
 
-    fn put_item(&mut self, item: Item) -> Result<(), AllocError>
-        ensures { OnOk result (self.new ≡ with_item self.old item) }
+    // Whether this is the word that is kept of the item of this number.
+    fn has_word(&self, number: u64, word: &[u8]) -> bool
+        ensures { result ≡ true → IsWordAt self.now.items number word.now }
     {
-        if is_close(&item) {
+        match self.items.word(number) {
+            Some(kept) => kept == word,
+            None => false,
+        }
+    }
+
+    fn put_item(&mut self, item: &ItemWord<'_>) -> Result<(), AllocError>
+        ensures { OnOk result (self.new ≡ with_item self.old item.now) }
+    {
+        if item.is_close() {
             self.closed = true;
         }
         self.items.push(item)
@@ -366,8 +411,8 @@ fn new_nodes(alloc: Global, count: u64) -> Result<Vec<Sender>, AllocError>
     Ok(nodes)
 }
 
-fn put_item(nodes: &mut Vec<Sender>, node: NodeId, item: Item) -> Result<(), AllocError>
-    ensures { OnOk result (nodes.new.items ≡ slice_set nodes.old.items node (with_item (node_at nodes.old.items node) item)) }
+fn put_item(nodes: &mut Vec<Sender>, node: NodeId, item: &ItemWord<'_>) -> Result<(), AllocError>
+    ensures { OnOk result (nodes.new.items ≡ slice_set nodes.old.items node (with_item (node_at nodes.old.items node) item.now)) }
 {
     let place = usize::from(node.0);
     if place < nodes.len() {
@@ -394,45 +439,22 @@ fn put_crash(nodes: &mut Vec<Sender>, node: NodeId)
     }
 }
 
-fn is_close(item: &Item) -> bool
-    ensures { result ≡ is_close item.now }
+fn is_head(line: &WordLine<'_>) -> bool
+    ensures { result ≡ is_head (line_said line.now) }
 {
-    matches!(item, Item::Close)
+    matches!(line, WordLine::Head { .. } | WordLine::Head2 { .. })
 }
 
-fn is_item(one: &Item, other: &Item) -> bool
-    ensures { result ≡ is_item one.now other.now }
-{
-    match (one, other) {
-        (Item::Data(one), Item::Data(other)) => one.as_slice() == other.as_slice(),
-        (
-            Item::Propose { instance, value },
-            Item::Propose {
-                instance: other_instance,
-                value: other_value,
-            },
-        ) => *instance == *other_instance && *value == *other_value,
-        (Item::Close, Item::Close) => true,
-        _ => false,
-    }
-}
-
-fn is_head(line: &Line) -> bool
-    ensures { result ≡ is_head line.now }
-{
-    matches!(line, Line::Head { .. } | Line::Head2 { .. })
-}
-
-fn names_below(nodes: u64, line: &Line) -> bool
-    ensures { result ≡ names_below nodes line.now }
+fn names_below(nodes: u64, line: &WordLine<'_>) -> bool
+    ensures { result ≡ names_below nodes (line_said line.now) }
 {
     match line {
-        Line::Broadcast(message) => u64::from(message.sender.0) < nodes,
-        Line::Delivered { node, message } => {
-            u64::from(node.0) < nodes && u64::from(message.sender.0) < nodes
+        WordLine::Broadcast { sender, .. } => u64::from(sender.0) < nodes,
+        WordLine::Delivered { node, sender, .. } => {
+            u64::from(node.0) < nodes && u64::from(sender.0) < nodes
         }
-        Line::Decided { node, .. } => u64::from(node.0) < nodes,
-        Line::Crashed { node } => u64::from(node.0) < nodes,
+        WordLine::Decided { node, .. } => u64::from(node.0) < nodes,
+        WordLine::Crashed { node } => u64::from(node.0) < nodes,
         _ => true,
     }
 }

@@ -5,6 +5,7 @@
 #![tactic(auto)]
 
 mod instances;
+mod items;
 mod judging;
 mod kept;
 mod lines;

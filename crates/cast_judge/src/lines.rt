@@ -2,29 +2,49 @@
 ghost use Rattle.std.specs.Prelude.{◌≡◌, ◌^◌, ◌<◌, ◌==◌, List, length, position, IfOk};
 ghost use Rattle.cast_record.specs.declared.line.Line.{Line as Said};
 ghost use Rattle.cast_judge.specs.Stands.{StandsFor};
-ghost use Rattle.cast_judge.specs.Judges.{Judges};
+ghost use Rattle.cast_judge.specs.Judges.{Judges, Takes};
 
 use crate::kept::Kept;
-use cast_record::read_line;
-use std::alloc::{AllocError, Global};
+use cast_record::{read_delivery, read_words};
+use memchr::memchr;
+use std::alloc::AllocError;
 
 /// The place of the first line feed.
 pub fn find_line_feed(bytes: &[u8]) -> Option<usize>
     ensures { result ≡ position (λ b. b == 10) bytes.now }
 {
-    bytes.iter().position(|byte| *byte == b'\n')
+    memchr(b'\n', bytes)
 }
 
 /// Takes the line that these bytes spell, or tells the least rule that it breaks.
-pub fn judge_line(alloc: Global, kept: &mut Kept, bytes: &[u8]) -> Result<Option<u64>, AllocError>
+pub fn judge_line(kept: &mut Kept, bytes: &[u8]) -> Result<Option<u64>, AllocError>
     ensures { (past : List Said) → StandsFor past kept.old → length past < 2 ^ 63 → IfOk result (λ broken. Judges past bytes.now broken kept.new) }
 {
-    let Some(line) = read_line(alloc, bytes)? else {
+    if take_delivery(kept, bytes) {
+        return Ok(None);
+    }
+    judge_any(kept, bytes)
+}
+
+// Takes a line `d` that breaks no rule. Any other changes nothing.
+fn take_delivery(kept: &mut Kept, bytes: &[u8]) -> bool
+    ensures { Takes bytes.now kept.old kept.new result }
+{
+    match read_delivery(bytes) {
+        Some(delivery) => kept.deliver(&delivery),
+        None => false,
+    }
+}
+
+fn judge_any(kept: &mut Kept, bytes: &[u8]) -> Result<Option<u64>, AllocError>
+    ensures { (past : List Said) → StandsFor past kept.old → length past < 2 ^ 63 → IfOk result (λ broken. Judges past bytes.now broken kept.new) }
+{
+    let Some(line) = read_words(bytes) else {
         return Ok(Some(0));
     };
     if let Some(rule) = kept.broken(&line) {
         return Ok(Some(rule));
     }
-    kept.keep(line)?;
+    kept.keep(&line)?;
     Ok(None)
 }

@@ -139,3 +139,127 @@ fn each_front_of_a_record_stops_early(rt: HostRuntime) -> Result<(), Fail> {
     }
     Ok(())
 }
+
+#[test]
+fn a_record_is_judged_alike_wherever_it_is_cut(rt: HostRuntime) -> Result<(), Fail> {
+    let record = TWO_VALUES_RECORD.as_bytes();
+    for cut in 0..record.len() {
+        let mut judging = Judging::new(rt.alloc());
+        judging.feed(&record[..cut])?;
+        judging.feed(&record[cut..])?;
+        assert_eq!(&rt; judging.finish()?, Verdict::Good, "cut at {cut}");
+    }
+    Ok(())
+}
+
+#[test]
+fn what_follows_an_offence_is_skipped(rt: HostRuntime) -> Result<(), Fail> {
+    let mut text = String::new(rt.alloc());
+    text.push_str("cast/1 1 0 1\nx 1\nb 0 0 data:61\n")?;
+    for _ in 0..1_000 {
+        text.push_str("d 0 0 0 data:61")?;
+    }
+    text.push_str("\nend\n")?;
+    expect_verdict(&rt, text.as_str(), bad(2, 0))
+}
+
+#[test]
+fn deliveries_are_of_the_words_that_were_broadcast(rt: HostRuntime) -> Result<(), Fail> {
+    let rows = [
+        ("d 1 0 0 data:61", Verdict::Good),
+        ("d 1 0 0 data:61\nd 0 0 0 data:61", Verdict::Good),
+        ("x 0\nd 1 0 0 data:61", Verdict::Good),
+        ("d 1 0 0 data:", bad(3, 1)),
+        ("d 1 0 0 data:62", bad(3, 1)),
+        ("d 1 0 0 data:6161", bad(3, 1)),
+        ("d 1 0 0 close", bad(3, 1)),
+        ("d 1 0 0 prop:6:1", bad(3, 1)),
+        ("d 1 1 0 data:61", bad(3, 1)),
+        ("d 1 0 1 data:61", bad(3, 1)),
+        ("d 1 0 18446744073709551615 data:61", bad(3, 1)),
+        ("d 1 0 0 data:61\nd 1 0 0 data:61", bad(4, 1)),
+        ("x 1\nd 1 0 0 data:61", bad(4, 5)),
+        ("d 1 0 0 data:6", bad(3, 0)),
+        ("d 1 0 0 data:6A", bad(3, 0)),
+        ("d 1 0 0 data:61 ", bad(3, 0)),
+        ("d 1 0 0 data:61\r", bad(3, 0)),
+        ("d 1 0 0 ", bad(3, 0)),
+        ("d 1 0 0", bad(3, 0)),
+        ("d 1 0 00 data:61", bad(3, 0)),
+        ("d 1 00 0 data:61", bad(3, 0)),
+        ("d 01 0 0 data:61", bad(3, 0)),
+        ("d 2 0 0 data:61", bad(3, 0)),
+        ("d 1 2 0 data:61", bad(3, 0)),
+        ("d 64 0 0 data:61", bad(3, 0)),
+        ("d 1 64 0 data:61", bad(3, 0)),
+        ("d 256 0 0 data:61", bad(3, 0)),
+        ("d 1 0 18446744073709551616 data:61", bad(3, 0)),
+    ];
+    for (lines, wanted) in rows {
+        let text = format!(in rt.alloc(); "cast/1 2 0 1\nb 0 0 data:61\n{lines}\nend\n")?;
+        expect_verdict(&rt, text.as_str(), wanted)?;
+    }
+    Ok(())
+}
+
+#[test]
+fn judges_instances_in_any_order(rt: HostRuntime) -> Result<(), Fail> {
+    let rows = [
+        (
+            "b 0 0 prop:0:5\nb 0 1 prop:1:6\nb 0 2 prop:2:7\nv 0 0 5\nv 0 1 6\nv 0 2 7",
+            Verdict::Good,
+        ),
+        (
+            "b 0 0 prop:2:5\nb 0 1 prop:1:6\nb 0 2 prop:0:7\nv 0 2 5\nv 0 1 6\nv 0 0 7",
+            Verdict::Good,
+        ),
+        (
+            "b 0 0 prop:0:5\nb 1 0 prop:0:6\nv 0 0 5\nv 1 0 5\nv 2 0 6",
+            Verdict::Good,
+        ),
+        (
+            "b 0 0 prop:1:5\nb 0 1 prop:0:6\nb 1 0 prop:1:7\nv 0 1 5\nv 1 1 7\nb 0 2 prop:1:8",
+            bad(7, 6),
+        ),
+        (
+            "b 0 0 prop:1:5\nv 0 1 5\nb 1 0 prop:1:6\nv 1 1 6\nb 0 1 prop:0:1\nb 2 0 prop:1:7\nv 2 1 7",
+            bad(8, 4),
+        ),
+        ("b 0 0 prop:0:5\nv 0 1 5", bad(3, 3)),
+        ("b 0 0 prop:1:5\nv 0 0 5", bad(3, 3)),
+        ("b 0 0 prop:0:5\nb 1 0 prop:0:6\nv 0 0 7", bad(4, 3)),
+        ("b 0 0 prop:0:5\nb 0 1 prop:0:5", bad(3, 6)),
+        (
+            "b 0 0 prop:18446744073709551615:5\nb 1 0 prop:18446744073709551615:5\nv 2 18446744073709551615 5",
+            Verdict::Good,
+        ),
+        (
+            "b 0 0 prop:18446744073709551615:5\nb 1 0 prop:0:5\nb 0 1 prop:18446744073709551615:5",
+            bad(4, 6),
+        ),
+    ];
+    for (lines, wanted) in rows {
+        let text = format!(in rt.alloc(); "cast/1 3 1 2\n{lines}\nend\n")?;
+        expect_verdict(&rt, text.as_str(), wanted)?;
+    }
+    Ok(())
+}
+
+#[test]
+fn judges_the_longest_items(rt: HostRuntime) -> Result<(), Fail> {
+    for (digits, wanted) in [
+        (2_048, Verdict::Good),
+        (2_047, bad(2, 0)),
+        (2_050, bad(2, 0)),
+    ] {
+        let mut word = String::new(rt.alloc());
+        for _ in 0..digits {
+            word.push('a')?;
+        }
+        let text = format!(in rt.alloc();
+            "cast/1 1 0 1\nb 0 0 data:{word}\nd 0 0 0 data:{word}\nend\n"
+        )?;
+        expect_verdict(&rt, text.as_str(), wanted)?;
+    }
+    Ok(())
+}

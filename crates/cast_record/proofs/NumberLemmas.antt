@@ -37,7 +37,7 @@ Means w n = (all_ascii_digits w ≡ true) × (read_on 0 w ≡ n) × (n < 2 ^ 64)
 value_means : (w : List ℕ) (n : ℕ) → value_of w ≡ Some n → Means w n
 value_means w n e = grind (arith, nat_tests)
 
-number_from : (w : List ℕ) (n : ℕ) → 0 < length w → (2 ≤ length w → get_or w 0 0 ≡ 48 → ⊥) → all_ascii_digits w ≡ true → read_on 0 w ≡ n → n < 2 ^ 64 → number_of w ≡ Some n
+pub number_from : (w : List ℕ) (n : ℕ) → 0 < length w → (2 ≤ length w → get_or w 0 0 ≡ 48 → ⊥) → all_ascii_digits w ≡ true → read_on 0 w ≡ n → n < 2 ^ 64 → number_of w ≡ Some n
 number_from [] n some first digits value fits = absurd (omega arith)
 number_from (c ∷ []) n some first digits value fits = value_from (c ∷ []) n digits value fits
 number_from (c ∷ d ∷ ds) n some first digits value fits =

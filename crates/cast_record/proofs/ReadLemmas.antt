@@ -172,7 +172,7 @@ item_again Close h = refl
 front_is : (word name : List ℕ) → bytes_eq (take 5 word) name ≡ true → name ++ drop 5 word ≡ word
 front_is word name e = ap (λ front. front ++ drop 5 word) (sym (text_same (take 5 word) name e)) ∙ take-append-drop 5 word
 
-item_takes : (word : List ℕ) (item : Item) → read.item_of word ≡ Some item → IsItemIn word item
+pub item_takes : (word : List ℕ) (item : Item) → read.item_of word ≡ Some item → IsItemIn word item
 item_takes word item e = by_close (bytes_eq word (codes "close")) refl e
   where
     by_proposal : (b : Bool) → bytes_eq (take 5 word) (codes "prop:") ≡ b → cond b (read.proposal_of (drop 5 word)) None ≡ Some item → IsItemIn word item

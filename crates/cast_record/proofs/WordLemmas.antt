@@ -38,7 +38,7 @@ split_join c w (v ∷ vs) same none rest =
 
 -- ---- no word has a blank or a line feed, and no number a colon
 
-digits_without : (c : ℕ) (w : List ℕ) → ((x : ℕ) → is_ascii_digit x ≡ true → nat_eq x c ≡ false) → all_ascii_digits w ≡ true → HasNone c w
+pub digits_without : (c : ℕ) (w : List ℕ) → ((x : ℕ) → is_ascii_digit x ≡ true → nat_eq x c ≡ false) → all_ascii_digits w ≡ true → HasNone c w
 digits_without c [] other e = All-nil (Differs c)
 digits_without c (x ∷ xs) other e =
     let first : is_ascii_digit x ≡ true = grind (arith, nat_tests) in

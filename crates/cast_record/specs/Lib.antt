@@ -14,3 +14,5 @@ pub mod Rules
 pub mod Verdicts
 pub mod Migration
 pub mod VerdictText
+pub mod ItemWords
+pub mod WordLines

@@ -4,6 +4,7 @@
 
 mod digits;
 mod hex;
+mod item_word;
 mod laws;
 mod line;
 mod lines;
@@ -14,9 +15,11 @@ mod parts;
 mod payload;
 mod reading;
 mod verdict;
+mod word_line;
 mod words;
 mod writing;
 
+pub use item_word::{ItemKind, ItemWord};
 pub use laws::has_text_of_its_own;
 pub use line::Line;
 pub use lines::lines_of;
@@ -24,9 +27,12 @@ pub use meter::{Failed, Meter};
 pub use migration::{MigrateFault, migrate};
 pub use reading::read_line;
 pub use verdict::{Verdict, write_verdict};
+pub use word_line::{Delivery, WordLine, read_delivery, read_words};
 pub use writing::{
     WriteFault, mode_name, write_bytes, write_hex, write_line, write_number, write_record,
 };
 
 #[cfg(test)]
 mod tests;
+#[cfg(test)]
+mod word_tests;

@@ -43,7 +43,7 @@ fn line(alloc: Global, name: &[u8], rest: &[u8]) -> Result<Option<Line>, AllocEr
     }
 }
 
-fn short_line(name: &[u8], rest: &[u8]) -> Option<Line>
+pub fn short_line(name: &[u8], rest: &[u8]) -> Option<Line>
     ensures { result ≡ short_line_named name.now (slice_split (λ b. b == 32) rest.now) }
 {
     if name == b"v".as_slice() {
@@ -61,7 +61,7 @@ fn short_line(name: &[u8], rest: &[u8]) -> Option<Line>
     }
 }
 
-fn end(name: &[u8]) -> Option<Line>
+pub fn end(name: &[u8]) -> Option<Line>
     ensures { result ≡ end_named name.now }
 {
     if name == b"end".as_slice() {
@@ -116,7 +116,7 @@ fn message(
     }))
 }
 
-fn pair(sender: &[u8], place: &[u8]) -> Option<(NodeId, u64)>
+pub fn pair(sender: &[u8], place: &[u8]) -> Option<(NodeId, u64)>
     ensures { result ≡ pair_of sender.now place.now }
 {
     let sender = node(sender)?;

@@ -4,7 +4,7 @@ use Rattle.std.proofs.lemmas.Grind.{common_steps}
 use Rattle.cast_judge.specs.Judges.{Judges}
 use Rattle.cast_judge.specs.Judged.{IsReading, state_with, lines_with}
 use Rattle.cast_judge.specs.declared.judging.State.TheVariants.{Reading}
-use Rattle.cast_judge.proofs.JudgedLemmas.{was_reading, reading_state, moved, line_counted, too_long}
+use Rattle.cast_judge.proofs.JudgedLemmas.{was_reading, reading_state, moved, line_counted, let_go, too_long}
 use Rattle.cast_judge.proofs.judging.Judging.end_line.Goals as goal
 
 pub returns-then-is_empty-clause-stands : goal.returns-then-is_empty-clause-stands
@@ -24,10 +24,10 @@ returns-then-is_too_long-clause-stands c text st =
     let part = c.args.part.now in
     let long : 4096 < length c.args.self.now.tail.items + length c.args.part.now = grind (arith, nat_tests) in
     let h = was_reading self.state text self.kept self.tail.items self.lines c.requires.reading st in
-    let new = c.count-then-is_too_long.new.self in
-    moved (state_with (Some 0) Reading) new.state (text ++ (part ++ 10 ∷ [])) self.kept new.kept self.tail.items new.tail.items self.lines new.lines
-    (c.count-then-is_too_long.ensures.state) c.count-then-is_too_long.ensures.kept (ap (λ t. t.items) c.count-then-is_too_long.ensures.tail) c.count-then-is_too_long.ensures.lines
-    (too_long text self.tail.items part (10 ∷ []) self.kept self.lines h c.requires.clean long)
+    let new = c.offend.new.self in
+    moved (state_with (Some 0) Reading) new.state (text ++ (part ++ 10 ∷ [])) self.kept new.kept [] new.tail.items self.lines new.lines
+    c.offend.ensures.state c.offend.ensures.kept c.offend.ensures.tail c.offend.ensures.lines
+    (let_go text (text ++ (part ++ 10 ∷ [])) self.tail.items self.kept self.lines 0 h (too_long text self.tail.items part (10 ∷ []) self.kept self.lines h c.requires.clean long))
 
 pub returns-clause-stands : goal.returns-clause-stands
 returns-clause-stands c text st =

@@ -3,7 +3,7 @@ use Rattle.std.proofs.lemmas.Bool.Decides.{nat_tests}
 use Rattle.std.proofs.lemmas.Grind.{common_steps}
 use Rattle.cast_judge.specs.Judged.{Offends, state_with}
 use Rattle.cast_judge.specs.declared.judging.State.TheVariants.{Reading}
-use Rattle.cast_judge.proofs.JudgedLemmas.{was_reading, moved, too_long, after_end}
+use Rattle.cast_judge.proofs.JudgedLemmas.{was_reading, moved, let_go, too_long, after_end}
 use Rattle.cast_judge.proofs.judging.Judging.keep_tail.Goals as goal
 use Rattle.cast_judge.proofs.judging.Judging.keep_tail.Goals.{then-is_ended-via-then-is_ended, then-is_ended-via-else-is_ended+then-is_too_long}
 
@@ -13,12 +13,12 @@ returns-then-is_ended-clause-stands c text st =
     let part = c.args.part.now in
     let some : 0 < length c.args.part.now = grind (arith, nat_tests, common_steps) in
     let h = was_reading self.state text self.kept self.tail.items self.lines c.requires.reading st in
-    let new = c.count.new.self in
+    let new = c.offend.new.self in
     let offends : Offends (text ++ part) self.lines 0 = elim c.then-is_ended.branch [
       | then-is_ended-via-then-is_ended w ↦ after_end text self.tail.items part self.kept self.lines h c.requires.clean some (sym c.is_ended.ensures ∙ w.if-is_ended.true)
       | then-is_ended-via-else-is_ended+then-is_too_long w ↦
           let long : 4096 < length c.args.self.now.tail.items + length c.args.part.now = grind (arith, nat_tests) in
           subst (λ rest. Offends (text ++ rest) self.lines 0) (append-nil part) (too_long text self.tail.items part [] self.kept self.lines h c.requires.clean long)
     ] in
-    moved (state_with (Some 0) Reading) new.state (text ++ part) self.kept new.kept self.tail.items new.tail.items self.lines new.lines
-    c.count.ensures.state c.count.ensures.kept (ap (λ t. t.items) c.count.ensures.tail) c.count.ensures.lines offends
+    moved (state_with (Some 0) Reading) new.state (text ++ part) self.kept new.kept [] new.tail.items self.lines new.lines
+    c.offend.ensures.state c.offend.ensures.kept c.offend.ensures.tail c.offend.ensures.lines (let_go text (text ++ part) self.tail.items self.kept self.lines 0 h offends)

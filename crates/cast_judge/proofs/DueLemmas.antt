@@ -1,0 +1,36 @@
+-- A delivery that is due breaks no rule.
+use Rattle.std.proofs.Common.{◌≡◌, ℕ, ◌<◌, ◌||◌, not, Bool, true, false, cond, nat_eq, nat_lt, length, slice_index, Some, None, refl, sym, ap, ◌∙◌, arith, get_or}
+use Rattle.std.proofs.lemmas.Bool.Decides.{nat_tests}
+use Rattle.std.proofs.lemmas.Option.{slice_get-get_or}
+use Rattle.cast_message.specs.declared.message.Item.{Item}
+use Rattle.cast_message.specs.declared.message.Item.TheVariants.{Close}
+use Rattle.cast_record.specs.declared.word_line.Delivery.{Delivery}
+use Rattle.cast_judge.specs.declared.kept.Place.{Place}
+use Rattle.cast_judge.specs.declared.kept.Place.TheVariants.{Body}
+use Rattle.cast_judge.specs.declared.kept.Kept.{Kept}
+use Rattle.cast_judge.specs.Kept.{node_at, is_same, has_item, is_out_at, delivered_as, IsDue}
+use Rattle.cast_judge.specs.ItemList.{IsWordAt}
+use Rattle.cast_judge.proofs.ItemLemmas.{item_itself}
+
+within : (p n : ℕ) → p < n → nat_lt p n ≡ true
+within p n l = grind (arith, nat_tests)
+
+in_body : (place : Place) (n : ℕ) (d : Delivery) (item : Item) → place ≡ Body → d.node < n → d.sender < n → is_out_at place n (delivered_as d item) ≡ false
+in_body place n d item a b c = rw (a, within d.node n b, within d.sender n c) refl
+
+prefix_kept : (number count : ℕ) (b : Bool) → number ≡ count → b ≡ true → (not (nat_eq number count) || not b) ≡ false
+prefix_kept number count b e f = let same : nat_eq number count ≡ true = grind (arith, nat_tests) in rw (same, f) refl
+
+pub due : (k : Kept) (d : Delivery) → k.place ≡ Body → d.node < length k.nodes.items → d.sender < length k.nodes.items → (node_at k.nodes.items d.node).crashed ≡ false
+    → d.number ≡ slice_index (node_at k.nodes.items d.node).delivered d.sender → IsWordAt (node_at k.nodes.items d.sender).items d.number d.word.now → IsDue k d
+due k d place node sender crashed number word =
+    let items = (node_at k.nodes.items d.sender).items in
+    let item = get_or items d.number Close in
+    let got = slice_get-get_or items d.number Close word.within in
+    let here : has_item items d.number item ≡ true = ap (λ o. is_same o item) got ∙ item_itself item in
+    record {
+      item = item;
+      spells = sym word.spells ∙ got;
+      sound = (λ i. cond (in_body k.place (length k.nodes.items) d item place node sender i) (Some 0) (cond (prefix_kept d.number (slice_index (node_at k.nodes.items d.node).delivered d.sender) (has_item items d.number item) number here i) (Some 1) (cond (crashed i) (Some 5) None)));
+      body = place;
+    }

@@ -1,0 +1,142 @@
+//! Items as the words that spell them.
+ghost use Rattle.std.specs.Prelude.{◌≡◌, Some, option_map};
+ghost use Rattle.std.specs.List.{list_all};
+ghost use Rattle.cast_record.specs.Reading.{item_of, item_named, data_of, proposal_of};
+ghost use Rattle.cast_record.specs.Rules.{is_close};
+ghost use Rattle.cast_record.specs.ItemWords.{kind_of, is_hex, is_hex_digit, proposal_in};
+
+use crate::number::number;
+use crate::parts::two_parts;
+use std::marker::Model;
+
+/// What an item is, without the bytes of its data.
+#[derive(Clone, Copy, Debug, PartialEq, Eq)]
+pub enum ItemKind {
+    Data,
+    Propose { instance: u64, value: u64 },
+    Close,
+}
+
+/// The word of an item, which no other item has. Contracts see the item.
+#[derive(Debug, Drop)]
+pub struct ItemWord<'a> {
+    word: &'a [u8],
+    kind: ItemKind,
+}
+
+impl<'a> Model for ItemWord<'a> {
+    ghost use Rattle.cast_message.specs.declared.message.Item.{Item};
+
+    ghost Value = { Item };
+
+    ghost use Rattle.cast_record.specs.ItemWords.{item_in, SpellsItem};
+
+    ghost view = { λ item. item_in item.word.now };
+
+    ghost invariant = { λ item. SpellsItem item.word.now item.kind };
+}
+
+impl<'a> ItemWord<'a> {
+    /// The item within its ranges whose word this is, if there is one. It takes no memory.
+    pub fn read(word: &'a [u8]) -> Option<ItemWord<'a>>
+        ensures { result ≡ item_of word.now }
+    {
+        match kind(word) {
+            Some(kind) => Some(ItemWord { word, kind }),
+            None => None,
+        }
+    }
+
+    /// The word.
+    pub fn as_slice(&self) -> &[u8]
+        ensures { item_of result.now ≡ Some self.now }
+    {
+        self.word
+    }
+
+    /// Whether it is the last item of a stream.
+    pub fn is_close(&self) -> bool
+        ensures { result ≡ is_close self.now }
+    {
+        matches!(self.kind, ItemKind::Close)
+    }
+
+    /// The instance and the value, where it is a proposal.
+    pub fn proposal(&self) -> Option<(u64, u64)>
+        ensures { result ≡ proposal_in self.now }
+    {
+        match self.kind {
+            ItemKind::Propose { instance, value } => Some((instance, value)),
+            _ => None,
+        }
+    }
+}
+
+fn kind(word: &[u8]) -> Option<ItemKind>
+    ensures { result ≡ option_map kind_of (item_of word.now) }
+{
+    if word == b"close".as_slice() {
+        return Some(ItemKind::Close);
+    }
+    if word.len() < 5 {
+        return None;
+    }
+    kind_named(&word[..5], &word[5..])
+}
+
+fn kind_named(name: &[u8], rest: &[u8]) -> Option<ItemKind>
+    ensures { result ≡ option_map kind_of (item_named name.now rest.now) }
+{
+    if name == b"data:".as_slice() {
+        data(rest)
+    } else if name == b"prop:".as_slice() {
+        proposal(rest)
+    } else {
+        None
+    }
+}
+
+fn data(digits: &[u8]) -> Option<ItemKind>
+    ensures { result ≡ option_map kind_of (data_of digits.now) }
+{
+    if digits.len() > 2048 {
+        return None;
+    }
+    if is_hex(digits) {
+        Some(ItemKind::Data)
+    } else {
+        None
+    }
+}
+
+fn proposal(word: &[u8]) -> Option<ItemKind>
+    ensures { result ≡ option_map kind_of (proposal_of word.now) }
+{
+    let (instance, value) = two_parts(word, b':')?;
+    Some(ItemKind::Propose {
+        instance: number(instance)?,
+        value: number(value)?,
+    })
+}
+
+// Whether the digits stand for bytes, two digits a byte.
+fn is_hex(digits: &[u8]) -> bool
+    ensures { result ≡ is_hex digits.now }
+{
+    if digits.len() % 2 != 0 {
+        return false;
+    }
+    are_digits(digits)
+}
+
+fn are_digits(digits: &[u8]) -> bool
+    ensures { result ≡ list_all is_hex_digit digits.now }
+{
+    digits.iter().all(|digit| is_digit(*digit))
+}
+
+fn is_digit(code: u8) -> bool
+    ensures { result ≡ is_hex_digit code }
+{
+    ((code >= b'0') & (code <= b'9')) | ((code >= b'a') & (code <= b'f'))
+}
