@@ -71,6 +71,10 @@ fn send_numbers(node: &mut Node, to: u8, slot: u64) -> Result<(u64, u8, u64), St
     Ok((sent.seq, sent.sender.0, sent.number))
 }
 
+fn ack_number(node: &mut Node, to: u8, slot: u64) -> Result<u64, StepFault> {
+    node.ack_number(NodeId(to), slot)
+}
+
 // How many messages a frame brings that carries a pair which the node holds.
 fn bring_again(
     node: &mut Node,
@@ -188,6 +192,122 @@ fn exchanges(
     Ok(exchange(&mut first, &mut second, ordered, carried, acknowledged))
 }
 
+// Node 0 takes a Close of node 1, and orders one of its own.
+fn has_two_to_send(node: &mut Node) -> bool {
+    send_numbers(node, 1, 0) == Err(StepFault::NoSlot)
+        && bring_close(node, 1, 1, 0, 0) == Ok(1)
+        && order(node, Item::Close) == Ok(1)
+}
+
+// Of three nodes the other two are told of the own Close, and node 2 of that of node 1.
+fn tells_numbers(node: &mut Node) -> bool {
+    send_numbers(node, 2, 0) == Ok((0, 1, 0))
+        && send_numbers(node, 2, 1) == Ok((1, 0, 0))
+        && send_numbers(node, 1, 0) == Ok((2, 0, 0))
+        && node.frames() == 3
+}
+
+fn refuses_numbers(node: &mut Node) -> bool {
+    send_numbers(node, 3, 0) == Err(StepFault::NoNode)
+        && send_numbers(node, 0, 0) == Err(StepFault::SelfLink)
+        && send_numbers(node, 1, 1) == Err(StepFault::NoSlot)
+}
+
+// What was acknowledged is not sent again, and nothing after a crash.
+fn tells_no_more_numbers(node: &mut Node) -> bool {
+    bring_word(node, 1, 0) == Ok(0)
+        && send_numbers(node, 1, 0) == Err(StepFault::Acked)
+        && crash(node) == None
+        && send_numbers(node, 2, 0) == Err(StepFault::Crashed)
+        && node.frames() == 3
+}
+
+// Node 0 acknowledges slot 0 of node 1 as often as it is asked to.
+fn acknowledges_what_it_took(node: &mut Node) -> bool {
+    ack_number(node, 1, 0) == Err(StepFault::NotTaken)
+        && bring_close(node, 1, 1, 0, 0) == Ok(1)
+        && ack_number(node, 1, 0) == Ok(0)
+        && ack_number(node, 1, 0) == Ok(1)
+}
+
+fn refuses_acknowledgements(node: &mut Node) -> bool {
+    ack_number(node, 3, 0) == Err(StepFault::NoNode)
+        && ack_number(node, 0, 0) == Err(StepFault::SelfLink)
+        && ack_number(node, 1, 1) == Err(StepFault::NotTaken)
+        && crash(node) == None
+        && ack_number(node, 1, 0) == Err(StepFault::Crashed)
+        && node.frames() == 2
+}
+
+fn make_all_frames(node: &mut Node) -> Result<(), StepFault> {
+    for _frame in 0..MOST_FRAMES {
+        ack_number(node, 1, 0)?;
+    }
+    Ok(())
+}
+
+fn has_made_all_frames(node: &mut Node) -> bool {
+    ack_number(node, 1, 0) == Err(StepFault::FramesFull)
+        && send_numbers(node, 1, 0) == Err(StepFault::FramesFull)
+        && node.frames() == MOST_FRAMES
+}
+
+// Node 0 takes a Close of node 1.
+fn comes_to_hold(node: &mut Node) -> bool {
+    !node.holds(NodeId(1), 0)
+        && bring_close(node, 1, 1, 0, 0) == Ok(0)
+        && node.holds(NodeId(1), 0)
+        && !node.holds(NodeId(1), 1)
+        && !node.holds(NodeId(9), 0)
+}
+
+// None of these could a peer of five have made for node 0.
+fn leaves_pairs_alone(node: &mut Node) -> bool {
+    bring_again(node, 0, 1, 0, 0) == Ok(0)
+        && bring_again(node, 5, 1, 0, 0) == Ok(0)
+        && bring_again(node, 2, 1, 0, 20_480) == Ok(0)
+        && node.known_by(NodeId(1), 0) == 2
+}
+
+fn hears_of_two_more_holders(node: &mut Node) -> bool {
+    bring_again(node, 2, 1, 0, 20_479) == Ok(1)
+        && bring_again(node, 3, 1, 0, 0) == Ok(0)
+        && node.known_by(NodeId(1), 0) == 4
+        && ack_number(node, 2, 20_479) == Ok(0)
+        && ack_number(node, 3, 0) == Ok(1)
+}
+
+// Node 0 orders a Close, which no peer could carry to it.
+fn comes_to_owe(node: &mut Node) -> bool {
+    node.owes_nothing()
+        && order(node, Item::Close) == Ok(0)
+        && !node.owes_nothing()
+        && bring_again(node, 1, 0, 0, 0) == Ok(0)
+}
+
+// These are words of no peer of three, or of a slot that was not given.
+fn leaves_words_alone(node: &mut Node) -> bool {
+    bring_word(node, 0, 0) == Ok(0)
+        && bring_word(node, 3, 0) == Ok(0)
+        && bring_word(node, 1, 1) == Ok(0)
+        && node.known_by(NodeId(0), 0) == 1
+}
+
+fn comes_to_owe_nothing(node: &mut Node) -> bool {
+    bring_word(node, 1, 0) == Ok(1)
+        && bring_word(node, 1, 0) == Ok(0)
+        && !node.owes_nothing()
+        && bring_word(node, 2, 0) == Ok(0)
+        && node.owes_nothing()
+}
+
+fn hears_nothing_when_crashed(node: &mut Node) -> bool {
+    node.arrive_fault() == None
+        && crash(node) == None
+        && node.arrive_fault() == Some(StepFault::Crashed)
+        && bring_word(node, 2, 0) == Err(StepFault::Crashed)
+}
+
 #[test]
 fn carries_from_one_node_to_another(rt: HostRuntime) -> Result<(), Fail> {
     assert!(rt; exchanges(rt.alloc(), Mode::Basic, 1, 1, 0)?);
@@ -222,52 +342,27 @@ fn leaves_alone_what_no_node_could_have_made(rt: HostRuntime) -> Result<(), Fail
 #[test]
 fn sends_by_numbers(rt: HostRuntime) -> Result<(), Fail> {
     let mut node = node(rt.alloc(), 3, 1, Mode::Basic, 0)?;
-    assert_eq!(rt; send_numbers(&mut node, 1, 0), Err(StepFault::NoSlot));
-    assert_eq!(rt; bring_close(&mut node, 1, 1, 0, 0)?, 1);
-    assert_eq!(rt; order(&mut node, Item::Close)?, 1);
-    assert_eq!(rt; send_numbers(&mut node, 2, 0)?, (0, 1, 0));
-    assert_eq!(rt; send_numbers(&mut node, 2, 1)?, (1, 0, 0));
-    assert_eq!(rt; send_numbers(&mut node, 1, 0)?, (2, 0, 0));
-    assert_eq!(rt; node.frames(), 3);
-    assert_eq!(rt; send_numbers(&mut node, 3, 0), Err(StepFault::NoNode));
-    assert_eq!(rt; send_numbers(&mut node, 0, 0), Err(StepFault::SelfLink));
-    assert_eq!(rt; send_numbers(&mut node, 1, 1), Err(StepFault::NoSlot));
-    assert_eq!(rt; bring_word(&mut node, 1, 0)?, 0);
-    assert_eq!(rt; send_numbers(&mut node, 1, 0), Err(StepFault::Acked));
-    assert_eq!(rt; crash(&mut node), None);
-    assert_eq!(rt; send_numbers(&mut node, 2, 0), Err(StepFault::Crashed));
-    assert_eq!(rt; node.frames(), 3);
+    assert!(rt; has_two_to_send(&mut node));
+    assert!(rt; tells_numbers(&mut node));
+    assert!(rt; refuses_numbers(&mut node));
+    assert!(rt; tells_no_more_numbers(&mut node));
     Ok(())
 }
 
 #[test]
 fn acknowledges_by_number(rt: HostRuntime) -> Result<(), Fail> {
     let mut node = node(rt.alloc(), 3, 1, Mode::Basic, 0)?;
-    assert_eq!(rt; node.ack_number(NodeId(1), 0), Err(StepFault::NotTaken));
-    assert_eq!(rt; bring_close(&mut node, 1, 1, 0, 0)?, 1);
-    for seq in 0..2 {
-        assert_eq!(rt; node.ack_number(NodeId(1), 0)?, seq);
-    }
-    assert_eq!(rt; node.ack_number(NodeId(3), 0), Err(StepFault::NoNode));
-    assert_eq!(rt; node.ack_number(NodeId(0), 0), Err(StepFault::SelfLink));
-    assert_eq!(rt; node.ack_number(NodeId(1), 1), Err(StepFault::NotTaken));
-    assert_eq!(rt; crash(&mut node), None);
-    assert_eq!(rt; node.ack_number(NodeId(1), 0), Err(StepFault::Crashed));
-    assert_eq!(rt; node.frames(), 2);
+    assert!(rt; acknowledges_what_it_took(&mut node));
+    assert!(rt; refuses_acknowledgements(&mut node));
     Ok(())
 }
 
 #[test]
 fn makes_no_more_frames_than_it_can(rt: HostRuntime) -> Result<(), Fail> {
     let mut node = node(rt.alloc(), 2, 0, Mode::Basic, 0)?;
-    assert_eq!(rt; bring_close(&mut node, 1, 1, 0, 0)?, 1);
-    assert_eq!(rt; order(&mut node, Item::Close)?, 1);
-    for _frame in 0..MOST_FRAMES {
-        node.ack_number(NodeId(1), 0)?;
-    }
-    assert_eq!(rt; node.ack_number(NodeId(1), 0), Err(StepFault::FramesFull));
-    assert_eq!(rt; send_numbers(&mut node, 1, 0), Err(StepFault::FramesFull));
-    assert_eq!(rt; node.frames(), MOST_FRAMES);
+    assert!(rt; has_two_to_send(&mut node));
+    make_all_frames(&mut node)?;
+    assert!(rt; has_made_all_frames(&mut node));
     Ok(())
 }
 
@@ -275,61 +370,21 @@ fn makes_no_more_frames_than_it_can(rt: HostRuntime) -> Result<(), Fail> {
 #[test]
 fn hears_of_a_pair_again(rt: HostRuntime) -> Result<(), Fail> {
     let mut node = node(rt.alloc(), 5, 2, Mode::Uniform, 0)?;
-    assert!(rt; !node.holds(NodeId(1), 0));
-    assert_eq!(rt; bring_close(&mut node, 1, 1, 0, 0)?, 0);
-    assert!(rt; node.holds(NodeId(1), 0));
-    assert!(rt; !node.holds(NodeId(1), 1));
-    assert!(rt; !node.holds(NodeId(9), 0));
-
-    // None of these could a peer have made.
-    assert_eq!(rt; bring_again(&mut node, 0, 1, 0, 0)?, 0);
-    assert_eq!(rt; bring_again(&mut node, 5, 1, 0, 0)?, 0);
-    assert_eq!(rt; bring_again(&mut node, 2, 1, 0, 20_480)?, 0);
-    assert_eq!(rt; node.known_by(NodeId(1), 0), 2);
-
-    assert_eq!(rt; bring_again(&mut node, 2, 1, 0, 20_479)?, 1);
-    assert_eq!(rt; bring_again(&mut node, 3, 1, 0, 0)?, 0);
-    assert_eq!(rt; node.known_by(NodeId(1), 0), 4);
-    assert_eq!(rt; node.ack_number(NodeId(2), 20_479)?, 0);
-    assert_eq!(rt; node.ack_number(NodeId(3), 0)?, 1);
-    assert_eq!(rt; crash(&mut node), None);
-    assert_eq!(rt; bring_again(&mut node, 4, 1, 0, 0), Err(StepFault::Crashed));
-    Ok(())
-}
-
-// Its own pair is none that a peer could carry to it.
-#[test]
-fn leaves_its_own_pair_alone(rt: HostRuntime) -> Result<(), Fail> {
-    let mut node = node(rt.alloc(), 3, 1, Mode::Uniform, 0)?;
-    assert_eq!(rt; order(&mut node, Item::Close)?, 0);
-    assert!(rt; node.holds(NodeId(0), 0));
-    assert_eq!(rt; bring_again(&mut node, 1, 0, 0, 0)?, 0);
-    assert_eq!(rt; node.known_by(NodeId(0), 0), 1);
-    assert_eq!(rt; node.ack_number(NodeId(1), 0), Err(StepFault::NotTaken));
+    assert!(rt; comes_to_hold(&mut node));
+    assert!(rt; leaves_pairs_alone(&mut node));
+    assert!(rt; hears_of_two_more_holders(&mut node));
+    assert!(rt;
+        crash(&mut node) == None && bring_again(&mut node, 4, 1, 0, 0) == Err(StepFault::Crashed)
+    );
     Ok(())
 }
 
 #[test]
 fn hears_that_a_slot_was_taken(rt: HostRuntime) -> Result<(), Fail> {
     let mut node = node(rt.alloc(), 3, 1, Mode::Uniform, 0)?;
-    assert!(rt; node.owes_nothing());
-    assert_eq!(rt; order(&mut node, Item::Close)?, 0);
-    assert!(rt; !node.owes_nothing());
-
-    // Neither a peer nor a slot that was given.
-    for (from, slot) in [(0, 0), (3, 0), (1, 1)] {
-        assert_eq!(rt; bring_word(&mut node, from, slot)?, 0);
-    }
-    assert_eq!(rt; node.known_by(NodeId(0), 0), 1);
-
-    assert_eq!(rt; bring_word(&mut node, 1, 0)?, 1);
-    assert_eq!(rt; bring_word(&mut node, 1, 0)?, 0);
-    assert!(rt; !node.owes_nothing());
-    assert_eq!(rt; bring_word(&mut node, 2, 0)?, 0);
-    assert!(rt; node.owes_nothing());
-    assert_eq!(rt; node.arrive_fault(), None);
-    assert_eq!(rt; crash(&mut node), None);
-    assert_eq!(rt; node.arrive_fault(), Some(StepFault::Crashed));
-    assert_eq!(rt; bring_word(&mut node, 2, 0), Err(StepFault::Crashed));
+    assert!(rt; comes_to_owe(&mut node));
+    assert!(rt; leaves_words_alone(&mut node));
+    assert!(rt; comes_to_owe_nothing(&mut node));
+    assert!(rt; hears_nothing_when_crashed(&mut node));
     Ok(())
 }

@@ -1,4 +1,4 @@
-//! The group as one value: its nodes, and the frames that they made.
+//! The group as one value: its nodes, and marks of the frames that they made.
 #![tactic(auto)]
 
 mod due;
