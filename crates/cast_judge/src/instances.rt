@@ -118,7 +118,8 @@ impl Instances {
 
     /// The instance of this number, if anything was said of it.
     pub fn get(&self, number: u64) -> Option<&Instance>
-        ensures { MatchOption result (instance_at self.now number ≡ no_instance) (λ found. found.now ≡ instance_at self.now number) }
+        ensures { MatchOption result (instance_at self.now number ≡ no_instance)
+            (λ found. found.now ≡ instance_at self.now number) }
     {
         match self.row.get(number as usize) {
             Some(instance) => Some(instance),
@@ -128,7 +129,8 @@ impl Instances {
 
     /// Takes what a line adds to the instance of this number.
     pub fn add(&mut self, alloc: Global, number: u64, addition: Addition) -> Result<(), AllocError>
-        ensures { OnOk result ((q : ℕ) → instance_at self.new q ≡ changed_at number addition q (instance_at self.old q)) }
+        ensures { OnOk result ((q : ℕ) →
+            instance_at self.new q ≡ changed_at number addition q (instance_at self.old q)) }
     {
         let place = number as usize;
         if place < self.row.len() {
@@ -150,7 +152,8 @@ fn add_at(
     number: u64,
     addition: Addition,
 ) -> Result<(), AllocError>
-    ensures { OnOk result ((q : ℕ) → other_at instances.new.entries q ≡ changed_at number addition q (other_at instances.old.entries q)) }
+    ensures { OnOk result ((q : ℕ) → other_at instances.new.entries q
+        ≡ changed_at number addition q (other_at instances.old.entries q)) }
 {
     match instances.get_mut(&number) {
         Some(instance) => instance.add(addition),
@@ -166,7 +169,8 @@ fn add_at(
 // Takes the instance of this number out. Nothing may have been said of it.
 fn take_at(alloc: Global, instances: &mut BTreeMap<u64, Instance>, number: u64) -> Instance
     ensures taken { result ≡ other_at instances.old.entries number }
-    ensures others { (q : ℕ) → q ≢ number → other_at instances.new.entries q ≡ other_at instances.old.entries q }
+    ensures others { (q : ℕ) → q ≢ number →
+        other_at instances.new.entries q ≡ other_at instances.old.entries q }
 {
     match instances.remove(&number) {
         Some(instance) => instance,

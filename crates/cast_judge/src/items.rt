@@ -48,7 +48,8 @@ impl Items {
 
     /// The word of the item at this place.
     pub fn word(&self, place: u64) -> Option<&[u8]>
-        ensures { MatchOption result (length self.now ≤ place) (λ word. IsWordAt self.now place word.now) }
+        ensures { MatchOption result (length self.now ≤ place)
+            (λ word. IsWordAt self.now place word.now) }
     {
         let place = place as usize;
         let ends = self.ends.as_slice();

@@ -77,7 +77,7 @@ impl Judging {
         ensures stands { (text : List ℕ) → Stands text self.old → OnOk result (Stands (text ++ piece.now) self.new) }
         ensures refused { is_refused self.old ≡ true → IsErr result }
         ensures skipped { is_offended self.old ≡ true → IsOk result }
-        ensures unchanged { is_offended self.old ≡ true → IsSkipped self.old self.new }
+        ensures unchanged { is_reading self.old ≡ false → IsSkipped self.old self.new }
         ensures err { OnErr result (is_refused self.new ≡ true) }
         ensures ok { OnOk result (is_refused self.new ≡ false) }
     {

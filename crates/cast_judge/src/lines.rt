@@ -18,7 +18,8 @@ pub fn find_line_feed(bytes: &[u8]) -> Option<usize>
 
 /// Takes the line that these bytes spell, or tells the least rule that it breaks.
 pub fn judge_line(kept: &mut Kept, bytes: &[u8]) -> Result<Option<u64>, AllocError>
-    ensures { (past : List Said) → StandsFor past kept.old → length past < 2 ^ 63 → IfOk result (λ broken. Judges past bytes.now broken kept.new) }
+    ensures { (past : List Said) → StandsFor past kept.old → length past < 2 ^ 63 →
+        IfOk result (λ broken. Judges past bytes.now broken kept.new) }
 {
     if take_delivery(kept, bytes) {
         return Ok(None);
@@ -37,7 +38,8 @@ fn take_delivery(kept: &mut Kept, bytes: &[u8]) -> bool
 }
 
 fn judge_any(kept: &mut Kept, bytes: &[u8]) -> Result<Option<u64>, AllocError>
-    ensures { (past : List Said) → StandsFor past kept.old → length past < 2 ^ 63 → IfOk result (λ broken. Judges past bytes.now broken kept.new) }
+    ensures { (past : List Said) → StandsFor past kept.old → length past < 2 ^ 63 →
+        IfOk result (λ broken. Judges past bytes.now broken kept.new) }
 {
     let Some(line) = read_words(bytes) else {
         return Ok(Some(0));

@@ -131,7 +131,8 @@ fn end_number(bytes: &[u8], digits: usize, value: u64) -> Option<(u64, &[u8])>
 
 // The line of this name whose other words stand in the rest.
 fn words<'a>(name: &[u8], rest: &'a [u8]) -> Option<WordLine<'a>>
-    ensures { option_map line_said result ≡ line_named name.now (slice_split (λ b. b == 32) rest.now) }
+    ensures { option_map line_said result
+        ≡ line_named name.now (slice_split (λ b. b == 32) rest.now) }
 {
     if name == b"d".as_slice() {
         delivered(rest)
@@ -143,7 +144,8 @@ fn words<'a>(name: &[u8], rest: &'a [u8]) -> Option<WordLine<'a>>
 }
 
 fn delivered<'a>(rest: &'a [u8]) -> Option<WordLine<'a>>
-    ensures { option_map line_said result ≡ option_and_then delivered_by (four_of (slice_split (λ b. b == 32) rest.now)) }
+    ensures { option_map line_said result
+        ≡ option_and_then delivered_by (four_of (slice_split (λ b. b == 32) rest.now)) }
 {
     let (receiver, sender, place, word) = four_parts(rest, BLANK)?;
     let receiver = node(receiver)?;
@@ -158,7 +160,8 @@ fn delivered<'a>(rest: &'a [u8]) -> Option<WordLine<'a>>
 }
 
 fn broadcast<'a>(rest: &'a [u8]) -> Option<WordLine<'a>>
-    ensures { option_map line_said result ≡ option_and_then broadcast_by (three_of (slice_split (λ b. b == 32) rest.now)) }
+    ensures { option_map line_said result
+        ≡ option_and_then broadcast_by (three_of (slice_split (λ b. b == 32) rest.now)) }
 {
     let (sender, place, word) = three_parts(rest, BLANK)?;
     let (sender, number) = pair(sender, place)?;
@@ -171,7 +174,8 @@ fn broadcast<'a>(rest: &'a [u8]) -> Option<WordLine<'a>>
 }
 
 fn short_words<'a>(name: &[u8], rest: &[u8]) -> Option<WordLine<'a>>
-    ensures { option_map line_said result ≡ short_line_named name.now (slice_split (λ b. b == 32) rest.now) }
+    ensures { option_map line_said result
+        ≡ short_line_named name.now (slice_split (λ b. b == 32) rest.now) }
 {
     match short_line(name, rest) {
         Some(line) => short(line),
