@@ -73,7 +73,7 @@ pub fn read_words<'a>(bytes: &'a [u8]) -> Option<WordLine<'a>>
     }
 }
 
-/// The line `d` that these bytes spell, if their last word spells an item.
+/// The line `d` that these bytes spell, if their last word spells an item. None says nothing of the bytes: `read_words` does.
 pub fn read_delivery<'a>(bytes: &'a [u8]) -> Option<Delivery<'a>>
     ensures { IfSome result (λ delivery. SaysDelivery bytes.now delivery) }
 {
