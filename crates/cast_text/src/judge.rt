@@ -45,7 +45,8 @@ fn judge_input<R: Read>(alloc: Global, reader: &mut Meter<R>) -> Result<Verdict,
     let mut length = 0usize;
     loop {
         let most = chunk.len().min(INPUT_LIMIT + 1 - length);
-        let Ok(count) = reader.read(&mut chunk[..most]) else {
+        let piece = &mut chunk[..most];
+        let Ok(count) = reader.read(piece) else {
             return Err(TextFault::Read);
         };
         if count == 0 {
@@ -55,6 +56,6 @@ fn judge_input<R: Read>(alloc: Global, reader: &mut Meter<R>) -> Result<Verdict,
         if length > INPUT_LIMIT {
             return Err(TextFault::TooLong);
         }
-        judging.feed(&chunk[..count])?;
+        judging.feed(&piece[..count])?;
     }
 }

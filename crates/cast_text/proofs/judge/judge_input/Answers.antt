@@ -7,11 +7,9 @@ pub loop-count-preserved : goal.loop-count-preserved
 loop-count-preserved g c =
     let j = c.loop-count.invariant.judging in
     let piece = take c.in-Ok.count c.read.new.buf in
-    let room : length c.read.new.buf ≡ 16384 = grind (arith, common_steps) in
-    let within : c.in-Ok.count ≤ 16384 = grind (arith, common_steps) in
     let size : length (take c.in-Ok.count c.read.new.buf) ≡ c.in-Ok.count = grind (arith, common_steps) in
     record {
-      room = room;
+      room = grind (arith, common_steps);
       short = omega arith;
       judging = judging_more _ _ _ c.loop-count.reader.failed c.read.new.self.failed c.loop-count.length c.in-Ok.count piece c.loop-count.judging c.feed.new.self j c.in-Ok.ensures.bytes.0 c.in-Ok.ensures.ok size c.in_ok-feed.ensures.fed (c.in_ok-feed.ensures.stands j.text j.stands);
     }
