@@ -11,7 +11,7 @@ use cast_text::{
     summarize, write_record_of, write_replay_of, write_summary,
 };
 use clap::ArgMatches;
-use std::io::{BufWriter, Write};
+use std::io::{BufWriter, IsTerminal, Stderr, Write};
 use std::rt::Runtime;
 use std::sync::Wait;
 use std::thread::Threads;
@@ -23,10 +23,11 @@ use std::{fs, io};
 pub fn live_script<R: Runtime + AllocGlobal + Threads + Wait + Copy + Send + 'static>(
     rt: &R,
     matches: &ArgMatches<'_>,
-    on_terminal: bool,
+    stderr: Stderr,
 ) -> Status {
-    let tells = on_terminal || matches.get_flag("progress");
-    let run = match run_live_script(rt, matches.get_str("SCRIPT"), tells) {
+    let wanted = matches.get_flag("progress") || stderr.is_terminal();
+    let told = if wanted { Some(stderr) } else { None };
+    let run = match run_live_script(rt, matches.get_str("SCRIPT"), told) {
         Ok(run) => run,
         Err(fault) => return refuse(rt, fault),
     };
@@ -54,7 +55,7 @@ fn status_of(summary: Summary) -> Status {
 fn run_live_script<R: Runtime + AllocGlobal + Threads + Wait + Copy + Send + 'static>(
     rt: &R,
     path: Option<&str>,
-    tells: bool,
+    told: Option<Stderr>,
 ) -> Result<FinishedRun, TextFault>
     ensures { IfOk result IsFinished }
 {
@@ -66,10 +67,9 @@ fn run_live_script<R: Runtime + AllocGlobal + Threads + Wait + Copy + Send + 'st
         None => read_script_text(rt.alloc(), &mut Meter::new(rt.reader()))?,
     };
     let progress = Progress::shared(rt.alloc(), script.config.nodes())?;
-    let teller = if tells {
-        Teller::start(rt, &progress, due_deliveries(&script))?
-    } else {
-        None
+    let teller = match told {
+        Some(stderr) => Teller::start(*rt, rt.alloc(), stderr, &progress, due_deliveries(&script))?,
+        None => None,
     };
     let run = run_script(*rt, rt.alloc(), script, &progress);
     if let Some(teller) = teller {

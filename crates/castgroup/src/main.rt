@@ -12,7 +12,7 @@ use clap::ArgMatches;
 use command_line::{castgroup_command, command_words, refuse_words, show};
 use live::live_script;
 use status::{Status, refuse};
-use std::io::IsTerminal;
+use std::io::Stderr;
 use std::process::ExitCode;
 use std::rt::Runtime;
 use std::sync::Wait;
@@ -20,13 +20,12 @@ use std::thread::Threads;
 use texts::{TextCommand, write_text};
 
 fn main(rt: HostRuntime) -> ExitCode {
-    let on_terminal = rt.stderr().is_terminal();
-    ExitCode::from(run(&rt, on_terminal).code())
+    ExitCode::from(run(&rt, rt.stderr()).code())
 }
 
 fn run<R: Runtime + AllocGlobal + Threads + Wait + Copy + Send + 'static>(
     rt: &R,
-    on_terminal: bool,
+    stderr: Stderr,
 ) -> Status {
     let words = match command_words(rt) {
         Ok(words) => words,
@@ -36,7 +35,7 @@ fn run<R: Runtime + AllocGlobal + Threads + Wait + Copy + Send + 'static>(
         return refuse(rt, TextFault::Memory);
     };
     match command.try_get_matches_from(words.as_slice()) {
-        Ok(matches) => run_matches(rt, &matches, on_terminal),
+        Ok(matches) => run_matches(rt, &matches, stderr),
         Err(error) => show(rt, &error),
     }
 }
@@ -44,12 +43,12 @@ fn run<R: Runtime + AllocGlobal + Threads + Wait + Copy + Send + 'static>(
 fn run_matches<R: Runtime + AllocGlobal + Threads + Wait + Copy + Send + 'static>(
     rt: &R,
     matches: &ArgMatches<'_>,
-    on_terminal: bool,
+    stderr: Stderr,
 ) -> Status {
     match matches.subcommand() {
         Some(("run", inner)) => write_text(rt, TextCommand::Run, inner.get_str("SCRIPT")),
         Some(("judge", inner)) => write_text(rt, TextCommand::Judge, inner.get_str("RECORD")),
-        Some(("live", inner)) => live_script(rt, inner, on_terminal),
+        Some(("live", inner)) => live_script(rt, inner, stderr),
         Some(("migrate", inner)) => write_text(rt, TextCommand::Migrate, inner.get_str("RECORD")),
         _ => Status::Usage,
     }

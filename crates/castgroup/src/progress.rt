@@ -2,7 +2,7 @@
 use cast_run::Progress;
 use cast_script::Script;
 use std::alloc::{AllocError, Global};
-use std::rt::Runtime;
+use std::io::Stderr;
 use std::sync::atomic::{AtomicBool, Ordering};
 use std::sync::{Arc, Wait};
 use std::thread;
@@ -37,13 +37,15 @@ pub fn due_deliveries(script: &Script) -> u64 {
 
 impl Teller {
     /// Starts to tell. Where no thread can be had for it, nothing is told, and the run goes on all the same.
-    pub fn start<R: Runtime + AllocGlobal + Threads + Wait + Copy + Send + 'static>(
-        rt: &R,
+    pub fn start<T: Threads + Wait + Copy + Send + 'static>(
+        rt: T,
+        alloc: Global,
+        stderr: Stderr,
         progress: &Arc<Progress, Global>,
         due: u64,
     ) -> Result<Option<Teller>, AllocError> {
         let bell = Arc::new(
-            rt.alloc(),
+            alloc,
             Bell {
                 ended: AtomicBool::new(false),
                 parker: Parker::new(),
@@ -51,8 +53,8 @@ impl Teller {
         )?;
         let progress = Arc::try_clone(progress)?;
         let heard = Arc::try_clone(&bell)?;
-        let rt = *rt;
-        match thread::spawn(&rt, move || tell_each_second(&rt, &progress, due, &heard)) {
+        let tell = move || tell_each_second(&rt, stderr, &progress, due, &heard);
+        match thread::spawn(&rt, tell) {
             Ok(thread) => Ok(Some(Teller { bell, thread })),
             Err(_refused) => Ok(None),
         }
@@ -67,7 +69,7 @@ impl Teller {
     }
 }
 
-fn tell_each_second<R: Runtime + Wait>(rt: &R, progress: &Progress, due: u64, bell: &Bell) {
+fn tell_each_second<R: Wait>(rt: &R, stderr: Stderr, progress: &Progress, due: u64, bell: &Bell) {
     for _ in rt.forever() {
         bell.parker.park_timeout(rt, Duration::from_secs(SECONDS));
         if bell.ended.load(Ordering::SeqCst) {
@@ -76,6 +78,6 @@ fn tell_each_second<R: Runtime + Wait>(rt: &R, progress: &Progress, due: u64, be
         let deliveries = progress.deliveries();
         let turns = progress.turns();
         // Where standard error fails there is nobody to tell.
-        let _ = eprintln!(rt; "castgroup: {deliveries} of {due} deliveries, {turns} turns");
+        let _ = eprintln!(&stderr; "castgroup: {deliveries} of {due} deliveries, {turns} turns");
     }
 }

@@ -1,4 +1,6 @@
 //! The commands that read one text and write another: `run`, `judge` and `migrate`.
+ghost use Rattle.std.specs.Prelude.{◌≡◌, false};
+
 use crate::status::{Status, refuse};
 use cast_record::Meter;
 use cast_text::{TextFault, Verdict, judge_text, migrate_text, run_text};
