@@ -1,7 +1,8 @@
-//! The plain and the fast core on one script, read from standard input: each event goes to both, and what they answer and
-//! what their readers show must be the same, as must the plan of a round and what comes of it; two rounds must bring rest,
-//! with the same deliveries at all live nodes. A step of the fast core that is refused for want of memory is printed as such,
-//! must have left what its readers show, and is made once more.
+//! One script, read from standard input, through two worlds. Each event goes to both, a round to the one event by event of its
+//! plan and to the other whole, and what they answer and what their readers show must be the same; two rounds must bring rest,
+//! with the same deliveries at all live nodes. A step that is refused for want of memory is told on standard error, must have
+//! left what its world showed, and is made once more. What is printed is the record of the run, so one whose allocations are
+//! refused is compared with one whose aren't.
 #![tactic(auto)]
 
 mod replies;
@@ -12,30 +13,42 @@ mod stepping;
 mod tests;
 
 use anyhow::Result;
+use cast_record::{Line, lines_of, write_record};
 use cast_script::{ScriptEvent, read_script};
-use std::io::Read;
+use cast_words::Meter;
+use cast_world::World;
+use std::io::{Read, Write};
+use stepping::Worlds;
 
 fn main(rt: HostRuntime) -> Result<()> {
     let alloc = rt.alloc();
     let mut input = Vec::new(alloc);
     rt.reader().read_to_end(&mut input)?;
     let script = read_script(alloc, input.as_slice())?;
-    let mut plain = cast_plain::World::new(alloc, script.config)?;
-    let mut fast = cast_world::World::new(alloc, script.config)?;
-    for event in script.events.as_slice() {
+    let mut worlds = Worlds {
+        stepped: World::new(alloc, script.config.copy())?,
+        whole: World::new(alloc, script.config.copy())?,
+    };
+    let mut lines = Vec::new(alloc);
+    lines.push(Line::head(&script.config))?;
+    for (index, event) in script.events.as_slice().iter().enumerate() {
         match event {
             ScriptEvent::Core(event) => {
-                stepping::step(&rt, &mut plain, &mut fast, event)?;
+                let reply = worlds.step(&rt, event)?;
+                lines.extend(lines_of(alloc, index as u64, event, &reply)?.into_vec())?;
             }
             ScriptEvent::Settle => {
-                if rounds::take_round(&mut plain, &mut fast)?
-                    && rounds::take_round(&mut plain, &mut fast)?
+                if worlds.take_round(&rt, index as u64, &mut lines)?
+                    && worlds.take_round(&rt, index as u64, &mut lines)?
                 {
-                    rounds::check_rest(&script.config, &fast)?;
+                    rounds::check_rest(&script.config, &worlds.whole)?;
                 }
             }
         }
     }
-    println!(&rt; "same")?;
+    lines.push(Line::End)?;
+    let mut record = Meter::new(Vec::new(alloc));
+    write_record(lines.as_slice(), &mut record)?;
+    rt.stdout().write_all(record.into_inner().as_slice())?;
     Ok(())
 }

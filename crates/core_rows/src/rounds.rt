@@ -1,43 +1,62 @@
-//! Rounds, taken by both cores, and what must hold at rest.
+//! Rounds, taken by both worlds, and what must hold at rest.
 use crate::shown::{MOST_NODES, same_shown};
-use crate::stepping::step_plain;
+use crate::stepping::{Worlds, step_once_more};
 use anyhow::{Result, bail};
-use cast_message::{Answer, Config, Event, Mode, NodeId, StepFault};
+use cast_message::{Answer, Config, Mode, NodeId, Reply, StepFault};
+use cast_record::{Line, lines_of};
+use cast_world::World;
+use std::rt::Runtime;
 
-/// Takes a round on both, on the plain core event by event of its plan, and compares what is answered and shown. Answers
-/// whether all of it was accepted.
-pub fn take_round(plain: &mut cast_plain::World, fast: &mut cast_world::World) -> Result<bool> {
-    let plan = plain.round_plan()?;
-    if fast.round_plan()?.as_slice() != plan.as_slice() {
-        bail!("the cores plan different rounds");
+impl Worlds {
+    /// Takes a round on both, on the one event by event of its plan, whose lines are put, and compares what is answered and
+    /// shown. Answers whether all of it was accepted.
+    pub fn take_round(
+        &mut self,
+        rt: &impl Runtime,
+        index: u64,
+        lines: &mut Vec<Line>,
+    ) -> Result<bool> {
+        let plan = self.stepped.round_plan()?;
+        if self.whole.round_plan()?.as_slice() != plan.as_slice() {
+            bail!("the worlds plan different rounds");
+        }
+        let answered = self.whole.round();
+        if matches!(answered, Err(StepFault::Memory)) {
+            bail!("a round was refused for want of memory");
+        }
+        let mut expected = Ok(0_u64);
+        for event in plan.as_slice() {
+            let reply = step_once_more(rt, &mut self.stepped, event)?;
+            lines.extend(lines_of(*lines.allocator(), index, event, &reply)?.into_vec())?;
+            expected = made_by(expected, &reply);
+            if expected.is_err() {
+                break;
+            }
+        }
+        if expected != answered {
+            bail!("a round: one world comes to {expected:?}, the other to {answered:?}");
+        }
+        if !same_shown(&self.stepped, &self.whole) {
+            bail!("after a round the worlds show different groups");
+        }
+        Ok(answered.is_ok())
     }
-    let answered = fast.round();
-    if matches!(answered, Err(StepFault::Memory)) {
-        bail!("a round was refused for want of memory");
-    }
-    let expected = take_plan(plain, plan.as_slice());
-    if expected != answered {
-        bail!("a round: the plain core comes to {expected:?}, the fast core to {answered:?}");
-    }
-    if !same_shown(plain, fast) {
-        bail!("after a round the cores show different groups");
-    }
-    Ok(answered.is_ok())
 }
 
-// Takes the events up to the first that is refused, and counts the frames that they make.
-fn take_plan(plain: &mut cast_plain::World, plan: &[Event]) -> Result<u64, StepFault> {
-    let mut made = 0_u64;
-    for event in plan {
-        if let Answer::Sent { .. } = step_plain(plain, event)? {
-            made = made.saturating_add(1);
-        }
+// How many frames were made, with those of one more event; or why it was refused.
+fn made_by(
+    made: std::result::Result<u64, StepFault>,
+    reply: &Reply,
+) -> std::result::Result<u64, StepFault> {
+    match reply {
+        Ok(Answer::Sent { .. }) => Ok(made?.saturating_add(1)),
+        Ok(_) => made,
+        Err(fault) => Err(*fault),
     }
-    Ok(made)
 }
 
 /// Checks what two rounds must bring: rest, and, unless too many nodes have crashed, the same deliveries at all live nodes.
-pub fn check_rest(config: &Config, fast: &cast_world::World) -> Result<()> {
+pub fn check_rest(config: &Config, fast: &World) -> Result<()> {
     if !fast.at_rest() {
         bail!("two rounds did not bring rest");
     }
@@ -47,7 +66,7 @@ pub fn check_rest(config: &Config, fast: &cast_world::World) -> Result<()> {
     Ok(())
 }
 
-fn has_few_crashed(config: &Config, fast: &cast_world::World) -> bool {
+fn has_few_crashed(config: &Config, fast: &World) -> bool {
     match config.mode() {
         Mode::Basic => true,
         Mode::Uniform => {
@@ -59,7 +78,7 @@ fn has_few_crashed(config: &Config, fast: &cast_world::World) -> bool {
     }
 }
 
-fn delivers_alike(fast: &cast_world::World) -> bool {
+fn delivers_alike(fast: &World) -> bool {
     let Some(first) = (0..MOST_NODES).find(|node| fast.live(NodeId(*node))) else {
         return true;
     };
@@ -67,7 +86,7 @@ fn delivers_alike(fast: &cast_world::World) -> bool {
         || same_lists(fast, NodeId(first), NodeId(node)))
 }
 
-fn same_lists(fast: &cast_world::World, one: NodeId, other: NodeId) -> bool {
+fn same_lists(fast: &World, one: NodeId, other: NodeId) -> bool {
     (0..MOST_NODES).all(|sender| {
         fast.delivered(one, NodeId(sender)) == fast.delivered(other, NodeId(sender))
     })

@@ -1,41 +1,50 @@
-//! One event, taken by both cores.
+//! One event, taken by both worlds.
 use crate::replies::same_reply;
 use crate::shown::same_shown;
 use anyhow::{Result, bail};
 use cast_message::{Event, Reply, StepFault};
+use cast_world::World;
+use std::rt::Runtime;
 
-/// Takes an event on both. Answers whether it was accepted.
-pub fn step(
-    rt: &impl Print,
-    plain: &mut cast_plain::World,
-    fast: &mut cast_world::World,
-    event: &Event,
-) -> Result<bool> {
-    let mut answered = fast.step(event);
-    if is_want_of_memory(&answered) {
-        println!(rt; "step: out of memory")?;
-        if !same_shown(plain, fast) {
-            bail!("a refused step changed the group: {event:?}");
-        }
-        answered = fast.step(event);
-    }
-    let expected = step_plain(plain, event);
-    if !same_reply(&expected, &answered) {
-        bail!("{event:?}: the plain core answers {expected:?}, the fast core {answered:?}");
-    }
-    if !same_shown(plain, fast) {
-        bail!("after {event:?} the cores show different groups");
-    }
-    Ok(answered.is_ok())
+/// Two worlds that take the same events.
+#[derive(Drop)]
+pub struct Worlds {
+    /// It takes a round event by event.
+    pub stepped: World,
+    /// It takes a round whole.
+    pub whole: World,
 }
 
-/// The reply of the plain core, whose own want of memory is no matter here: it is asked once more.
-pub fn step_plain(plain: &mut cast_plain::World, event: &Event) -> Reply {
-    let reply = plain.step(event);
-    if is_want_of_memory(&reply) {
-        return plain.step(event);
+impl Worlds {
+    /// Takes an event on both. Answers what both answered.
+    pub fn step(&mut self, rt: &impl Runtime, event: &Event) -> Result<Reply> {
+        let mut answered = self.whole.step(event);
+        if is_want_of_memory(&answered) {
+            eprintln!(rt; "step: out of memory")?;
+            if !same_shown(&self.stepped, &self.whole) {
+                bail!("a refused step changed the group: {event:?}");
+            }
+            answered = self.whole.step(event);
+        }
+        let expected = step_once_more(rt, &mut self.stepped, event)?;
+        if !same_reply(&expected, &answered) {
+            bail!("{event:?}: one world answers {expected:?}, the other {answered:?}");
+        }
+        if !same_shown(&self.stepped, &self.whole) {
+            bail!("after {event:?} the worlds show different groups");
+        }
+        Ok(answered)
     }
-    reply
+}
+
+/// Takes an event, once more where it is refused for want of memory.
+pub fn step_once_more(rt: &impl Runtime, world: &mut World, event: &Event) -> Result<Reply> {
+    let reply = world.step(event);
+    if is_want_of_memory(&reply) {
+        eprintln!(rt; "step: out of memory")?;
+        return Ok(world.step(event));
+    }
+    Ok(reply)
 }
 
 fn is_want_of_memory(reply: &Reply) -> bool {

@@ -1,9 +1,0 @@
-pub mod Scanning
-pub mod Counting
-pub mod Fronts
-pub mod Changes
-pub mod Standing
-pub mod Stepping
-pub mod Showing
-pub mod Running
-pub mod Planning

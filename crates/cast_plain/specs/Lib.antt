@@ -1,4 +1,0 @@
-pub mod Lists
-pub mod Scans
-pub mod Cuts
-pub mod Plans
