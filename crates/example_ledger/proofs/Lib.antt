@@ -1,0 +1,4 @@
+pub mod Applying
+pub mod Summing
+pub mod Logged
+pub mod Telling

@@ -1,0 +1,22 @@
+use Rattle.std.proofs.Common.{subst}
+use Rattle.cast_message.specs.Replies.{history}
+use Rattle.cast_world.specs.Group.{Stands}
+use Rattle.example_ledger.proofs.Telling.{tellers_apply_prefixes, tellers_keep_sheets}
+use Rattle.example_ledger.proofs.running.run_tellers.Goals as goal
+
+pub returns-clause-world : goal.returns-clause-world
+returns-clause-world g c =
+    let assembly = c.in_ok-assembly.assembly in
+    subst (λ config. Stands config (history config assembly.events) assembly.world) c.in_ok-live.ensures.config c.in_ok-assembly.ensures.stands
+
+pub returns-clause-prefix : goal.returns-clause-prefix
+returns-clause-prefix g c =
+    let live = c.in_ok-live.live in
+    let assembly = c.in_ok-assembly.assembly in
+    tellers_apply_prefixes c.args.config c.args.tellers.items live.report.reports live.jobs.items live.clients.items c.in_ok-live.ensures.jobs
+    (history c.args.config assembly.events) assembly.world (returns-clause-world g c) c.in_ok-assembly.ensures.nodes
+
+pub returns-clause-sheets : goal.returns-clause-sheets
+returns-clause-sheets g c =
+    let live = c.in_ok-live.live in
+    tellers_keep_sheets c.args.config c.args.tellers.items live.report.reports live.jobs.items live.clients.items c.in_ok-live.ensures.jobs

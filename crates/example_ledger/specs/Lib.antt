@@ -1,0 +1,4 @@
+pub mod Transfers
+pub mod Sheets
+pub mod Applied
+pub mod Tellers

@@ -1,0 +1,47 @@
+-- The sheet of what was applied.
+--     received journal a     what account a received by these messages, in all
+--     sent journal a         what it sent
+--     IsSheetOf sheet journal    the sheet has these sums of each account
+use Rattle.std.specs.Prelude.{◌≡◌, ℕ, ◌+◌, ◌-◌, ◌^◌, ◌<◌, ◌==◌, min, if◌then◌else◌, List, length, slice_index, slice_set, Option, Some, None}
+use Rattle.std.specs.List.{sum_by}
+use Rattle.cast_message.specs.declared.message.Message.{Message}
+use Rattle.example_ledger.specs.declared.transfer.Transfer.{Transfer}
+use Rattle.example_ledger.specs.declared.book.Sheet.{Sheet}
+use Rattle.example_ledger.specs.Transfers.{account_count, transfer_in}
+
+-- A book: what was applied, in order, its sheet, and how many messages it has room for.
+pub record BookState : Type 0 where
+  pub journal : List Message
+  pub sheet : Sheet
+  pub room : ℕ
+
+abbrev pub received_by : ℕ → Option Transfer → ℕ
+received_by a None = 0
+received_by a (Some t) = if t.to == a then t.amount else 0
+
+abbrev pub sent_by : ℕ → Option Transfer → ℕ
+sent_by a None = 0
+sent_by a (Some t) = if t.from == a then t.amount else 0
+
+abbrev pub received : List Message → ℕ → ℕ
+received journal a = sum_by (λ m. received_by a (transfer_in m.item)) journal
+
+abbrev pub sent : List Message → ℕ → ℕ
+sent journal a = sum_by (λ m. sent_by a (transfer_in m.item)) journal
+
+-- a sum as 64 bits hold it
+abbrev pub capped : ℕ → ℕ
+capped n = min n (2 ^ 64 - 1)
+
+-- the sums with so much more at one account
+abbrev pub added : List ℕ → ℕ → ℕ → List ℕ
+added sums a amount = slice_set sums a (capped (slice_index sums a + amount))
+
+-- these are the sums of each account
+pub record AreSums (sums : List ℕ) (total : ℕ → ℕ) : Type 0 where
+  pub size : length sums ≡ account_count
+  pub each : (a : ℕ) → a < account_count → slice_index sums a ≡ capped (total a)
+
+pub record IsSheetOf (sheet : Sheet) (journal : List Message) : Type 0 where
+  pub received : AreSums sheet.received (received journal)
+  pub sent : AreSums sheet.sent (sent journal)

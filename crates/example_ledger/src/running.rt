@@ -1,0 +1,79 @@
+//! The ledger of a group that runs in threads: each node has a teller, and the tellers' books come out.
+ghost use Rattle.std.specs.Prelude.{◌≡◌, IfOk, map};
+ghost use Rattle.cast_message.specs.Replies.{history};
+ghost use Rattle.cast_world.specs.Group.{Stands};
+ghost use Rattle.cast_merge.specs.Merge.{TellsMerge};
+ghost use Rattle.cast_run.specs.Serves.{AreServed};
+ghost use Rattle.example_ledger.specs.Tellers.{AreNewTellers, teller_fact, TellersApplyPrefixes, TellersKeepSheets};
+
+use crate::teller::Teller;
+use cast_merge::{Assembly, GroupReport, assemble};
+use cast_message::{Config, NodeId};
+use cast_run::{ClientReport, LiveFault, OpenGate, run_live};
+use cast_script::FaultPlan;
+use std::alloc::{AllocError, Global};
+use std::sync::Wait;
+use std::thread::Threads;
+
+// How many turns a node may take before it gives up.
+const TURNS: u64 = 4_000_000;
+
+/// What a group in threads has come to.
+#[derive(Drop)]
+pub struct RunningLedger {
+    /// The tellers, in the order in which they were handed in.
+    pub tellers: Vec<Teller>,
+    /// At which node each was.
+    pub clients: Vec<ClientReport>,
+    /// The log of each node.
+    pub report: GroupReport,
+    /// What all nodes did, as one list of events, and the group after them.
+    pub assembly: Assembly,
+}
+
+/// Runs a group in threads, with a plan of what goes wrong, until its nodes are at rest and its tellers done, and merges what
+/// its nodes logged. It is refused as `run_live` refuses it: for a teller at no node, more than 4 at one, or a plan that names no
+/// node; for want of memory; for a thread that isn't started.
+pub fn run_tellers<R: Threads + Wait + Copy + Send + 'static>(
+    rt: R,
+    alloc: Global,
+    config: Config,
+    plan: &FaultPlan,
+    tellers: Vec<(NodeId, Teller)>,
+) -> Result<RunningLedger, LiveFault>
+    requires { AreNewTellers tellers.items }
+
+    // What a teller has applied of a sender is a prefix of what that sender ordered, and its sheet is the sheet of it.
+    ensures prefix { IfOk result (λ ledger. TellersApplyPrefixes config
+        (history config ledger.assembly.events) ledger.tellers.items) }
+    ensures sheets { IfOk result (λ ledger. TellersKeepSheets ledger.tellers.items) }
+
+    // These are the tellers that were handed in, each served by its node.
+    ensures served { IfOk result (λ ledger. AreServed config teller_fact tellers.items
+        ledger.report.reports ledger.tellers.items ledger.clients.items) }
+
+    // The events are what the nodes logged, and the world shows what became of the group.
+    ensures merge { IfOk result (λ ledger. TellsMerge
+        (map (λ report. report.log) ledger.report.reports)
+        ledger.assembly.events ledger.assembly.replies) }
+    ensures world { IfOk result (λ ledger.
+        Stands config (history config ledger.assembly.events) ledger.assembly.world) }
+{
+    let gates = open_gates(alloc, config.nodes())?;
+    let live = run_live(rt, alloc, config, plan, tellers, gates, TURNS)?;
+    let assembly = assemble(alloc, &live.report)?;
+    Ok(RunningLedger {
+        tellers: live.jobs,
+        clients: live.clients,
+        report: live.report,
+        assembly,
+    })
+}
+
+fn open_gates(alloc: Global, nodes: u64) -> Result<Vec<OpenGate>, AllocError> {
+    let mut gates = Vec::new(alloc);
+    for _node in 0..nodes {
+        gates.push(OpenGate)?;
+    }
+    Ok(gates)
+}

@@ -1,0 +1,179 @@
+//! What happens in the example: who orders what, and a list of events in which frames are lost, repeated and reordered and a
+//! node crashes.
+ghost use Rattle.std.specs.Prelude.{◌≡◌, ◌<◌, ◌++◌, ◌∷◌, [], IfOk, OnOk};
+ghost use Rattle.cast_run.specs.Jobs.{told_job};
+ghost use Rattle.example_ledger.specs.Tellers.{AreNewTellers, KeepsBook};
+ghost use Rattle.example_ledger.specs.Transfers.{account_count};
+
+use crate::teller::Teller;
+use crate::transfer::Transfer;
+use bytes::Bytes;
+use cast_message::{Config, ConfigFault, Event, Item, List, Mode, NodeId, Payload};
+use cast_script::{Fault, FaultPlan, FrameKind};
+use std::alloc::{AllocError, Global};
+
+const ADA: u8 = 0;
+
+const BEN: u8 = 1;
+
+const CLEO: u8 = 2;
+
+const DAN: u8 = 3;
+
+// How many items are ordered in all.
+const ITEMS: usize = 5;
+
+/// Three nodes, of which one may crash.
+pub fn config() -> Result<Config, ConfigFault> {
+    Config::check(3, 1, 1, 4096, 65536, 64, 0, Mode::Basic)
+}
+
+/// What the client of each node orders, by node. One item says no transfer.
+pub fn orders(alloc: Global) -> Result<[List<Item>; 3], AllocError> {
+    let mut first = List::new(alloc);
+    first.push(transfer(alloc, ADA, BEN, 30)?)?;
+    first.push(transfer(alloc, ADA, CLEO, 20)?)?;
+    let mut second = List::new(alloc);
+    second.push(transfer(alloc, BEN, DAN, 10)?)?;
+    second.push(Item::Data(Payload::new(Bytes::copy_from_slice(alloc, b"hello")?)))?;
+    let mut third = List::new(alloc);
+    third.push(transfer(alloc, DAN, ADA, 5)?)?;
+    Ok([first, second, third])
+}
+
+fn transfer(alloc: Global, from: u8, to: u8, amount: u16) -> Result<Item, AllocError>
+    requires { (from < account_count) × (to < account_count) }
+{
+    Transfer { from, to, amount }.item(alloc)
+}
+
+/// A teller at each node, which orders the node's items and waits until all items are delivered.
+pub fn tellers(alloc: Global) -> Result<Vec<(NodeId, Teller)>, AllocError>
+    ensures { IfOk result (λ tellers. AreNewTellers tellers.items) }
+{
+    let mut tellers = Vec::new(alloc);
+    for (node, items) in orders(alloc)?.into_iter().enumerate() {
+        add_teller(
+            &mut tellers,
+            NodeId(node as u8),
+            Teller::new(alloc, items, ITEMS),
+        )?;
+    }
+    Ok(tellers)
+}
+
+fn add_teller(
+    tellers: &mut Vec<(NodeId, Teller)>,
+    node: NodeId,
+    teller: Teller,
+) -> Result<(), AllocError>
+    requires others { AreNewTellers tellers.old.items }
+    requires new { KeepsBook teller.book [] }
+    ensures { OnOk result (AreNewTellers tellers.new.items) }
+{
+    tellers.push((node, teller))?;
+    Ok(())
+}
+
+/// On each link every second frame that carries a message is lost, the first one too.
+pub fn losses(alloc: Global) -> Result<FaultPlan, AllocError> {
+    let mut faults = List::new(alloc);
+    for from in 0..3 {
+        for to in 0..3 {
+            if from != to {
+                faults.push(lose_every_second(NodeId(from), NodeId(to)))?;
+            }
+        }
+    }
+    Ok(FaultPlan { faults })
+}
+
+fn lose_every_second(from: NodeId, to: NodeId) -> Fault {
+    Fault::Lose {
+        kind: FrameKind::Carry,
+        from,
+        to,
+        first: 0,
+        step: 2,
+    }
+}
+
+/// The orders, and then the frames by which the first two nodes come to rest though the third crashes.
+pub fn events(alloc: Global) -> Result<Vec<Event>, AllocError> {
+    let mut events = Vec::new(alloc);
+    for (node, items) in orders(alloc)?.into_iter().enumerate() {
+        for item in items.into_vec() {
+            events.push(Event::Order {
+                node: NodeId(node as u8),
+                item,
+            })?;
+        }
+    }
+    for event in frames() {
+        events.push(event)?;
+    }
+    Ok(events)
+}
+
+fn frames() -> [Event; 26] {
+    [
+        // Node 0's second transfer comes first. Node 1 holds it back until the first is there. Then it comes once more.
+        send(0, 1, 1),
+        send(0, 1, 0),
+        arrive(0, 0),
+        arrive(0, 1),
+        arrive(0, 0),
+        // A frame to node 2 is lost. Node 2 crashes when node 0 alone has heard of its transfer, and node 0 passes it on.
+        send(0, 2, 0),
+        send(2, 0, 0),
+        arrive(2, 0),
+        crash(2),
+        send(0, 1, 2),
+        arrive(0, 3),
+        // Node 1's items.
+        send(1, 0, 0),
+        send(1, 0, 1),
+        arrive(1, 0),
+        arrive(1, 1),
+        // What was taken is acknowledged, and nothing is owed any more.
+        ack(1, 0, 0),
+        ack(1, 0, 1),
+        ack(1, 0, 2),
+        arrive(1, 2),
+        arrive(1, 3),
+        arrive(1, 4),
+        ack(0, 1, 0),
+        ack(0, 1, 1),
+        arrive(0, 4),
+        arrive(0, 5),
+        // Nobody knows this frame: the group refuses the event, and nothing changes.
+        arrive(0, 9),
+    ]
+}
+
+fn send(from: u8, to: u8, slot: u64) -> Event {
+    Event::Send {
+        from: NodeId(from),
+        to: NodeId(to),
+        slot,
+    }
+}
+
+fn ack(from: u8, to: u8, slot: u64) -> Event {
+    Event::Ack {
+        from: NodeId(from),
+        to: NodeId(to),
+        slot,
+    }
+}
+
+fn arrive(from: u8, seq: u64) -> Event {
+    Event::Arrive {
+        from: NodeId(from),
+        seq,
+    }
+}
+
+fn crash(node: u8) -> Event {
+    Event::Crash { node: NodeId(node) }
+}

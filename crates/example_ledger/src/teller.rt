@@ -1,0 +1,107 @@
+//! A client in a thread of its own, which orders transfers and keeps a book by what its node tells it.
+ghost use Rattle.std.specs.Prelude.{◌≡◌, ◌<◌, ◌++◌, ◌∷◌, [], length};
+ghost use Rattle.cast_desk.specs.Desk.{IsSameClient};
+ghost use Rattle.cast_run.specs.Jobs.{got};
+ghost use Rattle.example_ledger.specs.Tellers.{told};
+
+use crate::book::Book;
+use cast_desk::{Client, Notice};
+use cast_message::{Item, List};
+use cast_run::ClientJob;
+use std::alloc::Global;
+use std::sync::Wait;
+
+/// Orders its items, one in a turn where the desk has room, and applies what it is told was delivered, one message in a turn,
+/// until all was ordered and so many messages are applied. Its book is at any time that of what it was told.
+#[derive(Drop)]
+pub struct Teller {
+    items: List<Item>,
+    // How many were ordered.
+    next: usize,
+    // How many messages it waits for.
+    expected: usize,
+    book: Book,
+}
+
+impl ClientJob for Teller {
+    ghost use Rattle.example_ledger.specs.Tellers.{KeepsBook};
+
+    ghost fact = { λ teller sent got done. KeepsBook teller.book got };
+
+    fn turn<R: Wait>(&mut self, rt: &R, client: &mut Client) -> bool {
+        self.order_next(rt, client);
+        self.apply_next(rt, client);
+        // Reading the sheet is how a proof comes by it: it is the sheet of the journal.
+        let _exact = self.book.sheet();
+        !self.is_done()
+    }
+}
+
+impl Teller {
+    ghost use Rattle.example_ledger.specs.Tellers.{KeepsBook};
+
+    /// The teller that orders these items, and is done once so many messages are applied. It has done nothing yet.
+    pub fn new(alloc: Global, items: List<Item>, expected: usize) -> Teller
+        ensures { KeepsBook result.book [] }
+    {
+        Teller {
+            items,
+            next: 0,
+            expected,
+            book: Book::new(alloc),
+        }
+    }
+
+    /// Its book.
+    pub fn book(&self) -> &Book
+        ensures { result.now ≡ self.now.book }
+    {
+        &self.book
+    }
+
+    // Without memory for a copy, or room at the desk, the item waits for the next turn.
+    fn order_next<R: Wait>(&mut self, rt: &R, client: &mut Client)
+        ensures same { IsSameClient client.old client.new }
+        ensures tray { client.new.tray ≡ client.old.tray }
+        ensures book { self.new.book ≡ self.old.book }
+    {
+        let Some(item) = self.items.as_slice().get(self.next) else {
+            return;
+        };
+        let Ok(item) = item.copy() else {
+            return;
+        };
+        if client.submit(rt, item).is_ok() {
+            self.next += 1;
+        }
+    }
+
+    // Without memory for one more message no notice is taken: it waits in the tray.
+    fn apply_next<R: Wait>(&mut self, rt: &R, client: &mut Client)
+        requires { self.old.book.journal ≡ told (got client.old) }
+        ensures same { IsSameClient client.old client.new }
+        ensures book { self.new.book.journal ≡ told (got client.new) }
+    {
+        if self.book.reserve().is_err() {
+            return;
+        }
+        if let Some(notice) = client.next(rt) {
+            self.hear(notice);
+        }
+    }
+
+    // Applies what the notice says was delivered, if it says so.
+    fn hear(&mut self, notice: Notice)
+        requires { length self.old.book.journal < self.old.book.room }
+        ensures { self.new.book.journal ≡ self.old.book.journal ++ told (notice ∷ []) }
+    {
+        match notice {
+            Notice::Delivered(message) => self.book.apply(message),
+            Notice::Reply { .. } | Notice::Decided(_) => {}
+        }
+    }
+
+    fn is_done(&self) -> bool {
+        self.next >= self.items.as_slice().len() && self.book.journal().len() >= self.expected
+    }
+}
