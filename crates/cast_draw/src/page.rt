@@ -1,5 +1,5 @@
 //! The finished picture: what stands around the marks, and its text.
-ghost use Rattle.std.specs.Prelude.{◌≡◌, ◌++◌, false};
+ghost use Rattle.std.specs.Prelude.{◌≡◌, false};
 ghost use Rattle.cast_record.specs.Written.{Writes};
 
 use crate::cell::{LINES_FROM, Spot};
@@ -16,6 +16,7 @@ use cast_message::{Config, NodeId};
 use cast_record::{Meter, WriteFault, mode_name, write_bytes};
 use std::alloc::AllocError;
 use std::io::Write;
+use std::marker::Model;
 
 const STYLE: &[u8] =
     b"text{font-family:sans-serif;fill:#222}.paper{fill:#fff}.g{fill:#f1f0e8}.h{font-size:12px;fill:#666}.n{font-size:13px}.p{stroke:#444;stroke-width:1.4}.z{stroke:#bbb;stroke-dasharray:1 5}.a,.o,.u{fill:none;stroke-width:1.5}.o{stroke-dasharray:4 3}.k{stroke-dasharray:2 4}.e{fill:none;stroke-width:1.5}.l{font-size:12px;stroke:#fff;stroke-width:3px;paint-order:stroke}.b{stroke:#fff}.d{font-size:10px;text-anchor:middle}.v{fill:#222}.w{font-size:10px;stroke:#fff;stroke-width:2px;paint-order:stroke}.x{fill:none;stroke:#c00;stroke-width:3}.r{fill:none;stroke:#aaa;stroke-width:1.5}.q{font-size:10px;fill:#777;text-anchor:middle}";
@@ -35,12 +36,20 @@ const TIPS: &[(&[u8], &[u8])] = &[
     (b"k", b"#888"),
 ];
 
-/// The text of a finished picture.
+/// A finished picture. Contracts see its text.
 #[derive(Debug, Drop)]
 pub struct Drawing {
     front: Ink,
     arrows: Ink,
     marks: Ink,
+}
+
+impl Model for Drawing {
+    ghost use Rattle.std.specs.Prelude.{ℕ, List, ◌++◌};
+
+    ghost Value = { List ℕ };
+
+    ghost view = { λ drawing. drawing.front ++ (drawing.arrows ++ drawing.marks) };
 }
 
 impl Picture {
@@ -72,6 +81,7 @@ impl Picture {
 /// from then on, and a front of the text stands.
 pub fn write_drawing<W: Write>(drawing: &Drawing, writer: &mut Meter<W>) -> Result<(), WriteFault>
     requires { writer.old.failed ≡ false }
+    ensures { Writes (W.contents writer.old.inner) (W.contents writer.new.inner) writer.new.failed result drawing.now }
 {
     write_bytes(drawing.front.as_slice(), writer)?;
     write_bytes(drawing.arrows.as_slice(), writer)?;
