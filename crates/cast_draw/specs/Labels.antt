@@ -6,7 +6,7 @@ use Rattle.std.specs.Prelude.{ℕ, ◌+◌, ◌&&◌, ◌==◌, Bool, true, fals
 use Rattle.std.specs.List.{list_all}
 use Rattle.cast_message.specs.declared.message.Item.{Item}
 use Rattle.cast_message.specs.declared.message.Item.TheVariants.{Data, Propose, Close}
-use Rattle.cast_record.specs.Hex.{hex}
+use Rattle.cast_words.specs.Hex.{hex}
 
 -- three dots in one letter, where a label was cut
 abbrev pub dots : Bool → List ℕ

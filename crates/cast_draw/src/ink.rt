@@ -1,7 +1,7 @@
 //! The text of a picture as it grows.
 ghost use Rattle.std.specs.Prelude.{◌≡◌, ◌<◌, ◌++◌, [], OnOk, decimal};
 ghost use Rattle.cast_record.specs.Text.{item_word};
-ghost use Rattle.cast_record.specs.Hex.{hex, hex_digit};
+ghost use Rattle.cast_words.specs.Hex.{hex, hex_digit};
 ghost use Rattle.cast_draw.specs.Pieces.{piece_text, text_of};
 
 use crate::label::{put_item_label, put_value_label};

@@ -1,6 +1,6 @@
 //! The finished picture: what stands around the marks, and its text.
 ghost use Rattle.std.specs.Prelude.{◌≡◌, false};
-ghost use Rattle.cast_record.specs.Written.{Writes};
+ghost use Rattle.cast_words.specs.Written.{Writes};
 
 use crate::cell::{LINES_FROM, Spot};
 use crate::fault::DrawFault;
@@ -13,7 +13,7 @@ use crate::picture::Picture;
 use crate::side::Side;
 use crate::track::Track;
 use cast_message::{Config, NodeId};
-use cast_record::{Meter, WriteFault, mode_name, write_bytes};
+use cast_words::{Meter, WriteFault, mode_name, write_bytes};
 use std::alloc::AllocError;
 use std::io::Write;
 use std::marker::Model;

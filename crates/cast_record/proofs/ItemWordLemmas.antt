@@ -5,7 +5,7 @@ use Rattle.std.specs.List.{list_all}
 use Rattle.cast_message.specs.declared.message.Item.{Item}
 use Rattle.cast_message.specs.declared.message.Item.TheVariants as items
 use Rattle.cast_record.specs.Reading.{data_of, item_of}
-use Rattle.cast_record.specs.Unhex.{unhex, digit_of, byte_of, before}
+use Rattle.cast_words.specs.Unhex.{unhex, digit_of, byte_of, before}
 use Rattle.cast_record.specs.declared.item_word.ItemKind.{ItemKind}
 use Rattle.cast_record.specs.declared.item_word.ItemKind.TheVariants.{Data}
 use Rattle.cast_record.specs.ItemWords.{kind_of, SpellsItem, is_known, is_hex, is_hex_digit}

@@ -12,10 +12,11 @@ use Rattle.std.proofs.lemmas.Bool.Decides.{nat_tests}
 use Rattle.std.proofs.lemmas.Grind.{common_steps}
 use Rattle.std.proofs.lemmas.List.{take-append-drop}
 use Rattle.std.proofs.lemmas.List.Splits.{slice_split_at}
-use Rattle.cast_record.specs.Numbers.{read_on, number_of, node_of, byte_sized}
+use Rattle.cast_record.specs.Nodes.{node_of, byte_sized}
+use Rattle.cast_words.specs.Numbers.{read_on, number_of}
 use Rattle.cast_record.specs.Reading as read
 use Rattle.cast_record.specs.WordLines.{short_of, BeginsWithNumber, IsNumberSoFar}
-use Rattle.cast_record.proofs.NumberLemmas.{number_from}
+use Rattle.cast_words.proofs.NumberLemmas.{number_from}
 use Rattle.cast_record.proofs.ReadLemmas.{item_takes, line_by_parts}
 use Rattle.cast_record.proofs.WordLemmas.{HasNone, item_without, digits_without, plain}
 

@@ -1,11 +1,8 @@
-pub mod Hex
 pub mod Lines
 pub mod Text
 pub mod Words
-pub mod Written
 pub use Rattle.cast_message.specs.StepCode
-pub mod Numbers
-pub mod Unhex
+pub mod Nodes
 pub mod Ranges
 pub mod Reading
 pub mod Parts

@@ -3,25 +3,19 @@
 --     record_text lines    the lines, each with its line feed
 use Rattle.std.specs.Prelude.{ℕ, List, [], ◌∷◌, ◌++◌, codes, decimal, flat_map}
 use Rattle.std.specs.List.{join_with_byte}
-use Rattle.cast_message.specs.declared.config.Mode.{Mode}
-use Rattle.cast_message.specs.declared.config.Mode.TheVariants.{Basic, Uniform}
 use Rattle.cast_message.specs.declared.message.Item.{Item}
 use Rattle.cast_message.specs.declared.message.Item.TheVariants.{Data, Propose, Close}
 use Rattle.cast_message.specs.declared.message.Message.{Message}
 use Rattle.cast_record.specs.declared.line.Line.{Line}
 use Rattle.cast_record.specs.declared.line.Line.TheVariants.{Head, Head2, Broadcast, Delivered, Decided, Crashed, Refused, End}
-use Rattle.cast_record.specs.Hex.{hex}
+use Rattle.cast_words.specs.Hex.{hex}
+use Rattle.cast_words.specs.Modes.{mode_word}
 
 -- the word of an item
 abbrev pub item_word : Item → List ℕ
 item_word (Data payload) = codes "data:" ++ hex payload
 item_word (Propose instance value) = codes "prop:" ++ decimal instance ++ codes ":" ++ decimal value
 item_word Close = codes "close"
-
--- the word of a mode
-abbrev pub mode_word : Mode → List ℕ
-mode_word Basic = codes "basic"
-mode_word Uniform = codes "uniform"
 
 abbrev pub message_words : Message → List (List ℕ)
 message_words m = decimal m.sender ∷ decimal m.number ∷ item_word m.item ∷ []

@@ -10,7 +10,7 @@ use Rattle.cast_record.specs.declared.line.Line.TheVariants.{Head, Head2, Broadc
 use Rattle.cast_record.specs.declared.word_line.WordLine.{WordLine}
 use Rattle.cast_record.specs.declared.word_line.WordLine.TheVariants as words
 use Rattle.cast_record.specs.declared.word_line.Delivery.{Delivery}
-use Rattle.cast_record.specs.Numbers.{read_on, number_of}
+use Rattle.cast_words.specs.Numbers.{read_on, number_of}
 use Rattle.cast_record.specs.Reading.{item_of, line_of}
 
 abbrev pub line_said : WordLine → Line

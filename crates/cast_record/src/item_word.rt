@@ -5,8 +5,8 @@ ghost use Rattle.cast_record.specs.Reading.{item_of, item_named, data_of, propos
 ghost use Rattle.cast_record.specs.Rules.{is_close};
 ghost use Rattle.cast_record.specs.ItemWords.{kind_of, is_hex, is_hex_digit, proposal_in};
 
-use crate::number::number;
 use crate::parts::two_parts;
+use cast_words::number;
 use std::marker::Model;
 
 /// What an item is, without the bytes of its data.

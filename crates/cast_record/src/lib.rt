@@ -2,17 +2,13 @@
 //! lines an event and its reply leave.
 #![tactic(auto)]
 
-mod digits;
-mod hex;
 mod item_word;
 mod laws;
 mod line;
 mod lines;
-mod meter;
 mod migration;
-mod number;
+mod node;
 mod parts;
-mod payload;
 mod reading;
 mod verdict;
 mod word_line;
@@ -23,14 +19,11 @@ pub use item_word::{ItemKind, ItemWord};
 pub use laws::has_text_of_its_own;
 pub use line::Line;
 pub use lines::lines_of;
-pub use meter::{Failed, Meter};
 pub use migration::{MigrateFault, migrate};
 pub use reading::read_line;
 pub use verdict::{Verdict, write_verdict};
 pub use word_line::{Delivery, WordLine, read_delivery, read_words};
-pub use writing::{
-    WriteFault, mode_name, write_bytes, write_hex, write_line, write_number, write_record,
-};
+pub use writing::{write_line, write_record};
 
 #[cfg(test)]
 mod tests;

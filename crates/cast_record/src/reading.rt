@@ -7,11 +7,11 @@ ghost use Rattle.cast_record.specs.Reading.{broadcast_by, delivered_by, decided_
 ghost use Rattle.cast_record.specs.Reading.{one_of, two_of, three_of, four_of, end_named, short_line_named, pair_of};
 
 use crate::line::Line;
-use crate::number::{node, number};
+use crate::node::node;
 use crate::parts::{four_parts, one_part, split_part, three_parts, two_parts};
-use crate::payload::bytes_of;
 use bytes::Bytes;
 use cast_message::{Decision, Item, Message, Mode, NodeId, Payload};
+use cast_words::{bytes_of, number};
 use std::alloc::{AllocError, Global};
 
 /// The byte between words.

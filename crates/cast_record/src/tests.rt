@@ -1,12 +1,13 @@
-//! The text of each line, the lines of an event, and a meter over readers and writers that fail.
-use crate::{Failed, Line, Meter, WriteFault, lines_of, write_line, write_record};
+//! The text of each line, the lines of an event, and a writer that fails.
+use crate::{Line, lines_of, write_line, write_record};
 use bytes::Bytes;
 use cast_message::{
     Answer, Config, Decision, Event, Item, List, Message, Mode, NodeId, Outcome, Payload, Reply,
     StepFault,
 };
+use cast_words::{Meter, WriteFault};
 use std::alloc::{AllocError, Global};
-use std::io::{self, Error, ErrorKind, Read, Write};
+use std::io::{self, Error, ErrorKind, Write};
 use std::test::Fail;
 
 fn data(alloc: Global, bytes: &[u8]) -> Result<Item, AllocError> {
@@ -265,41 +266,5 @@ fn a_failed_write_leaves_a_front(rt: HostRuntime) -> Result<(), Fail> {
             assert!(rt; wanted.starts_with(taken.as_slice()));
         }
     }
-    Ok(())
-}
-
-/// A reader that answers an error at every second call, and else gives one byte.
-#[derive(Drop)]
-struct Halting {
-    halts: bool,
-}
-
-impl Read for Halting {
-    fn read(&mut self, buf: &mut [u8]) -> io::Result<usize> {
-        self.halts = !self.halts;
-        if !self.halts {
-            return Err(Error::from(ErrorKind::Other));
-        }
-        match buf.first_mut() {
-            Some(byte) => {
-                *byte = b'a';
-                Ok(1)
-            }
-            None => Ok(0),
-        }
-    }
-}
-
-#[test]
-fn a_meter_remembers_a_failed_read(rt: HostRuntime) -> Result<(), Fail> {
-    let mut reader = Meter::new(Halting { halts: false });
-    let mut bytes = [0; 4];
-    assert_eq!(rt; reader.read(&mut bytes), Ok(1));
-    assert_eq!(rt; bytes, [b'a', 0, 0, 0]);
-    assert!(rt; !reader.failed());
-    assert_eq!(rt; reader.read(&mut bytes), Err(Failed));
-    assert!(rt; reader.failed());
-    assert_eq!(rt; reader.read(&mut bytes), Ok(1));
-    assert!(rt; reader.failed());
     Ok(())
 }

@@ -1,11 +1,11 @@
 //! What is said of a record.
 ghost use Rattle.std.specs.Prelude.{◌≡◌, ◌++◌, [], ◌∷◌, false};
 ghost use Rattle.cast_record.specs.VerdictText.{verdict_text};
-ghost use Rattle.cast_record.specs.Written.{Writes};
+ghost use Rattle.cast_words.specs.Written.{Writes};
 
-use crate::meter::Meter;
 use crate::words::Word::Number;
-use crate::writing::{WriteFault, write_words};
+use crate::writing::write_words;
+use cast_words::{Meter, WriteFault};
 use std::io::Write;
 
 /// What a judge says of a text.

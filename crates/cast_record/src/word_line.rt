@@ -6,7 +6,7 @@ ghost use Rattle.cast_record.specs.WordLines.{line_said, short_of, SaysDelivery,
 
 use crate::item_word::ItemWord;
 use crate::line::Line;
-use crate::number::{byte_sized, node};
+use crate::node::{byte_sized, node};
 use crate::parts::{four_parts, split_part, three_parts};
 use crate::reading::{end, pair, short_line};
 use cast_message::{Decision, Mode, NodeId};

@@ -1,6 +1,7 @@
 //! Items and lines by the words that spell them: worked words, worked lines, and lines that are cut.
-use crate::{ItemWord, WordLine, mode_name, read_delivery, read_words};
+use crate::{ItemWord, WordLine, read_delivery, read_words};
 use cast_message::NodeId;
+use cast_words::mode_name;
 use std::process::Abort;
 use std::test::Fail;
 

@@ -1,28 +1,15 @@
 //! Writing lines: without memory, each text whole or a front of it.
-ghost use Rattle.std.specs.Prelude.{◌≡◌, ℕ, ◌+◌, ◌<◌, ◌++◌, [], ◌∷◌, false, map, decimal};
+ghost use Rattle.std.specs.Prelude.{◌≡◌, ◌++◌, [], ◌∷◌, false, map};
 ghost use Rattle.std.specs.List.{join_with_byte};
-ghost use Rattle.cast_record.specs.Hex.{hex};
-ghost use Rattle.cast_record.specs.Text.{item_word, mode_word, line_text, record_text};
+ghost use Rattle.cast_words.specs.Written.{Writes};
+ghost use Rattle.cast_record.specs.Text.{item_word, line_text, record_text};
 ghost use Rattle.cast_record.specs.Words.{word_text};
-ghost use Rattle.cast_record.specs.Written.{Writes};
 
-use crate::digits::Digits;
-use crate::hex::HexDigits;
 use crate::line::Line;
-use crate::meter::Meter;
 use crate::words::Word::{self, Number};
-use cast_message::{Item, Mode};
+use cast_message::Item;
+use cast_words::{Meter, WriteFault, mode_name, write_bytes, write_hex, write_number};
 use std::io::Write;
-use thiserror::Error;
-
-const BYTES_AT_ONCE: usize = 32;
-
-/// Why a text was not written: the writer failed, or took no byte, in this call.
-#[derive(Clone, Copy, Debug, PartialEq, Eq, Error)]
-pub enum WriteFault {
-    #[error("the writer failed or took no byte")]
-    Write,
-}
 
 /// Writes the lines, each with a line feed. It takes no memory. A refusal comes only where the writer failed or took no
 /// byte; the meter tells so from then on, and a front of the text stands.
@@ -132,16 +119,6 @@ fn write_word<W: Write>(word: &Word<'_>, writer: &mut Meter<W>) -> Result<(), Wr
     }
 }
 
-/// The word of a mode.
-pub fn mode_name(mode: Mode) -> &'static [u8]
-    ensures { result.now ≡ mode_word mode }
-{
-    match mode {
-        Mode::Basic => b"basic",
-        Mode::Uniform => b"uniform",
-    }
-}
-
 fn write_item<W: Write>(item: &Item, writer: &mut Meter<W>) -> Result<(), WriteFault>
     requires { writer.old.failed ≡ false }
     ensures { Writes (W.contents writer.old.inner) (W.contents writer.new.inner) writer.new.failed result (item_word item.now) }
@@ -159,45 +136,4 @@ fn write_item<W: Write>(item: &Item, writer: &mut Meter<W>) -> Result<(), WriteF
         }
         Item::Close => write_bytes(b"close", writer),
     }
-}
-
-/// Writes the number in decimal digits. It takes no memory; a refusal comes as in `write_bytes`.
-pub fn write_number<W: Write>(number: u64, writer: &mut Meter<W>) -> Result<(), WriteFault>
-    requires { writer.old.failed ≡ false }
-    ensures { Writes (W.contents writer.old.inner) (W.contents writer.new.inner) writer.new.failed result (decimal number) }
-{
-    write_bytes(Digits::new(number).as_slice(), writer)
-}
-
-/// Writes each byte as two digits. It takes no memory; a refusal comes as in `write_bytes`.
-pub fn write_hex<W: Write>(bytes: &[u8], writer: &mut Meter<W>) -> Result<(), WriteFault>
-    requires { writer.old.failed ≡ false }
-    ensures { Writes (W.contents writer.old.inner) (W.contents writer.new.inner) writer.new.failed result (hex bytes.now) }
-{
-    let mut rest = bytes;
-    while !rest.is_empty() {
-        let (front, others) = rest.split_at(rest.len().min(BYTES_AT_ONCE));
-        write_bytes(HexDigits::new(front).as_slice(), writer)?;
-        rest = others;
-    }
-    Ok(())
-}
-
-/// Writes all the bytes. It takes no memory. A refusal comes only where the writer failed or took no byte; the meter tells
-/// so from then on, and a front of the bytes stands.
-pub fn write_bytes<W: Write>(bytes: &[u8], writer: &mut Meter<W>) -> Result<(), WriteFault>
-    requires { writer.old.failed ≡ false }
-    ensures { Writes (W.contents writer.old.inner) (W.contents writer.new.inner) writer.new.failed result bytes.now }
-{
-    let mut rest = bytes;
-    while !rest.is_empty() {
-        let Ok(count) = writer.write(rest) else {
-            return Err(WriteFault::Write);
-        };
-        if count == 0 {
-            return Err(WriteFault::Write);
-        }
-        rest = &rest[count..];
-    }
-    Ok(())
 }

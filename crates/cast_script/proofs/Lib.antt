@@ -1,4 +1,3 @@
-pub mod HexLemmas
 pub mod PlaceLemmas
 pub mod MemberLemmas
 pub mod ElementLemmas

@@ -21,12 +21,12 @@ use Rattle.cast_message.specs.declared.event.Event.{Event}
 use Rattle.cast_message.specs.declared.event.Event.TheVariants.{Order, Send, Ack, Arrive, Crash}
 use Rattle.cast_message.specs.declared.message.Item.{Item}
 use Rattle.cast_message.specs.declared.message.Item.TheVariants.{Data as Bytes, Propose, Close}
-use Rattle.cast_record.specs.Hex.{hex, hex_digit}
-use Rattle.cast_record.specs.Ranges.{AreBytes}
-use Rattle.cast_record.specs.Text.{mode_word}
+use Rattle.cast_words.specs.Hex.{hex, hex_digit}
+use Rattle.cast_words.specs.Hex.{AreBytes}
+use Rattle.cast_words.specs.Modes.{mode_word}
 use Rattle.cast_script.specs.declared.script.ScriptEvent.TheVariants.{Core}
 use Rattle.cast_script.specs.declared.script.ScriptFault.TheVariants.{NotJson, Shape, Config, Memory}
-use Rattle.cast_script.specs.Hex.{digit_of, unhex}
+use Rattle.cast_words.proofs.UnhexLemmas.{unhex_again}
 use Rattle.cast_script.specs.Places.{places}
 use Rattle.cast_script.specs.Faults.{elements_from}
 use Rattle.cast_script.specs.Element.{event_of}
@@ -218,17 +218,6 @@ text_utf8 config events small within =
 
 node_small : (p : ℕ) → p < 256 → nat_lt 255 p ≡ false
 node_small p small = grind (arith, nat_tests)
-
-digit_again : (n : ℕ) → n < 16 → digit_of (hex_digit n) ≡ Some n
-digit_again n small = grind (arith, nat_tests)
-
-unhex_again : (bytes : List ℕ) → AreBytes bytes → unhex (hex bytes) ≡ Some bytes
-unhex_again [] small = refl
-unhex_again (b ∷ bytes) small =
-    let high = digit_again (b / 16) (omega (arith, small.0)) in
-    let low = digit_again (b % 16) (omega arith) in
-    let whole : 16 * (b / 16) + b % 16 ≡ b = omega arith in
-    rw (high, low, unhex_again bytes small.1) (ap (λ x. Some (x ∷ bytes)) whole)
 
 event_again : (event : Event) → IsEventWithin event → event_of (value.array (atoms_data (event_atoms event))) ≡ Some (Core event)
 event_again (Order node (Bytes payload)) within = rw (node_small node within.nodes, unhex_again payload within.atoms.1.1.1.0) refl

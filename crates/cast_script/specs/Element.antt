@@ -17,7 +17,7 @@ use Rattle.cast_script.specs.declared.script.Fault.{Fault}
 use Rattle.cast_script.specs.declared.script.Fault.TheVariants.{Lose, Repeat, Delay, Crash}
 use Rattle.cast_script.specs.declared.script.FrameKind.{FrameKind}
 use Rattle.cast_script.specs.declared.script.FrameKind.TheVariants.{Carry, Took}
-use Rattle.cast_script.specs.Hex.{unhex}
+use Rattle.cast_words.specs.Unhex.{unhex}
 use Rattle.cast_script.specs.Places.{places}
 
 infixl 10 ◌>>=◌

@@ -1,6 +1,5 @@
 pub mod Unread
 pub mod Faults
-pub mod Hex
 pub mod Places
 pub mod Element
 pub mod Members

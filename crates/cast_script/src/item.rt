@@ -5,9 +5,9 @@ ghost use Rattle.cast_script.specs.Element.{item_of, item_named, data_of, propos
 ghost use Rattle.cast_script.specs.Unread.{Gives};
 
 use crate::element::Unread;
-use crate::hex::bytes_of;
 use bytes::Bytes;
 use cast_message::{Item, Payload};
+use cast_words::bytes_of;
 use serde_json::Value;
 use std::alloc::Global;
 
@@ -39,7 +39,7 @@ fn data(alloc: Global, places: &[Value]) -> Result<Item, Unread>
         return Err(Unread::Shape);
     };
     let digits = place.as_str().ok_or(Unread::Shape)?;
-    let bytes = bytes_of(alloc, digits.as_bytes())?;
+    let bytes = bytes_of(alloc, digits.as_bytes())?.ok_or(Unread::Shape)?;
     Ok(Item::Data(Payload::new(Bytes::from_vec(bytes)?)))
 }
 

@@ -5,7 +5,6 @@
 mod element;
 mod event;
 mod fault;
-mod hex;
 mod item;
 mod job;
 mod law;

@@ -2,7 +2,7 @@
 use crate::{Fault, FrameKind, ScriptEvent, ScriptFault, is_read_back, read_script, write_script};
 use bytes::Bytes;
 use cast_message::{ConfigFault, Event, Item, Mode, NodeId, Payload};
-use cast_record::Meter;
+use cast_words::Meter;
 use std::alloc::{AllocError, Global};
 use std::test::Fail;
 

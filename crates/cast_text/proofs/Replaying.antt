@@ -34,7 +34,7 @@ use Rattle.cast_text.specs.Ranges.{HasEventRange, HasScriptRange}
 use Rattle.cast_text.specs.Rec.{lines_from, record_of}
 use Rattle.cast_text.specs.Replayed.{lines_told, is_refusal, record_of_accepted, RecordsReplay}
 use Rattle.cast_text.specs.Text.{WritesRecord}
-use Rattle.cast_record.proofs.WritingLemmas.{drop-next}
+use Rattle.cast_words.proofs.WritingLemmas.{drop-next}
 use Rattle.cast_text.proofs.GoodRecords.{record_is_good}
 use Rattle.cast_text.proofs.Recording.{record_text-append}
 

@@ -9,7 +9,7 @@ use Rattle.cast_merge.specs.declared.report.NodeReport.{NodeReport}
 use Rattle.cast_message.specs.Replies.{history}
 use Rattle.cast_world.specs.Group.{Stands}
 use Rattle.cast_record.specs.VerdictText.{verdict_text}
-use Rattle.cast_record.proofs.WritingLemmas.{drop-next}
+use Rattle.cast_words.proofs.WritingLemmas.{drop-next}
 use Rattle.cast_text.specs.declared.live.FinishedRun.{FinishedRun}
 use Rattle.cast_text.specs.declared.summary.Summary.{Summary}
 use Rattle.cast_text.specs.Live.{IsFinished, counts_text, node_text, nodes_text, rest_text, summary_text, ends_of}

@@ -3,7 +3,7 @@ use Rattle.std.specs.Prelude.{◌≡◌, ℕ, List, Bool, not, Option, Result, O
 use Rattle.cast_message.specs.declared.config.Config.{Config}
 use Rattle.cast_world.specs.Group.{State, Stands}
 use Rattle.cast_record.specs.Text.{record_text}
-use Rattle.cast_record.specs.Written.{WroteAll}
+use Rattle.cast_words.specs.Written.{WroteAll}
 use Rattle.cast_text.specs.declared.text.TextFault.{TextFault}
 use Rattle.cast_text.specs.Rec.{Left}
 use Rattle.cast_text.specs.Text.{BreaksOff}

@@ -7,7 +7,7 @@ use crate::record::is_want_of_memory;
 use crate::text::{TextFault, read_script_text};
 use cast_draw::{DrawFault, Picture, Window, write_drawing};
 use cast_message::Event;
-use cast_record::Meter;
+use cast_words::Meter;
 use cast_script::{Script, ScriptEvent};
 use cast_world::World;
 use std::alloc::Global;

@@ -3,7 +3,7 @@ ghost use Rattle.std.specs.Prelude.{◌≡◌, ◌<◌, ◌≤◌, length, false
 ghost use Rattle.cast_text.specs.Text.{IsOfReading, IsTold};
 
 use crate::text::TextFault;
-use cast_record::Meter;
+use cast_words::Meter;
 use std::alloc::Global;
 use std::io::Read;
 

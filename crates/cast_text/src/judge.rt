@@ -6,7 +6,8 @@ ghost use Rattle.cast_text.specs.Text.{IsTold};
 use crate::input::INPUT_LIMIT;
 use crate::text::TextFault;
 use cast_judge::{Judging, Verdict};
-use cast_record::{Meter, write_verdict};
+use cast_record::write_verdict;
+use cast_words::Meter;
 use std::alloc::Global;
 use std::io::{Read, Write};
 

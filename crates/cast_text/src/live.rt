@@ -13,7 +13,7 @@ use crate::summary::{Summary, summarize, write_summary};
 use crate::text::{TextFault, read_script_text};
 use cast_merge::{Assembly, GroupReport, assemble};
 use cast_message::{Item, List, NodeId};
-use cast_record::Meter;
+use cast_words::Meter;
 use cast_run::{CountingGate, Progress, SubmitAll, run_live};
 use cast_script::{Script, write_script};
 use std::alloc::{AllocError, Global};

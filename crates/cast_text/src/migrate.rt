@@ -5,7 +5,8 @@ ghost use Rattle.cast_text.specs.Text.{IsTold};
 
 use crate::input::read_input;
 use crate::text::TextFault;
-use cast_record::{Meter, MigrateFault, migrate, write_bytes};
+use cast_record::{MigrateFault, migrate};
+use cast_words::{Meter, write_bytes};
 use std::alloc::Global;
 use std::io::{Read, Write};
 

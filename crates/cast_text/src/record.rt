@@ -11,7 +11,8 @@ ghost use Rattle.cast_text.specs.Recorded.{Writes, Tries, Leaves};
 
 use crate::text::TextFault;
 use cast_message::{Config, Event, Reply, StepFault};
-use cast_record::{Line, Meter, lines_of, write_line, write_record};
+use cast_record::{Line, lines_of, write_line, write_record};
+use cast_words::Meter;
 use cast_script::{Script, ScriptEvent};
 use cast_world::World;
 use std::alloc::Global;

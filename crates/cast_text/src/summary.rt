@@ -6,7 +6,7 @@ ghost use Rattle.cast_message.specs.History.{History};
 ghost use Rattle.cast_message.specs.Delivery.{delivered};
 ghost use Rattle.cast_message.specs.Replies.{history};
 ghost use Rattle.cast_world.specs.Group.{Stands};
-ghost use Rattle.cast_record.specs.Written.{Writes};
+ghost use Rattle.cast_words.specs.Written.{Writes};
 ghost use Rattle.cast_text.specs.Live.{IsFinished, IsSummaryOf, ends_of, end_word, end_text, counts_text, node_text, nodes_text, rest_text, summary_text};
 
 use crate::live::FinishedRun;
@@ -15,7 +15,8 @@ use crate::verdict::judge_run;
 use cast_judge::Verdict;
 use cast_merge::{EngineEnd, NodeReport};
 use cast_message::{Config, NodeId};
-use cast_record::{Meter, WriteFault, write_bytes, write_number, write_verdict};
+use cast_record::write_verdict;
+use cast_words::{Meter, WriteFault, write_bytes, write_number};
 use cast_world::World;
 use std::alloc::{AllocError, Global};
 use std::io::Write;

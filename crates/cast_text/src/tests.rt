@@ -2,7 +2,7 @@
 mod live;
 
 use crate::{TextFault, Verdict, judge_text, migrate_text, run_text};
-use cast_record::Meter;
+use cast_words::Meter;
 use cast_script::ScriptFault;
 use std::alloc::Global;
 use std::io::{self, Error, ErrorKind, Read, Write};

@@ -7,7 +7,8 @@ ghost use Rattle.cast_text.specs.Replayed.{run_record};
 
 use cast_judge::{Judging, Verdict};
 use cast_message::{Config, Event, Reply};
-use cast_record::{Line, Meter, lines_of, write_record};
+use cast_record::{Line, lines_of, write_record};
+use cast_words::Meter;
 use std::alloc::{AllocError, Global};
 
 /// The verdict on the record of these events with these replies. The judge is fed the lines of one event after another.

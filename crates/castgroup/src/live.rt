@@ -4,7 +4,7 @@ ghost use Rattle.cast_text.specs.Live.{IsFinished};
 
 use crate::progress::{Teller, due_deliveries};
 use crate::status::{Status, refuse};
-use cast_record::Meter;
+use cast_words::Meter;
 use cast_run::Progress;
 use cast_text::{
     Counted, FinishedRun, INPUT_LIMIT, Summary, TextFault, Verdict, read_script_text, run_script,

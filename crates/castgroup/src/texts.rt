@@ -2,7 +2,7 @@
 ghost use Rattle.std.specs.Prelude.{◌≡◌, false};
 
 use crate::status::{Status, refuse};
-use cast_record::Meter;
+use cast_words::Meter;
 use cast_text::{TextFault, Verdict, Window, draw_text, judge_text, migrate_text, run_text};
 use std::alloc::Global;
 use std::io::{BufWriter, Read, Write};

@@ -7,7 +7,7 @@ use crate::{
     Counted, FinishedRun, Summary, TextFault, Verdict, live_text, read_script_text, run_script,
     run_text, summarize, write_record_of, write_replay_of, write_summary,
 };
-use cast_record::Meter;
+use cast_words::Meter;
 use cast_run::{LiveFault, Progress};
 use std::alloc::Global;
 use std::io::Write;

@@ -1,7 +1,8 @@
 use Rattle.std.proofs.Common.{decimal}
 use Rattle.std.proofs.lemmas.Result.{err_from_is_err_and}
-use Rattle.cast_record.specs.Hex.{hex}
-use Rattle.cast_record.proofs.WritingLemmas.{going_start, going_again, going_more, going_fails, going_last, propose-parts}
+use Rattle.cast_words.specs.Hex.{hex}
+use Rattle.cast_words.proofs.WritingLemmas.{going_start, going_again, going_more, going_fails, going_last}
+use Rattle.cast_record.proofs.WritingLemmas.{propose-parts}
 use Rattle.cast_record.proofs.writing.write_item.Goals as goal
 
 pub returns-in_err-write_bytes-in-Data : goal.returns-in_err-write_bytes-in-Data

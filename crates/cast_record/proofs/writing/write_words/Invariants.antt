@@ -1,7 +1,8 @@
 use Rattle.std.proofs.Common.{drop, map, ◌++◌, ◌∷◌, []}
 use Rattle.std.specs.List.{join_with_byte}
 use Rattle.cast_record.specs.Words.{word_text}
-use Rattle.cast_record.proofs.WritingLemmas.{IsGoing, others_text}
+use Rattle.cast_words.proofs.WritingLemmas.{IsGoing}
+use Rattle.cast_record.proofs.WritingLemmas.{others_text}
 use Rattle.cast_record.proofs.writing.write_words.Given as goal
 
 abbrev pub invariant-loop-word : goal.invariant-loop-word

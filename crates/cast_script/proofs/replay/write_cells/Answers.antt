@@ -1,6 +1,6 @@
 use Rattle.std.proofs.Common.{map}
 use Rattle.std.proofs.lemmas.Result.{err_from_is_err_and}
-use Rattle.cast_record.proofs.WritingLemmas.{going_start, going_again, going_more, going_fails, going_last}
+use Rattle.cast_words.proofs.WritingLemmas.{going_start, going_again, going_more, going_fails, going_last}
 use Rattle.cast_script.specs.Cells.{cell_text}
 use Rattle.cast_script.specs.Replay.{word_text}
 use Rattle.cast_script.proofs.ReplayWriting.{no_cell, array-parts, cells-next, cells-end}

@@ -1,6 +1,6 @@
 use Rattle.std.proofs.Common.{ap}
 use Rattle.std.proofs.lemmas.Result.{err_from_is_err_and}
-use Rattle.cast_record.proofs.WritingLemmas.{going_start, going_again, going_more, going_fails, going_last}
+use Rattle.cast_words.proofs.WritingLemmas.{going_start, going_again, going_more, going_fails, going_last}
 use Rattle.cast_script.specs.Replay.{events_text}
 use Rattle.cast_script.proofs.replay.write_events.Goals as goal
 

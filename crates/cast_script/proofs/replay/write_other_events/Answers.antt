@@ -1,5 +1,5 @@
 use Rattle.std.proofs.lemmas.Result.{err_from_is_err_and}
-use Rattle.cast_record.proofs.WritingLemmas.{going_again, going_more, going_fails}
+use Rattle.cast_words.proofs.WritingLemmas.{going_again, going_more, going_fails}
 use Rattle.cast_script.proofs.ReplayWriting.{others-next}
 use Rattle.cast_script.proofs.replay.write_other_events.Goals as goal
 

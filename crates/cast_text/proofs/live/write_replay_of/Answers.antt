@@ -2,7 +2,7 @@ use Rattle.std.proofs.Common.{List, subst}
 use Rattle.std.proofs.lemmas.Result.{err_from_is_err_and}
 use Rattle.cast_message.specs.declared.config.Config.{Config}
 use Rattle.cast_message.specs.declared.event.Event.{Event}
-use Rattle.cast_record.specs.Written.{WrotePrefix}
+use Rattle.cast_words.specs.Written.{WrotePrefix}
 use Rattle.cast_script.specs.Replay.{script_text}
 use Rattle.cast_text.proofs.Recording.{prefix_breaks}
 use Rattle.cast_text.proofs.live.write_replay_of.Goals as goal

@@ -4,7 +4,7 @@ use Rattle.std.proofs.lemmas.List.{drop_all}
 use Rattle.cast_record.specs.declared.line.Line.TheVariants.{End}
 use Rattle.cast_record.specs.Lines.{head_of}
 use Rattle.cast_record.specs.Text.{line_text, record_text}
-use Rattle.cast_record.proofs.WritingLemmas.{going_again}
+use Rattle.cast_words.proofs.WritingLemmas.{going_again}
 use Rattle.cast_world.specs.Group.{Stands}
 use Rattle.cast_text.specs.Rec.{record_of, lines_from}
 use Rattle.cast_text.proofs.Recording.{wants_memory, first_breaks, making_none, making_next, making_more, making_breaks, made_end, only_end, last_piece}

@@ -3,7 +3,7 @@ use Rattle.std.proofs.lemmas.Result.{err_from_is_err_and}
 use Rattle.cast_record.specs.declared.line.Line.TheVariants.{End}
 use Rattle.cast_record.specs.Lines.{head_of, lines_for}
 use Rattle.cast_record.specs.Text.{line_text, record_text}
-use Rattle.cast_record.proofs.WritingLemmas.{going_start, going_again, going_more}
+use Rattle.cast_words.proofs.WritingLemmas.{going_start, going_again, going_more}
 use Rattle.cast_text.specs.Replayed.{lines_told}
 use Rattle.cast_text.proofs.Recording.{first_breaks, going_breaks, last_piece}
 use Rattle.cast_text.proofs.Replaying.{told-next, told-end}

@@ -1,7 +1,7 @@
 use Rattle.std.proofs.Common.{drop, ◌++◌, ◌∷◌, []}
 use Rattle.cast_record.specs.declared.line.Line.TheVariants.{End}
 use Rattle.cast_record.specs.Text.{record_text}
-use Rattle.cast_record.proofs.WritingLemmas.{IsGoing}
+use Rattle.cast_words.proofs.WritingLemmas.{IsGoing}
 use Rattle.cast_text.specs.Replayed.{lines_told, run_record}
 use Rattle.cast_text.proofs.replay.write_run_record.Given as goal
 

@@ -1,5 +1,5 @@
 use Rattle.std.proofs.lemmas.Result.{err_from_is_err_and}
-use Rattle.cast_record.proofs.WritingLemmas.{going_start, going_more, going_fails, going_last}
+use Rattle.cast_words.proofs.WritingLemmas.{going_start, going_more, going_fails, going_last}
 use Rattle.cast_text.proofs.summary.write_count.Goals as goal
 
 pub returns-in_err-write_bytes : goal.returns-in_err-write_bytes

@@ -1,6 +1,6 @@
 use Rattle.std.proofs.Common.{rules}
 use Rattle.std.proofs.lemmas.Result.{err_from_is_err_and}
-use Rattle.cast_record.proofs.WritingLemmas.{going_start, going_again, going_more, going_fails, going_done}
+use Rattle.cast_words.proofs.WritingLemmas.{going_start, going_again, going_more, going_fails, going_done}
 use Rattle.cast_text.proofs.SummaryLemmas.{all_counts, counts-next, counts-end}
 use Rattle.cast_text.proofs.summary.write_counts.Goals as goal
 

@@ -3,7 +3,7 @@ use Rattle.std.proofs.Common.{◌≡◌, ◌-◌, false}
 use Rattle.std.specs.List.{range_with_len}
 use Rattle.cast_message.specs.History.{History}
 use Rattle.cast_world.specs.Group.{Stands}
-use Rattle.cast_record.proofs.WritingLemmas.{IsGoing}
+use Rattle.cast_words.proofs.WritingLemmas.{IsGoing}
 use Rattle.cast_text.specs.Live.{counts_text}
 use Rattle.cast_text.proofs.summary.write_counts.Given as goal
 

@@ -1,7 +1,7 @@
 use Rattle.std.proofs.Common.{◌++◌, ap, sym, codes}
 use Rattle.std.specs.List.{range_with_len}
 use Rattle.std.proofs.lemmas.Result.{err_from_is_err_and}
-use Rattle.cast_record.proofs.WritingLemmas.{going_start, going_again, going_more, going_fails, going_last}
+use Rattle.cast_words.proofs.WritingLemmas.{going_start, going_again, going_more, going_fails, going_last}
 use Rattle.cast_text.specs.Live.{end_text, counts_text}
 use Rattle.cast_text.proofs.summary.write_node.Goals as goal
 

@@ -2,7 +2,7 @@
 use Rattle.std.proofs.Common.{◌≡◌, false, drop}
 use Rattle.cast_message.specs.History.{History}
 use Rattle.cast_world.specs.Group.{Stands}
-use Rattle.cast_record.proofs.WritingLemmas.{IsGoing}
+use Rattle.cast_words.proofs.WritingLemmas.{IsGoing}
 use Rattle.cast_text.specs.Live.{nodes_text, ends_of}
 use Rattle.cast_text.proofs.summary.write_nodes.Given as goal
 

@@ -1,5 +1,5 @@
 use Rattle.std.proofs.lemmas.Result.{err_from_is_err_and}
-use Rattle.cast_record.proofs.WritingLemmas.{going_start, going_again, going_more, going_fails, going_last}
+use Rattle.cast_words.proofs.WritingLemmas.{going_start, going_again, going_more, going_fails, going_last}
 use Rattle.cast_text.proofs.SummaryLemmas.{nodes_named, rest_named, stands_named}
 use Rattle.cast_text.proofs.summary.write_summary.Goals as goal
 

@@ -1,0 +1,5 @@
+pub mod WritingLemmas
+pub mod DigitLemmas
+pub mod HexLemmas
+pub mod UnhexLemmas
+pub mod NumberLemmas

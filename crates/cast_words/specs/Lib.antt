@@ -1,0 +1,5 @@
+pub mod Hex
+pub mod Unhex
+pub mod Numbers
+pub mod Modes
+pub mod Written

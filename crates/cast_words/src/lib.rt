@@ -1,0 +1,20 @@
+//! The words that records, scripts and pictures share: numbers as decimal digits, bytes as two digits each, and the mode;
+//! written, without memory, to a writer that may fail, and read back.
+#![tactic(auto)]
+
+mod digits;
+mod hex;
+mod meter;
+mod mode;
+mod numbers;
+mod unhex;
+mod writing;
+
+pub use meter::{Failed, Meter};
+pub use mode::mode_name;
+pub use numbers::number;
+pub use unhex::bytes_of;
+pub use writing::{WriteFault, write_bytes, write_hex, write_number};
+
+#[cfg(test)]
+mod tests;

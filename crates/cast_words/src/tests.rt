@@ -1,0 +1,79 @@
+//! The words that are written, read back; a reader that fails.
+use crate::{Failed, Meter, bytes_of, mode_name, number, write_bytes, write_hex, write_number};
+use cast_message::Mode;
+use std::io::{self, Error, ErrorKind, Read};
+use std::test::Fail;
+
+#[test]
+fn writes_words(rt: HostRuntime) -> Result<(), Fail> {
+    let mut writer = Meter::new(Vec::new(rt.alloc()));
+    write_bytes(mode_name(Mode::Uniform), &mut writer)?;
+    write_bytes(b" ", &mut writer)?;
+    write_number(u64::MAX, &mut writer)?;
+    write_bytes(b" ", &mut writer)?;
+    write_hex(&[0, 159, 255], &mut writer)?;
+    assert_eq!(rt;
+        writer.into_inner().as_slice(),
+        b"uniform 18446744073709551615 009fff"
+    );
+    Ok(())
+}
+
+#[test]
+fn reads_words(rt: HostRuntime) -> Result<(), Fail> {
+    assert_eq!(rt; number(b"18446744073709551615"), Some(u64::MAX));
+    for word in [
+        &b""[..],
+        b"00",
+        b"01",
+        b"18446744073709551616",
+        b"1a",
+        b"-1",
+    ] {
+        assert_eq!(rt; number(word), None);
+    }
+    let Some(bytes) = bytes_of(rt.alloc(), b"009fff")? else {
+        return Err(Fail::from(Failed));
+    };
+    assert_eq!(rt; bytes.as_slice(), [0, 159, 255]);
+    for word in [&b"0"[..], b"9F", b"0g", b"009"] {
+        assert!(rt; bytes_of(rt.alloc(), word)?.is_none());
+    }
+    Ok(())
+}
+
+/// A reader that answers an error at every second call, and else gives one byte.
+#[derive(Drop)]
+struct Halting {
+    halts: bool,
+}
+
+impl Read for Halting {
+    fn read(&mut self, buf: &mut [u8]) -> io::Result<usize> {
+        self.halts = !self.halts;
+        if !self.halts {
+            return Err(Error::from(ErrorKind::Other));
+        }
+        match buf.first_mut() {
+            Some(byte) => {
+                *byte = b'a';
+                Ok(1)
+            }
+            None => Ok(0),
+        }
+    }
+}
+
+#[test]
+fn a_meter_remembers_a_failed_read(rt: HostRuntime) -> Result<(), Fail> {
+    let mut reader = Meter::new(Halting { halts: false });
+    let mut bytes = [0; 4];
+    assert_eq!(rt; reader.read(&mut bytes), Ok(1));
+    assert_eq!(rt; bytes, [b'a', 0, 0, 0]);
+    assert!(rt; !reader.failed());
+    assert_eq!(rt; reader.read(&mut bytes), Err(Failed));
+    assert!(rt; reader.failed());
+    assert_eq!(rt; reader.read(&mut bytes), Ok(1));
+    assert!(rt; reader.failed());
+    Ok(())
+}

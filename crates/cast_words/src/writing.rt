@@ -1,0 +1,60 @@
+//! Writing words: without memory, each whole or a prefix of it.
+ghost use Rattle.std.specs.Prelude.{◌≡◌, ℕ, ◌+◌, ◌<◌, ◌++◌, [], ◌∷◌, false, decimal};
+ghost use Rattle.cast_words.specs.Hex.{hex};
+ghost use Rattle.cast_words.specs.Written.{Writes};
+
+use crate::digits::Digits;
+use crate::hex::HexDigits;
+use crate::meter::Meter;
+use std::io::Write;
+use thiserror::Error;
+
+const BYTES_AT_ONCE: usize = 32;
+
+/// Why a text was not written: the writer failed, or took no byte, in this call.
+#[derive(Clone, Copy, Debug, PartialEq, Eq, Error)]
+pub enum WriteFault {
+    #[error("the writer failed or took no byte")]
+    Write,
+}
+
+/// Writes the number in decimal digits. It takes no memory; a refusal comes as in `write_bytes`.
+pub fn write_number<W: Write>(number: u64, writer: &mut Meter<W>) -> Result<(), WriteFault>
+    requires { writer.old.failed ≡ false }
+    ensures { Writes (W.contents writer.old.inner) (W.contents writer.new.inner) writer.new.failed result (decimal number) }
+{
+    write_bytes(Digits::new(number).as_slice(), writer)
+}
+
+/// Writes each byte as two digits. It takes no memory; a refusal comes as in `write_bytes`.
+pub fn write_hex<W: Write>(bytes: &[u8], writer: &mut Meter<W>) -> Result<(), WriteFault>
+    requires { writer.old.failed ≡ false }
+    ensures { Writes (W.contents writer.old.inner) (W.contents writer.new.inner) writer.new.failed result (hex bytes.now) }
+{
+    let mut rest = bytes;
+    while !rest.is_empty() {
+        let (front, others) = rest.split_at(rest.len().min(BYTES_AT_ONCE));
+        write_bytes(HexDigits::new(front).as_slice(), writer)?;
+        rest = others;
+    }
+    Ok(())
+}
+
+/// Writes all the bytes. It takes no memory. A refusal comes only where the writer failed or took no byte; the meter tells
+/// so from then on, and a front of the bytes stands.
+pub fn write_bytes<W: Write>(bytes: &[u8], writer: &mut Meter<W>) -> Result<(), WriteFault>
+    requires { writer.old.failed ≡ false }
+    ensures { Writes (W.contents writer.old.inner) (W.contents writer.new.inner) writer.new.failed result bytes.now }
+{
+    let mut rest = bytes;
+    while !rest.is_empty() {
+        let Ok(count) = writer.write(rest) else {
+            return Err(WriteFault::Write);
+        };
+        if count == 0 {
+            return Err(WriteFault::Write);
+        }
+        rest = &rest[count..];
+    }
+    Ok(())
+}
