@@ -242,7 +242,8 @@ impl Picture {
         let first = Cell::below(Spot::on_line(self.next, node));
         let last = put_outcome(&mut self.marks, first, index, node, deliveries, decisions)?;
         let values = if decisions.is_empty() { 0 } else { FOR_VALUES };
-        self.advance(last.x + WIDE + values)
+        // The last place stands in this column or to its right.
+        self.advance(self.next.max(last.x) + WIDE + values)
     }
 
     // The next column stands here. A place past the last finds no memory.
