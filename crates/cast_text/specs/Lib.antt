@@ -6,3 +6,4 @@ pub mod Migrating
 pub mod Ranges
 pub mod Replayed
 pub mod Live
+pub mod Drawing

@@ -139,7 +139,7 @@ fn record_event<W: Write>(
     Ok(reply.is_ok())
 }
 
-fn is_want_of_memory(reply: &Reply) -> bool
+pub fn is_want_of_memory(reply: &Reply) -> bool
     ensures { result ≡ is_want_of_memory reply.now }
 {
     matches!(reply, Err(StepFault::Memory))

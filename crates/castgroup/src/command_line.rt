@@ -2,7 +2,7 @@
 use crate::status::{Status, refuse};
 use cast_text::TextFault;
 use clap::error::ErrorKind;
-use clap::{Arg, ArgAction, Command, Error};
+use clap::{Arg, ArgAction, Command, Error, value_parser};
 use std::alloc::{AllocError, Global};
 use std::io;
 use std::rt::Runtime;
@@ -43,6 +43,16 @@ const ENDS: &str =
 rest: whether all that live nodes gave live nodes was acknowledged
 verdict: what the judge says of the record of what happened";
 
+/// What the marks of a picture mean.
+const MARKS: &str = "A line for each node, time to the right, a column for each event. Marks:
+  dot      a broadcast, with the item
+  arrow    a frame that arrives, in the colour of the message's sender; dotted and grey an acknowledgement
+  stub     a frame that never arrives, with a small cross
+  box      a delivery, with sender and number
+  diamond  a decision, with the value
+  cross    a crash
+A pale mark below the lines is a refused event with its code, a pale ground a settle.";
+
 /// The words that the program was called with.
 pub fn command_words<R: Runtime + AllocGlobal>(rt: &R) -> io::Result<Vec<String>> {
     let words = std::env::args(rt)?.collect(rt.alloc())?;
@@ -72,6 +82,7 @@ pub fn castgroup_command<'a>(alloc: Global) -> Result<Command<'a>, AllocError> {
         .after_help(RULES)
         .arg(record)?;
     let live = live_command(alloc)?;
+    let draw = draw_command(alloc)?;
     let old_record = Arg::new(alloc, "RECORD").help("The record; standard input if absent");
     let migrate = Command::new(alloc, "migrate")
         .about("Writes a cast/1 record with the head of cast/2")
@@ -83,7 +94,29 @@ pub fn castgroup_command<'a>(alloc: Global) -> Result<Command<'a>, AllocError> {
         .subcommand(run)?
         .subcommand(judge)?
         .subcommand(live)?
-        .subcommand(migrate)
+        .subcommand(migrate)?
+        .subcommand(draw)
+}
+
+/// The command that draws the run of a script.
+pub fn draw_command<'a>(alloc: Global) -> Result<Command<'a>, AllocError> {
+    let script = Arg::new(alloc, "SCRIPT").help("The script; standard input if absent");
+    let from = Arg::new(alloc, "from")
+        .long("from")
+        .value_name("A")
+        .value_parser(value_parser!(u64))
+        .help("The first event that is drawn, counted from 0; the first of all if absent");
+    let to = Arg::new(alloc, "to")
+        .long("to")
+        .value_name("B")
+        .value_parser(value_parser!(u64))
+        .help("The last event that is drawn; the last of all if absent");
+    Command::new(alloc, "draw")
+        .about("Writes a picture of a script's events as SVG")
+        .after_help(MARKS)
+        .arg(from)?
+        .arg(to)?
+        .arg(script)
 }
 
 // The command that runs a group in threads.

@@ -2,6 +2,7 @@
 #![tactic(auto)]
 
 mod command_line;
+mod draw;
 mod live;
 mod progress;
 mod status;
@@ -10,6 +11,7 @@ mod texts;
 use cast_text::TextFault;
 use clap::ArgMatches;
 use command_line::{castgroup_command, command_words, refuse_words, show};
+use draw::draw_script;
 use live::live_script;
 use status::{Status, refuse};
 use std::io::Stderr;
@@ -49,6 +51,7 @@ fn run_matches<R: Runtime + AllocGlobal + Threads + Wait + Copy + Send + 'static
         Some(("run", inner)) => write_text(rt, TextCommand::Run, inner.get_str("SCRIPT")),
         Some(("judge", inner)) => write_text(rt, TextCommand::Judge, inner.get_str("RECORD")),
         Some(("live", inner)) => live_script(rt, inner, stderr),
+        Some(("draw", inner)) => draw_script(rt, inner),
         Some(("migrate", inner)) => write_text(rt, TextCommand::Migrate, inner.get_str("RECORD")),
         _ => Status::Usage,
     }

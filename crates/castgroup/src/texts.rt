@@ -1,9 +1,9 @@
-//! The commands that read one text and write another: `run`, `judge` and `migrate`.
+//! The commands that read one text and write another: `run`, `judge`, `migrate` and `draw`.
 ghost use Rattle.std.specs.Prelude.{◌≡◌, false};
 
 use crate::status::{Status, refuse};
 use cast_words::Meter;
-use cast_text::{TextFault, Verdict, judge_text, migrate_text, run_text};
+use cast_text::{TextFault, Verdict, Window, draw_text, judge_text, migrate_text, run_text};
 use std::alloc::Global;
 use std::io::{BufWriter, Read, Write};
 use std::rt::Runtime;
@@ -18,6 +18,8 @@ pub enum TextCommand {
     Judge,
     /// Writes a record with the new head.
     Migrate,
+    /// Writes the picture of a script's events, of which those of the window are drawn.
+    Draw(Window),
 }
 
 impl TextCommand {
@@ -37,6 +39,7 @@ impl TextCommand {
                 Verdict::Bad { .. } => return Ok(Status::Bad),
             },
             TextCommand::Migrate => migrate_text(alloc, reader, writer)?,
+            TextCommand::Draw(window) => draw_text(alloc, window, reader, writer)?,
         }
         Ok(Status::Good)
     }

@@ -1,0 +1,105 @@
+//! Where marks stand on the sheet, in points from its left upper corner.
+ghost use Rattle.std.specs.Prelude.{◌≡◌, ◌<◌, ◌≤◌, ◌^◌, IfOk};
+
+use crate::height::height_of;
+use cast_message::NodeId;
+use std::alloc::AllocError;
+
+/// Where the lines of the nodes begin.
+pub const LINES_FROM: u64 = 76;
+
+/// Where the column of the first event stands.
+pub const FIRST_COLUMN: u64 = 92;
+
+/// From a column whose event has no box to the next.
+pub const NARROW: u64 = 16;
+
+/// From a column with boxes to the next, of which the boxes take 44.
+pub const WIDE: u64 = 56;
+
+/// What a value beside a diamond takes more than a box.
+pub const FOR_VALUES: u64 = 20;
+
+/// The last place of a column.
+pub const FARTHEST: u64 = 1_099_511_627_776;
+
+/// A point of the sheet.
+#[derive(Clone, Copy, Debug)]
+pub struct Spot {
+    pub x: u64,
+    pub y: u64,
+    pub ghost left: { 76 ≤ x },
+    pub ghost right: { x < 2 ^ 41 },
+    pub ghost upper: { 76 ≤ y },
+    pub ghost lower: { y < 2 ^ 17 },
+}
+
+impl Spot {
+    ghost use Rattle.cast_draw.specs.Heights.{height_of};
+
+    /// The place of a column on a node's line.
+    pub fn on_line(x: u64, node: NodeId) -> Spot
+        requires left { 76 ≤ x }
+        requires right { x < 2 ^ 41 }
+        ensures { (result.x ≡ x) × (result.y ≡ height_of node) }
+    {
+        Spot {
+            x,
+            y: height_of(node),
+        }
+    }
+}
+
+/// A place for a box or a diamond below a node's line. There are three in a row below one another, and then three more to the
+/// right of them.
+#[derive(Clone, Copy, Debug)]
+pub struct Cell {
+    /// The column that the place stands in.
+    pub x: u64,
+    /// How many places of the row are above it.
+    pub row: u64,
+    /// The height of the node's line.
+    pub line: u64,
+    pub ghost left: { 76 ≤ x },
+    pub ghost right: { x < 2 ^ 41 },
+    pub ghost within: { row < 3 },
+    pub ghost lower: { line < 2 ^ 17 },
+}
+
+impl Cell {
+    ghost use Rattle.cast_draw.specs.Places.{next_x, next_row};
+
+    /// The first place below the point of a node's line.
+    pub fn below(spot: Spot) -> Cell
+        ensures { (result.x ≡ spot.x) × (result.row ≡ 0) × (result.line ≡ spot.y) }
+    {
+        Cell {
+            x: spot.x,
+            row: 0,
+            line: spot.y,
+        }
+    }
+
+    #[tactic(auto, using(std::proofs::lemmas::Bool::Decides::nat_tests))]
+    /// The place for what comes next. A place past the last column finds no memory.
+    pub fn next(self) -> Result<Cell, AllocError>
+        ensures { IfOk result (λ cell. (cell.x ≡ next_x self.x self.row) × (cell.row ≡ next_row self.row) × (cell.line ≡ self.line)) }
+    {
+        let Cell { x, row, line } = self;
+        if row < 2 {
+            return Ok(Cell {
+                x,
+                row: row + 1,
+                line,
+            });
+        }
+        if x > FARTHEST {
+            return Err(AllocError);
+        }
+        Ok(Cell {
+            x: x + WIDE,
+            row: 0,
+            line,
+        })
+    }
+}

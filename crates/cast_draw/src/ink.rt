@@ -1,0 +1,134 @@
+//! The text of a picture as it grows.
+ghost use Rattle.std.specs.Prelude.{◌≡◌, ◌<◌, ◌++◌, [], OnOk, decimal};
+ghost use Rattle.cast_record.specs.Text.{item_word};
+ghost use Rattle.cast_words.specs.Hex.{hex, hex_digit};
+ghost use Rattle.cast_draw.specs.Pieces.{piece_text, text_of};
+
+use crate::label::{put_item_label, put_value_label};
+use cast_message::Item;
+use itoa::Buffer;
+use std::alloc::{AllocError, Global};
+use std::marker::Model;
+
+/// A part of a mark's text.
+#[derive(Drop)]
+pub enum Piece<'a> {
+    /// These bytes.
+    Text(&'a [u8]),
+    /// The number in decimal.
+    Number(u64),
+    /// The word that the item has in a record.
+    Word(&'a Item),
+    /// The item as it is shown beside a mark.
+    Label(&'a Item),
+    /// The number as it is shown beside a mark.
+    Value(u64),
+}
+
+/// A text that grows at its end. Contracts see its bytes.
+#[derive(Debug, Drop)]
+pub struct Ink {
+    bytes: Vec<u8>,
+}
+
+impl Model for Ink {
+    ghost use Rattle.std.specs.Prelude.{ℕ, List};
+
+    ghost Value = { List ℕ };
+
+    ghost view = { λ ink. ink.bytes.items };
+}
+
+impl Ink {
+    /// No text, which takes no memory.
+    pub fn new(alloc: Global) -> Ink
+        ensures { result ≡ [] }
+    {
+        Ink {
+            bytes: Vec::new(alloc),
+        }
+    }
+
+    /// The bytes in order.
+    pub fn as_slice(&self) -> &[u8]
+        ensures { result.now ≡ self.now }
+    {
+        self.bytes.as_slice()
+    }
+
+    /// Puts the pieces at the end.
+    pub fn put(&mut self, pieces: &[Piece<'_>]) -> Result<(), AllocError>
+        ensures { OnOk result (self.new ≡ self.old ++ text_of pieces.now) }
+    {
+        for piece in pieces {
+            self.put_piece(piece)?;
+        }
+        Ok(())
+    }
+
+    fn put_piece(&mut self, piece: &Piece<'_>) -> Result<(), AllocError>
+        ensures { OnOk result (self.new ≡ self.old ++ piece_text piece.now) }
+    {
+        match piece {
+            Piece::Text(text) => self.put_bytes(text),
+            Piece::Number(number) => self.put_number(*number),
+            Piece::Word(item) => self.put_word(item),
+            Piece::Label(item) => put_item_label(self, item),
+            Piece::Value(value) => put_value_label(self, *value),
+        }
+    }
+
+    /// Puts these bytes at the end.
+    pub fn put_bytes(&mut self, bytes: &[u8]) -> Result<(), AllocError>
+        ensures { OnOk result (self.new ≡ self.old ++ bytes.now) }
+    {
+        self.bytes.extend_from_slice(bytes)
+    }
+
+    fn put_number(&mut self, number: u64) -> Result<(), AllocError>
+        ensures { OnOk result (self.new ≡ self.old ++ decimal number) }
+    {
+        self.bytes
+            .extend_from_slice(Buffer::new().format(number).as_bytes())
+    }
+
+    /// Puts two digits at the end for each byte.
+    pub fn put_hex(&mut self, bytes: &[u8]) -> Result<(), AllocError>
+        ensures { OnOk result (self.new ≡ self.old ++ hex bytes.now) }
+    {
+        for byte in bytes {
+            self.put_bytes(&[digit(*byte / 16), digit(*byte % 16)])?;
+        }
+        Ok(())
+    }
+
+    fn put_word(&mut self, item: &Item) -> Result<(), AllocError>
+        ensures { OnOk result (self.new ≡ self.old ++ item_word item.now) }
+    {
+        match item {
+            Item::Data(payload) => {
+                self.put_bytes(b"data:")?;
+                self.put_hex(payload.as_slice())
+            }
+            Item::Propose { instance, value } => {
+                self.put_bytes(b"prop:")?;
+                self.put_number(*instance)?;
+                self.put_bytes(b":")?;
+                self.put_number(*value)
+            }
+            Item::Close => self.put_bytes(b"close"),
+        }
+    }
+}
+
+// The digit of a number below sixteen.
+fn digit(number: u8) -> u8
+    requires { number < 16 }
+    ensures { result ≡ hex_digit number }
+{
+    if number < 10 {
+        b'0' + number
+    } else {
+        b'a' + (number - 10)
+    }
+}

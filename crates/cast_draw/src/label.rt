@@ -1,0 +1,132 @@
+//! What stands beside a mark: at most eight letters, whatever the bytes are.
+ghost use Rattle.std.specs.Prelude.{◌≡◌, ◌++◌, OnOk, take, codes};
+ghost use Rattle.std.specs.List.{list_all};
+ghost use Rattle.cast_draw.specs.Labels.{item_label, value_label, proposal_label, data_label, text_label, hex_label, dots, is_printable, escaped, escape_of};
+
+use crate::ink::Ink;
+use cast_message::Item;
+use itoa::Buffer;
+use std::alloc::AllocError;
+
+/// The most letters of a label.
+const LETTERS: usize = 8;
+
+/// What stands behind a label that was cut: three dots in one letter.
+const CUT: &[u8] = b"\xe2\x80\xa6";
+
+/// Puts what is shown of the item: a text where all of its bytes are printable, else their digits; instance and value of a
+/// proposal; or `close`.
+pub fn put_item_label(ink: &mut Ink, item: &Item) -> Result<(), AllocError>
+    ensures { OnOk result (ink.new ≡ ink.old ++ item_label item.now) }
+{
+    match item {
+        Item::Data(payload) => put_data(ink, payload.as_slice()),
+        Item::Propose { instance, value } => put_proposal(ink, *instance, *value),
+        Item::Close => ink.put_bytes(b"close"),
+    }
+}
+
+/// Puts what is shown of a decided value.
+pub fn put_value_label(ink: &mut Ink, value: u64) -> Result<(), AllocError>
+    ensures { OnOk result (ink.new ≡ ink.old ++ value_label value) }
+{
+    let mut buffer = Buffer::new();
+    let digits = buffer.format(value).as_bytes();
+    put_front(ink, digits, LETTERS)?;
+    put_dots(ink, digits.len() > LETTERS)
+}
+
+// Instance and value, of which no digit needs an escape.
+fn put_proposal(ink: &mut Ink, instance: u64, value: u64) -> Result<(), AllocError>
+    ensures { OnOk result (ink.new ≡ ink.old ++ proposal_label instance value) }
+{
+    let mut first = Buffer::new();
+    let mut second = Buffer::new();
+    let instance = first.format(instance).as_bytes();
+    let value = second.format(value).as_bytes();
+    put_front(ink, instance, LETTERS)?;
+    put_front(ink, b":", LETTERS.saturating_sub(instance.len()))?;
+    put_front(ink, value, (LETTERS - 1).saturating_sub(instance.len()))?;
+    put_dots(ink, instance.len() + 1 + value.len() > LETTERS)
+}
+
+// Puts the first bytes, as many as there is room for.
+fn put_front(ink: &mut Ink, bytes: &[u8], room: usize) -> Result<(), AllocError>
+    ensures { OnOk result (ink.new ≡ ink.old ++ take room bytes.now) }
+{
+    ink.put_bytes(front(bytes, room))
+}
+
+// The first bytes, at most so many.
+fn front(bytes: &[u8], room: usize) -> &[u8]
+    ensures { result.now ≡ take room bytes.now }
+{
+    &bytes[..bytes.len().min(room)]
+}
+
+// Puts the dots behind a label that was cut.
+fn put_dots(ink: &mut Ink, is_cut: bool) -> Result<(), AllocError>
+    ensures { OnOk result (ink.new ≡ ink.old ++ dots is_cut) }
+{
+    if is_cut { ink.put_bytes(CUT) } else { Ok(()) }
+}
+
+fn put_data(ink: &mut Ink, bytes: &[u8]) -> Result<(), AllocError>
+    ensures { OnOk result (ink.new ≡ ink.old ++ data_label bytes.now) }
+{
+    if are_printable(bytes) {
+        put_text(ink, bytes)
+    } else {
+        put_digits(ink, bytes)
+    }
+}
+
+fn put_text(ink: &mut Ink, bytes: &[u8]) -> Result<(), AllocError>
+    ensures { OnOk result (ink.new ≡ ink.old ++ text_label bytes.now) }
+{
+    put_escaped(ink, front(bytes, LETTERS))?;
+    put_dots(ink, bytes.len() > LETTERS)
+}
+
+// Two digits a byte: half as many bytes as there are letters.
+fn put_digits(ink: &mut Ink, bytes: &[u8]) -> Result<(), AllocError>
+    ensures { OnOk result (ink.new ≡ ink.old ++ hex_label bytes.now) }
+{
+    ink.put_hex(front(bytes, LETTERS / 2))?;
+    put_dots(ink, bytes.len() > LETTERS / 2)
+}
+
+fn are_printable(bytes: &[u8]) -> bool
+    ensures { result ≡ list_all is_printable bytes.now }
+{
+    bytes.iter().all(|byte| is_printable(*byte))
+}
+
+fn is_printable(byte: u8) -> bool
+    ensures { result ≡ is_printable byte }
+{
+    (byte >= b' ') & (byte <= b'~')
+}
+
+// Puts the bytes as XML writes them within an element.
+fn put_escaped(ink: &mut Ink, bytes: &[u8]) -> Result<(), AllocError>
+    ensures { OnOk result (ink.new ≡ ink.old ++ escaped bytes.now) }
+{
+    for byte in bytes {
+        put_letter(ink, *byte)?;
+    }
+    Ok(())
+}
+
+fn put_letter(ink: &mut Ink, byte: u8) -> Result<(), AllocError>
+    ensures { OnOk result (ink.new ≡ ink.old ++ escape_of byte) }
+{
+    match byte {
+        b'&' => ink.put_bytes(b"&amp;"),
+        b'<' => ink.put_bytes(b"&lt;"),
+        b'>' => ink.put_bytes(b"&gt;"),
+        b'"' => ink.put_bytes(b"&quot;"),
+        b'\'' => ink.put_bytes(b"&#39;"),
+        other => ink.put_bytes(&[other]),
+    }
+}

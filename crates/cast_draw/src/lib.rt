@@ -1,0 +1,22 @@
+//! The picture of a run: a space-time diagram (Lamport 1978) as SVG, with a line a node, time to the right, and a column for
+//! each event of those that are shown. `specs/Marks` says what each mark is written as.
+#![tactic(auto)]
+
+mod cell;
+mod fault;
+mod frames;
+mod height;
+mod ink;
+mod label;
+mod links;
+mod marks;
+mod page;
+mod picture;
+mod side;
+mod track;
+mod window;
+
+pub use fault::DrawFault;
+pub use page::{Drawing, write_drawing};
+pub use picture::Picture;
+pub use window::Window;

@@ -1,0 +1,345 @@
+//! The marks, each a small function that puts its text at the end of an ink.
+ghost use Rattle.std.specs.Prelude.{◌≡◌, ◌<◌, ◌≤◌, ◌^◌, ◌++◌, OnOk};
+ghost use Rattle.cast_draw.specs.Places.{top_of};
+ghost use Rattle.cast_draw.specs.Marks.{broadcast_text, delivery_text, decision_text, crash_text, refusal_text, ground_text};
+ghost use Rattle.cast_draw.specs.FrameMarks.{class_of, frame_words, cargo_words, arrow_text, stub_path, stub_text, cross_top, lost_text, leaving_text};
+
+use crate::cell::{Cell, Spot};
+use crate::frames::{Cargo, MadeFrame};
+use crate::ink::Ink;
+use crate::ink::Piece::{Label, Number, Text, Value, Word};
+use crate::side::Side;
+use cast_message::{Decision, Item, Message, NodeId};
+use std::alloc::AllocError;
+
+/// How many colours there are. Sender 8 has the colour of sender 0.
+const COLOURS: u8 = 8;
+
+/// A dot on the sender's line, with the item above it.
+pub fn put_broadcast(
+    ink: &mut Ink,
+    spot: Spot,
+    index: u64,
+    node: NodeId,
+    number: u64,
+    item: &Item,
+) -> Result<(), AllocError>
+    ensures { OnOk result (ink.new ≡ ink.old ++ broadcast_text spot.x spot.y index node number item.now) }
+{
+    ink.put(&[
+        Text(b"<g><title>node "),
+        Number(node.0 as u64),
+        Text(b" broadcasts "),
+        Number(node.0 as u64),
+        Text(b"."),
+        Number(number),
+        Text(b" ("),
+        Word(item),
+        Text(b"), event "),
+        Number(index),
+        Text(b"</title><circle class='f"),
+        Number((node.0 % COLOURS) as u64),
+        Text(b"' cx='"),
+        Number(spot.x),
+        Text(b"' cy='"),
+        Number(spot.y),
+        Text(b"' r='5'/><text class='l' x='"),
+        Number(spot.x - 5),
+        Text(b"' y='"),
+        Number(spot.y - 11),
+        Text(b"'>"),
+        Label(item),
+        Text(b"</text></g>\n"),
+    ])
+}
+
+/// A box below the node's line, in the sender's colour.
+pub fn put_delivery(
+    ink: &mut Ink,
+    cell: Cell,
+    index: u64,
+    node: NodeId,
+    message: &Message,
+) -> Result<(), AllocError>
+    ensures { OnOk result (ink.new ≡ ink.old ++ delivery_text cell.x (top_of cell.line cell.row) index node message.now) }
+{
+    let sender = message.sender.0 as u64;
+    let colour = (message.sender.0 % COLOURS) as u64;
+    let top = cell.line + 9 + 15 * cell.row;
+    ink.put(&[
+        Text(b"<g><title>node "),
+        Number(node.0 as u64),
+        Text(b" delivers "),
+        Number(sender),
+        Text(b"."),
+        Number(message.number),
+        Text(b" ("),
+        Word(&message.item),
+        Text(b"), event "),
+        Number(index),
+        Text(b"</title><rect class='b f"),
+        Number(colour),
+        Text(b"' x='"),
+        Number(cell.x + 2),
+        Text(b"' y='"),
+        Number(top),
+        Text(b"' width='44' height='13' rx='3'/><text class='d t"),
+        Number(colour),
+        Text(b"' x='"),
+        Number(cell.x + 24),
+        Text(b"' y='"),
+        Number(top + 10),
+        Text(b"'>"),
+        Number(sender),
+        Text(b"."),
+        Number(message.number),
+        Text(b"</text></g>\n"),
+    ])
+}
+
+/// A diamond below a delivery, with the value that was decided.
+pub fn put_decision(
+    ink: &mut Ink,
+    cell: Cell,
+    index: u64,
+    node: NodeId,
+    decision: Decision,
+) -> Result<(), AllocError>
+    ensures { OnOk result (ink.new ≡ ink.old ++ decision_text cell.x (top_of cell.line cell.row) index node decision) }
+{
+    let top = cell.line + 9 + 15 * cell.row;
+    ink.put(&[
+        Text(b"<g><title>node "),
+        Number(node.0 as u64),
+        Text(b" decides "),
+        Number(decision.value),
+        Text(b" in instance "),
+        Number(decision.instance),
+        Text(b", event "),
+        Number(index),
+        Text(b"</title><path class='v' d='M"),
+        Number(cell.x + 9),
+        Text(b" "),
+        Number(top),
+        Text(b"l6.5 6.5l-6.5 6.5l-6.5 -6.5z'/><text class='w' x='"),
+        Number(cell.x + 19),
+        Text(b"' y='"),
+        Number(top + 10),
+        Text(b"'>"),
+        Value(decision.value),
+        Text(b"</text></g>\n"),
+    ])
+}
+
+/// A cross at the end of a node's line.
+pub fn put_crash(ink: &mut Ink, spot: Spot, index: u64, node: NodeId) -> Result<(), AllocError>
+    ensures { OnOk result (ink.new ≡ ink.old ++ crash_text spot.x spot.y index node) }
+{
+    ink.put(&[
+        Text(b"<g><title>node "),
+        Number(node.0 as u64),
+        Text(b" crashes, event "),
+        Number(index),
+        Text(b"</title><path class='x' d='M"),
+        Number(spot.x - 7),
+        Text(b" "),
+        Number(spot.y - 7),
+        Text(b"l14 14m0 -14l-14 14'/></g>\n"),
+    ])
+}
+
+/// A pale mark of an event that was refused, with its code.
+pub fn put_refusal(ink: &mut Ink, spot: Spot, index: u64, code: u64) -> Result<(), AllocError>
+    ensures { OnOk result (ink.new ≡ ink.old ++ refusal_text spot.x spot.y index code) }
+{
+    ink.put(&[
+        Text(b"<g><title>event "),
+        Number(index),
+        Text(b" is refused with code "),
+        Number(code),
+        Text(b"</title><path class='r' d='M"),
+        Number(spot.x - 3),
+        Text(b" "),
+        Number(spot.y - 3),
+        Text(b"l6 6m0 -6l-6 6'/><text class='q' x='"),
+        Number(spot.x),
+        Text(b"' y='"),
+        Number(spot.y + 16),
+        Text(b"'>"),
+        Number(code),
+        Text(b"</text></g>\n"),
+    ])
+}
+
+// What is said of a frame first: its number, its ends, what it says and what made it.
+fn put_frame_words(ink: &mut Ink, frame: &MadeFrame) -> Result<(), AllocError>
+    ensures { OnOk result (ink.new ≡ ink.old ++ frame_words frame.now) }
+{
+    ink.put(&[
+        Text(b"<title>frame "),
+        Number(frame.seq),
+        Text(b" of node "),
+        Number(frame.from.0 as u64),
+        Text(b" to node "),
+        Number(frame.to.0 as u64),
+    ])?;
+    put_cargo(ink, frame.cargo, frame.slot)?;
+    ink.put(&[Text(b", made by event "), Number(frame.index)])
+}
+
+fn put_cargo(ink: &mut Ink, cargo: Cargo, slot: u64) -> Result<(), AllocError>
+    ensures { OnOk result (ink.new ≡ ink.old ++ cargo_words cargo slot) }
+{
+    match cargo {
+        Cargo::Message(pair) => ink.put(&[
+            Text(b": slot "),
+            Number(slot),
+            Text(b", message "),
+            Number(pair.sender.0 as u64),
+            Text(b"."),
+            Number(pair.number),
+        ]),
+        Cargo::Word => ink.put(&[Text(b": acknowledges slot "), Number(slot)]),
+    }
+}
+
+// The class of what is drawn of a frame: the colour of its message's sender, or that of acknowledgements.
+fn put_class(ink: &mut Ink, frame: &MadeFrame) -> Result<(), AllocError>
+    ensures { OnOk result (ink.new ≡ ink.old ++ class_of frame.now.cargo) }
+{
+    match frame.cargo {
+        Cargo::Message(pair) => ink.put(&[Text(b" s"), Number((pair.sender.0 % COLOURS) as u64)]),
+        Cargo::Word => ink.put(&[Text(b" k")]),
+    }
+}
+
+/// An arrow from where a frame was made to where it arrives.
+pub fn put_arrow(
+    ink: &mut Ink,
+    frame: &MadeFrame,
+    start: Spot,
+    end: Spot,
+    index: u64,
+) -> Result<(), AllocError>
+    ensures { OnOk result (ink.new ≡ ink.old ++ arrow_text frame.now start.x start.y end.x end.y index) }
+{
+    ink.put_bytes(b"<path class='a")?;
+    put_class(ink, frame)?;
+    ink.put(&[
+        Text(b"' d='M"),
+        Number(start.x),
+        Text(b" "),
+        Number(start.y),
+        Text(b"L"),
+        Number(end.x),
+        Text(b" "),
+        Number(end.y),
+        Text(b"'>"),
+    ])?;
+    put_frame_words(ink, frame)?;
+    ink.put(&[
+        Text(b", arrives by event "),
+        Number(index),
+        Text(b"</title></path>\n"),
+    ])
+}
+
+/// A short dashed line that ends in a cross: a frame that never arrives.
+pub fn put_lost(ink: &mut Ink, frame: &MadeFrame, start: Spot, side: Side) -> Result<(), AllocError>
+    ensures { OnOk result (ink.new ≡ ink.old ++ lost_text frame.now start.x start.y side) }
+{
+    put_stub_start(ink, frame, start, b"o", side)?;
+    put_frame_words(ink, frame)?;
+    ink.put_bytes(b", never arrives</title></path><path class='e")?;
+    put_class(ink, frame)?;
+    ink.put(&[
+        Text(b"' d='M"),
+        Number(start.x + 7),
+        Text(b" "),
+        Number(cross_top(side, start.y)),
+        Text(b"l8 8m0 -8l-8 8'/>\n"),
+    ])
+}
+
+/// A short line: a frame that arrives by an event that is not shown.
+pub fn put_leaving(
+    ink: &mut Ink,
+    frame: &MadeFrame,
+    start: Spot,
+    side: Side,
+) -> Result<(), AllocError>
+    ensures { OnOk result (ink.new ≡ ink.old ++ leaving_text frame.now start.x start.y side) }
+{
+    put_stub_start(ink, frame, start, b"u", side)?;
+    put_frame_words(ink, frame)?;
+    ink.put_bytes(b", arrives by an event that is not shown</title></path>\n")
+}
+
+// The line of a stub.
+fn put_stub_start(
+    ink: &mut Ink,
+    frame: &MadeFrame,
+    start: Spot,
+    class: &[u8],
+    side: Side,
+) -> Result<(), AllocError>
+    ensures { OnOk result (ink.new ≡ ink.old ++ stub_text frame.now start.x start.y class.now side) }
+{
+    ink.put_bytes(b"<path class='")?;
+    ink.put_bytes(class)?;
+    put_class(ink, frame)?;
+    ink.put(&[
+        Text(b"' d='M"),
+        Number(start.x),
+        Text(b" "),
+        Number(start.y),
+    ])?;
+    ink.put_bytes(path_of(side))
+}
+
+// Where the line of a stub goes.
+fn path_of(side: Side) -> &'static [u8]
+    ensures { result.now ≡ stub_path side }
+{
+    match side {
+        Side::Up => b"l11 -34'>",
+        Side::Down => b"l11 34'>",
+    }
+}
+
+// The upper edge of the cross at its end.
+fn cross_top(side: Side, line: u64) -> u64
+    requires upper { 38 ≤ line }
+    requires lower { line < 2 ^ 17 }
+    ensures { result ≡ cross_top side line }
+{
+    match side {
+        Side::Up => line - 38,
+        Side::Down => line + 30,
+    }
+}
+
+/// A pale ground behind the columns of a settle, with the word.
+pub fn put_ground(
+    ink: &mut Ink,
+    from: u64,
+    width: u64,
+    height: u64,
+    index: u64,
+) -> Result<(), AllocError>
+    ensures { OnOk result (ink.new ≡ ink.old ++ ground_text from width height index) }
+{
+    ink.put(&[
+        Text(b"<g><title>settle, event "),
+        Number(index),
+        Text(b"</title><rect class='g' x='"),
+        Number(from),
+        Text(b"' y='32' width='"),
+        Number(width),
+        Text(b"' height='"),
+        Number(height),
+        Text(b"'/><text class='h' x='"),
+        Number(from),
+        Text(b"' y='44' dx='4'>settle</text></g>\n"),
+    ])
+}

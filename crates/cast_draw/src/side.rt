@@ -1,0 +1,24 @@
+//! Where a line goes from a node's line.
+ghost use Rattle.std.specs.Prelude.{◌≡◌};
+
+use cast_message::NodeId;
+
+/// How a stub leaves its line.
+#[derive(Clone, Copy, Debug, PartialEq, Eq)]
+pub enum Side {
+    /// To a node whose line is above.
+    Up,
+    /// To a node whose line is below.
+    Down,
+}
+
+impl Side {
+    ghost use Rattle.cast_draw.specs.Sides.{side_of};
+
+    /// On which side of a node's line that of another is.
+    pub fn of(from: NodeId, to: NodeId) -> Side
+        ensures { result ≡ side_of from to }
+    {
+        if to.0 < from.0 { Side::Up } else { Side::Down }
+    }
+}

@@ -1,0 +1,33 @@
+-- The picture of a script's run, as it is written.
+use Rattle.std.specs.Prelude.{◌≡◌, ◌<◌, ◌≤◌, ◌⊎◌, List, ℕ, length, Bool, true, Option, Err, IfSome}
+use Rattle.std.specs.Io.KnownBytes.{Appends, Keeps}
+use Rattle.cast_script.specs.declared.script.Script.{Script}
+use Rattle.cast_script.specs.Script.{Reads}
+use Rattle.cast_text.specs.declared.text.TextFault.{TextFault}
+use Rattle.cast_text.specs.declared.text.TextFault.TheVariants as faults
+use Rattle.cast_text.specs.Text.{input_limit, IsScriptIn, WroteFront}
+
+-- a script was read, and the writer has a text more
+pub record WritesDrawing (input old new : Option (List ℕ)) : Type 0 where
+  pub script : Script
+  pub read : IsScriptIn input script
+  pub text : List ℕ
+  pub appends : Appends old new text
+
+-- a script was read, and the writing broke off
+pub record DrawingBreaksOff (input old new : Option (List ℕ)) (failed : Bool) : Type 0 where
+  pub script : Script
+  pub read : IsScriptIn input script
+  pub text : List ℕ
+  pub broken : failed ≡ true
+  pub front : WroteFront old new text
+
+-- Each fault has its cause, and nothing was written but where the writing broke off.
+abbrev pub DrawingFails : Option (List ℕ) → Bool → Option (List ℕ) → Option (List ℕ) → Bool → TextFault → Type 0
+DrawingFails input read_failed old new failed faults.Read = (read_failed ≡ true) × Keeps old new
+DrawingFails input read_failed old new failed faults.TooLong = IfSome input (λ bytes. input_limit < length bytes) × Keeps old new
+DrawingFails input read_failed old new failed (faults.Script fault) = IfSome input (λ bytes. (length bytes ≤ input_limit) × Reads (Err fault) bytes) × Keeps old new
+DrawingFails input read_failed old new failed faults.Write = DrawingBreaksOff input old new failed
+DrawingFails input read_failed old new failed faults.Memory = Keeps old new
+DrawingFails input read_failed old new failed faults.NotV1 = ⊥
+DrawingFails input read_failed old new failed (faults.Live fault) = ⊥

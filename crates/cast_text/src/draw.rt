@@ -1,0 +1,137 @@
+//! Drawing the run of a script, as the world takes its events.
+ghost use Rattle.std.specs.Prelude.{◌≡◌, false, IfErr, OnOk};
+ghost use Rattle.cast_text.specs.Drawing.{WritesDrawing, DrawingFails};
+ghost use Rattle.cast_text.specs.Text.{IsTold};
+
+use crate::record::is_want_of_memory;
+use crate::text::{TextFault, read_script_text};
+use cast_draw::{DrawFault, Picture, Window, write_drawing};
+use cast_message::Event;
+use cast_words::Meter;
+use cast_script::{Script, ScriptEvent};
+use cast_world::World;
+use std::alloc::Global;
+use std::io::{Read, Write};
+
+/// Reads a script to its end, and writes the picture of its events, of which those of the window are drawn. Nothing is written
+/// before all events were taken: after `Write` a front of the picture stands, or nothing, after any other fault nothing.
+pub fn draw_text<R: Read, W: Write>(
+    alloc: Global,
+    window: Window,
+    reader: &mut Meter<R>,
+    writer: &mut Meter<W>,
+) -> Result<(), TextFault>
+    requires reader { reader.old.failed ≡ false }
+    requires writer { writer.old.failed ≡ false }
+    // The bytes are a script's, and the writer has a text more.
+    ensures ok { OnOk result (WritesDrawing (R.remaining reader.old.inner)
+        (W.contents writer.old.inner) (W.contents writer.new.inner)) }
+    ensures err { IfErr result (DrawingFails (R.remaining reader.old.inner) reader.new.failed
+        (W.contents writer.old.inner) (W.contents writer.new.inner) writer.new.failed) }
+    // What failed is told, and nothing else is.
+    ensures sound { OnOk result ((reader.new.failed ≡ false) × (writer.new.failed ≡ false)) }
+    ensures told { IfErr result (λ fault. IsTold fault reader.new.failed writer.new.failed) }
+{
+    let script = read_script_text(alloc, reader)?;
+    let picture = draw_script(alloc, &script, window)?;
+    let drawing = picture.finish()?;
+    write_drawing(&drawing, writer)?;
+    Ok(())
+}
+
+impl From<DrawFault> for TextFault {
+    ghost use Rattle.std.specs.Prelude.{◌≡◌};
+    ghost use Rattle.cast_text.specs.declared.text.TextFault.TheVariants.{Memory};
+
+    ghost from_gives = { λ _ fault. fault ≡ Memory };
+
+    fn from(why: DrawFault) -> TextFault {
+        match why {
+            DrawFault::Memory => TextFault::Memory,
+        }
+    }
+}
+
+// The picture of all events of the script.
+fn draw_script(alloc: Global, script: &Script, window: Window) -> Result<Picture, TextFault>
+    ensures { IfErr result (λ fault. fault ≡ TextFault.Memory) }
+{
+    let mut world = World::new(alloc, script.config.copy())?;
+    let mut picture = Picture::new(alloc, &script.config, window)?;
+    for (index, event) in script.events.as_slice().iter().enumerate() {
+        draw_script_event(&mut world, index as u64, event, &mut picture)?;
+    }
+    Ok(picture)
+}
+
+fn draw_script_event(
+    world: &mut World,
+    index: u64,
+    event: &ScriptEvent,
+    picture: &mut Picture,
+) -> Result<(), TextFault>
+    ensures { IfErr result (λ fault. fault ≡ TextFault.Memory) }
+{
+    match event {
+        ScriptEvent::Core(event) => {
+            let _accepted = draw_event(world, index, event, picture)?;
+            Ok(())
+        }
+        ScriptEvent::Settle => {
+            picture.begin_settle();
+            if draw_round(world, index, picture)? {
+                let _accepted = draw_round(world, index, picture)?;
+            }
+            picture.end_settle(index)?;
+            Ok(())
+        }
+    }
+}
+
+// Draws one round, slot by slot of those that are due when it begins. Answers whether no event was refused.
+fn draw_round(world: &mut World, index: u64, picture: &mut Picture) -> Result<bool, TextFault>
+    ensures { IfErr result (λ fault. fault ≡ TextFault.Memory) }
+{
+    let due = world.due()?;
+    for slot in due.as_slice() {
+        let events = world.events_for(*slot);
+        if !draw_events(world, index, &events, picture)? {
+            return Ok(false);
+        }
+    }
+    Ok(true)
+}
+
+// Draws these events up to the first that is refused. Answers whether none was refused.
+fn draw_events(
+    world: &mut World,
+    index: u64,
+    events: &[Event],
+    picture: &mut Picture,
+) -> Result<bool, TextFault>
+    ensures { IfErr result (λ fault. fault ≡ TextFault.Memory) }
+{
+    for event in events {
+        if !draw_event(world, index, event, picture)? {
+            return Ok(false);
+        }
+    }
+    Ok(true)
+}
+
+// Takes one event, and draws it. Answers whether it was accepted.
+fn draw_event(
+    world: &mut World,
+    index: u64,
+    event: &Event,
+    picture: &mut Picture,
+) -> Result<bool, TextFault>
+    ensures { IfErr result (λ fault. fault ≡ TextFault.Memory) }
+{
+    let reply = world.step(event);
+    if is_want_of_memory(&reply) {
+        return Err(TextFault::Memory);
+    }
+    picture.take(index, event, &reply)?;
+    Ok(reply.is_ok())
+}
