@@ -12,8 +12,8 @@ use crate::record::{put_head, put_line};
 use crate::text::TextFault;
 use cast_message::{Config, Event, Reply};
 use cast_record::{Line, lines_of, write_record};
-use cast_words::Meter;
 use cast_script::is_read_back;
+use cast_words::Meter;
 use std::alloc::Global;
 use std::io::Write;
 

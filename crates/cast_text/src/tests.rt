@@ -2,8 +2,8 @@
 mod live;
 
 use crate::{TextFault, Verdict, judge_text, migrate_text, run_text};
-use cast_words::Meter;
 use cast_script::ScriptFault;
+use cast_words::Meter;
 use std::alloc::Global;
 use std::io::{self, Error, ErrorKind, Read, Write};
 use std::test::Fail;

@@ -5,9 +5,9 @@ ghost use Rattle.cast_text.specs.Text.{Fails, IsOfScript, IsScriptIn, IsTold, Wr
 use crate::input::read_input;
 use crate::ranges::tell_ranges;
 use crate::record::write_script_record;
-use cast_words::{Meter, WriteFault};
 use cast_run::LiveFault;
 use cast_script::{Script, ScriptFault, read_script};
+use cast_words::{Meter, WriteFault};
 use std::alloc::{AllocError, Global};
 use std::io::{Read, Write};
 use thiserror::Error;

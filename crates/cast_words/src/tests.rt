@@ -14,7 +14,7 @@ fn writes_words(rt: HostRuntime) -> Result<(), Fail> {
     write_hex(&[0, 159, 255], &mut writer)?;
     assert_eq!(rt;
         writer.into_inner().as_slice(),
-        b"uniform 18446744073709551615 009fff"
+        b"uniform 18446744073709551615 009fff".as_slice()
     );
     Ok(())
 }
@@ -35,7 +35,7 @@ fn reads_words(rt: HostRuntime) -> Result<(), Fail> {
     let Some(bytes) = bytes_of(rt.alloc(), b"009fff")? else {
         return Err(Fail::from(Failed));
     };
-    assert_eq!(rt; bytes.as_slice(), [0, 159, 255]);
+    assert_eq!(rt; bytes.as_slice(), [0, 159, 255].as_slice());
     for word in [&b"0"[..], b"9F", b"0g", b"009"] {
         assert!(rt; bytes_of(rt.alloc(), word)?.is_none());
     }

@@ -4,12 +4,12 @@ ghost use Rattle.cast_text.specs.Live.{IsFinished};
 
 use crate::progress::{Teller, due_deliveries};
 use crate::status::{Status, refuse};
-use cast_words::Meter;
 use cast_run::Progress;
 use cast_text::{
     Counted, FinishedRun, INPUT_LIMIT, Summary, TextFault, Verdict, read_script_text, run_script,
     summarize, write_record_of, write_replay_of, write_summary,
 };
+use cast_words::Meter;
 use clap::ArgMatches;
 use std::io::{BufWriter, IsTerminal, Stderr, Write};
 use std::rt::Runtime;

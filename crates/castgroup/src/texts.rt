@@ -2,8 +2,8 @@
 ghost use Rattle.std.specs.Prelude.{◌≡◌, false};
 
 use crate::status::{Status, refuse};
-use cast_words::Meter;
 use cast_text::{TextFault, Verdict, Window, draw_text, judge_text, migrate_text, run_text};
+use cast_words::Meter;
 use std::alloc::Global;
 use std::io::{BufWriter, Read, Write};
 use std::rt::Runtime;

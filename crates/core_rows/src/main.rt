@@ -17,7 +17,7 @@ use cast_record::{Line, lines_of, write_record};
 use cast_script::{ScriptEvent, read_script};
 use cast_words::Meter;
 use cast_world::World;
-use std::io::{Read, Write};
+use std::io::Read;
 use stepping::Worlds;
 
 fn main(rt: HostRuntime) -> Result<()> {
@@ -47,8 +47,6 @@ fn main(rt: HostRuntime) -> Result<()> {
         }
     }
     lines.push(Line::End)?;
-    let mut record = Meter::new(Vec::new(alloc));
-    write_record(lines.as_slice(), &mut record)?;
-    rt.stdout().write_all(record.into_inner().as_slice())?;
+    write_record(lines.as_slice(), &mut Meter::new(rt.stdout()))?;
     Ok(())
 }

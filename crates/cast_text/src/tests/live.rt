@@ -7,8 +7,8 @@ use crate::{
     Counted, FinishedRun, Summary, TextFault, Verdict, live_text, read_script_text, run_script,
     run_text, summarize, write_record_of, write_replay_of, write_summary,
 };
-use cast_words::Meter;
 use cast_run::{LiveFault, Progress};
+use cast_words::Meter;
 use std::alloc::Global;
 use std::io::Write;
 use std::sync::{Arc, Wait};
