@@ -3,6 +3,7 @@ pub mod Recording
 pub mod Whole
 pub mod JudgingLemmas
 pub mod MigratingLemmas
+pub mod DrawingLemmas
 pub mod Sayings
 pub mod Tellings
 pub mod Goodness
