@@ -12,4 +12,4 @@ returns-in_err-write_drawing-clause-err g c =
     let p = err_from_is_err_and c.from_residual-in_err-write_drawing.result c.from_residual-in_err-write_drawing.ensures.1 in
     rw (p.1, p.2)
     (drawing_breaks (g.R.Read.remaining c.args.reader.now.inner) (g.W.Write.contents c.args.writer.now.inner) (g.W.Write.contents c.write_drawing.new.writer.inner) c.write_drawing.new.writer.failed
-        c.in_ok-script.script c.in_ok-drawing.drawing c.in_ok-script.ensures.ok c.in_err-write_drawing.ensures)
+    c.in_ok-script.script c.in_ok-drawing.drawing c.in_ok-script.ensures.ok c.in_err-write_drawing.ensures)
