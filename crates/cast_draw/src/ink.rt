@@ -1,11 +1,12 @@
 //! The text of a picture as it grows.
 ghost use Rattle.std.specs.Prelude.{◌≡◌, ◌<◌, ◌++◌, [], OnOk, decimal};
 ghost use Rattle.cast_record.specs.Text.{item_word};
-ghost use Rattle.cast_words.specs.Hex.{hex, hex_digit};
+ghost use Rattle.cast_words.specs.Hex.{hex};
 ghost use Rattle.cast_draw.specs.Pieces.{piece_text, text_of};
 
 use crate::label::{put_item_label, put_value_label};
 use cast_message::Item;
+use cast_words::hex_digit;
 use itoa::Buffer;
 use std::alloc::{AllocError, Global};
 use std::marker::Model;
@@ -97,7 +98,7 @@ impl Ink {
         ensures { OnOk result (self.new ≡ self.old ++ hex bytes.now) }
     {
         for byte in bytes {
-            self.put_bytes(&[digit(*byte / 16), digit(*byte % 16)])?;
+            self.put_bytes(&[hex_digit(*byte / 16), hex_digit(*byte % 16)])?;
         }
         Ok(())
     }
@@ -118,17 +119,5 @@ impl Ink {
             }
             Item::Close => self.put_bytes(b"close"),
         }
-    }
-}
-
-// The digit of a number below sixteen.
-fn digit(number: u8) -> u8
-    requires { number < 16 }
-    ensures { result ≡ hex_digit number }
-{
-    if number < 10 {
-        b'0' + number
-    } else {
-        b'a' + (number - 10)
     }
 }

@@ -18,8 +18,8 @@ impl HexDigits {
     {
         let mut digits = [0; 64];
         for (i, byte) in bytes.iter().enumerate() {
-            digits[2 * i] = digit(*byte / 16);
-            digits[2 * i + 1] = digit(*byte % 16);
+            digits[2 * i] = hex_digit(*byte / 16);
+            digits[2 * i + 1] = hex_digit(*byte % 16);
         }
         HexDigits {
             digits,
@@ -35,8 +35,8 @@ impl HexDigits {
     }
 }
 
-// The digit of a number below sixteen.
-fn digit(number: u8) -> u8
+/// The digit of a number below sixteen: `0` to `9`, `a` to `f`.
+pub fn hex_digit(number: u8) -> u8
     requires { number < 16 }
     ensures { result ≡ hex_digit number }
 {

@@ -10,6 +10,7 @@ mod numbers;
 mod unhex;
 mod writing;
 
+pub use hex::hex_digit;
 pub use meter::{Failed, Meter};
 pub use mode::mode_name;
 pub use numbers::number;
