@@ -130,10 +130,11 @@ impl Node {
 
     /// Makes a frame that tells a peer that the node took a slot of what the peer gave it. Refused is a peer that is no node,
     /// or this node, an acknowledgement of a crashed node, of a slot that was not taken, or where the node has made all frames
-    /// that it can. A refusal changes nothing.
+    /// that it can; never for want of memory. A refusal changes nothing.
     pub fn ack(&mut self, to: NodeId, slot: u64) -> Result<Frame, StepFault>
         ensures exact { Gives self.old (Acknowledged to slot) (sent_reply result) self.new }
         ensures frame { IfOk result (λ frame. frame ≡ took_of self.old to slot) }
+        ensures refused { IfErr result (λ fault. kept_fault self.old (Acknowledged to slot) ≡ Some fault) }
     {
         if let Some(refusal) = self.ack_fault(to, slot) {
             return Err(refusal);
@@ -165,6 +166,7 @@ impl Node {
     /// Makes a frame as `ack` does, and answers its number. It takes no memory. A refusal changes nothing.
     pub fn ack_number(&mut self, to: NodeId, slot: u64) -> Result<u64, StepFault>
         ensures exact { Gives self.old (Acknowledged to slot) (number_reply result) self.new }
+        ensures refused { IfErr result (λ fault. kept_fault self.old (Acknowledged to slot) ≡ Some fault) }
     {
         if let Some(refusal) = self.ack_fault(to, slot) {
             return Err(refusal);

@@ -14,7 +14,7 @@ use Rattle.std.specs.Global.{Vec}
 use Rattle.std.specs.Prelude.{IfOk, IfErr}
 use Rattle.cast_record.specs.declared.migration.MigrateFault.{MigrateFault}
 use Rattle.cast_record.specs.declared.migration.MigrateFault.TheVariants.{NotV1, Memory}
-use Rattle.cast_record.specs.Migration.{IsHeadIn, IsNoHead, IsMigrated, HasNoHead, Migrates, new_text}
+use Rattle.cast_record.specs.Migration.{IsHeadIn, IsNoHead, IsMigrated, HasHead, HasNoHead, Migrates, new_text}
 use Rattle.cast_record.specs.Ranges.{IsWithin}
 use Rattle.cast_record.specs.Reading as read
 use Rattle.cast_record.specs.Reading.{line_of}
@@ -252,6 +252,16 @@ cut_text text first rest cut =
     sym (join_with_byte-slice_split 10 text) ∙ ap (join_with_byte 10) (cut ∙ ap (λ ps. first ∷ ps) parts.2)
     ∙ ap (λ bytes. first ++ 10 ∷ bytes) (ap (join_with_byte 10) (sym parts.2) ∙ join_with_byte-slice_split 10 rest)
 
+has_head : (text first rest : List ℕ) → slice_split (λ b. nat_eq b 10) text ≡ first ∷ slice_split (λ b. nat_eq b 10) rest → IsHeadIn first → HasHead text
+has_head text first rest cut h = record {
+  nodes = h.nodes;
+  faults = h.faults;
+  choices = h.choices;
+  rest = rest;
+  within = h.within;
+  same = cut_text text first rest cut ∙ ap (λ bytes. bytes ++ 10 ∷ rest) (sym h.same);
+}
+
 pub is_migrated : (text first rest new : List ℕ) → slice_split (λ b. nat_eq b 10) text ≡ first ∷ slice_split (λ b. nat_eq b 10) rest → IsHeadIn first → new ≡ new_text first rest → IsMigrated text new
 is_migrated text first rest new cut h e = record {
   nodes = h.nodes;
@@ -346,7 +356,7 @@ pub migrates : (text first rest : List ℕ) (result : Result (Vec ℕ) MigrateFa
     → IfOk result (λ new. new.items ≡ new_text first rest) → IfErr result (λ fault. fault ≡ Memory) → Migrates text result
 migrates text first rest (Ok new) cut h ok err = is_migrated text first rest new.items cut h ok
 migrates text first rest (Err NotV1) cut h ok err = absurd (cc (err))
-migrates text first rest (Err Memory) cut h ok err = tt
+migrates text first rest (Err Memory) cut h ok err = has_head text first rest cut h
 
 pub migrates_law : (text first rest : List ℕ) (result : Result (Vec ℕ) MigrateFault) → slice_split (λ b. nat_eq b 10) text ≡ first ∷ slice_split (λ b. nat_eq b 10) rest → IsHeadIn first
     → IfOk result (λ new. new.items ≡ new_text first rest) → IfOk result (λ new. verdict new.items ≡ verdict text)

@@ -1,5 +1,6 @@
 -- A record under the new head.
---     Migrates text result     the text with its head changed, or a refusal where it begins with no head `cast/1`
+--     Migrates text result     the text with its head changed, or a refusal where it begins with no head `cast/1`; where it
+--                              begins with one, only memory can be wanting
 use Rattle.std.specs.Prelude.{◌≡◌, ℕ, List, ◌∷◌, ◌++◌, codes, drop, Result, Ok, Err}
 use Rattle.std.specs.Global.{Vec}
 use Rattle.cast_message.specs.declared.config.Mode.TheVariants.{Basic}
@@ -30,14 +31,23 @@ pub record IsMigrated (text new : List ℕ) : Type 0 where
   pub before : text ≡ line_text (Head nodes faults choices) ++ 10 ∷ rest
   pub after : new ≡ line_text (Head2 nodes faults choices Basic) ++ 10 ∷ rest
 
--- the text begins with no head `cast/1` and its line feed
+-- the text begins with a head `cast/1` and its line feed
+pub record HasHead (text : List ℕ) : Type 0 where
+  pub nodes : ℕ
+  pub faults : ℕ
+  pub choices : ℕ
+  pub rest : List ℕ
+  pub within : IsWithin (Head nodes faults choices)
+  pub same : text ≡ line_text (Head nodes faults choices) ++ 10 ∷ rest
+
+-- it begins with none
 abbrev pub HasNoHead : List ℕ → Type 0
 HasNoHead text = (nodes faults choices : ℕ) (rest : List ℕ) → IsWithin (Head nodes faults choices) → text ≡ line_text (Head nodes faults choices) ++ 10 ∷ rest → ⊥
 
 abbrev pub Migrates : List ℕ → Result (Vec ℕ) MigrateFault → Type 0
 Migrates text (Ok new) = IsMigrated text new.items
 Migrates text (Err NotV1) = HasNoHead text
-Migrates text (Err Memory) = Unit {0}
+Migrates text (Err Memory) = HasHead text
 
 -- the bytes of a head `cast/1`, changed, and what stands after its line feed
 abbrev pub new_text : List ℕ → List ℕ → List ℕ

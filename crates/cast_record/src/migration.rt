@@ -31,7 +31,7 @@ impl From<AllocError> for MigrateFault {
 }
 
 /// The text with its head `cast/1 N F K` changed to `cast/2 N F K basic`, and no other byte. The verdict on it is that on
-/// the text before.
+/// the text before. Memory is wanting only where there is such a head.
 pub fn migrate(alloc: Global, text: &[u8]) -> Result<Vec<u8>, MigrateFault>
     ensures exact { Migrates text.now result }
     ensures law { IfOk result (λ new. verdict new.items ≡ verdict text.now) }
