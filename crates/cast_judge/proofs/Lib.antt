@@ -1,3 +1,4 @@
+pub mod CandidateLemmas
 pub mod NodeLemmas
 pub mod RuleLemmas
 pub mod StandingLemmas

@@ -11,6 +11,7 @@ use Rattle.cast_record.specs.Rules as said
 use Rattle.cast_judge.specs.declared.kept.Place.TheVariants.{Body, Ended}
 use Rattle.cast_judge.specs.declared.kept.Kept.{Kept}
 use Rattle.cast_judge.specs.Kept as kept
+use Rattle.cast_judge.specs.Candidates.{is_decided, count_decided}
 use Rattle.cast_judge.specs.Stands.{items_in, items_of, StandsFor, StandsForNode}
 
 -- ---- as many items as broadcasts
@@ -150,7 +151,7 @@ module _ (past : List Line) (k : Kept) (s : StandsFor past k) where
   many_same (Delivered q m) = refl
   many_same (Decided q d) =
       let instance = s.instances d.instance in
-      let count = counted (kept.has_value (kept.instance_at k.instances d.instance).decided d.value) (kept.has_value (said.values_in past d.instance) d.value) (length (kept.instance_at k.instances d.instance).decided) 0 d.value (said.different (said.values_in past d.instance)) (instance.decided d.value) instance.count in
+      let count = counted (is_decided (kept.instance_at k.instances d.instance).candidates d.value) (kept.has_value (said.values_in past d.instance) d.value) (count_decided (kept.instance_at k.instances d.instance).candidates) 0 d.value (said.different (said.values_in past d.instance)) (instance.decided d.value) instance.count in
       (λ i. nat_lt (s.faults i) (s.choices i) && nat_lt (s.choices i) (count i))
   many_same (Crashed q) = refl
   many_same (Refused i c) = refl

@@ -15,7 +15,7 @@ use Rattle.cast_record.specs.declared.line.Line.{Line}
 use Rattle.cast_record.specs.declared.line.Line.TheVariants.{Head, Head2, Broadcast, Delivered, Decided, Crashed, Refused, End}
 use Rattle.cast_record.specs.Ranges.{IsWithin}
 use Rattle.cast_record.specs.Rules as said
-use Rattle.cast_judge.specs.declared.instances.Proposal.{Proposal}
+use Rattle.cast_judge.specs.Candidates.{is_for, is_decided, count_decided}
 use Rattle.cast_judge.specs.declared.instances.Instance.{Instance}
 use Rattle.cast_judge.specs.declared.instances.Addition.TheVariants as adds
 use Rattle.cast_judge.specs.declared.kept.Place.TheVariants.{Body, Ended}
@@ -23,6 +23,7 @@ use Rattle.cast_judge.specs.declared.kept.Sender.{Sender}
 use Rattle.cast_judge.specs.declared.kept.Kept.{Kept}
 use Rattle.cast_judge.specs.Kept as kept
 use Rattle.cast_judge.specs.Stands.{items_in, items_of, StandsFor, StandsForNode, StandsForInstance}
+use Rattle.cast_judge.proofs.CandidateLemmas.{proposed_has, proposed_decided, proposed_count, decision_has, decision_decided, decision_count}
 use Rattle.cast_judge.proofs.NodeLemmas.{none_counted}
 use Rattle.cast_judge.proofs.RuleLemmas.{items_counted, head_first}
 
@@ -175,9 +176,6 @@ proposal_on : (past : List Line) (m : Message) (j w q : ℕ) (instance : Instanc
 unfolding said.has_proposed said.is_proposed said.values_in
 proposal_on past m j w q instance is h = go (nat_eq q j) refl
   where
-    proposal : Proposal
-    proposal = record { node = m.sender; value = w }
-
     by : (p : ℕ) (b : Bool) → nat_eq q j ≡ b → said.is_broadcast (λ m. nat_eq m.sender p && said.proposes_in q m.item) (Broadcast m) ≡ (nat_eq m.sender p && b)
     by p b e = ap (λ item. nat_eq m.sender p && said.proposes_in q item) is ∙ ap (λ b. nat_eq m.sender p && b) (test_swaps j q ∙ e)
 
@@ -194,14 +192,14 @@ proposal_on past m j w q instance is h = go (nat_eq q j) refl
 
     go : (b : Bool) → nat_eq q j ≡ b → StandsForInstance (Broadcast m ∷ past) q (cond b (kept.changed instance (adds.Proposed (record { node = m.sender; value = w }))) instance)
     go true e = record {
-      proposed = λ p. list_any-push (kept.is_by p) instance.proposals (record { node = m.sender; value = w })
+      proposed = λ p. list_any-push (λ other. nat_eq other p) instance.proposers m.sender
           ∙ ap (λ b. nat_eq m.sender p || b) (h.proposed p)
           ∙ sym (ap (λ b. b || said.has_proposed past p q) (by p true e ∙ and_true (nat_eq m.sender p)));
-      values = λ v. list_any-push (kept.is_for v) instance.proposals (record { node = m.sender; value = w })
+      values = λ v. proposed_has instance.candidates w v
           ∙ ap (λ b. nat_eq w v || b) (h.values v)
           ∙ sym (ap (λ b. b || said.is_proposed past q v) (for v true e));
-      decided = h.decided;
-      count = h.count;
+      decided = λ v. proposed_decided instance.candidates w v ∙ h.decided v;
+      count = proposed_count instance.candidates w ∙ h.count;
     }
     go false e = record {
       proposed = λ p. h.proposed p ∙ sym (ap (λ b. b || said.has_proposed past p q) (by p false e ∙ and_false (nat_eq m.sender p)));
@@ -229,41 +227,32 @@ broadcast_on past m (Data payload) q instance is h = silent_on past m q instance
 broadcast_on past m (Propose j w) q instance is h = proposal_on past m j w q instance is h
 broadcast_on past m Close q instance is h = silent_on past m q instance (λ j. ap (said.proposes_in j) is) (λ j v. ap (said.proposes j v) is) h
 
--- a value among those decided
-value_kept : (ds vs : List ℕ) (v : ℕ) → ((w : ℕ) → kept.has_value ds w ≡ kept.has_value vs w) → (w : ℕ) → kept.has_value (kept.with_value ds v) w ≡ kept.has_value (v ∷ vs) w
-value_kept ds vs v h w = go (kept.has_value ds v) refl
-  where
-    known : (b : Bool) → nat_eq v w ≡ b → kept.has_value ds v ≡ true → kept.has_value ds w ≡ (b || kept.has_value vs w)
-    known true e found = ap (kept.has_value ds) (sym (same_number v w e)) ∙ found
-    known false e found = h w
+-- one more value, where it may be known already
+value_count : (a b : Bool) (n v : ℕ) (vs : List ℕ) → a ≡ b → n ≡ length vs → cond a n (n + 1) ≡ length (cond b vs (v ∷ vs))
+value_count true true n v vs same count = count
+value_count true false n v vs same count = absurd (cc)
+value_count false true n v vs same count = absurd (cc)
+value_count false false n v vs same count = omega (arith, count)
 
-    go : (b : Bool) → kept.has_value ds v ≡ b → kept.has_value (cond b ds (ds ++ v ∷ [])) w ≡ kept.has_value (v ∷ vs) w
-    go true e = known (nat_eq v w) refl e
-    go false e = list_any-push (λ other. nat_eq other w) ds v ∙ ap (λ b. nat_eq v w || b) (h w)
-
-value_count : (ds vs : List ℕ) (v : ℕ) → kept.has_value ds v ≡ kept.has_value vs v → length ds ≡ length (said.different vs) → length (kept.with_value ds v) ≡ length (said.different (v ∷ vs))
-value_count ds vs v same count = go (kept.has_value ds v) (kept.has_value vs v) same
-  where
-    go : (a b : Bool) → a ≡ b → length (cond a ds (ds ++ v ∷ [])) ≡ length (cond b (said.different vs) (v ∷ said.different vs))
-    go true true e = count
-    go true false e = absurd (cc)
-    go false true e = absurd (cc)
-    go false false e = omega (arith, length-append ds (v ∷ []), count)
-
-decision_on : (past : List Line) (p : ℕ) (d : Decision) (q : ℕ) (instance : Instance) → StandsForInstance past q instance → StandsForInstance (Decided p d ∷ past) q (kept.changed_at d.instance (adds.Decided d.value) q instance)
+decision_on : (past : List Line) (p : ℕ) (d : Decision) (q : ℕ) (instance : Instance) → said.is_proposed past d.instance d.value ≡ true → StandsForInstance past q instance → StandsForInstance (Decided p d ∷ past) q (kept.changed_at d.instance (adds.Decided d.value) q instance)
 unfolding said.has_proposed said.is_proposed said.values_in
-decision_on past p d q instance h = go (nat_eq q d.instance) (nat_eq d.instance q) refl (test_swaps q d.instance)
+decision_on past p d q instance was h = go (nat_eq q d.instance) (nat_eq d.instance q) refl (test_swaps q d.instance)
   where
     go : (a b : Bool) → nat_eq d.instance q ≡ b → a ≡ nat_eq d.instance q → StandsForInstance (Decided p d ∷ past) q (cond a (kept.changed instance (adds.Decided d.value)) instance)
     go true true e f = record {
       proposed = h.proposed;
-      values = h.values;
-      decided = λ w. value_kept instance.decided (said.values_in past q) d.value h.decided w ∙ sym (ap (λ vs. kept.has_value vs w) (taken e));
-      count = value_count instance.decided (said.values_in past q) d.value (h.decided d.value) h.count ∙ sym (ap (λ vs. length (said.different vs)) (taken e));
+      values = λ w. decision_has instance.candidates d.value w ∙ h.values w;
+      decided = λ w. decision_decided instance.candidates d.value w known ∙ ap (λ b. nat_eq d.value w || b) (h.decided w) ∙ sym (ap (λ vs. kept.has_value vs w) taken);
+      count = decision_count instance.candidates d.value known
+          ∙ value_count (is_decided instance.candidates d.value) (kept.has_value (said.values_in past q) d.value) (count_decided instance.candidates) d.value (said.different (said.values_in past q)) (h.decided d.value) h.count
+          ∙ sym (ap (λ vs. length (said.different vs)) taken);
     }
       where
-        taken : nat_eq d.instance q ≡ true → said.values_in (Decided p d ∷ past) q ≡ d.value ∷ said.values_in past q
-        taken e = rw e refl
+        known : list_any (is_for d.value) instance.candidates ≡ true
+        known = h.values d.value ∙ ap (λ j. said.is_proposed past j d.value) (sym (same_number d.instance q e)) ∙ was
+
+        taken : said.values_in (Decided p d ∷ past) q ≡ d.value ∷ said.values_in past q
+        taken = rw e refl
     go true false e f = absurd (cc)
     go false true e f = absurd (cc)
     go false false e f = record {
@@ -276,16 +265,21 @@ decision_on past p d q instance h = go (nat_eq q d.instance) (nat_eq d.instance 
         left : nat_eq d.instance q ≡ false → said.values_in (Decided p d ∷ past) q ≡ said.values_in past q
         left e = rw e refl
 
-pub instance_on : (past : List Line) (line : Line) (q : ℕ) (instance : Instance) → StandsForInstance past q instance → StandsForInstance (line ∷ past) q (kept.instance_after line q instance)
+-- what is not refused as not proposed was proposed
+was_proposed : (b : Bool) → not b ≡ false → b ≡ true
+was_proposed true e = refl
+was_proposed false e = absurd (cc)
+
+pub instance_on : (past : List Line) (line : Line) (q : ℕ) (instance : Instance) → said.is_not_proposed past line ≡ false → StandsForInstance past q instance → StandsForInstance (line ∷ past) q (kept.instance_after line q instance)
 unfolding said.has_proposed said.is_proposed said.values_in
-instance_on past (Head n f k) q instance h = record { proposed = h.proposed; values = h.values; decided = h.decided; count = h.count }
-instance_on past (Head2 n f k mode) q instance h = record { proposed = h.proposed; values = h.values; decided = h.decided; count = h.count }
-instance_on past (Broadcast m) q instance h = broadcast_on past m m.item q instance refl h
-instance_on past (Delivered p m) q instance h = record { proposed = h.proposed; values = h.values; decided = h.decided; count = h.count }
-instance_on past (Decided p d) q instance h = decision_on past p d q instance h
-instance_on past (Crashed p) q instance h = record { proposed = h.proposed; values = h.values; decided = h.decided; count = h.count }
-instance_on past (Refused i c) q instance h = record { proposed = h.proposed; values = h.values; decided = h.decided; count = h.count }
-instance_on past End q instance h = record { proposed = h.proposed; values = h.values; decided = h.decided; count = h.count }
+instance_on past (Head n f k) q instance sound h = record { proposed = h.proposed; values = h.values; decided = h.decided; count = h.count }
+instance_on past (Head2 n f k mode) q instance sound h = record { proposed = h.proposed; values = h.values; decided = h.decided; count = h.count }
+instance_on past (Broadcast m) q instance sound h = broadcast_on past m m.item q instance refl h
+instance_on past (Delivered p m) q instance sound h = record { proposed = h.proposed; values = h.values; decided = h.decided; count = h.count }
+instance_on past (Decided p d) q instance sound h = decision_on past p d q instance (was_proposed (said.is_proposed past d.instance d.value) sound) h
+instance_on past (Crashed p) q instance sound h = record { proposed = h.proposed; values = h.values; decided = h.decided; count = h.count }
+instance_on past (Refused i c) q instance sound h = record { proposed = h.proposed; values = h.values; decided = h.decided; count = h.count }
+instance_on past End q instance sound h = record { proposed = h.proposed; values = h.values; decided = h.decided; count = h.count }
 
 -- ---- the item of each number
 
@@ -405,8 +399,8 @@ place_on (Refused i c) = refl
 place_on End = refl
 
 -- a line that is no head
-pub body_on : (past : List Line) (line : Line) (old new : Kept) → said.is_head line ≡ false → length past < 2 ^ 63 → said.breaks_prefix past line ≡ false → StandsFor past old → kept.Keeps old new line → StandsFor (line ∷ past) new
-body_on past line old new plain short sound h k = record {
+pub body_on : (past : List Line) (line : Line) (old new : Kept) → said.is_head line ≡ false → length past < 2 ^ 63 → said.breaks_prefix past line ≡ false → said.is_not_proposed past line ≡ false → StandsFor past old → kept.Keeps old new line → StandsFor (line ∷ past) new
+body_on past line old new plain short sound proposed h k = record {
   place = k.place ∙ place_on line;
   faults = k.faults ∙ faults_on old.faults line plain ∙ h.faults ∙ ap (λ (g : said.Group). g.faults) (sym (group_on past line plain));
   choices = k.choices ∙ choices_on old.choices line plain ∙ h.choices ∙ ap (λ (g : said.Group). g.choices) (sym (group_on past line plain));
@@ -414,7 +408,7 @@ body_on past line old new plain short sound h k = record {
   few = omega (arith, same_size, h.few);
   nodes = λ p within. one p (omega (arith, same_size));
   numbered = numbered_on past line sound h.numbered;
-  instances = λ j. subst (StandsForInstance (line ∷ past) j) (sym (k.instances j)) (instance_on past line j (kept.instance_at old.instances j) (h.instances j));
+  instances = λ j. subst (StandsForInstance (line ∷ past) j) (sym (k.instances j)) (instance_on past line j (kept.instance_at old.instances j) proposed (h.instances j));
 }
   where
     same_size : length new.nodes.items ≡ length old.nodes.items
@@ -446,6 +440,7 @@ fresh_at n p within = grind (arith, common_steps)
 pub record IsHeadOf (head : Line) (n f k : ℕ) : Type 0 where
   pub is : said.is_head head ≡ true
   pub plain : said.breaks_prefix [] head ≡ false
+  pub proposed : said.is_not_proposed [] head ≡ false
   pub group : said.group_of (head ∷ []) ≡ record { nodes = n; faults = f; choices = k }
   pub few : n ≤ 64
   pub nodes : (nodes : List Sender) → kept.nodes_after nodes head ≡ replicate n kept.nobody
@@ -461,7 +456,7 @@ opened head n f k old new h s w = record {
   few = omega (arith, size, h.few);
   nodes = λ p within. one p (omega (arith, size));
   numbered = numbered_on [] head h.plain s.numbered;
-  instances = λ j. subst (StandsForInstance (head ∷ []) j) (sym (w.instances j)) (instance_on [] head j (kept.instance_at old.instances j) (s.instances j));
+  instances = λ j. subst (StandsForInstance (head ∷ []) j) (sym (w.instances j)) (instance_on [] head j (kept.instance_at old.instances j) h.proposed (s.instances j));
 }
   where
     all : new.nodes.items ≡ replicate n kept.nobody
@@ -475,8 +470,8 @@ opened head n f k old new h s w = record {
 
 head_on : (line : Line) (old new : Kept) → said.is_head line ≡ true → IsWithin line → StandsFor [] old → kept.Keeps old new line → StandsFor (line ∷ []) new
 unfolding said.group_of
-head_on (Head n f k) old new e h s w = opened (Head n f k) n f k old new (record { is = refl; plain = refl; group = refl; few = omega (arith, h.1); nodes = λ nodes. refl; faults = λ faults. refl; choices = λ choices. refl }) s w
-head_on (Head2 n f k mode) old new e h s w = opened (Head2 n f k mode) n f k old new (record { is = refl; plain = refl; group = refl; few = h.0.1; nodes = λ nodes. refl; faults = λ faults. refl; choices = λ choices. refl }) s w
+head_on (Head n f k) old new e h s w = opened (Head n f k) n f k old new (record { is = refl; plain = refl; proposed = refl; group = refl; few = omega (arith, h.1); nodes = λ nodes. refl; faults = λ faults. refl; choices = λ choices. refl }) s w
+head_on (Head2 n f k mode) old new e h s w = opened (Head2 n f k mode) n f k old new (record { is = refl; plain = refl; proposed = refl; group = refl; few = h.0.1; nodes = λ nodes. refl; faults = λ faults. refl; choices = λ choices. refl }) s w
 head_on (Broadcast m) old new e h s w = absurd (cc)
 head_on (Delivered q m) old new e h s w = absurd (cc)
 head_on (Decided q d) old new e h s w = absurd (cc)
@@ -490,22 +485,32 @@ chosen : (b : Bool) (n : ℕ) (o : Option ℕ) → cond b (Some n) o ≡ None �
 chosen true n o e = absurd (cc)
 chosen false n o e = (refl, e)
 
-sound_line : (past : List Line) (line : Line) → said.broken past line ≡ None → (said.is_out_of_place past line ≡ false) × (said.breaks_prefix past line ≡ false)
+-- rules 0, 1 and 3
+record IsSound (past : List Line) (line : Line) : Type 0 where
+  placed : said.is_out_of_place past line ≡ false
+  prefix : said.breaks_prefix past line ≡ false
+  proposed : said.is_not_proposed past line ≡ false
+
+sound_line : (past : List Line) (line : Line) → said.broken past line ≡ None → IsSound past line
 unfolding said.broken
 sound_line past line e =
-    let first = chosen (said.is_out_of_place past line) 0 (cond (said.breaks_prefix past line) (Some 1) (said.first_broken (record { number = 2; is_broken = said.is_after_close past line } ∷ record { number = 3; is_broken = said.is_not_proposed past line } ∷ record { number = 4; is_broken = said.is_of_too_many past line } ∷ record { number = 5; is_broken = said.is_after_crash past line } ∷ record { number = 6; is_broken = said.is_proposed_twice past line } ∷ []))) e in
-    (first.0, (chosen (said.breaks_prefix past line) 1 (said.first_broken (record { number = 2; is_broken = said.is_after_close past line } ∷ record { number = 3; is_broken = said.is_not_proposed past line } ∷ record { number = 4; is_broken = said.is_of_too_many past line } ∷ record { number = 5; is_broken = said.is_after_crash past line } ∷ record { number = 6; is_broken = said.is_proposed_twice past line } ∷ [])) first.1).0)
+    let fourth : List said.Rule = record { number = 4; is_broken = said.is_of_too_many past line } ∷ record { number = 5; is_broken = said.is_after_crash past line } ∷ record { number = 6; is_broken = said.is_proposed_twice past line } ∷ [] in
+    let third : List said.Rule = record { number = 3; is_broken = said.is_not_proposed past line } ∷ fourth in
+    let second : List said.Rule = record { number = 2; is_broken = said.is_after_close past line } ∷ third in
+    let a = chosen (said.is_out_of_place past line) 0 (said.first_broken (record { number = 1; is_broken = said.breaks_prefix past line } ∷ second)) e in
+    let b = chosen (said.breaks_prefix past line) 1 (said.first_broken second) a.1 in
+    let c = chosen (said.is_after_close past line) 2 (said.first_broken third) b.1 in
+    let d = chosen (said.is_not_proposed past line) 3 (said.first_broken fourth) c.1 in
+    record { placed = a.0; prefix = b.0; proposed = d.0 }
 
 pub stands_on : (past : List Line) (line : Line) (old new : Kept) → StandsFor past old → length past < 2 ^ 63 → IsWithin line → said.broken past line ≡ None → kept.Keeps old new line → StandsFor (line ∷ past) new
-stands_on past line old new s short within sound w =
-    let parts = sound_line past line sound in
-    go (said.is_head line) refl parts.0 parts.1
+stands_on past line old new s short within sound w = go (said.is_head line) refl (sound_line past line sound)
   where
-    go : (b : Bool) → said.is_head line ≡ b → said.is_out_of_place past line ≡ false → said.breaks_prefix past line ≡ false → StandsFor (line ∷ past) new
-    go true e placed prefix =
-        let none = head_first past line placed e in
+    go : (b : Bool) → said.is_head line ≡ b → IsSound past line → StandsFor (line ∷ past) new
+    go true e parts =
+        let none = head_first past line parts.placed e in
         subst (λ past. StandsFor (line ∷ past) new) (sym none) (head_on line old new e within (subst (λ past. StandsFor past old) none s) w)
-    go false e placed prefix = body_on past line old new e short prefix s w
+    go false e parts = body_on past line old new e short parts.prefix parts.proposed s w
 
 -- nothing was read
 pub stands_for_none : (k : Kept) → kept.IsNew k → StandsFor [] k

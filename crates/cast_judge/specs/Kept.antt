@@ -13,6 +13,8 @@ use Rattle.cast_record.specs.declared.line.Line.TheVariants.{Head, Head2, Broadc
 use Rattle.cast_record.specs.declared.word_line.Delivery.{Delivery}
 use Rattle.cast_record.specs.Reading.{item_of}
 use Rattle.cast_record.specs.Rules as said
+use Rattle.cast_judge.specs.Candidates.{is_for, is_decided, count_decided, with_candidate, with_decision}
+use Rattle.cast_judge.specs.declared.candidates.Candidate.{Candidate}
 use Rattle.cast_judge.specs.declared.instances.Proposal.{Proposal}
 use Rattle.cast_judge.specs.declared.instances.Instance.{Instance}
 use Rattle.cast_judge.specs.declared.instances.Instances.{Instances}
@@ -26,26 +28,20 @@ use Rattle.cast_judge.specs.declared.kept.Kept.{Kept}
 -- ---- instances
 
 abbrev pub no_instance : Instance
-no_instance = record { proposals = []; decided = [] }
-
-abbrev pub is_by : ℕ → Proposal → Bool
-is_by node proposal = proposal.node == node
-
-abbrev pub is_for : ℕ → Proposal → Bool
-is_for value proposal = proposal.value == value
+no_instance = record { proposers = []; candidates = [] }
 
 abbrev pub has_value : List ℕ → ℕ → Bool
 has_value values value = list_any (λ other. other == value) values
 
-abbrev pub count_with : List ℕ → ℕ → ℕ
-count_with values value = if has_value values value then length values else length values + 1
+abbrev pub count_with : List Candidate → ℕ → ℕ
+count_with candidates value = if is_decided candidates value then count_decided candidates else count_decided candidates + 1
 
-abbrev pub with_value : List ℕ → ℕ → List ℕ
-with_value values value = if has_value values value then values else values ++ value ∷ []
+abbrev pub with_proposal : Instance → Proposal → Instance
+with_proposal instance proposal = record { proposers = instance.proposers ++ proposal.node ∷ []; candidates = with_candidate instance.candidates proposal.value }
 
 abbrev pub changed : Instance → Addition → Instance
-changed instance (adds.Proposed proposal) = record instance { proposals = instance.proposals ++ proposal ∷ [] }
-changed instance (adds.Decided value) = record instance { decided = with_value instance.decided value }
+changed instance (adds.Proposed proposal) = with_proposal instance proposal
+changed instance (adds.Decided value) = record instance { candidates = with_decision instance.candidates value }
 
 abbrev pub other_at : List (ℕ × Instance) → ℕ → Instance
 other_at entries j = unwrap_or (lookup (is_at (nat_cmp j)) entries) no_instance
@@ -161,11 +157,11 @@ is_after_close kept (Broadcast m) = (node_at kept.nodes.items m.sender).closed
 is_after_close kept line = false
 
 abbrev pub is_not_proposed : Kept → Line → Bool
-is_not_proposed kept (Decided q d) = not (list_any (is_for d.value) (instance_at kept.instances d.instance).proposals)
+is_not_proposed kept (Decided q d) = not (list_any (is_for d.value) (instance_at kept.instances d.instance).candidates)
 is_not_proposed kept line = false
 
 abbrev pub is_of_too_many : Kept → Line → Bool
-is_of_too_many kept (Decided q d) = nat_lt kept.faults kept.choices && nat_lt kept.choices (count_with (instance_at kept.instances d.instance).decided d.value)
+is_of_too_many kept (Decided q d) = nat_lt kept.faults kept.choices && nat_lt kept.choices (count_with (instance_at kept.instances d.instance).candidates d.value)
 is_of_too_many kept line = false
 
 abbrev pub is_after_crash : Kept → Line → Bool
@@ -176,7 +172,7 @@ is_after_crash kept (Crashed q) = (node_at kept.nodes.items q).crashed
 is_after_crash kept line = false
 
 abbrev pub is_second_proposal : Kept → ℕ → Item → Bool
-is_second_proposal kept p (Propose j w) = list_any (is_by p) (instance_at kept.instances j).proposals
+is_second_proposal kept p (Propose j w) = has_value (instance_at kept.instances j).proposers p
 is_second_proposal kept p item = false
 
 abbrev pub is_proposed_twice : Kept → Line → Bool

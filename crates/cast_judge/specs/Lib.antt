@@ -1,3 +1,4 @@
+pub mod Candidates
 pub mod Kept
 pub mod Stands
 pub mod Judges

@@ -12,7 +12,8 @@ use Rattle.cast_judge.specs.declared.kept.Place.{Place}
 use Rattle.cast_judge.specs.declared.kept.Place.TheVariants.{Start, Body, Ended}
 use Rattle.cast_judge.specs.declared.kept.Sender.{Sender}
 use Rattle.cast_judge.specs.declared.kept.Kept.{Kept}
-use Rattle.cast_judge.specs.Kept.{node_at, instance_at, has_item, has_value, is_by, is_for}
+use Rattle.cast_judge.specs.Kept.{node_at, instance_at, has_item, has_value}
+use Rattle.cast_judge.specs.Candidates.{is_for, is_decided, count_decided}
 
 abbrev pub place_of : List Line → Place
 place_of [] = Start
@@ -35,10 +36,10 @@ pub record StandsForNode (past : List Line) (p : ℕ) (node : Sender) : Type 0 w
   pub delivered : (s : ℕ) → s < 64 → slice_index node.delivered s ≡ deliveries_of past p s
 
 pub record StandsForInstance (past : List Line) (j : ℕ) (instance : Instance) : Type 0 where
-  pub proposed : (p : ℕ) → list_any (is_by p) instance.proposals ≡ has_proposed past p j
-  pub values : (w : ℕ) → list_any (is_for w) instance.proposals ≡ is_proposed past j w
-  pub decided : (w : ℕ) → has_value instance.decided w ≡ has_value (values_in past j) w
-  pub count : length instance.decided ≡ length (different (values_in past j))
+  pub proposed : (p : ℕ) → has_value instance.proposers p ≡ has_proposed past p j
+  pub values : (w : ℕ) → list_any (is_for w) instance.candidates ≡ is_proposed past j w
+  pub decided : (w : ℕ) → is_decided instance.candidates w ≡ has_value (values_in past j) w
+  pub count : count_decided instance.candidates ≡ length (different (values_in past j))
 
 pub record StandsFor (past : List Line) (kept : Kept) : Type 0 where
   pub place : kept.place ≡ place_of past

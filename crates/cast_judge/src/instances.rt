@@ -1,8 +1,10 @@
 //! What was proposed and decided, by instance.
-ghost use Rattle.std.specs.Prelude.{◌≡◌, ◌≢◌, ℕ, OnOk, MatchOption};
+ghost use Rattle.std.specs.Prelude.{◌≡◌, ◌≢◌, ℕ, nat_lt, OnOk, MatchOption};
 ghost use Rattle.std.specs.List.{list_any};
-ghost use Rattle.cast_judge.specs.Kept.{is_by, is_for, changed, changed_at, instance_at, other_at, count_with, has_value, no_instance};
+ghost use Rattle.cast_judge.specs.Candidates.{is_for, is_decided, count_decided};
+ghost use Rattle.cast_judge.specs.Kept.{changed, changed_at, with_proposal, instance_at, other_at, count_with, has_value, no_instance};
 
+use crate::candidates::Candidates;
 use cast_message::{List, NodeId};
 use std::alloc::{AllocError, Global};
 use std::collections::BTreeMap;
@@ -17,10 +19,9 @@ pub struct Proposal {
 /// What was proposed and decided in an instance.
 #[derive(Debug, Drop)]
 pub struct Instance {
-    /// At most one proposal of each node.
-    pub proposals: List<Proposal>,
-    /// Each value once. All were proposed.
-    pub decided: List<u64>,
+    /// The nodes that proposed, each once.
+    pub proposers: List<NodeId>,
+    pub candidates: Candidates,
 }
 
 /// What a line adds to an instance.
@@ -36,40 +37,41 @@ impl Instance {
         ensures { result ≡ no_instance }
     {
         Instance {
-            proposals: List::new(alloc),
-            decided: List::new(alloc),
+            proposers: List::new(alloc),
+            candidates: Candidates::new(alloc),
         }
     }
 
     /// Whether the node proposed.
     pub fn has_proposed(&self, node: NodeId) -> bool
-        ensures { result ≡ list_any (is_by node) self.now.proposals }
+        ensures { result ≡ has_value self.now.proposers node }
     {
-        self.proposals
+        self.proposers
             .as_slice()
             .iter()
-            .any(|proposal| proposal.node == node)
+            .any(|proposer| *proposer == node)
     }
 
     /// Whether the value was proposed.
     pub fn is_proposed(&self, value: u64) -> bool
-        ensures { result ≡ list_any (is_for value) self.now.proposals }
+        ensures { result ≡ list_any (is_for value) self.now.candidates }
     {
-        self.proposals
-            .as_slice()
-            .iter()
-            .any(|proposal| proposal.value == value)
+        self.candidates.has(value)
     }
 
-    /// How many values are decided with this one.
-    pub fn count_with(&self, value: u64) -> usize
-        ensures { result ≡ count_with self.now.decided value }
+    /// Whether more values than these are decided with this one.
+    #[tactic(auto, using(crate::proofs::CandidateLemmas::few_decided))]
+    pub fn exceeds(&self, choices: u64, value: u64) -> bool
+        ensures { result ≡ nat_lt choices (count_with self.now.candidates value) }
     {
-        let decided = self.decided.as_slice();
-        if has_value(decided, value) {
-            decided.len()
+        if choices > self.candidates.len() as u64 {
+            return false;
+        }
+        let decided = self.candidates.count_decided() as u64;
+        if self.candidates.is_decided(value) {
+            choices < decided
         } else {
-            decided.len() + 1
+            choices <= decided
         }
     }
 
@@ -78,21 +80,20 @@ impl Instance {
         ensures { OnOk result (self.new ≡ changed self.old addition) }
     {
         match addition {
-            Addition::Proposed(proposal) => self.proposals.push(proposal),
+            Addition::Proposed(proposal) => self.add_proposal(proposal),
             Addition::Decided(value) => {
-                if has_value(self.decided.as_slice(), value) {
-                    return Ok(());
-                }
-                self.decided.push(value)
+                self.candidates.decide(value);
+                Ok(())
             }
         }
     }
-}
 
-fn has_value(values: &[u64], value: u64) -> bool
-    ensures { result ≡ has_value values.now value }
-{
-    values.iter().any(|other| *other == value)
+    fn add_proposal(&mut self, proposal: Proposal) -> Result<(), AllocError>
+        ensures { OnOk result (self.new ≡ with_proposal self.old proposal) }
+    {
+        self.proposers.push(proposal.node)?;
+        self.candidates.propose(proposal.value)
+    }
 }
 
 /// What was proposed and decided, by the numbers of the instances. Where those begin at 0 and come in order they stand in a row,

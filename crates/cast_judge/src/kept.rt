@@ -1,5 +1,5 @@
 //! What is kept of the lines read so far, and what it says of the next line.
-ghost use Rattle.std.specs.Prelude.{◌≡◌, ℕ, ◌<◌, ◌≤◌, length, replicate, slice_set, slice_index, true, IfOk, OnOk, MatchOption};
+ghost use Rattle.std.specs.Prelude.{◌≡◌, ℕ, ◌<◌, ◌≤◌, length, replicate, slice_set, slice_index, nat_lt, true, IfOk, OnOk, MatchOption};
 ghost use Rattle.cast_record.specs.Rules.{is_head, names_below};
 ghost use Rattle.cast_record.specs.WordLines.{line_said};
 ghost use Rattle.cast_message.specs.declared.message.Item.{Item};
@@ -250,7 +250,7 @@ impl Kept {
     {
         match line {
             WordLine::Decided { decision, .. } => {
-                self.faults < self.choices && self.choices < self.count_with(*decision)
+                self.faults < self.choices && self.exceeds_choices(*decision)
             }
             _ => false,
         }
@@ -331,12 +331,12 @@ impl Kept {
         }
     }
 
-    fn count_with(&self, decision: Decision) -> u64
-        ensures { result ≡ count_with (instance_at self.now.instances decision.instance).decided decision.value }
+    fn exceeds_choices(&self, decision: Decision) -> bool
+        ensures { result ≡ nat_lt self.now.choices (count_with (instance_at self.now.instances decision.instance).candidates decision.value) }
     {
         match self.instances.get(decision.instance) {
-            Some(instance) => instance.count_with(decision.value) as u64,
-            None => 1,
+            Some(instance) => instance.exceeds(self.choices, decision.value),
+            None => self.choices < 1,
         }
     }
 }

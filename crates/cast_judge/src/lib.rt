@@ -4,6 +4,7 @@
 //! closed or crashed, and of each instance what was proposed and decided.
 #![tactic(auto)]
 
+mod candidates;
 mod instances;
 mod items;
 mod judging;

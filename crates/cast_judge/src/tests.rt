@@ -225,6 +225,14 @@ fn judges_instances_in_any_order(rt: HostRuntime) -> Result<(), Fail> {
             "b 0 0 prop:1:5\nv 0 1 5\nb 1 0 prop:1:6\nv 1 1 6\nb 0 1 prop:0:1\nb 2 0 prop:1:7\nv 2 1 7",
             bad(8, 4),
         ),
+        (
+            "b 0 0 prop:0:5\nb 1 0 prop:0:5\nb 2 0 prop:0:6\nv 0 0 5\nv 1 0 5\nv 2 0 6\nv 0 0 6",
+            Verdict::Good,
+        ),
+        (
+            "b 0 0 prop:0:5\nb 1 0 prop:0:6\nb 2 0 prop:0:7\nv 0 0 7\nv 1 0 7\nv 0 0 5\nv 2 0 6",
+            bad(8, 4),
+        ),
         ("b 0 0 prop:0:5\nv 0 1 5", bad(3, 3)),
         ("b 0 0 prop:1:5\nv 0 0 5", bad(3, 3)),
         ("b 0 0 prop:0:5\nb 1 0 prop:0:6\nv 0 0 7", bad(4, 3)),

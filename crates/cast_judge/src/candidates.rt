@@ -1,0 +1,115 @@
+//! The values that were proposed in an instance.
+ghost use Rattle.std.specs.Prelude.{◌≡◌, [], position, length, OnOk};
+ghost use Rattle.std.specs.List.{list_any, filter};
+ghost use Rattle.cast_judge.specs.Candidates.{is_for, is_decided, decided_at, count_decided, with_candidate, with_decision, decision_at};
+
+use std::alloc::{AllocError, Global};
+use std::marker::Model;
+
+/// A value that was proposed.
+#[derive(Clone, Copy, Debug)]
+pub struct Candidate {
+    pub value: u64,
+    pub decided: bool,
+}
+
+/// The values that were proposed in an instance, each once, beside whether it is decided. They lie together, so that a line
+/// of a decision reads one stretch of memory. Contracts see the list of them.
+#[derive(Debug, Drop)]
+pub struct Candidates {
+    all: Vec<Candidate>,
+}
+
+impl Model for Candidates {
+    ghost use Rattle.std.specs.Prelude.{List};
+    ghost use Rattle.cast_judge.specs.declared.candidates.Candidate.{Candidate};
+
+    ghost Value = { List Candidate };
+
+    ghost view = { λ candidates. candidates.all.items };
+}
+
+impl Candidates {
+    /// There are none. It takes no memory.
+    pub fn new(alloc: Global) -> Candidates
+        ensures { result ≡ [] }
+    {
+        Candidates {
+            all: Vec::new(alloc),
+        }
+    }
+
+    /// How many there are.
+    pub fn len(&self) -> usize
+        ensures { result ≡ length self.now }
+    {
+        self.all.as_slice().len()
+    }
+
+    /// Whether the value was proposed.
+    pub fn has(&self, value: u64) -> bool
+        ensures { result ≡ list_any (is_for value) self.now }
+    {
+        self.all
+            .as_slice()
+            .iter()
+            .any(|candidate| candidate.value == value)
+    }
+
+    /// Whether the value is decided.
+    pub fn is_decided(&self, value: u64) -> bool
+        ensures { result ≡ is_decided self.now value }
+    {
+        match self.place(value) {
+            Some(place) => self.all[place].decided,
+            None => false,
+        }
+    }
+
+    /// How many are decided.
+    pub fn count_decided(&self) -> usize
+        ensures { result ≡ count_decided self.now }
+    {
+        self.all
+            .as_slice()
+            .iter()
+            .filter(|candidate| candidate.decided)
+            .count()
+    }
+
+    /// Takes a value that is proposed.
+    pub fn propose(&mut self, value: u64) -> Result<(), AllocError>
+        ensures { OnOk result (self.new ≡ with_candidate self.old value) }
+    {
+        if self.has(value) {
+            return Ok(());
+        }
+        self.all.push(Candidate {
+            value,
+            decided: false,
+        })?;
+        Ok(())
+    }
+
+    /// Takes the decision of a value that was proposed. Any other changes nothing.
+    pub fn decide(&mut self, value: u64)
+        ensures { self.new ≡ with_decision self.old value }
+    {
+        if let Some(place) = self.place(value) {
+            self.all[place] = Candidate {
+                value,
+                decided: true,
+            };
+        }
+    }
+
+    // The place of the first candidate for the value.
+    fn place(&self, value: u64) -> Option<usize>
+        ensures { result ≡ position (is_for value) self.now }
+    {
+        self.all
+            .as_slice()
+            .iter()
+            .position(|candidate| candidate.value == value)
+    }
+}
