@@ -4,7 +4,7 @@
 
 ghost use Rattle.cast_laws.specs.Runs.{AllRunsDeliverPrefixes, AllRunsCloseStreams, AllRunsDecideProposals, AllRunsDecideFewValues};
 ghost use Rattle.cast_laws.specs.Rounds.{RefusesRoundsAsFullAlone, RoundsSpread, RoundsAddNothing, RoundsRest, TwoRoundsRest};
-ghost use Rattle.cast_laws.specs.Rounds.{RestsWhereNothingIsDue, NothingIsDueAtRest, DeliversTheSameAtRest, DeliversWholeStreamsAtRest};
+ghost use Rattle.cast_laws.specs.Rounds.{RestsWhereNothingIsDue, NothingIsDueAtRest, DeliversTheSameAtRest, DeliversWholeStreamsAtRest, DeliversWhatAnyDeliveredAtRest};
 ghost use Rattle.cast_laws.specs.Rounds.{DecidesTheSameAtRest, DecidesWhatIsProposedAtRest, NodesAnswerAsTheGroup, NodesStepAsTheGroup};
 ghost use Rattle.cast_laws.specs.Rounds.{NodesMakeTheFrames, NodesDeliverAsTheGroup, NodesDecideAsTheGroup, NodesOweAsTheGroup};
 
@@ -28,12 +28,15 @@ pub fn rests_after_two_rounds()
 {}
 
 /// Nothing is due exactly at rest. There all live nodes have delivered the same, the whole stream of a live sender, and
-/// decided the same instances, among them each that enough senders proposed in what they delivered.
+/// decided the same instances, among them each that enough senders proposed in what they delivered; in uniform mode as long
+/// as no more nodes have crashed than are tolerated, or none is tolerated. In uniform mode each live node has delivered what any
+/// node delivered, a crashed one too, where no more have crashed than are tolerated.
 pub fn agrees_at_rest()
     ensures rests { RestsWhereNothingIsDue }
     ensures nothing_due { NothingIsDueAtRest }
     ensures same { DeliversTheSameAtRest }
     ensures whole { DeliversWholeStreamsAtRest }
+    ensures uniform { DeliversWhatAnyDeliveredAtRest }
     ensures decided { DecidesTheSameAtRest }
     ensures proposed { DecidesWhatIsProposedAtRest }
 {}

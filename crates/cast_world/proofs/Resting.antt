@@ -1,18 +1,17 @@
 -- What holds at rest, and how rest is found.
-use Rattle.std.proofs.Common.{◌≡◌, ◌≢◌, ℕ, ◌<◌, refl, sym, ◌∙◌, ap, List, [], ◌∷◌, ◌++◌, drop, length, arith}
+use Rattle.std.proofs.Common.{◌≡◌, ◌≢◌, ℕ, ◌<◌, refl, sym, ◌∙◌, ap, List, [], ◌∷◌, ◌++◌, length, arith}
 use Rattle.std.specs.FinMap as finite
 use Rattle.std.specs.FinMap.{len-empty}
 use Rattle.std.specs.Ordering.{nat_cmp}
-use Rattle.std.proofs.lemmas.List.{take-append-drop}
 use Rattle.cast_message.specs.declared.config.Config.{Config}
 use Rattle.cast_message.specs.declared.config.Mode.TheVariants.{Uniform}
 use Rattle.cast_message.specs.declared.message.Message.{Message}
 use Rattle.cast_message.specs.History.{History}
-use Rattle.cast_message.specs.Delivery.{delivered, next}
+use Rattle.cast_message.specs.Delivery.{delivered}
 use Rattle.cast_message.specs.Replies.{IsAccepted}
-use Rattle.cast_message.specs.Rounds.{Rest, FewCrashedIn, owed}
+use Rattle.cast_message.specs.Rounds.{Rest, HaveFewCrashed, FewCrashedIn, owed}
 use Rattle.cast_message.proofs.DecidedAtRest.{all_delivered_same, live_stream_delivered, all_decided_same, decided_where_proposed}
-use Rattle.cast_message.proofs.UniformRest.{delivered_everywhere}
+use Rattle.cast_message.proofs.UniformRest.{all_have_it}
 use Rattle.cast_node.specs.Kept.{link_to}
 use Rattle.cast_world.specs.Group.{State, node_at, Stands}
 use Rattle.cast_world.specs.Rounds.{AgreesAtRest, HaveWhatAnyDelivered, IsSettled}
@@ -27,10 +26,8 @@ module _ (config : Config) (past : History) (accepted : IsAccepted config past) 
     proposed = decided_where_proposed config past accepted rest few;
   }
 
-  pub have_all : config.mode ≡ Uniform → FewCrashedIn Uniform config past → HaveWhatAnyDelivered config past
-  have_all uniform few p q s live =
-      let h = delivered_everywhere config past accepted rest uniform few p live.in_group live.alive q s in
-      (drop (next config past q s) (delivered config past p s), ap (λ xs. xs ++ drop (next config past q s) (delivered config past p s)) h ∙ take-append-drop (next config past q s) (delivered config past p s))
+  pub have_all : config.mode ≡ Uniform → HaveFewCrashed config past → HaveWhatAnyDelivered config past
+  have_all uniform few p q s live = all_have_it config past accepted rest uniform few p live.in_group live.alive q s
 
 -- a node that owes nothing is settled with each
 no_length : (slots : List ℕ) → length slots ≡ 0 → slots ≡ []

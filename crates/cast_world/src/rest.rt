@@ -3,7 +3,7 @@ ghost use Rattle.std.specs.Prelude.{◌≡◌, ℕ, ◌<◌, ◌↔◌, IsTrue};
 ghost use Rattle.cast_message.specs.declared.config.Config.{Config as Settings};
 ghost use Rattle.cast_message.specs.declared.config.Mode.TheVariants.{Uniform};
 ghost use Rattle.cast_message.specs.History.{History};
-ghost use Rattle.cast_message.specs.Rounds.{Rest, FewCrashedIn};
+ghost use Rattle.cast_message.specs.Rounds.{Rest, HaveFewCrashed, FewCrashedIn};
 ghost use Rattle.cast_world.specs.Group.{Stands};
 ghost use Rattle.cast_world.specs.Rounds.{IsSettled, AgreesAtRest, HaveWhatAnyDelivered};
 
@@ -13,14 +13,15 @@ use cast_message::NodeId;
 impl World {
     /// Whether no live node owes a live node a slot. It takes no memory, and looks at each link once at most.
     ///
-    /// At rest, in uniform mode where no more nodes have crashed than the faults that are tolerated, all live nodes have
-    /// delivered the same from each sender, the whole stream of a live one; an instance that one of them decided, or of which
-    /// proposals of as many senders as there are nodes less faults stand in what they delivered, is decided by all of them;
-    /// and in uniform mode each of them has delivered what any node delivered, a crashed one too.
+    /// At rest all live nodes have delivered the same from each sender, the whole stream of a live one; and an instance that one
+    /// of them decided, or of which proposals of as many senders as there are nodes less faults stand in what they delivered, is
+    /// decided by all of them. In uniform mode so it is where no fault is tolerated, or no more nodes have crashed than are;
+    /// and where no more have crashed than are tolerated, each live node has delivered what any node delivered, a crashed one
+    /// too.
     pub fn at_rest(&self) -> bool
         ensures rest { (config : Settings) (past : History) → Stands config past self.now → (IsTrue result ↔ Rest config past) }
         ensures agrees { (config : Settings) (past : History) → Stands config past self.now → IsTrue result → FewCrashedIn config.mode config past → AgreesAtRest config past }
-        ensures uniform { (config : Settings) (past : History) → Stands config past self.now → IsTrue result → config.mode ≡ Uniform → FewCrashedIn Uniform config past → HaveWhatAnyDelivered config past }
+        ensures uniform { (config : Settings) (past : History) → Stands config past self.now → IsTrue result → config.mode ≡ Uniform → HaveFewCrashed config past → HaveWhatAnyDelivered config past }
     {
         for giver in 0..self.node_count() {
             if !self.owes_nobody(NodeId(giver)) {
