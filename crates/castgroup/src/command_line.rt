@@ -1,4 +1,6 @@
 //! The command line: the commands with their arguments and texts, and the words that the program was called with.
+use crate::explain::explain_output;
+use crate::source::Failure;
 use crate::status::{Status, refuse};
 use cast_text::TextFault;
 use clap::error::ErrorKind;
@@ -32,6 +34,13 @@ const RULES: &str = "Rules (bad LINE RULE):
   5  a line of a node that has crashed
   6  a second proposal of a node in an instance";
 
+/// What breaks the rule, in words.
+pub fn rule_words(rule: u64) -> Option<&'static str> {
+    let line = RULES.lines().skip(1).nth(rule as usize)?;
+    let (_number, words) = line.trim_start().split_once("  ")?;
+    Some(words)
+}
+
 /// What the lines of a summary mean.
 const ENDS: &str =
     "A line for each node, with its end and how many items it delivered from each node. Ends:
@@ -57,6 +66,11 @@ A pale mark below the lines is a refused event with its code, a pale ground a se
 pub fn command_words<R: Runtime + AllocGlobal>(rt: &R) -> io::Result<Vec<String>> {
     let words = std::env::args(rt)?.collect(rt.alloc())?;
     Ok(words)
+}
+
+/// Whether the words ask that faults are explained, whatever else they are.
+pub fn asks_to_explain(words: &[String]) -> bool {
+    words.iter().any(|word| word.as_str() == "--explain")
 }
 
 /// Says why there are no words: one is not UTF-8, or memory is wanting.
@@ -87,10 +101,18 @@ pub fn castgroup_command<'a>(alloc: Global) -> Result<Command<'a>, AllocError> {
     let migrate = Command::new(alloc, "migrate")
         .about("Writes a cast/1 record with the head of cast/2")
         .arg(old_record)?;
+    let explain = Arg::new(alloc, "explain")
+        .long("explain")
+        .action(ArgAction::SetTrue)
+        .global(true)
+        .help(
+            "Say on standard error in a line more where and why, where an input is refused or bad",
+        );
     Command::new(alloc, "castgroup")
         .about("A FIFO broadcast group with k-set agreement")
         .version("0.1.0")
         .subcommand_required(true)
+        .arg(explain)?
         .subcommand(run)?
         .subcommand(judge)?
         .subcommand(live)?
@@ -146,14 +168,20 @@ fn live_command<'a>(alloc: Global) -> Result<Command<'a>, AllocError> {
 }
 
 /// Shows help or the version on standard output, or a usage fault on standard error.
-pub fn show<R: Runtime + AllocGlobal>(rt: &R, error: &Error) -> Status {
+pub fn show<R: Runtime + AllocGlobal>(rt: &R, error: &Error, explains: bool) -> Status {
     if let ErrorKind::OutOfMemory = error.kind() {
         return refuse(rt, TextFault::Memory);
     }
     let shown = error.print(rt);
     match (error.exit_code(), shown) {
         (0, Ok(())) => Status::Good,
-        (0, Err(_)) => refuse(rt, TextFault::Write),
+        (0, Err(fault)) => {
+            let status = refuse(rt, TextFault::Write);
+            if explains {
+                explain_output(rt, Failure::of_output(Some(fault)));
+            }
+            status
+        }
         _ => Status::Usage,
     }
 }

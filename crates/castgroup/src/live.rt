@@ -2,7 +2,9 @@
 ghost use Rattle.std.specs.Prelude.{◌≡◌, IfOk};
 ghost use Rattle.cast_text.specs.Live.{IsFinished};
 
+use crate::explain::{explain_fault, explain_output, explain_run};
 use crate::progress::{Teller, due_deliveries};
+use crate::source::{Call, Failure, Heard, Source, StreamName, open_source};
 use crate::status::{Status, refuse};
 use cast_run::Progress;
 use cast_text::{
@@ -23,21 +25,55 @@ use std::{fs, io};
 pub fn live_script<R: Runtime + AllocGlobal + Threads + Wait + Copy + Send + 'static>(
     rt: &R,
     matches: &ArgMatches<'_>,
+    call: Call<'_>,
     stderr: Stderr,
 ) -> Status {
     let wanted = matches.get_flag("progress") || stderr.is_terminal();
     let told = if wanted { Some(stderr) } else { None };
-    let run = match run_live_script(rt, matches.get_str("SCRIPT"), told) {
+    let mut source = open_source(rt, call);
+    let run = match run_live_script(rt, &mut source, told) {
         Ok(run) => run,
-        Err(fault) => return refuse(rt, fault),
+        Err(fault) => {
+            let status = refuse(rt, fault);
+            explain_fault(rt, fault, source, Failure::of_output(None));
+            return status;
+        }
     };
+    drop(source);
     let kept = keep_files(rt, matches, &run);
     let told = tell_summary(rt, &run);
-    match (told, kept) {
-        (Err(TextFault::Memory), _) | (_, Err(TextFault::Memory)) => refuse(rt, TextFault::Memory),
-        (Err(fault), _) | (_, Err(fault)) => refuse(rt, fault),
-        (Ok(summary), Ok(())) => status_of(summary),
+    let stop = match (told, kept) {
+        (Ok(summary), Ok(())) => return tell_verdict(rt, &run, summary, call.explains),
+        (Err(stop), Err(other)) if matches!(other.fault, TextFault::Memory) => other,
+        (Err(stop), _) | (_, Err(stop)) => stop,
+    };
+    let status = refuse(rt, stop.fault);
+    if call.explains && matches!(stop.fault, TextFault::Write) {
+        explain_output(rt, stop.output);
     }
+    status
+}
+
+/// Why an output was not written to its end.
+#[derive(Clone, Copy)]
+struct Stop<'a> {
+    fault: TextFault,
+    output: Failure<'a>,
+}
+
+// The status of a run whose outputs were written, and where it is bad and that is asked for, why.
+fn tell_verdict<R: Runtime + AllocGlobal>(
+    rt: &R,
+    run: &FinishedRun,
+    summary: Summary,
+    explains: bool,
+) -> Status
+    requires { IsFinished run.now }
+{
+    if let (Verdict::Bad { line, rule }, true) = (summary.verdict, explains) {
+        explain_run(rt, run, line, rule);
+    }
+    status_of(summary)
 }
 
 fn status_of(summary: Summary) -> Status {
@@ -54,18 +90,12 @@ fn status_of(summary: Summary) -> Status {
 /// Reads the script and runs its group, and where that is wanted tells how far it is.
 fn run_live_script<R: Runtime + AllocGlobal + Threads + Wait + Copy + Send + 'static>(
     rt: &R,
-    path: Option<&str>,
+    source: &mut Source<'_, R::File, R::Reader>,
     told: Option<Stderr>,
 ) -> Result<FinishedRun, TextFault>
     ensures { IfOk result IsFinished }
 {
-    let script = match path {
-        Some(path) => match fs::open(rt, path) {
-            Ok(file) => read_script_text(rt.alloc(), &mut Meter::new(file))?,
-            Err(_) => return Err(TextFault::Read),
-        },
-        None => read_script_text(rt.alloc(), &mut Meter::new(rt.reader()))?,
-    };
+    let script = read_script_text(rt.alloc(), &mut Meter::new(source))?;
     let progress = Progress::shared(rt.alloc(), script.config.nodes())?;
     let teller = match told {
         Some(stderr) => Teller::start(*rt, rt.alloc(), stderr, &progress, due_deliveries(&script))?,
@@ -88,11 +118,11 @@ enum Kept {
 }
 
 /// Writes the record and the replay to the files that are named, each whatever became of the other.
-fn keep_files<R: Runtime + AllocGlobal>(
+fn keep_files<'a, R: Runtime + AllocGlobal>(
     rt: &R,
-    matches: &ArgMatches<'_>,
+    matches: &ArgMatches<'a>,
     run: &FinishedRun,
-) -> Result<(), TextFault>
+) -> Result<(), Stop<'a>>
     requires { IsFinished run.now }
 {
     let record = keep(rt, matches.get_str("record"), run, Kept::Record);
@@ -102,36 +132,36 @@ fn keep_files<R: Runtime + AllocGlobal>(
 }
 
 /// Writes to the file, if one is named, and says so where the text is longer than this program reads.
-fn keep<R: Runtime + AllocGlobal>(
+fn keep<'a, R: Runtime + AllocGlobal>(
     rt: &R,
-    path: Option<&str>,
+    path: Option<&'a str>,
     run: &FinishedRun,
     kept: Kept,
-) -> Result<(), TextFault>
+) -> Result<(), Stop<'a>>
     requires { IsFinished run.now }
 {
     let Some(path) = path else {
         return Ok(());
     };
-    let Ok(file) = fs::create(rt, path) else {
-        return Err(TextFault::Write);
+    let stop = |fault, error| {
+        Err(Stop {
+            fault,
+            output: Failure {
+                name: StreamName::File(path),
+                error,
+            },
+        })
     };
-    let mut counted = Counted::new(file);
-    let Ok(mut output) = BufWriter::new(rt.alloc(), &mut counted) else {
-        return Err(TextFault::Memory);
+    let file = match fs::create(rt, path) {
+        Ok(file) => file,
+        Err(error) => return stop(TextFault::Write, Some(error)),
     };
-    let mut writer = Meter::new(&mut output);
-    let outcome = match kept {
-        Kept::Record => write_record_of(rt.alloc(), run, &mut writer),
-        Kept::Replay => write_replay_of(run, &mut writer),
-    };
-    let flushed = output.flush();
-    drop(output);
-    outcome?;
-    if flushed.is_err() {
-        return Err(TextFault::Write);
+    let mut heard = Heard::new(Counted::new(file));
+    match write_kept(rt, &mut heard, run, kept) {
+        Ok(()) => {}
+        Err(fault) => return stop(fault, heard.error()),
     }
-    if counted.count() > INPUT_LIMIT as u64 {
+    if heard.inner().count() > INPUT_LIMIT as u64 {
         let said = match kept {
             Kept::Record => eprintln!(rt; "castgroup: record longer than judge reads"),
             Kept::Replay => eprintln!(rt; "castgroup: replay longer than run reads"),
@@ -142,11 +172,55 @@ fn keep<R: Runtime + AllocGlobal>(
     Ok(())
 }
 
-fn tell_summary<R: Runtime + AllocGlobal>(rt: &R, run: &FinishedRun) -> Result<Summary, TextFault>
+fn write_kept<R: AllocGlobal, W: Write + Drop>(
+    rt: &R,
+    file: &mut W,
+    run: &FinishedRun,
+    kept: Kept,
+) -> Result<(), TextFault>
+    requires { IsFinished run.now }
+{
+    let Ok(mut output) = BufWriter::new(rt.alloc(), file) else {
+        return Err(TextFault::Memory);
+    };
+    let mut writer = Meter::new(&mut output);
+    let outcome = match kept {
+        Kept::Record => write_record_of(rt.alloc(), run, &mut writer),
+        Kept::Replay => write_replay_of(run, &mut writer),
+    };
+    let flushed = output.flush();
+    outcome?;
+    if flushed.is_err() {
+        return Err(TextFault::Write);
+    }
+    Ok(())
+}
+
+fn tell_summary<'a, R: Runtime + AllocGlobal>(
+    rt: &R,
+    run: &FinishedRun,
+) -> Result<Summary, Stop<'a>>
+    requires { IsFinished run.now }
+{
+    let mut heard = Heard::new(io::writer(rt));
+    match write_summary_of(rt, &mut heard, run) {
+        Ok(summary) => Ok(summary),
+        Err(fault) => Err(Stop {
+            fault,
+            output: Failure::of_output(heard.error()),
+        }),
+    }
+}
+
+fn write_summary_of<R: AllocGlobal, W: Write + Drop>(
+    rt: &R,
+    writer: &mut W,
+    run: &FinishedRun,
+) -> Result<Summary, TextFault>
     requires { IsFinished run.now }
 {
     let summary = summarize(rt.alloc(), run)?;
-    let Ok(mut output) = BufWriter::new(rt.alloc(), io::writer(rt)) else {
+    let Ok(mut output) = BufWriter::new(rt.alloc(), writer) else {
         return Err(TextFault::Memory);
     };
     write_summary(run, summary, &mut Meter::new(&mut output))?;

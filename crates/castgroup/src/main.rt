@@ -3,16 +3,19 @@
 
 mod command_line;
 mod draw;
+mod explain;
 mod live;
 mod progress;
+mod source;
 mod status;
 mod texts;
 
 use cast_text::TextFault;
 use clap::ArgMatches;
-use command_line::{castgroup_command, command_words, refuse_words, show};
+use command_line::{asks_to_explain, castgroup_command, command_words, refuse_words, show};
 use draw::draw_script;
 use live::live_script;
+use source::Call;
 use status::{Status, refuse};
 use std::io::Stderr;
 use std::process::ExitCode;
@@ -38,7 +41,7 @@ fn run<R: Runtime + AllocGlobal + Threads + Wait + Copy + Send + 'static>(
     };
     match command.try_get_matches_from(words.as_slice()) {
         Ok(matches) => run_matches(rt, &matches, stderr),
-        Err(error) => show(rt, &error),
+        Err(error) => show(rt, &error, asks_to_explain(words.as_slice())),
     }
 }
 
@@ -48,11 +51,18 @@ fn run_matches<R: Runtime + AllocGlobal + Threads + Wait + Copy + Send + 'static
     stderr: Stderr,
 ) -> Status {
     match matches.subcommand() {
-        Some(("run", inner)) => write_text(rt, TextCommand::Run, inner.get_str("SCRIPT")),
-        Some(("judge", inner)) => write_text(rt, TextCommand::Judge, inner.get_str("RECORD")),
-        Some(("live", inner)) => live_script(rt, inner, stderr),
-        Some(("draw", inner)) => draw_script(rt, inner),
-        Some(("migrate", inner)) => write_text(rt, TextCommand::Migrate, inner.get_str("RECORD")),
+        Some(("run", inner)) => write_text(rt, TextCommand::Run, call_on(inner, "SCRIPT")),
+        Some(("judge", inner)) => write_text(rt, TextCommand::Judge, call_on(inner, "RECORD")),
+        Some(("live", inner)) => live_script(rt, inner, call_on(inner, "SCRIPT"), stderr),
+        Some(("draw", inner)) => draw_script(rt, inner, call_on(inner, "SCRIPT")),
+        Some(("migrate", inner)) => write_text(rt, TextCommand::Migrate, call_on(inner, "RECORD")),
         _ => Status::Usage,
+    }
+}
+
+fn call_on<'a>(matches: &ArgMatches<'a>, input: &str) -> Call<'a> {
+    Call {
+        path: matches.get_str(input),
+        explains: matches.get_flag("explain"),
     }
 }

@@ -1,13 +1,15 @@
 //! The commands that read one text and write another: `run`, `judge`, `migrate` and `draw`.
 ghost use Rattle.std.specs.Prelude.{◌≡◌, false};
 
+use crate::explain::{explain_fault, explain_verdict};
+use crate::source::{Call, Failure, Heard, open_source};
 use crate::status::{Status, refuse};
 use cast_text::{TextFault, Verdict, Window, draw_text, judge_text, migrate_text, run_text};
 use cast_words::Meter;
 use std::alloc::Global;
+use std::io;
 use std::io::{BufWriter, Read, Write};
 use std::rt::Runtime;
-use std::{fs, io};
 
 /// A command that reads one text and writes another.
 #[derive(Clone, Copy)]
@@ -23,25 +25,23 @@ pub enum TextCommand {
 }
 
 impl TextCommand {
+    // Does what the command does. The verdict is that of the judge; all else is good.
     fn perform<R: Read, W: Write>(
         self,
         alloc: Global,
         reader: &mut Meter<R>,
         writer: &mut Meter<W>,
-    ) -> Result<Status, TextFault>
+    ) -> Result<Verdict, TextFault>
         requires reader { reader.old.failed ≡ false }
         requires writer { writer.old.failed ≡ false }
     {
         match self {
             TextCommand::Run => run_text(alloc, reader, writer)?,
-            TextCommand::Judge => match judge_text(alloc, reader, writer)? {
-                Verdict::Good => {}
-                Verdict::Bad { .. } => return Ok(Status::Bad),
-            },
+            TextCommand::Judge => return judge_text(alloc, reader, writer),
             TextCommand::Migrate => migrate_text(alloc, reader, writer)?,
             TextCommand::Draw(window) => draw_text(alloc, window, reader, writer)?,
         }
-        Ok(Status::Good)
+        Ok(Verdict::Good)
     }
 }
 
@@ -49,23 +49,30 @@ impl TextCommand {
 pub fn write_text<R: Runtime + AllocGlobal>(
     rt: &R,
     command: TextCommand,
-    path: Option<&str>,
+    call: Call<'_>,
 ) -> Status {
-    let Ok(mut output) = BufWriter::new(rt.alloc(), io::writer(rt)) else {
+    let mut heard = Heard::new(io::writer(rt));
+    let Ok(mut output) = BufWriter::new(rt.alloc(), &mut heard) else {
         return refuse(rt, TextFault::Memory);
     };
-    let mut writer = Meter::new(&mut output);
-    let outcome = match path {
-        Some(path) => match fs::open(rt, path) {
-            Ok(file) => command.perform(rt.alloc(), &mut Meter::new(file), &mut writer),
-            Err(_) => Err(TextFault::Read),
-        },
-        None => command.perform(rt.alloc(), &mut Meter::new(rt.reader()), &mut writer),
-    };
+    let mut source = open_source(rt, call);
+    let done = command.perform(
+        rt.alloc(),
+        &mut Meter::new(&mut source),
+        &mut Meter::new(&mut output),
+    );
     let flushed = output.flush();
-    match (outcome, flushed) {
-        (Ok(status), Ok(())) => status,
-        (Ok(_), Err(_)) => refuse(rt, TextFault::Write),
-        (Err(fault), _) => refuse(rt, fault),
-    }
+    drop(output);
+    let fault = match (done, flushed) {
+        (Ok(Verdict::Good), Ok(())) => return Status::Good,
+        (Ok(Verdict::Bad { line, rule }), Ok(())) => {
+            explain_verdict(rt, line, rule, source);
+            return Status::Bad;
+        }
+        (Ok(_), Err(_)) => TextFault::Write,
+        (Err(fault), _) => fault,
+    };
+    let status = refuse(rt, fault);
+    explain_fault(rt, fault, source, Failure::of_output(heard.error()));
+    status
 }

@@ -1,0 +1,116 @@
+//! What `--explain` says: one line more on standard error, which tells where a fault is and why it is one. It is made after
+//! the fixed text was written, from the input once more; where there is no memory for it, nothing more is said.
+mod element;
+mod excerpt;
+mod group;
+mod members;
+mod record;
+mod script;
+mod settings;
+mod stream;
+
+ghost use Rattle.cast_text.specs.Live.{IsFinished};
+
+use crate::source::{Failure, Source};
+use cast_text::{FinishedRun, INPUT_LIMIT, TextFault, write_record_of};
+use cast_words::Meter;
+use group::group_words;
+use record::{head_words, verdict_words};
+use script::script_words;
+use std::alloc::AllocError;
+use std::rt::Runtime;
+use stream::{failure_words, stream_name};
+
+/// Explains why nothing more was done, where that is asked for. The output is that which was written last.
+pub fn explain_fault<R: Runtime + AllocGlobal>(
+    rt: &R,
+    fault: TextFault,
+    source: Source<'_, R::File, R::Reader>,
+    output: Failure<'_>,
+) {
+    if !source.explains() {
+        return;
+    }
+    let words = match fault {
+        TextFault::Read => failure_words(rt.alloc(), source.failure()),
+        TextFault::Write => failure_words(rt.alloc(), output),
+        TextFault::Memory => Ok(None),
+        fault => words_on_input(rt, fault, source),
+    };
+    tell(rt, words);
+}
+
+/// Explains the fault of an output, where the input was read without one.
+pub fn explain_output<R: Runtime + AllocGlobal>(rt: &R, output: Failure<'_>) {
+    tell(rt, failure_words(rt.alloc(), output));
+}
+
+/// Explains the verdict that the line breaks the rule, where that is asked for.
+pub fn explain_verdict<R: Runtime + AllocGlobal>(
+    rt: &R,
+    line: u64,
+    rule: u64,
+    source: Source<'_, R::File, R::Reader>,
+) {
+    if !source.explains() {
+        return;
+    }
+    let name = stream_name(rt.alloc(), source.name());
+    let words = match (name, source.into_bytes(rt)) {
+        (Ok(name), Some(bytes)) => {
+            verdict_words(rt.alloc(), name.as_str(), bytes.as_slice(), line, rule)
+        }
+        _ => Ok(None),
+    };
+    tell(rt, words);
+}
+
+/// Explains the verdict on the record of a run in threads.
+pub fn explain_run<R: Runtime + AllocGlobal>(rt: &R, run: &FinishedRun, line: u64, rule: u64)
+    requires { IsFinished run.now }
+{
+    let mut record = Meter::new(Vec::new(rt.alloc()));
+    if write_record_of(rt.alloc(), run, &mut record).is_err() {
+        return;
+    }
+    let text = record.into_inner();
+    let words = verdict_words(
+        rt.alloc(),
+        "the record of the run",
+        text.as_slice(),
+        line,
+        rule,
+    );
+    tell(rt, words);
+}
+
+// What is wrong with an input that was read.
+fn words_on_input<R: Runtime + AllocGlobal>(
+    rt: &R,
+    fault: TextFault,
+    source: Source<'_, R::File, R::Reader>,
+) -> Result<Option<String>, AllocError> {
+    let alloc = rt.alloc();
+    let name = stream_name(alloc, source.name())?;
+    if let TextFault::TooLong = fault {
+        return Ok(Some(format!(in alloc;
+            "{name}: more than the {INPUT_LIMIT} bytes that are read"
+        )?));
+    }
+    let Some(bytes) = source.into_bytes(rt) else {
+        return Ok(None);
+    };
+    match fault {
+        TextFault::Script(fault) => script_words(alloc, name.as_str(), bytes.as_slice(), fault),
+        TextFault::Live(fault) => group_words(alloc, name.as_str(), bytes.as_slice(), fault),
+        TextFault::NotV1 => head_words(alloc, name.as_str(), bytes.as_slice()),
+        _ => Ok(None),
+    }
+}
+
+fn tell<R: Eprint>(rt: &R, words: Result<Option<String>, AllocError>) {
+    if let Ok(Some(words)) = words {
+        // Where standard error fails there is nowhere left to say so.
+        let _ = eprintln!(rt; "castgroup: {words}");
+    }
+}

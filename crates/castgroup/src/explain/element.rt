@@ -1,0 +1,237 @@
+//! What is wrong with an element of a script's lists: the value that stands where something else is expected.
+use serde_json::Value;
+
+const EVENT: &str =
+    "an event: [\"order\",NODE,ITEM..], [\"send\",FROM,TO,SLOT], [\"ack\",FROM,TO,SLOT], \
+[\"arrive\",FROM,SEQ], [\"crash\",NODE] or [\"settle\"]";
+
+const ORDER: &str =
+    "[\"order\",NODE,ITEM..], where ITEM.. is \"data\",HEX or \"propose\",INSTANCE,VALUE or \"close\"";
+
+const SEND: &str = "[\"send\",FROM,TO,SLOT]";
+
+const ACK: &str = "[\"ack\",FROM,TO,SLOT]";
+
+const ARRIVE: &str = "[\"arrive\",FROM,SEQ]";
+
+const CRASH: &str = "[\"crash\",NODE]";
+
+const SETTLE: &str = "[\"settle\"]";
+
+const FAULT: &str =
+    "a fault: [\"lose\",KIND,FROM,TO,FIRST,STEP], [\"repeat\",KIND,FROM,TO,FIRST,STEP], \
+[\"delay\",KIND,FROM,TO,FIRST,STEP,COUNT] or [\"crash\",NODE,ENTRIES]";
+
+const LOSE: &str = "[\"lose\",KIND,FROM,TO,FIRST,STEP]";
+
+const REPEAT: &str = "[\"repeat\",KIND,FROM,TO,FIRST,STEP]";
+
+const DELAY: &str = "[\"delay\",KIND,FROM,TO,FIRST,STEP,COUNT]";
+
+const ENGINE_CRASH: &str = "[\"crash\",NODE,ENTRIES]";
+
+const JOB: &str = "a job: [NODE,[[ITEM..],[ITEM..],..]]";
+
+const ITEMS: &str =
+    "a list of items, each [\"data\",HEX] or [\"propose\",INSTANCE,VALUE] or [\"close\"]";
+
+const ITEM: &str = "an item: [\"data\",HEX] or [\"propose\",INSTANCE,VALUE] or [\"close\"]";
+
+const NODE: &str = "a node, a number from 0 to 255";
+
+const NUMBER: &str = "a number from 0 to 18446744073709551615";
+
+const HEX: &str = "a text with two digits, 0 to 9 and a to f, for each byte";
+
+const KIND: &str = "\"carry\" or \"took\"";
+
+/// A value that stands where something else is expected.
+#[derive(Clone, Copy)]
+pub struct Flaw<'a> {
+    pub value: &'a Value,
+    pub expected: &'static str,
+}
+
+/// What is wrong with the value as an event.
+pub fn event_flaw(value: &Value) -> Flaw<'_> {
+    let whole = Flaw {
+        value,
+        expected: EVENT,
+    };
+    let Some((name, places)) = name_and_places(value) else {
+        return whole;
+    };
+    let found = match name {
+        "order" => order_flaw(value, places),
+        "send" => link_flaw(value, places, SEND),
+        "ack" => link_flaw(value, places, ACK),
+        "arrive" => count_flaw(value, places, ARRIVE),
+        "crash" => crash_flaw(value, places),
+        "settle" => unless(places.is_empty(), value, SETTLE),
+        _ => None,
+    };
+    found.unwrap_or(whole)
+}
+
+/// What is wrong with the value as a fault of a plan.
+pub fn fault_flaw(value: &Value) -> Flaw<'_> {
+    let whole = Flaw {
+        value,
+        expected: FAULT,
+    };
+    let Some((name, places)) = name_and_places(value) else {
+        return whole;
+    };
+    let found = match name {
+        "lose" => frames_flaw(value, places, LOSE),
+        "repeat" => frames_flaw(value, places, REPEAT),
+        "delay" => delay_flaw(value, places),
+        "crash" => count_flaw(value, places, ENGINE_CRASH),
+        _ => None,
+    };
+    found.unwrap_or(whole)
+}
+
+/// What is wrong with the value as a job.
+pub fn job_flaw(value: &Value) -> Flaw<'_> {
+    let whole = Flaw {
+        value,
+        expected: JOB,
+    };
+    match places(value) {
+        Some([node, items]) => not_node(node).or(items_flaw(items)).unwrap_or(whole),
+        _ => whole,
+    }
+}
+
+fn places(value: &Value) -> Option<&[Value]> {
+    let list = value.as_array()?;
+    Some(list.as_slice())
+}
+
+fn name_and_places(value: &Value) -> Option<(&str, &[Value])> {
+    let (word, others) = places(value)?.split_first()?;
+    Some((word.as_str()?, others))
+}
+
+fn order_flaw<'a>(value: &'a Value, places: &'a [Value]) -> Option<Flaw<'a>> {
+    match places {
+        [node, item @ ..] => not_node(node).or(item_flaw(value, item, ORDER)),
+        [] => unless(false, value, ORDER),
+    }
+}
+
+// A node, another, and a number.
+fn link_flaw<'a>(value: &'a Value, places: &'a [Value], form: &'static str) -> Option<Flaw<'a>> {
+    match places {
+        [from, to, slot] => not_node(from).or(not_node(to)).or(not_number(slot)),
+        _ => unless(false, value, form),
+    }
+}
+
+// A node and a number.
+fn count_flaw<'a>(value: &'a Value, places: &'a [Value], form: &'static str) -> Option<Flaw<'a>> {
+    match places {
+        [node, count] => not_node(node).or(not_number(count)),
+        _ => unless(false, value, form),
+    }
+}
+
+fn crash_flaw<'a>(value: &'a Value, places: &'a [Value]) -> Option<Flaw<'a>> {
+    match places {
+        [node] => not_node(node),
+        _ => unless(false, value, CRASH),
+    }
+}
+
+// A kind of frames, a link, the first frame and the step.
+fn frames_flaw<'a>(value: &'a Value, places: &'a [Value], form: &'static str) -> Option<Flaw<'a>> {
+    match places {
+        [kind, from, to, first, step] => not_kind(kind)
+            .or(not_node(from))
+            .or(not_node(to))
+            .or(not_number(first))
+            .or(not_number(step)),
+        _ => unless(false, value, form),
+    }
+}
+
+fn delay_flaw<'a>(value: &'a Value, places: &'a [Value]) -> Option<Flaw<'a>> {
+    match places {
+        [kind, from, to, first, step, count] => not_kind(kind)
+            .or(not_node(from))
+            .or(not_node(to))
+            .or(not_number(first))
+            .or(not_number(step))
+            .or(not_number(count)),
+        _ => unless(false, value, DELAY),
+    }
+}
+
+// What is wrong with the places of an item, which stand in this value.
+fn item_flaw<'a>(value: &'a Value, places: &'a [Value], form: &'static str) -> Option<Flaw<'a>> {
+    let whole = unless(false, value, form);
+    let Some((word, others)) = places.split_first() else {
+        return whole;
+    };
+    match (word.as_str(), others) {
+        (Some("data"), [digits]) => not_digits(digits),
+        (Some("propose"), [instance, proposed]) => not_number(instance).or(not_number(proposed)),
+        (Some("close"), []) => None,
+        _ => whole,
+    }
+}
+
+// The first item that is none.
+fn items_flaw(value: &Value) -> Option<Flaw<'_>> {
+    let Some(items) = places(value) else {
+        return unless(false, value, ITEMS);
+    };
+    for item in items {
+        let flaw = match places(item) {
+            Some(places) => item_flaw(item, places, ITEM),
+            None => unless(false, item, ITEM),
+        };
+        if flaw.is_some() {
+            return flaw;
+        }
+    }
+    None
+}
+
+fn not_node(value: &Value) -> Option<Flaw<'_>> {
+    let is_node = matches!(value.as_u64(), Some(0..=255));
+    unless(is_node, value, NODE)
+}
+
+fn not_number(value: &Value) -> Option<Flaw<'_>> {
+    unless(value.as_u64().is_some(), value, NUMBER)
+}
+
+fn not_kind(value: &Value) -> Option<Flaw<'_>> {
+    unless(
+        matches!(value.as_str(), Some("carry" | "took")),
+        value,
+        KIND,
+    )
+}
+
+fn not_digits(value: &Value) -> Option<Flaw<'_>> {
+    let are_digits = match value.as_str() {
+        Some(text) => text.len() % 2 == 0 && text.as_bytes().iter().all(|byte| is_digit(*byte)),
+        None => false,
+    };
+    unless(are_digits, value, HEX)
+}
+
+fn is_digit(byte: u8) -> bool {
+    matches!(byte, b'0'..=b'9' | b'a'..=b'f')
+}
+
+fn unless<'a>(is_right: bool, value: &'a Value, expected: &'static str) -> Option<Flaw<'a>> {
+    if is_right {
+        None
+    } else {
+        Some(Flaw { value, expected })
+    }
+}

@@ -1,0 +1,92 @@
+//! What is wrong with a group that is to run in threads: the job or the fault of the plan that does not fit its nodes.
+use cast_message::NodeId;
+use cast_run::LiveFault;
+use cast_script::{Fault, Script, read_script};
+use std::alloc::{AllocError, Global};
+
+/// The most jobs of a node.
+const MOST_JOBS: u8 = 4;
+
+/// Why the group of these bytes does not run; none where it does.
+pub fn group_words(
+    alloc: Global,
+    name: &str,
+    bytes: &[u8],
+    fault: LiveFault,
+) -> Result<Option<String>, AllocError> {
+    let Ok(script) = read_script(alloc, bytes) else {
+        return Ok(None);
+    };
+    let words = match fault {
+        LiveFault::Jobs => jobs_words(alloc, &script)?,
+        LiveFault::Plan => plan_words(alloc, &script)?,
+        LiveFault::Gates | LiveFault::Memory | LiveFault::Threads => None,
+    };
+    match words {
+        Some(words) => Ok(Some(format!(in alloc; "{name}: {words}")?)),
+        None => Ok(None),
+    }
+}
+
+// The first job that is at no node, or one too many at its node.
+fn jobs_words(alloc: Global, script: &Script) -> Result<Option<String>, AllocError> {
+    let nodes = script.config.nodes();
+    let mut counts = [0u8; 256];
+    for (place, (node, _items)) in script.jobs.as_slice().iter().enumerate() {
+        let NodeId(node) = *node;
+        if u64::from(node) >= nodes {
+            let words = missing_words(alloc, node, nodes)?;
+            return Ok(Some(format!(in alloc; "jobs, element {place} (counted from 0): {words}")?));
+        }
+        let count = &mut counts[node as usize];
+        if *count >= MOST_JOBS {
+            return Ok(Some(format!(in alloc;
+                "jobs, element {place} (counted from 0): node {node} has {MOST_JOBS} jobs already, the most of a node"
+            )?));
+        }
+        *count += 1;
+    }
+    Ok(None)
+}
+
+// The first fault that names no node, or a link of a node to itself.
+fn plan_words(alloc: Global, script: &Script) -> Result<Option<String>, AllocError> {
+    let nodes = script.config.nodes();
+    for (place, fault) in script.plan.faults.as_slice().iter().enumerate() {
+        if let Some(words) = fault_words(alloc, fault, nodes)? {
+            return Ok(Some(format!(in alloc; "plan, element {place} (counted from 0): {words}")?));
+        }
+    }
+    Ok(None)
+}
+
+fn fault_words(alloc: Global, fault: &Fault, nodes: u64) -> Result<Option<String>, AllocError> {
+    let (NodeId(from), NodeId(to)) = match fault {
+        Fault::Lose { from, to, .. }
+        | Fault::Repeat { from, to, .. }
+        | Fault::Delay { from, to, .. } => (*from, *to),
+        Fault::Crash {
+            node: NodeId(node),
+            ..
+        } => {
+            if u64::from(*node) >= nodes {
+                return Ok(Some(missing_words(alloc, *node, nodes)?));
+            }
+            return Ok(None);
+        }
+    };
+    if u64::from(from) >= nodes {
+        return Ok(Some(missing_words(alloc, from, nodes)?));
+    }
+    if u64::from(to) >= nodes {
+        return Ok(Some(missing_words(alloc, to, nodes)?));
+    }
+    if from == to {
+        return Ok(Some(format!(in alloc; "there is no link from node {from} to itself")?));
+    }
+    Ok(None)
+}
+
+fn missing_words(alloc: Global, node: u8, nodes: u64) -> Result<String, AllocError> {
+    format!(in alloc; "there is no node {node}, as nodes is {nodes} and they are counted from 0")
+}

@@ -1,0 +1,75 @@
+//! What is wrong with a script: where it is no JSON, which member or element is not as it should be, or which limit it breaks.
+use crate::explain::element::{Flaw, event_flaw, fault_flaw, job_flaw};
+use crate::explain::excerpt::cut;
+use crate::explain::members::members_words;
+use crate::explain::settings::settings_words;
+use cast_script::{ScriptFault, read_script};
+use serde_json::Value;
+use std::alloc::{AllocError, Global};
+
+/// Why these bytes are no script; none where that is not the fault of these bytes.
+pub fn script_words(
+    alloc: Global,
+    name: &str,
+    bytes: &[u8],
+    fault: ScriptFault,
+) -> Result<Option<String>, AllocError> {
+    match read_script(alloc, bytes) {
+        Err(found) if found == fault => {}
+        _ => return Ok(None),
+    }
+    let words = match Value::from_slice(alloc, bytes) {
+        Ok(value) => value_words(alloc, &value, fault)?,
+        Err(error) if error.is_memory() => return Err(AllocError),
+        Err(error) => format!(in alloc; "{error}")?,
+    };
+    Ok(Some(format!(in alloc; "{name}: {words}")?))
+}
+
+fn value_words(alloc: Global, value: &Value, fault: ScriptFault) -> Result<String, AllocError> {
+    match fault {
+        ScriptFault::Shape { index: 0 } => members_words(alloc, value),
+        ScriptFault::Shape { index } => element_words(alloc, value, index - 1),
+        ScriptFault::Config(fault) => settings_words(alloc, value, fault),
+        ScriptFault::NotJson | ScriptFault::Memory => format!(in alloc; "{fault}"),
+    }
+}
+
+// What is wrong with the element at this place of the list made of the events, the plan and the jobs.
+fn element_words(alloc: Global, value: &Value, place: u64) -> Result<String, AllocError> {
+    let events = list(value, "events");
+    let plan = list(value, "plan");
+    let jobs = list(value, "jobs");
+    let place = place as usize;
+    if place < events.len() {
+        return flaw_words(alloc, "events", place, event_flaw(&events[place]));
+    }
+    let place = place - events.len();
+    if place < plan.len() {
+        return flaw_words(alloc, "plan", place, fault_flaw(&plan[place]));
+    }
+    let place = place - plan.len();
+    if place < jobs.len() {
+        return flaw_words(alloc, "jobs", place, job_flaw(&jobs[place]));
+    }
+    format!(in alloc; "no element has this number")
+}
+
+fn list<'a>(value: &'a Value, name: &str) -> &'a [Value] {
+    match value.get(name).and_then(Value::as_array) {
+        Some(list) => list.as_slice(),
+        None => &[],
+    }
+}
+
+fn flaw_words(
+    alloc: Global,
+    list: &str,
+    place: usize,
+    flaw: Flaw<'_>,
+) -> Result<String, AllocError> {
+    let text = flaw.value.to_string(alloc)?;
+    let found = cut(alloc, text.as_bytes())?;
+    let expected = flaw.expected;
+    format!(in alloc; "{list}, element {place} (counted from 0): {found} is not {expected}")
+}

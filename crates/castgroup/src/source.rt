@@ -1,0 +1,215 @@
+//! The streams of a command, which remember what the system said when they failed, and the input once more.
+use cast_text::INPUT_LIMIT;
+use std::fs::OpenFile;
+use std::io::{Read, Write};
+use std::rt::Runtime;
+use std::{fs, io};
+
+/// What a command was called on, and whether it explains its faults.
+#[derive(Clone, Copy)]
+pub struct Call<'a> {
+    /// The file that is read; standard input where none is named.
+    pub path: Option<&'a str>,
+    pub explains: bool,
+}
+
+/// How a stream is called.
+#[derive(Clone, Copy)]
+pub enum StreamName<'a> {
+    File(&'a str),
+    StandardInput,
+    StandardOutput,
+}
+
+/// A stream that failed, and what the system said of it, if it said anything.
+#[derive(Clone, Copy)]
+pub struct Failure<'a> {
+    pub name: StreamName<'a>,
+    pub error: Option<io::Error>,
+}
+
+impl<'a> Failure<'a> {
+    /// Standard output, and what the system said when it failed.
+    pub fn of_output(error: Option<io::Error>) -> Failure<'a> {
+        Failure {
+            name: StreamName::StandardOutput,
+            error,
+        }
+    }
+}
+
+/// Where an input comes from.
+#[derive(Drop)]
+enum Stream<F, S> {
+    File(F),
+    Standard(S),
+    /// The file could not be opened.
+    Refused(io::Error),
+}
+
+/// The input of a command. A file that can't be opened fails when it is read.
+#[derive(Drop)]
+pub struct Source<'a, F, S> {
+    call: Call<'a>,
+    stream: Stream<F, S>,
+    error: Option<io::Error>,
+    /// What was read so far, where it is to be explained and can't be read again, and as long as there is memory for it.
+    kept: Option<Vec<u8>>,
+}
+
+/// Opens the input of the call.
+pub fn open_source<'a, R: Runtime + AllocGlobal>(
+    rt: &R,
+    call: Call<'a>,
+) -> Source<'a, R::File, R::Reader> {
+    let stream = match call.path {
+        Some(path) => match fs::open(rt, path) {
+            Ok(file) => Stream::File(file),
+            Err(error) => Stream::Refused(error),
+        },
+        None => Stream::Standard(rt.reader()),
+    };
+    let kept = if call.explains && !can_be_read_again(&stream) {
+        Some(Vec::new(rt.alloc()))
+    } else {
+        None
+    };
+    Source {
+        call,
+        stream,
+        error: None,
+        kept,
+    }
+}
+
+// A pipe has a name too, and gives what was read to nobody again.
+fn can_be_read_again<F: OpenFile, S>(stream: &Stream<F, S>) -> bool {
+    match stream {
+        Stream::File(file) => match file.metadata() {
+            Ok(metadata) => metadata.is_file(),
+            Err(_) => false,
+        },
+        Stream::Standard(_) => false,
+        Stream::Refused(_) => true,
+    }
+}
+
+impl<'a, F: Read + Drop, S: Read + Drop> Source<'a, F, S> {
+    /// Whether faults are explained.
+    pub fn explains(&self) -> bool {
+        self.call.explains
+    }
+
+    /// How the input is called.
+    pub fn name(&self) -> StreamName<'a> {
+        match self.call.path {
+            Some(path) => StreamName::File(path),
+            None => StreamName::StandardInput,
+        }
+    }
+
+    /// The input as a stream that failed.
+    pub fn failure(&self) -> Failure<'a> {
+        Failure {
+            name: self.name(),
+            error: self.error,
+        }
+    }
+
+    /// The bytes of the input once more: those that were kept, or those of the file, up to the first that is too many. None
+    /// where they can't be had.
+    pub fn into_bytes<R: Runtime + AllocGlobal>(self, rt: &R) -> Option<Vec<u8>> {
+        let Source { call, kept, .. } = self;
+        match (kept, call.path) {
+            (Some(kept), _) => Some(kept),
+            (None, Some(path)) => read_again(rt, path),
+            (None, None) => None,
+        }
+    }
+
+    // Keeps what was read, as long as there is memory for it.
+    fn keep(&mut self, piece: &[u8]) {
+        if let Some(kept) = &mut self.kept {
+            if kept.extend_from_slice(piece).is_err() {
+                self.kept = None;
+            }
+        }
+    }
+}
+
+fn read_again<R: Runtime + AllocGlobal>(rt: &R, path: &str) -> Option<Vec<u8>> {
+    let file = fs::open(rt, path).ok()?;
+    let mut bytes = Vec::new(rt.alloc());
+    file.take(INPUT_LIMIT as u64 + 1)
+        .read_to_end(&mut bytes)
+        .ok()?;
+    Some(bytes)
+}
+
+impl<F: Read + Drop, S: Read + Drop> Read for Source<'_, F, S> {
+    fn read(&mut self, buf: &mut [u8]) -> io::Result<usize> {
+        let outcome = match &mut self.stream {
+            Stream::File(file) => file.read(buf),
+            Stream::Standard(input) => input.read(buf),
+            Stream::Refused(error) => Err(*error),
+        };
+        match outcome {
+            Ok(count) => {
+                self.keep(&buf[..count]);
+                Ok(count)
+            }
+            Err(error) => {
+                self.error = Some(error);
+                Err(error)
+            }
+        }
+    }
+}
+
+/// Hands all on to a writer, and remembers what the system said when it failed.
+#[derive(Drop)]
+pub struct Heard<W> {
+    inner: W,
+    error: Option<io::Error>,
+}
+
+impl<W> Heard<W> {
+    /// The writer, which has not failed so far.
+    pub fn new(inner: W) -> Heard<W> {
+        Heard { inner, error: None }
+    }
+
+    /// The writer itself.
+    pub fn inner(&self) -> &W {
+        &self.inner
+    }
+
+    /// What the system said when the writer failed last.
+    pub fn error(&self) -> Option<io::Error> {
+        self.error
+    }
+}
+
+impl<W: Write> Write for Heard<W> {
+    ghost contents = { λ w. W.contents w.inner };
+
+    fn write(&mut self, buf: &[u8]) -> io::Result<usize> {
+        match self.inner.write(buf) {
+            Ok(count) => Ok(count),
+            Err(error) => {
+                self.error = Some(error);
+                Err(error)
+            }
+        }
+    }
+
+    fn flush(&mut self) -> io::Result<()> {
+        match self.inner.flush() {
+            Ok(()) => Ok(()),
+            Err(error) => {
+                self.error = Some(error);
+                Err(error)
+            }
+        }
+    }
+}
