@@ -44,7 +44,7 @@ pub fn live_script<R: Runtime + AllocGlobal + Threads + Wait + Copy + Send + 'st
     let told = tell_summary(rt, &run);
     let stop = match (told, kept) {
         (Ok(summary), Ok(())) => return tell_verdict(rt, &run, summary, call.explains),
-        (Err(stop), Err(other)) if matches!(other.fault, TextFault::Memory) => other,
+        (Err(_), Err(other)) if matches!(other.fault, TextFault::Memory) => other,
         (Err(stop), _) | (_, Err(stop)) => stop,
     };
     let status = refuse(rt, stop.fault);

@@ -1,5 +1,6 @@
 //! How bytes of an input are shown: the first 200 of them, and what is no printing ASCII by its number.
-ghost use Rattle.std.specs.Prelude.{◌≡◌, take};
+ghost use Rattle.std.specs.Prelude.{◌≡◌, ◌++◌, IfOk, OnOk, string_bytes, take};
+ghost use Rattle.castgroup.specs.Shown.{shown, shown_byte, by_number, is_printing};
 
 use std::alloc::{AllocError, Global};
 
@@ -7,7 +8,9 @@ use std::alloc::{AllocError, Global};
 const SHOWN: usize = 200;
 
 /// All bytes as they are shown.
-pub fn escaped(alloc: Global, bytes: &[u8]) -> Result<String, AllocError> {
+pub fn escaped(alloc: Global, bytes: &[u8]) -> Result<String, AllocError>
+    ensures { IfOk result (λ text. string_bytes text ≡ shown bytes.now) }
+{
     let mut text = String::new(alloc);
     for byte in bytes {
         put_byte(&mut text, *byte)?;
@@ -17,21 +20,21 @@ pub fn escaped(alloc: Global, bytes: &[u8]) -> Result<String, AllocError> {
 
 /// The first bytes, and how many there are where some were cut off.
 pub fn cut(alloc: Global, bytes: &[u8]) -> Result<String, AllocError> {
-    let text = escaped(alloc, front(bytes))?;
+    let text = escaped(alloc, front(bytes, SHOWN))?;
     with_count(alloc, text, bytes.len())
 }
 
 /// The first bytes between quotes, and how many there are where some were cut off.
 pub fn quoted(alloc: Global, bytes: &[u8]) -> Result<String, AllocError> {
-    let text = escaped(alloc, front(bytes))?;
+    let text = escaped(alloc, front(bytes, SHOWN))?;
     with_count(alloc, format!(in alloc; "\"{text}\"")?, bytes.len())
 }
 
-// The first bytes, as many as are shown.
-fn front(bytes: &[u8]) -> &[u8]
-    ensures { result.now ≡ take 200 bytes.now }
+// The first bytes, at most so many.
+fn front(bytes: &[u8], room: usize) -> &[u8]
+    ensures { result.now ≡ take room bytes.now }
 {
-    &bytes[..bytes.len().min(SHOWN)]
+    &bytes[..bytes.len().min(room)]
 }
 
 fn with_count(alloc: Global, text: String, count: usize) -> Result<String, AllocError> {
@@ -42,9 +45,26 @@ fn with_count(alloc: Global, text: String, count: usize) -> Result<String, Alloc
     }
 }
 
-fn put_byte(text: &mut String, byte: u8) -> Result<(), AllocError> {
-    match byte {
-        b' '..=b'~' => text.push(char::from(byte)),
-        other => write!(text, "\\x{other:02x}"),
+fn put_byte(text: &mut String, byte: u8) -> Result<(), AllocError>
+    ensures { OnOk result (string_bytes text.new ≡ string_bytes text.old ++ shown_byte byte) }
+{
+    if is_printing(byte) {
+        text.push(char::from(byte))
+    } else {
+        put_number(text, byte)
     }
+}
+
+// From the blank to the tilde.
+fn is_printing(byte: u8) -> bool
+    ensures { result ≡ is_printing byte }
+{
+    (byte >= b' ') & (byte <= b'~')
+}
+
+#[tactic(auto, using(std::proofs::lemmas::Fmt::hex_byte))]
+fn put_number(text: &mut String, byte: u8) -> Result<(), AllocError>
+    ensures { OnOk result (string_bytes text.new ≡ string_bytes text.old ++ by_number byte) }
+{
+    write!(text, "\\x{byte:02x}")
 }

@@ -57,23 +57,9 @@ fn line_words(alloc: Global, line: TextLine<'_>) -> Result<String, AllocError> {
 
 // The line with this number, counted from 1; the last is what stands after the last line feed, if only nothing.
 fn line_at(text: &[u8], number: u64) -> Option<TextLine<'_>> {
-    let mut rest = text;
-    for _ in 1..number {
-        let end = line_feed(rest)?;
-        rest = &rest[end + 1..];
-    }
-    match line_feed(rest) {
-        Some(end) => Some(TextLine {
-            bytes: &rest[..end],
-            is_ended: true,
-        }),
-        None => Some(TextLine {
-            bytes: rest,
-            is_ended: false,
-        }),
-    }
-}
-
-fn line_feed(bytes: &[u8]) -> Option<usize> {
-    bytes.iter().position(|byte| *byte == b'\n')
+    let place = number.checked_sub(1)? as usize;
+    let mut lines = text.split(|byte| *byte == b'\n');
+    let bytes = lines.nth(place)?;
+    let is_ended = lines.next().is_some();
+    Some(TextLine { bytes, is_ended })
 }
