@@ -105,9 +105,7 @@ pub fn castgroup_command<'a>(alloc: Global) -> Result<Command<'a>, AllocError> {
         .long("explain")
         .action(ArgAction::SetTrue)
         .global(true)
-        .help(
-            "Say on standard error in a line more where and why, where an input is refused or bad",
-        );
+        .help("Say in one more line on standard error where a fault is, and why");
     Command::new(alloc, "castgroup")
         .about("A FIFO broadcast group with k-set agreement")
         .version("0.1.0")
