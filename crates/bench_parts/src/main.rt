@@ -1,0 +1,41 @@
+//! Times of the small parts: with the argument `time` the program prints nanoseconds a call at growing sizes, up to the
+//! limits of a group; with none, how it is used.
+#![tactic(auto)]
+
+mod agreement;
+mod hold_back;
+mod links;
+mod relay;
+
+use anyhow::Result;
+use std::alloc::Global;
+use std::env;
+use std::rt::{Clock, Env};
+use std::time::Instant;
+
+// How many calls are timed at a time. A node gives another at most 64 times 4,096 messages.
+const SIZES: [u64; 5] = [1_024, 4_096, 16_384, 65_536, 262_144];
+
+fn main(rt: HostRuntime) -> Result<()> {
+    if env::args(&rt)?.count() < 2 {
+        println!(rt; "usage: bench_parts time")?;
+        return Ok(());
+    }
+    for calls in SIZES {
+        links::links(&rt, rt.alloc(), calls)?;
+        relay::relay(&rt, rt.alloc(), calls)?;
+        hold_back::hold_back(&rt, rt.alloc(), calls)?;
+        agreement::agreement(&rt, rt.alloc(), calls)?;
+    }
+    Ok(())
+}
+
+// Prints the time since then, for each of these calls.
+fn report(rt: &(impl Clock + Print), what: &str, calls: u64, since: &Instant) -> Result<()> {
+    let nanos = since.elapsed(rt)?.as_nanos();
+    println!(rt;
+        "{what:<40} {calls:>8} calls {:>8} ns each",
+        nanos / u128::from(calls.max(1))
+    )?;
+    Ok(())
+}
