@@ -13,6 +13,3 @@ mod lines;
 
 pub use cast_record::Verdict;
 pub use judging::{Judging, judge};
-
-#[cfg(test)]
-mod tests;

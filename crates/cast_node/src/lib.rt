@@ -8,8 +8,6 @@ mod entry;
 mod giving;
 mod node;
 mod taking;
-#[cfg(test)]
-mod tests;
 
 pub use entry::{Entry, EntryKind, Origin};
 pub use node::{Node, Numbers};

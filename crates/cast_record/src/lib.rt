@@ -24,8 +24,3 @@ pub use reading::read_line;
 pub use verdict::{Verdict, write_verdict};
 pub use word_line::{Delivery, WordLine, read_delivery, read_words};
 pub use writing::{write_line, write_record};
-
-#[cfg(test)]
-mod tests;
-#[cfg(test)]
-mod word_tests;

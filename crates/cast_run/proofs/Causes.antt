@@ -2,7 +2,7 @@
 use Rattle.std.proofs.Common.{◌≡◌, ℕ, List, Result, Ok, Err, IfErr, sym, subst}
 use Rattle.std.specs.Prelude.{IsErrAnd}
 use Rattle.cast_script.specs.declared.script.Fault.{Fault}
-use Rattle.cast_run.specs.declared.fault.LiveFault.{LiveFault}
+use Rattle.cast_script.specs.declared.live_fault.LiveFault.{LiveFault}
 use Rattle.cast_run.specs.declared.fault.StartFault.{StartFault}
 use Rattle.cast_run.specs.declared.fault.StartFault.TheVariants.{Memory, Threads}
 use Rattle.cast_run.specs.Faults.{Fits, IsFaultOf, fault_by}

@@ -1,15 +1,15 @@
 -- Why a group is not run.
 --     Fits nodes jobs gates faults                what was handed in for so many nodes fits: the jobs, the number of gates, the plan
 --     IsFaultOf nodes jobs gates faults fault     the first cause that holds; where all fits, memory or threads were wanting
---     live_code fault                             the number of a refusal
+--     fault_by fault                               the refusal that threads which were not started are
 use Rattle.std.specs.Prelude.{◌≡◌, ◌≢◌, ◌≤◌, ◌<◌, ℕ, List, length, slice_get, Some}
 use Rattle.cast_script.specs.declared.script.Fault.{Fault}
 use Rattle.cast_box.specs.Lists.{of}
-use Rattle.cast_run.specs.declared.fault.LiveFault.{LiveFault}
-use Rattle.cast_run.specs.declared.fault.LiveFault.TheVariants.{Jobs, Gates, Plan, Memory, Threads}
+use Rattle.cast_script.specs.declared.live_fault.LiveFault.{LiveFault}
+use Rattle.cast_script.specs.declared.live_fault.LiveFault.TheVariants.{Jobs, Gates, Plan, Memory, Threads}
 use Rattle.cast_run.specs.declared.fault.StartFault.{StartFault}
 use Rattle.cast_run.specs.declared.fault.StartFault.TheVariants.{Memory as NoMemory, Threads as NoThread}
-use Rattle.cast_run.specs.Plans.{ArePlanned}
+use Rattle.cast_engine.specs.Plans.{ArePlanned}
 
 -- each job is at a node, and no node has more than 4
 pub record JobsFit {J : Type 0} (nodes : ℕ) (jobs : List (ℕ × J)) : Type 0 where
@@ -32,10 +32,3 @@ IsFaultOf nodes jobs gates faults Threads = Fits nodes jobs gates faults
 abbrev pub fault_by : StartFault → LiveFault
 fault_by NoMemory = Memory
 fault_by NoThread = Threads
-
-abbrev pub live_code : LiveFault → ℕ
-live_code Jobs = 1
-live_code Gates = 2
-live_code Plan = 3
-live_code Memory = 4
-live_code Threads = 5

@@ -2,18 +2,16 @@
 ghost use Rattle.std.specs.Prelude.{◌≡◌, ℕ, length, map, slice_get, Some, IfOk};
 ghost use Rattle.cast_run.specs.declared.jobs.Seat.{Seat};
 ghost use Rattle.cast_run.specs.Faults.{JobsFit};
-ghost use Rattle.cast_run.specs.Group.{IsGroup, AreSetUp};
+ghost use Rattle.cast_engine.specs.Group.{IsGroup, AreSetUp};
 ghost use Rattle.cast_run.specs.Jobs.{IsCount, IsFresh};
 ghost use Rattle.cast_run.specs.Seats.{seat_job, seat_client};
 ghost use Rattle.cast_run.specs.Reports.{AreNewRows, AreSeated};
 
-use crate::board::Board;
-use crate::carrier::Carrier;
 use crate::desks::make_desks;
-use crate::engine::Engine;
 use crate::jobs::{Seat, seat_jobs};
 use crate::make::make_running;
 use crate::reports::{Row, make_rows};
+use cast_engine::{Board, Carrier, Engine};
 use cast_message::{Config, NodeId};
 use cast_script::Fault;
 use std::alloc::{AllocError, Global};

@@ -1,23 +1,20 @@
 //! Engines, carriers and jobs in threads of their own, started, stopped and joined.
 ghost use Rattle.std.specs.Prelude.{◌≡◌, ℕ, false, length, map, slice_get, Some, IfOk, OnOk, vec_len};
 ghost use Rattle.cast_run.specs.declared.jobs.Seat.{Seat};
-ghost use Rattle.cast_run.specs.Engines.{IsSameEngine};
-ghost use Rattle.cast_run.specs.Group.{IsGroup, AreSame};
+ghost use Rattle.cast_engine.specs.Engines.{IsSameEngine};
+ghost use Rattle.cast_engine.specs.Group.{IsGroup, AreSame};
 ghost use Rattle.cast_run.specs.Jobs.{told, submitted, got};
 ghost use Rattle.cast_run.specs.Rooms.{IsRoomFor};
 ghost use Rattle.cast_run.specs.Seats.{seat_client, AreEnded};
 
-use crate::board::Board;
-use crate::carrier::Carrier;
-use crate::engine::Engine;
 use crate::fault::StartFault;
-use crate::gate::Gate;
 use crate::job::ClientJob;
 use crate::jobs::{Ended, JobThread, Seat, join_jobs, start_jobs};
 use crate::threads::{
     CarrierThread, EngineThread, join_all, join_carriers, join_engines, start_carriers,
     start_engines,
 };
+use cast_engine::{Board, Carrier, Engine, Gate};
 use std::alloc::{AllocError, Global};
 use std::sync::{Arc, Wait};
 use std::thread::Threads;

@@ -8,15 +8,14 @@ mod fault;
 mod item;
 mod job;
 mod law;
+mod live_fault;
 mod members;
 mod reading;
 mod replay;
 mod script;
 
 pub use law::is_read_back;
+pub use live_fault::LiveFault;
 pub use reading::read_script;
 pub use replay::write_script;
 pub use script::{Fault, FaultPlan, FrameKind, Script, ScriptEvent, ScriptFault};
-
-#[cfg(test)]
-mod tests;

@@ -10,7 +10,3 @@ pub mod Goodness
 pub mod Records
 pub mod GoodRecords
 pub mod Rounds
-pub mod Replaying
-pub mod SummaryLemmas
-pub mod VerdictLemmas
-pub mod LiveLemmas

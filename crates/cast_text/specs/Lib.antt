@@ -4,6 +4,4 @@ pub mod Recorded
 pub mod Judging
 pub mod Migrating
 pub mod Ranges
-pub mod Replayed
-pub mod Live
 pub mod Drawing

@@ -4,7 +4,8 @@ use Rattle.std.specs.Io.KnownBytes.{Appends, Keeps}
 use Rattle.cast_record.specs.declared.verdict.Verdict.TheVariants.{Good}
 use Rattle.cast_record.specs.Text.{record_text}
 use Rattle.cast_record.specs.Verdicts.{verdict}
-use Rattle.cast_run.specs.declared.fault.LiveFault.TheVariants as lives
+use Rattle.cast_script.specs.declared.live_fault.LiveFault.{LiveFault}
+use Rattle.cast_script.specs.declared.live_fault.LiveFault.TheVariants as lives
 use Rattle.cast_script.specs.declared.script.ScriptFault.TheVariants as scripts
 use Rattle.cast_script.specs.declared.script.Script.{Script}
 use Rattle.cast_script.specs.Script.{Reads}
@@ -15,6 +16,11 @@ use Rattle.cast_text.specs.Rec.{record_of}
 -- the most bytes of an input
 abbrev pub input_limit : ℕ
 input_limit = 67108864
+
+-- of a group that is not run want of memory is told as such
+abbrev pub fault_of_live : LiveFault → TextFault
+fault_of_live lives.Memory = faults.Memory
+fault_of_live why = faults.Live why
 
 -- the known bytes grew by a front of the text
 pub record WroteFront (old new : Option (List ℕ)) (text : List ℕ) : Type 0 where

@@ -5,8 +5,7 @@ ghost use Rattle.cast_text.specs.Text.{Fails, IsOfScript, IsScriptIn, IsTold, Wr
 use crate::input::read_input;
 use crate::ranges::tell_ranges;
 use crate::record::write_script_record;
-use cast_run::LiveFault;
-use cast_script::{Script, ScriptFault, read_script};
+use cast_script::{LiveFault, Script, ScriptFault, read_script};
 use cast_words::{Meter, WriteFault};
 use std::alloc::{AllocError, Global};
 use std::io::{Read, Write};
@@ -51,7 +50,7 @@ impl From<AllocError> for TextFault {
 
 impl From<LiveFault> for TextFault {
     ghost use Rattle.std.specs.Prelude.{◌≡◌};
-    ghost use Rattle.cast_text.specs.Live.{fault_of_live};
+    ghost use Rattle.cast_text.specs.Text.{fault_of_live};
 
     ghost from_gives = { λ why fault. fault ≡ fault_of_live why };
 

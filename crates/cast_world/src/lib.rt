@@ -6,8 +6,6 @@ mod frames;
 mod rest;
 mod round;
 mod run;
-#[cfg(test)]
-mod tests;
 mod world;
 
 pub use due::DueSlot;

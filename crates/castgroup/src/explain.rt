@@ -9,10 +9,11 @@ mod script;
 mod settings;
 mod stream;
 
-ghost use Rattle.cast_text.specs.Live.{IsFinished};
+ghost use Rattle.cast_live.specs.Live.{IsFinished};
 
 use crate::source::{Failure, Source};
-use cast_text::{FinishedRun, INPUT_LIMIT, TextFault, write_record_of};
+use cast_live::{FinishedRun, write_record_of};
+use cast_text::{INPUT_LIMIT, TextFault};
 use cast_words::Meter;
 use group::group_words;
 use record::{head_words, verdict_words};

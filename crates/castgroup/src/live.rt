@@ -1,16 +1,17 @@
 //! The command `live`: a script's group in threads, the files that are kept of the run, and its summary.
 ghost use Rattle.std.specs.Prelude.{◌≡◌, IfOk};
-ghost use Rattle.cast_text.specs.Live.{IsFinished};
+ghost use Rattle.cast_live.specs.Live.{IsFinished};
 
 use crate::explain::{explain_fault, explain_output, explain_run};
 use crate::progress::{Teller, due_deliveries};
 use crate::source::{Call, Failure, Heard, Source, StreamName, open_source};
 use crate::status::{Status, refuse};
-use cast_run::Progress;
-use cast_text::{
-    Counted, FinishedRun, INPUT_LIMIT, Summary, TextFault, Verdict, read_script_text, run_script,
-    summarize, write_record_of, write_replay_of, write_summary,
+use cast_live::{
+    Counted, FinishedRun, Summary, run_script, summarize, write_record_of, write_replay_of,
+    write_summary,
 };
+use cast_run::Progress;
+use cast_text::{INPUT_LIMIT, TextFault, Verdict, read_script_text};
 use cast_words::Meter;
 use clap::ArgMatches;
 use std::io::{BufWriter, IsTerminal, Stderr, Write};

@@ -2,7 +2,7 @@ use Rattle.std.proofs.Common.{take, sym, subst, refl}
 use Rattle.std.proofs.lemmas.List.{take_all}
 use Rattle.std.proofs.lemmas.List.Elements.{All-more, All-same}
 use Rattle.cast_script.specs.declared.script.Fault.{Fault}
-use Rattle.cast_run.specs.Plans.{IsPlanned}
+use Rattle.cast_engine.specs.Plans.{IsPlanned}
 use Rattle.cast_run.proofs.plan.is_planned.Goals as goal
 
 pub loop-fault-preserved : goal.loop-fault-preserved

@@ -1,5 +1,5 @@
 use Rattle.std.proofs.Common.{take}
-use Rattle.cast_run.specs.Plans.{ArePlanned}
+use Rattle.cast_engine.specs.Plans.{ArePlanned}
 use Rattle.cast_run.proofs.plan.is_planned.Given as goal
 
 abbrev pub invariant-loop-fault : goal.invariant-loop-fault

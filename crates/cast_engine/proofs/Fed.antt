@@ -1,0 +1,226 @@
+-- A client that was told of a log, when the log grows or more is told.
+use Rattle.std.proofs.Common.{◌≡◌, ◌≢◌, ℕ, zero, suc, ◌+◌, ◌^◌, ◌%◌, ◌<◌, ◌≤◌, get_or, slice_set, List, [], ◌∷◌, ◌++◌, length, take, slice_get, Option, Some, None, sym, refl, ap, ◌∙◌, subst, ◌⊎◌, inl, inr, ⊎_elim, arith}
+use Rattle.std.proofs.lemmas.List.{append-nil, append_assoc, length-append, length-set}
+use Rattle.std.proofs.lemmas.Option.{slice_get_within}
+use Rattle.cast_box.specs.Ends.{PutterEnd, IsSamePutter, AreSamePutters}
+use Rattle.cast_box.proofs.Same.{putters_set}
+use Rattle.cast_node.specs.declared.entry.Entry.{Entry}
+use Rattle.cast_desk.specs.declared.notice.Notice.{Notice}
+use Rattle.cast_desk.specs.Feed.{told_by, feed_from, orders_of, orders_in}
+use Rattle.cast_desk.proofs.Feeds.{take_all, counted_more, fed_more as fed_more'}
+use Rattle.cast_engine.specs.declared.feeding.Place.{Place}
+use Rattle.cast_engine.specs.Feeding.{told_at, told_here, IsNext, IsPlaced, IsFed, told_to, AreFed, FedIn, FedAt}
+use Rattle.cast_engine.proofs.Lists.{get_left}
+
+take_front : {A : Type 0} (xs ys : List A) (n : ℕ) → n ≤ length xs → take n (xs ++ ys) ≡ take n xs
+take_front xs ys zero h = refl
+take_front [] ys (suc n) h = absurd (omega arith)
+take_front (x ∷ xs) ys (suc n) h = ap (λ l. x ∷ l) (take_front xs ys n (omega arith))
+
+pub get_all : {A : Type 0} (xs : List A) (n : ℕ) → n < length xs → (x : A) × (slice_get xs n ≡ Some x)
+get_all [] n h = absurd (omega arith)
+get_all (x ∷ xs) zero h = (x, refl)
+get_all (x ∷ xs) (suc n) h = get_all xs n (omega arith)
+
+get_past : {A : Type 0} (xs : List A) (n : ℕ) → length xs ≤ n → slice_get xs n ≡ None
+get_past [] zero h = refl
+get_past [] (suc n) h = refl
+get_past (x ∷ xs) zero h = absurd (omega arith)
+get_past (x ∷ xs) (suc n) h = get_past xs n (omega arith)
+
+get_none : {A : Type 0} (xs : List A) (n : ℕ) → slice_get xs n ≡ None → length xs ≤ n
+get_none [] n e = omega arith
+get_none (x ∷ xs) zero e = absurd cc
+get_none (x ∷ xs) (suc n) e = let h = get_none xs n e in omega arith
+
+pub read_at : {A : Type 0} (xs : List A) (n : ℕ) (x : A) → n < length xs → x ≡ get_or xs n x → slice_get xs n ≡ Some x
+read_at [] n x h e = absurd (omega arith)
+read_at (y ∷ ys) zero x h e = ap (λ z. Some z) (sym e)
+read_at (y ∷ ys) (suc n) x h e = read_at ys n x (omega arith) e
+
+less_or_not : (a b : ℕ) → (a < b) ⊎ (b ≤ a)
+less_or_not a zero = inr (omega arith)
+less_or_not zero (suc b) = inl (omega arith)
+less_or_not (suc a) (suc b) = ⊎_elim (λ (h : a < b). inl (omega arith)) (λ (h : b ≤ a). inr (omega arith)) (less_or_not a b)
+
+none_of_nothing : {A : Type 0} (n : ℕ) (x : A) → slice_get [] n ≡ Some x → ⊥
+none_of_nothing zero x e = cc
+none_of_nothing (suc n) x e = cc
+
+set_apart : {A : Type 0} (xs : List A) (i j : ℕ) (a x : A) → slice_get (slice_set xs i a) j ≡ Some x → ((j ≡ i) × (a ≡ x)) ⊎ ((j ≢ i) × (slice_get xs j ≡ Some x))
+set_apart [] i j a x e = absurd cc
+set_apart (y ∷ ys) zero zero a x e = inl (refl, cc)
+set_apart (y ∷ ys) zero (suc j) a x e = let ne : suc j ≢ zero = omega arith in inr (ne, e)
+set_apart (y ∷ ys) (suc i) zero a x e = let ne : zero ≢ suc i = omega arith in inr (ne, e)
+set_apart {A = A} (y ∷ ys) (suc i) (suc j) a x e =
+    ⊎_elim (λ (t : (j ≡ i) × (a ≡ x)). inl (ap suc t.0, t.1))
+    (λ (t : (j ≢ i) × (slice_get ys j ≡ Some x)). let n = t.0 in let ne : suc j ≢ suc i = omega arith in inr (ne, t.1)) (set_apart ys i j a x e)
+
+module _ (client : ℕ) (log more : List Entry) (place : Place) (f : IsPlaced client log place) where
+  front : take place.entry (log ++ more) ≡ take place.entry log
+  front = take_front log more place.entry f.within
+
+  abbrev old_told : List Notice
+  old_told = told_here client log place
+
+  abbrev new_told : List Notice
+  new_told = told_here client (log ++ more) place
+
+  -- the entry at the place is there still
+  same_entry : place.entry < length log → new_told ≡ old_told
+  same_entry lt = let it = get_all log place.entry lt in
+      ap (told_at client place.orders) (get_left log more place.entry it.0 it.1 ∙ sym it.1)
+
+  -- the place is at the end of the log: nothing was told of what stands there now
+  at_end : length log ≤ place.entry → (place.told ≡ 0) × ((n : Notice) → place.waiting ≡ Some n → ⊥)
+  at_end le =
+      let none : old_told ≡ [] = ap (told_at client place.orders) (get_past log place.entry le) in
+      let short = f.begun in
+      let len : length old_told ≡ 0 = ap length none in
+      (omega arith, λ n w. none_of_nothing place.told n (sym (ap (λ l. slice_get l place.told) none) ∙ f.waits n w))
+
+  pub fed_longer : IsPlaced client (log ++ more) place × (told_to client (log ++ more) place ≡ told_to client log place)
+  fed_longer = ⊎_elim
+      (λ (lt : place.entry < length log). (
+        record {
+          within = let w = f.within in let l = length-append log more in omega arith;
+          counted = f.counted ∙ ap orders_of (sym front);
+          begun = subst (λ l. place.told ≤ length l) (sym (same_entry lt)) f.begun;
+          waits = λ n w. ap (λ l. slice_get l place.told) (same_entry lt) ∙ f.waits n w;
+        },
+        (λ i. feed_from client 0 (front i) ++ take place.told (same_entry lt i)),
+      ))
+      (λ (le : length log ≤ place.entry).
+      let none = at_end le in
+      let nothing : (l : List Notice) → take place.told l ≡ [] = λ l. ap (λ n. take n l) none.0 in (
+        record {
+          within = let w = f.within in let l = length-append log more in omega arith;
+          counted = f.counted ∙ ap orders_of (sym front);
+          begun = let z = none.0 in omega arith;
+          waits = λ n w. absurd (none.1 n w);
+        },
+        ap (λ l. feed_from client 0 l ++ take place.told new_told) front ∙ ap (λ l. feed_from client 0 (take place.entry log) ++ l) (nothing new_told ∙ sym (nothing old_told)),
+      ))
+      (less_or_not place.entry (length log))
+
+pub fed_more : (log log' : List Entry) (e : Entry) (trays : List (PutterEnd Notice)) (places : List Place) → log' ≡ log ++ e ∷ [] → AreFed log trays places → AreFed log' trays places
+fed_more log log' e trays places is f =
+    subst (λ l. AreFed l trays places) (sym is) (f.0, λ c tray place a b. let it = f.1 c tray place a b in let more = fed_longer c log (e ∷ []) place it.0 in (more.0, it.1 ∙ sym more.1))
+
+-- a place that goes past an entry of which all was told
+module _ (client : ℕ) (log : List Entry) (place : Place) (f : IsPlaced client log place) (lt : place.entry < length log) (e : Entry) (is : e ≡ get_or log place.entry e)
+    (none : slice_get (told_by client place.orders e.kind) place.told ≡ None) (orders : ℕ) (counts : orders ≡ orders_in e.kind) (cap : length log < 2 ^ 64)
+    (waiting : Option Notice) (quiet : waiting ≡ None) where
+  abbrev next : Place
+  next = record { entry = place.entry + 1; orders = (place.orders + orders) % 18446744073709551616; told = 0; waiting = waiting }
+
+  here : told_here client log place ≡ told_by client place.orders e.kind
+  here = ap (told_at client place.orders) (read_at log place.entry e lt is)
+
+  all_told : take place.told (told_here client log place) ≡ told_by client place.orders e.kind
+  all_told =
+      let long = get_none (told_by client place.orders e.kind) place.told none in
+      ap (take place.told) here ∙ take_all (told_by client place.orders e.kind) place.told long
+
+  pub passed : IsPlaced client log next × (told_to client log next ≡ told_to client log place)
+  passed = (
+    record {
+      within = omega arith;
+      counted = counted_more client log place.entry e lt is place.orders orders f.counted counts cap;
+      begun = omega arith;
+      waits = λ n w. let no : None ≡ Some n = sym quiet ∙ w in absurd cc;
+    },
+    append-nil (feed_from client 0 (take (place.entry + 1) log)) ∙ sym (fed_more' client log place.entry e lt is (feed_from client 0 (take place.entry log)) _ place.orders refl f.counted refl)
+        ∙ ap (λ l. feed_from client 0 (take place.entry log) ++ l) (sym all_told),
+  )
+
+set_same : {A : Type 0} (xs : List A) (i : ℕ) (x : A) → slice_get xs i ≡ Some x → xs ≡ slice_set xs i x
+set_same [] i x e = absurd cc
+set_same (y ∷ ys) zero x e = let h : y ≡ x = cc in ap (λ z. z ∷ ys) h
+set_same (y ∷ ys) (suc i) x e = ap (λ l. y ∷ l) (set_same ys i x e)
+
+pub take_next : {A : Type 0} (xs : List A) (n : ℕ) (x : A) → slice_get xs n ≡ Some x → take (suc n) xs ≡ take n xs ++ x ∷ []
+take_next [] n x e = absurd cc
+take_next (y ∷ ys) zero x e = let h : y ≡ x = cc in ap (λ z. z ∷ []) h
+take_next (y ∷ ys) (suc n) x e = ap (λ l. y ∷ l) (take_next ys n x e)
+
+module _ (client : ℕ) (log : List Entry) (trays : List (PutterEnd Notice)) (old place : Place) (f : FedIn client log trays old) (p : IsPlaced client log place) (same : told_to client log place ≡ told_to client log old) where
+  -- nothing was put
+  pub fed_still : FedAt client log trays trays place
+  fed_still = (f.0, f.0, f.1, set_same trays client f.0 f.1, (refl, refl, refl, refl), (p, f.2.1 ∙ sym same))
+
+  module _ (notice : Notice) (next : IsNext client log place notice) where
+    the_tray : (was : PutterEnd Notice) → slice_get trays client ≡ Some was → was.put ≡ told_to client log place
+    the_tray was at = let h : f.0 ≡ was = let e = sym f.1 ∙ at in cc in ap (λ (t : PutterEnd Notice). t.put) (sym h) ∙ f.2.1 ∙ sym same
+
+    -- the next notice was put
+    pub fed_put : (was now : PutterEnd Notice) (new : List (PutterEnd Notice)) → slice_get trays client ≡ Some was → new ≡ slice_set trays client now → IsSamePutter was now → now.put ≡ was.put ++ notice ∷ []
+        → FedAt client log trays new (record place { told = place.told + 1; waiting = None })
+    fed_put was now new at set s put =
+        let here = told_here client log place in
+        let more : place.told + 1 ≡ suc place.told = omega arith in (
+          was,
+          now,
+          at,
+          set,
+          s,
+          (
+            record {
+              within = p.within;
+              counted = p.counted;
+              begun = let l = slice_get_within here place.told notice next in omega arith;
+              waits = λ n w. absurd cc;
+            },
+            put ∙ ap (λ l. l ++ notice ∷ []) (the_tray was at) ∙ append_assoc (feed_from client 0 (take place.entry log)) (take place.told here) (notice ∷ [])
+                ∙ ap (λ l. feed_from client 0 (take place.entry log) ++ l) (sym (ap (λ n. take n here) more ∙ take_next here place.told notice next)),
+          ),
+        )
+
+    -- it found the tray full, and waits
+    pub fed_full : (was now : PutterEnd Notice) (new : List (PutterEnd Notice)) (back : Notice) → slice_get trays client ≡ Some was → new ≡ slice_set trays client now → IsSamePutter was now → now.put ≡ was.put
+        → back ≡ notice → FedAt client log trays new (record place { waiting = Some back })
+    fed_full was now new back at set s put is = (
+      was,
+      now,
+      at,
+      set,
+      s,
+      (
+        record {
+          within = p.within;
+          counted = p.counted;
+          begun = p.begun;
+          waits = λ n w. let h : back ≡ n = cc in next ∙ ap (λ (x : Notice). Some x) (sym is ∙ h);
+        },
+        put ∙ the_tray was at,
+      ),
+    )
+
+-- what the loop over the clients keeps
+pub fed_at : (log : List Entry) (trays : List (PutterEnd Notice)) (places : List Place) (client : ℕ) (place : Place) → AreFed log trays places → slice_get places client ≡ Some place → FedIn client log trays place
+fed_at log trays places client place f at =
+    let tray = get_all trays client (let l = f.0 in let w = slice_get_within places client place at in omega arith) in
+    (tray.0, tray.1, f.1 client tray.0 place tray.1 at)
+
+pub fed_set : (log : List Entry) (trays new : List (PutterEnd Notice)) (places : List Place) (client : ℕ) (place : Place) → AreFed log trays places → FedAt client log trays new place
+    → AreFed log new (slice_set places client place) × AreSamePutters trays new
+fed_set log trays new places client place f it =
+    let P : List (PutterEnd Notice) → Type 0 = λ l. AreFed log l (slice_set places client place) × AreSamePutters trays l in
+    subst P (sym it.3) (
+      (
+        length-set places client place ∙ f.0 ∙ sym (length-set trays client it.1),
+        λ c tray p a b.
+            ⊎_elim
+            (λ (x : (c ≡ client) × (it.1 ≡ tray)).
+            ⊎_elim
+            (λ (y : (c ≡ client) × (place ≡ p)).
+            let Q : ℕ → PutterEnd Notice → Place → Type 0 = λ c t p. IsFed c log p t.put in
+            subst (λ c. Q c tray p) (sym x.0) (subst (λ t. Q client t p) x.1 (subst (Q client it.1) y.1 it.5)))
+            (λ (y : (c ≢ client) × (slice_get places c ≡ Some p)). absurd (y.0 x.0))
+            (set_apart places client c place p b))
+            (λ (x : (c ≢ client) × (slice_get trays c ≡ Some tray)).
+            ⊎_elim (λ (y : (c ≡ client) × (place ≡ p)). absurd (x.0 y.0)) (λ (y : (c ≢ client) × (slice_get places c ≡ Some p)). f.1 c tray p x.1 y.1) (set_apart places client c place p b))
+            (set_apart trays client c it.1 tray a),
+      ),
+      putters_set trays client it.0 it.1 it.2 it.4,
+    )

@@ -1,0 +1,141 @@
+-- A journal that logs one entry more.
+use Rattle.std.proofs.Common.{◌≡◌, ℕ, ◌+◌, ◌<◌, ◌≤◌, Bool, true, false, List, [], ◌∷◌, ◌++◌, length, slice_get, Option, Some, None, sym, refl, ap, ◌∙◌, subst, ⊎_elim, arith}
+use Rattle.std.specs.Prelude.{if◌then◌else◌}
+use Rattle.std.specs.FinMap as finite
+use Rattle.std.proofs.lemmas.Bool.{false≢true}
+use Rattle.std.proofs.lemmas.List.{length-append}
+use Rattle.cast_box.proofs.Closing.{get_snoc, get_middle}
+use Rattle.cast_message.specs.declared.config.Config.{Config}
+use Rattle.cast_message.specs.declared.event.Answer.{Answer}
+use Rattle.cast_message.specs.declared.message.FrameBody.{FrameBody}
+use Rattle.cast_message.specs.declared.message.FrameBody.TheVariants.{Carry, Took}
+use Rattle.cast_message.specs.declared.message.Message.{Message}
+use Rattle.cast_message.specs.Steps.{Step, Ordered, Sent, Acknowledged, Arrived, Stopped}
+use Rattle.cast_message.specs.OwnSteps.{is_stop}
+use Rattle.std.specs.Prelude.{Ok}
+use Rattle.cast_relay.specs.Held.{holds}
+use Rattle.cast_node.specs.declared.entry.Entry.{Entry}
+use Rattle.cast_node.specs.declared.entry.EntryKind.{EntryKind}
+use Rattle.cast_node.specs.Kept.{Kept, link_to, is_enough}
+use Rattle.cast_node.specs.Turns.{Told, told, released, unmoved, kept_after, arrived_body, carried, acknowledged, may_arrive, with_taken, with_knower, taken_up, Gives}
+use Rattle.cast_merge.specs.declared.report.EngineEnd.{EngineEnd}
+use Rattle.cast_merge.specs.declared.report.EngineEnd.TheVariants.{Crashed}
+use Rattle.cast_engine.specs.Journals.{Rises, is_crash, EndsAs, JournalKeeps, JournalState, MayLog}
+
+abbrev pub entry : ℕ → EntryKind → Entry
+entry stamp kind = record { stamp = stamp; kind = kind }
+
+pub rises_more : (log : List Entry) (first clock : ℕ) (e : Entry) → Rises first log clock → clock < e.stamp → Rises first (log ++ e ∷ []) e.stamp
+unfolding Rises
+rises_more [] first clock e r lt = (omega (arith, r, lt), refl)
+rises_more (x ∷ xs) first clock e r lt = (r.0, rises_more xs x.stamp clock e r.1 lt)
+
+no_end : (ended : Option EngineEnd) (e : EngineEnd) → ended ≡ None → ended ≡ Some e → ⊥
+no_end ended e p q = let h : None ≡ Some e = sym p ∙ q in cc
+
+module _ (limit : ℕ) (crash : Option ℕ) (log : List Entry) (ends : EndsAs limit crash None log) (room : length log < limit) where
+  longer : (e : Entry) → length (log ++ e ∷ []) ≡ length log + 1
+  longer e = length-append log (e ∷ [])
+
+  pub ends_more : (e : Entry) → is_crash e.kind ≡ false → ((n : ℕ) → crash ≡ Some n → length log < n) → EndsAs limit crash None (log ++ e ∷ [])
+  ends_more e quiet safe = record {
+    within = let l = longer e in omega arith;
+    full = λ h. absurd cc;
+    due = λ h n is. let s = safe n is in let l = longer e in omega arith;
+    last = λ i x at c. ⊎_elim (λ (y : slice_get log i ≡ Some x). let no : None ≡ Some Crashed = (ends.last i x y c).2 in absurd cc)
+        (λ (y : (i ≡ length log) × (e ≡ x)). absurd (false≢true (sym quiet ∙ ap (λ (z : Entry). is_crash z.kind) y.1 ∙ c))) (get_snoc log e x i at);
+    crashed = λ h. absurd cc;
+  }
+
+  pub ends_crash : (e : Entry) → is_crash e.kind ≡ true → crash ≡ Some (length log) → EndsAs limit crash (Some Crashed) (log ++ e ∷ [])
+  ends_crash e loud due = record {
+    within = let l = longer e in omega arith;
+    full = λ h. absurd cc;
+    due = λ h n is. absurd (h refl);
+    last = λ i x at c. ⊎_elim (λ (y : slice_get log i ≡ Some x). let no : None ≡ Some Crashed = (ends.last i x y c).2 in absurd cc)
+        (λ (y : (i ≡ length log) × (e ≡ x)). let l = longer e in (omega (arith, y.0), due ∙ ap (λ n. Some n) (sym y.0), refl)) (get_snoc log e x i at);
+    crashed = λ h. (length log, e, get_middle log e [], loud);
+  }
+
+-- a step other than a crash leaves a node alive
+either_live : (b : Bool) (x y : Told) (live : Bool) → x.kept.live ≡ live → y.kept.live ≡ live → (if b then x else y).kept.live ≡ live
+either_live true x y live p q = p
+either_live false x y live p q = q
+
+told_live : (kept : Kept) (s i : ℕ) → (told kept s i).kept.live ≡ kept.live
+told_live kept s i = either_live (is_enough kept s i) (released kept s i) (unmoved kept) kept.live refl refl
+
+carried_live : (kept : Kept) (from : ℕ) (m : Message) → (carried kept from m).kept.live ≡ kept.live
+carried_live kept from m =
+    either_live (holds kept.relay m.sender m.number) (told (with_knower kept m.sender m.number from) m.sender m.number) (told (taken_up kept m from) m.sender m.number) kept.live
+    (told_live (with_knower kept m.sender m.number from) m.sender m.number) (told_live (taken_up kept m from) m.sender m.number)
+
+acknowledged_live : (kept : Kept) (from slot : ℕ) (o : Option Message) → (acknowledged kept from slot o).kept.live ≡ kept.live
+acknowledged_live kept from slot None = refl
+acknowledged_live kept from slot (Some m) = told_live _ m.sender m.number
+
+body_live : (kept : Kept) (from : ℕ) (body : FrameBody) → (arrived_body kept from body).kept.live ≡ kept.live
+body_live kept from (Carry slot m) = carried_live (with_taken kept from slot) from m
+body_live kept from (Took slot) = acknowledged_live kept from slot (finite.get (link_to kept from).owed slot)
+
+pub live_after : (kept : Kept) (step : Step) → is_stop step ≡ false → (kept_after kept step).live ≡ kept.live
+live_after kept (Ordered item) h = told_live _ kept.me _
+live_after kept (Sent to slot) h = refl
+live_after kept (Acknowledged to slot) h = refl
+live_after kept (Arrived frame) h = either_live (may_arrive kept frame) (arrived_body kept frame.from frame.body) (unmoved kept) kept.live (body_live kept frame.from frame.body) refl
+live_after kept Stopped h = absurd (false≢true (sym h))
+
+module _ (config : Config) (room room' : ℕ) (node node' : Kept) (log log' : List Entry) (clock stamp : ℕ) (crash : Option ℕ) (ended : Option EngineEnd) (kind : EntryKind)
+    (k : JournalKeeps config room node log clock crash ended) (running : ended ≡ None) (fits : length log < config.log_limit) (later : clock < stamp)
+    (is : log' ≡ log ++ entry stamp kind ∷ []) (same : room' ≡ room) where
+  rest : EndsAs config.log_limit crash None log
+  rest = let P : Option EngineEnd → Type 0 = λ o. EndsAs config.log_limit crash o log in subst P running k.ends
+
+  pub keeps_logged : is_crash kind ≡ false → ((n : ℕ) → crash ≡ Some n → length log < n) → node'.live ≡ node.live → JournalKeeps config room' node' log' stamp crash ended
+  keeps_logged quiet safe live = record {
+    has_room = omega (arith, k.has_room, same);
+    rises = subst (λ l. Rises config.first_stamp l stamp) (sym is) (rises_more log config.first_stamp clock (entry stamp kind) k.rises later);
+    ends = let P : Option EngineEnd → List Entry → Type 0 = λ o l. EndsAs config.log_limit crash o l in
+        subst (λ o. P o log') (sym running) (subst (P None) (sym is) (ends_more config.log_limit crash log rest fits (entry stamp kind) quiet safe));
+    lives = λ h. live ∙ k.lives h;
+  }
+
+  pub keeps_crashed : is_crash kind ≡ true → crash ≡ Some (length log) → JournalKeeps config room' node' log' stamp crash (Some Crashed)
+  keeps_crashed loud due = record {
+    has_room = omega (arith, k.has_room, same);
+    rises = subst (λ l. Rises config.first_stamp l stamp) (sym is) (rises_more log config.first_stamp clock (entry stamp kind) k.rises later);
+    ends = subst (λ l. EndsAs config.log_limit crash (Some Crashed) l) (sym is) (ends_crash config.log_limit crash log rest fits (entry stamp kind) loud due);
+    lives = λ h. absurd (h refl);
+  }
+
+pub gives_live : (kept new : Kept) (step : Step) (answer : Answer) → Gives kept step (Ok answer) new → is_stop step ≡ false → new.live ≡ kept.live
+gives_live kept new step answer g h = ap (λ (k : Kept). k.live) g.2 ∙ live_after kept step h
+
+abbrev pub state : Config → Kept → List Entry → ℕ → Option ℕ → Option EngineEnd → JournalState
+state config node log clock crash ended = record { config = config; node = node; log = log; clock = clock; crash = crash; ended = ended }
+
+-- the same, as the functions need it
+pub logged : (config : Config) (room room' : ℕ) (node node' : Kept) (log log' : List Entry) (clock stamp : ℕ) (crash : Option ℕ) (ended : Option EngineEnd) (kind : EntryKind) (j : JournalState)
+    → state config node log clock crash ended ≡ j → MayLog j → JournalKeeps config room node log clock crash ended → clock < stamp → log' ≡ log ++ entry stamp kind ∷ [] → room' ≡ room
+    → is_crash kind ≡ false → node'.live ≡ node.live → JournalKeeps config room' node' log' stamp crash ended
+logged config room room' node node' log log' clock stamp crash ended kind j is may k later e r quiet live =
+    let m : MayLog (state config node log clock crash ended) = subst MayLog (sym is) may in
+    keeps_logged config room room' node node' log log' clock stamp crash ended kind k m.running m.room later e r quiet m.safe live
+
+pub crashed : (config : Config) (room room' : ℕ) (node node' : Kept) (log log' : List Entry) (clock stamp : ℕ) (crash : Option ℕ) (ended : Option EngineEnd) (kind : EntryKind) (j : JournalState)
+    → state config node log clock crash ended ≡ j → j.ended ≡ None → length j.log < j.config.log_limit → j.crash ≡ Some (length j.log) → JournalKeeps config room node log clock crash ended → clock < stamp
+    → log' ≡ log ++ entry stamp kind ∷ [] → room' ≡ room → is_crash kind ≡ true → JournalKeeps config room' node' log' stamp crash (Some Crashed)
+crashed config room room' node node' log log' clock stamp crash ended kind j is running fits due k later e r loud =
+    let P : JournalState → Type 0 = λ j. (j.ended ≡ None) × (length j.log < j.config.log_limit) × (j.crash ≡ Some (length j.log)) in
+    let m : P (state config node log clock crash ended) = subst P (sym is) (running, fits, due) in
+    keeps_crashed config room room' node node' log log' clock stamp crash ended kind k m.0 m.1 later e r loud m.2
+
+pub begun : (config : Config) (room : ℕ) (node : Kept) (log : List Entry) (clock : ℕ) (crash : Option ℕ) → config.log_limit ≤ room → log ≡ [] → clock ≡ config.first_stamp → node.live ≡ true
+    → JournalKeeps config room node log clock crash None
+unfolding Rises
+begun config room node log clock crash r e c l = subst (λ log. JournalKeeps config room node log clock crash None) (sym e) (record {
+  has_room = r;
+  rises = c;
+  ends = record { within = omega arith; full = λ h. absurd cc; due = λ h n is. omega arith; last = λ i x at. absurd cc; crashed = λ h. absurd cc };
+  lives = λ h. l;
+})

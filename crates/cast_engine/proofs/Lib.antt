@@ -1,0 +1,9 @@
+pub mod Journaling
+pub mod Lists
+pub mod Running
+pub mod Fed
+pub mod Staying
+pub mod Carrying
+pub mod Telling
+pub mod Answering
+pub mod Again

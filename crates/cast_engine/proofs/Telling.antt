@@ -1,0 +1,152 @@
+-- What the log of an engine that ended tells.
+use Rattle.std.proofs.Common.{◌≡◌, ℕ, zero, suc, ◌+◌, ◌<◌, List, [], ◌∷◌, ◌++◌, length, take, drop, slice_get, Option, Some, None, sym, refl, ap, ◌∙◌, subst, arith}
+use Rattle.std.specs.Prelude.{reverse, slice_index_or}
+use Rattle.std.proofs.lemmas.List.{append-nil, append_assoc, reverse-append}
+use Rattle.std.proofs.lemmas.Option.{slice_get_within}
+use Rattle.cast_message.specs.declared.config.Config.{Config}
+use Rattle.cast_message.specs.declared.message.Frame.{Frame}
+use Rattle.cast_message.specs.Steps.{Step, Ordered, Sent, Acknowledged, Arrived, Stopped}
+use Rattle.cast_box.specs.Lists.{StartsWith}
+use Rattle.cast_box.specs.Ends.{PutterEnd}
+use Rattle.cast_node.specs.declared.entry.Entry.{Entry}
+use Rattle.cast_node.specs.Kept.{Kept}
+use Rattle.cast_desk.specs.declared.notice.Notice.{Notice}
+use Rattle.cast_desk.specs.Feed.{told_by, feed_from, feed, orders_in, orders_of as orders_in_log}
+use Rattle.cast_engine.specs.declared.parcel.Parcel.{Parcel}
+use Rattle.cast_merge.specs.declared.report.EngineEnd.{EngineEnd}
+use Rattle.cast_engine.specs.declared.feeding.Place.{Place}
+use Rattle.cast_merge.specs.Linked.{Taken, steps_in, taken_in, taken_by, taken, taken_of, AreTaken, IsRising, EachArrival, OnArrival}
+use Rattle.cast_engine.specs.Runs.{Has, Moved, Served, Denied, Run, mark, parcel, trail_of, log_of, orders_of, entry_by, IsRun, AreReceived, IsReceivedBy}
+use Rattle.cast_engine.specs.Journals.{Rises}
+use Rattle.cast_engine.specs.Feeding.{told_here, told_at, told_to, IsPlaced, AreFed}
+use Rattle.cast_engine.specs.Engines.{EngineState, Leaves, Tells, WereTold, trays_at}
+use Rattle.cast_engine.proofs.Fed.{get_all}
+use Rattle.cast_engine.proofs.Answering.{run_fits, run_origins}
+use Rattle.cast_engine.specs.Serving.{Serves}
+use Rattle.cast_desk.specs.declared.desk.OrderIn.{OrderIn}
+
+-- the stamps rise
+rises_each : (log : List Entry) (first clock : ℕ) → Rises first log clock → (j : ℕ) (d : Entry) → j < length log → first < (slice_index_or log j d).stamp
+unfolding Rises
+rises_each [] first clock r j d lt = absurd (omega arith)
+rises_each (x ∷ xs) first clock r zero d lt = r.0
+rises_each (x ∷ xs) first clock r (suc j) d lt = let a = r.0 in let b = rises_each xs x.stamp clock r.1 j d (omega arith) in omega arith
+
+pub rises_pairs : (log : List Entry) (first clock : ℕ) → Rises first log clock → IsRising log
+unfolding Rises
+rises_pairs [] first clock r i j d lt h = absurd (omega arith)
+rises_pairs (x ∷ xs) first clock r i zero d lt h = absurd (omega arith)
+rises_pairs (x ∷ xs) first clock r zero (suc j) d lt h = rises_each xs x.stamp clock r.1 j d (omega arith)
+rises_pairs (x ∷ xs) first clock r (suc i) (suc j) d lt h = rises_pairs xs x.stamp clock r.1 i j d (omega arith) (omega arith)
+
+taken_snoc : (log : List Entry) (e : Entry) → taken (log ++ e ∷ []) ≡ taken log ++ taken_of e.stamp e.kind
+unfolding taken
+taken_snoc [] e = append-nil (taken_of e.stamp e.kind)
+taken_snoc (x ∷ xs) e = ap (λ l. taken_of x.stamp x.kind ++ l) (taken_snoc xs e) ∙ sym (append_assoc (taken_of x.stamp x.kind) (taken xs) (taken_of e.stamp e.kind))
+
+last_first : (xs : List Taken) (x : Taken) → reverse xs ++ x ∷ [] ≡ reverse (x ∷ xs)
+last_first xs x = sym (reverse-append (x ∷ []) xs)
+
+-- the log tells of the steps
+pub run_tells : (config : Config) (p : ℕ) (run : Run) → taken (log_of config p run) ≡ reverse (taken_in config p (trail_of run))
+unfolding trail_of log_of taken_in taken
+run_tells config p [] = refl
+run_tells config p (Moved stamp step ∷ rs) =
+    taken_snoc (log_of config p rs) (entry_by config p (steps_in config p (trail_of rs)) (Moved stamp step)) ∙ ap (λ l. l ++ taken_by config p (steps_in config p (trail_of rs)) (mark stamp step) ∷ []) (run_tells config p rs) ∙ last_first (taken_in config p (trail_of rs)) (taken_by config p (steps_in config p (trail_of rs)) (mark stamp step))
+run_tells config p (Served stamp order ∷ rs) =
+    taken_snoc (log_of config p rs) (entry_by config p (steps_in config p (trail_of rs)) (Served stamp order)) ∙ ap (λ l. l ++ taken_by config p (steps_in config p (trail_of rs)) (mark stamp (Ordered order.item)) ∷ []) (run_tells config p rs) ∙ last_first (taken_in config p (trail_of rs)) (taken_by config p (steps_in config p (trail_of rs)) (mark stamp (Ordered order.item)))
+run_tells config p (Denied stamp order fault ∷ rs) =
+    taken_snoc (log_of config p rs) (entry_by config p (steps_in config p (trail_of rs)) (Denied stamp order fault)) ∙ append-nil (taken (log_of config p rs)) ∙ run_tells config p rs
+
+pub run_taken : (config : Config) (p : ℕ) (run : Run) → IsRun config p run → AreTaken config p (trail_of run)
+unfolding trail_of IsRun AreTaken
+run_taken config p [] r = tt
+run_taken config p (Moved stamp step ∷ rs) r = (run_taken config p rs r.0, r.1.0, r.1.1)
+run_taken config p (Served stamp order ∷ rs) r = (run_taken config p rs r.0, r.1, tt)
+run_taken config p (Denied stamp order fault ∷ rs) r = run_taken config p rs r.0
+
+abbrev IsBrought : List (ℕ × Parcel) → ℕ → Frame → Type 0
+IsBrought arrived stamp frame = (number : ℕ) × (sent : ℕ) × Has arrived (number, parcel sent frame) × (sent < stamp)
+
+by_step : (arrived : List (ℕ × Parcel)) (stamp : ℕ) (step : Step) → IsReceivedBy arrived stamp step → OnArrival (IsBrought arrived) stamp step
+by_step arrived stamp (Arrived frame) h = h
+by_step arrived stamp (Ordered item) h = tt
+by_step arrived stamp (Sent to slot) h = tt
+by_step arrived stamp (Acknowledged to slot) h = tt
+by_step arrived stamp Stopped h = tt
+
+pub run_received : (arrived : List (ℕ × Parcel)) (run : Run) → AreReceived arrived run → EachArrival (IsBrought arrived) (trail_of run)
+unfolding trail_of AreReceived EachArrival
+run_received arrived [] h = tt
+run_received arrived (Moved stamp step ∷ rs) h = (run_received arrived rs h.0, by_step arrived stamp step h.1)
+run_received arrived (Served stamp order ∷ rs) h = (run_received arrived rs h.0, tt)
+run_received arrived (Denied stamp order fault ∷ rs) h = run_received arrived rs h.0
+
+pub leaves_tell : (e : EngineState) (log : List Entry) (node : Kept) (ended : Option EngineEnd) → Leaves e log node ended → Tells e log node
+leaves_tell e log node ended l =
+    let k = l.keeps in
+    record {
+      trail = trail_of k.run;
+      tells = record {
+        rising = rises_pairs log e.config.first_stamp l.clock l.rises;
+        tells = ap taken k.is_log ∙ run_tells e.config e.me k.run;
+        accepted = run_taken e.config e.me k.run k.runs;
+        stands = k.stands;
+        reached = k.reached;
+      };
+      sent = k.sent;
+      serves =
+          let O : List OrderIn → Type 0 = λ o. Serves e.config e.me log (trail_of k.run) o in
+          let L : List Entry → Type 0 = λ l. Serves e.config e.me l (trail_of k.run) (orders_of k.run) in
+          let rises : Rises e.config.first_stamp (log_of e.config e.me k.run) l.clock = subst (λ g. Rises e.config.first_stamp g l.clock) k.is_log l.rises in
+          subst O k.ordered (subst L (sym k.is_log) (record {
+            matches = λ c. run_fits e.config e.me c k.run e.config.first_stamp l.clock rises k.runs;
+            origins = run_origins e.config e.me k.run k.runs;
+          }));
+      received = run_received e.inbox.taken k.run k.received;
+    }
+
+-- the feed of a log in two parts
+feed_parts : (client number : ℕ) (xs ys : List Entry) → feed_from client number (xs ++ ys) ≡ feed_from client number xs ++ feed_from client (number + orders_in_log xs) ys
+feed_parts client number [] ys = let same : number ≡ number + 0 = omega arith in ap (λ n. feed_from client n ys) same
+feed_parts client number (x ∷ xs) ys =
+    let same : number + orders_in x.kind + orders_in_log xs ≡ number + orders_in_log (x ∷ xs) = omega arith in
+    ap (λ l. told_by client number x.kind ++ l) (feed_parts client (number + orders_in x.kind) xs ys)
+    ∙ sym (append_assoc (told_by client number x.kind) (feed_from client (number + orders_in x.kind) xs) _)
+    ∙ ap (λ n. feed_from client number (x ∷ xs) ++ feed_from client n ys) same
+
+split_at : {A : Type 0} (xs : List A) (n : ℕ) → xs ≡ take n xs ++ drop n xs
+split_at xs zero = refl
+split_at [] (suc n) = refl
+split_at (x ∷ xs) (suc n) = ap (λ l. x ∷ l) (split_at xs n)
+
+get_drop : {A : Type 0} (xs : List A) (n : ℕ) (x : A) → slice_get xs n ≡ Some x → (rest : List A) × (drop n xs ≡ x ∷ rest)
+get_drop [] n x e = absurd cc
+get_drop (y ∷ ys) zero x e = let h : y ≡ x = cc in (ys, ap (λ z. z ∷ ys) h)
+get_drop (y ∷ ys) (suc n) x e = get_drop ys n x e
+
+-- what stands at a place of a list, if anything does, begins the rest from there
+here_begins : (client orders : ℕ) (log : List Entry) (n : ℕ) (o : Option Entry) → slice_get log n ≡ o → (rest : List Notice) × (feed_from client orders (drop n log) ≡ told_at client orders o ++ rest)
+here_begins client orders log n None e = (feed_from client orders (drop n log), refl)
+here_begins client orders log n (Some x) e = let it = get_drop log n x e in (feed_from client (orders + orders_in x.kind) it.0, ap (feed_from client orders) it.1)
+
+pub told_begins : (client : ℕ) (log : List Entry) (place : Place) → IsPlaced client log place → StartsWith (feed log client) (told_to client log place)
+told_begins client log place f =
+    let n = place.entry in
+    let here = told_here client log place in
+    let after = here_begins client place.orders log n (slice_get log n) refl in
+    let zero_on : 0 + orders_in_log (take n log) ≡ place.orders = omega (arith, f.counted) in (
+      drop place.told here ++ after.0,
+      ap (feed_from client 0) (split_at log n) ∙ feed_parts client 0 (take n log) (drop n log) ∙ ap (λ m. feed_from client 0 (take n log) ++ feed_from client m (drop n log)) zero_on
+          ∙ ap (λ l. feed_from client 0 (take n log) ++ l) (after.1 ∙ ap (λ l. l ++ after.0) (split_at here place.told) ∙ append_assoc (take place.told here) (drop place.told here) after.0)
+          ∙ sym (append_assoc (feed_from client 0 (take n log)) (take place.told here) (drop place.told here ++ after.0)),
+    )
+
+pub fed_told : (log : List Entry) (trays : List (PutterEnd Notice)) (places : List Place) → AreFed log trays places → WereTold log trays
+fed_told log trays places f c tray at =
+    let place = get_all places c (let w = f.0 in let k = slice_get_within trays c tray at in omega arith) in
+    let it = f.1 c tray place.0 at place.1 in
+    subst (StartsWith (feed log c)) (sym it.1) (told_begins c log place.0 it.0)
+
+pub leaves_told : (e : EngineState) (log : List Entry) (node : Kept) (ended : Option EngineEnd) → Leaves e log node ended → WereTold log (trays_at e.desk)
+leaves_told e log node ended l = fed_told log (trays_at e.desk) l.places l.fed

@@ -1,0 +1,5 @@
+use Rattle.cast_engine.proofs.Carrying.{moves_timed}
+use Rattle.cast_engine.proofs.carrier.pass_time.Goals as goal
+
+pub returns-clause-moves : goal.returns-clause-moves
+returns-clause-moves g c = moves_timed c.args.inboxes.now.items c.release.new.inboxes.items c.args.delayed.now.items c.count_down.new.delayed.items c.release.new.delayed.items c.count_down.ensures c.release.ensures.moves

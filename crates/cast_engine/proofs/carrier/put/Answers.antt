@@ -1,0 +1,24 @@
+use Rattle.std.proofs.Common.{◌≡◌, ◌∙◌, refl, rules, ap, subst, slice_get, slice_set, length, Some, ℕ, sym}
+use Rattle.std.proofs.lemmas.Option.{slice_get_read}
+use Rattle.cast_box.proofs.Same.{putters_set}
+use Rattle.cast_engine.specs.Carriers.{Puts}
+use Rattle.cast_engine.specs.declared.parcel.Parcel.{Parcel}
+use Rattle.cast_engine.proofs.Carrying.{puts_put, put_either}
+use Rattle.cast_engine.proofs.carrier.put.Goals as goal
+
+pub returns-then-to-len-clause-same : goal.returns-then-to-len-clause-same
+returns-then-to-len-clause-same g c =
+    let all = c.args.inboxes.now.items in
+    let to = c.from-to.result in
+    let was : slice_get all to ≡ Some c.index_mut-inbox.result.now = slice_get_read all (length all) to c.index_mut-inbox.result.now refl (search rules) c.index_mut-inbox.ensures.value in
+    putters_set all to c.index_mut-inbox.result.now c.put.new.self was c.put.ensures.same
+
+pub returns-then-to-len-clause-puts : goal.returns-then-to-len-clause-puts
+returns-then-to-len-clause-puts g c =
+    let all = c.args.inboxes.now.items in
+    let x = c.args.parcel in
+    let to = c.from-to.result in
+    let was : slice_get all to ≡ Some c.index_mut-inbox.result.now = slice_get_read all (length all) to c.index_mut-inbox.result.now refl (search rules) c.index_mut-inbox.ensures.value in
+    let at : to ≡ x.frame.to = c.from-to.ensures ∙ ap (λ (p : Parcel). p.frame.to) c.parcel.view_is in
+    subst (λ (n : ℕ). Puts all x (slice_set all n c.put.new.self)) (sym at)
+    (puts_put all x c.index_mut-inbox.result.now c.put.new.self (ap (slice_get all) (sym at) ∙ was) (put_either _ _ _ _ _ c.put.ensures.put))

@@ -1,0 +1,20 @@
+use Rattle.std.proofs.Common.{refl, subst}
+use Rattle.cast_engine.proofs.Staying.{leaves}
+use Rattle.cast_engine.proofs.Telling.{leaves_tell, leaves_told}
+use Rattle.cast_engine.specs.Engines.{EngineState, Leaves}
+use Rattle.cast_engine.proofs.engine.Engine.into_parts.Goals as goal
+
+pub returns-clause-leaves : goal.returns-clause-leaves
+returns-clause-leaves c =
+    let i = c.self.inside in
+    let parts = c.into_parts-log in
+    let e : EngineState = record { config = i.journal.config; me = i.journal.node.me; crash = i.journal.crash; outbox = i.outbox; inbox = i.inbox; desk = i.desk } in
+    let P : EngineState → Type 0 = λ s. Leaves s parts.result.0.items parts.result.1 parts.result.2 in
+    subst P c.self.view_is
+    (leaves i.journal i.outbox.put i.held i.inbox.taken i.desk i.places.items e c.self.invariant refl refl refl refl refl refl _ _ _ parts.ensures.parts.0 parts.ensures.parts.1 parts.ensures.parts.2 parts.ensures.rises parts.ensures.ends)
+
+pub returns-clause-tells : goal.returns-clause-tells
+returns-clause-tells c = leaves_tell c.args.self _ _ _ (returns-clause-leaves c)
+
+pub returns-clause-told : goal.returns-clause-told
+returns-clause-told c = leaves_told c.args.self _ _ _ (returns-clause-leaves c)

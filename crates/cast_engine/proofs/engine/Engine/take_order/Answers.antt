@@ -1,0 +1,21 @@
+use Rattle.std.proofs.Common.{refl}
+use Rattle.cast_engine.proofs.Staying.{stays_same, stays_halt, stays_ordered, stays_unordered}
+use Rattle.cast_engine.proofs.engine.Engine.take_order.Goals as goal
+
+pub invariant_of-self : goal.invariant_of-self
+invariant_of-self g c =
+    let i = c.self.inside in
+    stays_halt i.journal c.may_log.new.self i.outbox.put i.held i.inbox.taken _ i.places.items c.self.invariant (c.if-not-may_log.ensures.halts refl)
+
+pub invariant_of-self-in_default : goal.invariant_of-self-in_default
+invariant_of-self-in_default g c =
+    let i = c.self.inside in
+    let j = c.may_log.new.self in
+    stays_unordered j i.outbox.put i.held i.inbox.taken _ _ i.places.items (stays_same i.journal j i.outbox.put i.held i.inbox.taken _ i.places.items c.self.invariant (c.if-not-may_log.ensures.may refl).0) c.in_default.ensures.taken
+
+pub invariant_of-self-2 : goal.invariant_of-self-2
+invariant_of-self-2 g c =
+    let i = c.self.inside in
+    let j = c.may_log.new.self in
+    stays_ordered j c.order.new.self i.outbox.put i.held i.inbox.taken _ i.places.items (stays_same i.journal j i.outbox.put i.held i.inbox.taken _ i.places.items c.self.invariant (c.if-not-may_log.ensures.may refl).0)
+    c.in-Some.order _ c.in-Some.ensures.taken c.order.ensures

@@ -1,0 +1,21 @@
+use Rattle.std.proofs.Common.{◌∙◌, ◌<◌, length, arith}
+use Rattle.std.proofs.lemmas.List.{length-set}
+use Rattle.cast_box.proofs.Same.{putters_again}
+use Rattle.cast_engine.proofs.Fed.{fed_at, fed_set, read_at}
+use Rattle.cast_engine.proofs.feeding.notify_all.Goals as goal
+
+pub notify-moved-requires : goal.notify-moved-requires
+notify-moved-requires g c =
+    let l = c.loop-client in
+    let within : l.client < length l.places.items = omega (arith, c.loop-client-test.true, c.len-client-end.ensures, l.invariant.3, l.places.ok) in
+    fed_at c.args.log.now l.desk.trays.items l.places.items l.client c.index_mut.result.now l.invariant.0 (read_at l.places.items l.client c.index_mut.result.now within c.index_mut.ensures.value)
+
+pub loop-client-preserved : goal.loop-client-preserved
+loop-client-preserved g c =
+    let l = c.loop-client in
+    let it = fed_set c.args.log.now l.desk.trays.items c.notify-moved.new.desk.trays.items l.places.items l.client c.notify-moved.new.place l.invariant.0 c.notify-moved.ensures.fed in (
+      it.0,
+      c.notify-moved.ensures.orders ∙ l.invariant.1,
+      putters_again c.args.desk.now.trays.items l.desk.trays.items c.notify-moved.new.desk.trays.items l.invariant.2 it.1,
+      length-set l.places.items l.client c.notify-moved.new.place ∙ l.invariant.3,
+    )

@@ -1,0 +1,8 @@
+use Rattle.std.proofs.Common.{refl, arith}
+use Rattle.cast_engine.proofs.Journaling.{crashed}
+use Rattle.cast_engine.proofs.journal.Journal.log_crash.Goals as goal
+
+pub invariant_of-self : goal.invariant_of-self
+invariant_of-self c =
+    let i = c.self.inside in
+    crashed i.config _ _ i.node _ i.log.items _ i.clock _ i.crash i.ended _ _ c.self.view_is c.requires.running c.requires.room c.requires.due c.self.invariant (omega arith) c.push_reserved.ensures.items c.push_reserved.ensures.capacity refl

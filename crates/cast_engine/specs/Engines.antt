@@ -1,0 +1,99 @@
+-- An engine, as contracts see it, and what it keeps.
+use Rattle.std.specs.Prelude.{◌≡◌, ℕ, ◌<◌, List, [], ◌∷◌, ◌++◌, map, slice_get, Option, Some, None, ◌⊎◌}
+use Rattle.cast_message.specs.declared.config.Config.{Config}
+use Rattle.cast_box.specs.Ends.{PutterEnd, TakerEnd, IsSamePutter, IsSameTaker, AreSamePutters}
+use Rattle.cast_node.specs.declared.entry.Entry.{Entry}
+use Rattle.cast_desk.specs.declared.desk.Desk.{Desk}
+use Rattle.cast_desk.specs.declared.desk.OrderIn.{OrderIn}
+use Rattle.cast_desk.specs.declared.notice.Notice.{Notice}
+use Rattle.cast_engine.specs.declared.parcel.Parcel.{Parcel}
+use Rattle.cast_engine.specs.declared.feeding.Place.{Place}
+use Rattle.cast_engine.specs.Runs.{EngineKeeps, Has, parcel}
+use Rattle.cast_merge.specs.Linked.{Trail, IsLogOf, made_in, stamped, EachArrival}
+use Rattle.cast_box.specs.Lists.{StartsWith}
+use Rattle.cast_desk.specs.Feed.{feed}
+use Rattle.cast_engine.specs.Serving.{Serves}
+use Rattle.cast_engine.specs.Journals.{JournalState, LogsStep, OnlyEnds, Rises, EndsAs}
+use Rattle.cast_merge.specs.declared.report.EngineEnd.{EngineEnd}
+use Rattle.cast_node.specs.Kept.{Kept}
+use Rattle.cast_message.specs.Steps.{Arrived}
+use Rattle.cast_engine.specs.Feeding.{AreFed}
+
+pub record EngineState : Type 0 where
+  pub config : Config
+  pub me : ℕ
+  pub crash : Option ℕ
+  pub outbox : PutterEnd Parcel
+  pub inbox : TakerEnd Parcel
+  pub desk : Option Desk
+
+-- the desk of a node without clients has no box: it gives no orders, and has no trays
+abbrev pub taken_at : Option Desk → List (ℕ × OrderIn)
+taken_at None = []
+taken_at (Some desk) = desk.orders.taken
+
+abbrev pub trays_at : Option Desk → List (PutterEnd Notice)
+trays_at None = []
+trays_at (Some desk) = desk.trays.items
+
+-- the same ends of the same desk and trays, or none as before
+pub record IsSameDesk (old new : Option Desk) : Type 0 where
+  pub none : new ≡ None → old ≡ None
+  pub some : (d : Desk) → new ≡ Some d → (was : Desk) × (old ≡ Some was) × IsSameTaker was.orders d.orders × AreSamePutters was.trays.items d.trays.items
+
+-- the engine of the same node with ends of the same boxes
+pub record IsSameEngine (old new : EngineState) : Type 0 where
+  pub config : new.config ≡ old.config
+  pub me : new.me ≡ old.me
+  pub crash : new.crash ≡ old.crash
+  pub outbox : IsSamePutter old.outbox new.outbox
+  pub inbox : IsSameTaker old.inbox new.inbox
+  pub desk : IsSameDesk old.desk new.desk
+
+abbrev pub KeepsOf : JournalState → List Parcel → Option Parcel → List (ℕ × Parcel) → List (ℕ × OrderIn) → Type 0
+KeepsOf j put held arrived orders = EngineKeeps j.config j.node.me j.node j.log put held arrived orders
+
+-- what an engine keeps of its journal and its boxes
+pub record EngineStays (j : JournalState) (put : List Parcel) (held : Option Parcel) (arrived : List (ℕ × Parcel)) (desk : Option Desk) (places : List Place) : Type 0 where
+  pub keeps : KeepsOf j put held arrived (taken_at desk)
+  pub fed : AreFed j.log (trays_at desk) places
+
+-- a parcel was put into the outbox, or waits
+abbrev pub Handed : List Parcel → List Parcel → Option Parcel → Parcel → Type 0
+Handed put put' held' x = ((put' ≡ put ++ x ∷ []) × (held' ≡ None)) ⊎ ((put' ≡ put) × (held' ≡ Some x))
+
+-- an order was taken from the desk, if there is one
+abbrev pub TakesOrder : Option Desk → Option OrderIn → Option Desk → Type 0
+TakesOrder old None new = (taken_at new ≡ taken_at old) × (trays_at new ≡ trays_at old)
+TakesOrder old (Some order) new = (from : ℕ) × (taken_at new ≡ taken_at old ++ (from, order) ∷ []) × (trays_at new ≡ trays_at old)
+
+-- a parcel's arrival was logged, or nothing but an end was noted
+abbrev pub TakesIn : JournalState → JournalState → Parcel → Type 0
+TakesIn old new x = OnlyEnds old new ⊎ (LogsStep old new (Arrived x.frame) None x.stamp × (x.frame.to ≡ old.node.me))
+
+-- no order was taken, and no notice given
+abbrev pub IsUnused : Option Desk → Type 0
+IsUnused desk = (taken_at desk ≡ []) × ((c : ℕ) (tray : PutterEnd Notice) → slice_get (trays_at desk) c ≡ Some tray → tray.put ≡ [])
+
+-- what an engine that ended leaves
+pub record Leaves (e : EngineState) (log : List Entry) (node : Kept) (ended : Option EngineEnd) : Type 0 where
+  pub held : Option Parcel
+  pub keeps : EngineKeeps e.config e.me node log e.outbox.put held e.inbox.taken (taken_at e.desk)
+  pub places : List Place
+  pub fed : AreFed log (trays_at e.desk) places
+  pub clock : ℕ
+  pub rises : Rises e.config.first_stamp log clock
+  pub ends : EndsAs e.config.log_limit e.crash ended log
+
+-- the log tells of the node's steps; what was put into the outbox was made by them, with their stamps; and each frame that arrived was taken
+-- from the inbox, with a smaller stamp
+pub record Tells (e : EngineState) (log : List Entry) (node : Kept) : Type 0 where
+  pub trail : Trail
+  pub tells : IsLogOf e.config e.me trail log node
+  pub sent : (x : Parcel) → Has e.outbox.put x → slice_get (made_in e.config e.me trail) x.frame.seq ≡ Some (stamped x.stamp x.frame)
+  pub serves : Serves e.config e.me log trail (map (λ m. m.1) (taken_at e.desk))
+  pub received : EachArrival (λ stamp frame. (number : ℕ) × (sent : ℕ) × Has e.inbox.taken (number, parcel sent frame) × (sent < stamp)) trail
+
+-- what was put into each tray begins its client's feed
+abbrev pub WereTold : List Entry → List (PutterEnd Notice) → Type 0
+WereTold log trays = (c : ℕ) (tray : PutterEnd Notice) → slice_get trays c ≡ Some tray → StartsWith (feed log c) tray.put

@@ -1,0 +1,54 @@
+-- How far a client was told of a log.
+--     IsFed client log place put       what was put into the tray is what the feed has up to the place
+--     AreFed log trays places          so it is for each client
+use Rattle.std.specs.Prelude.{◌≡◌, ℕ, ◌≤◌, List, [], ◌++◌, length, take, slice_get, slice_set, Option, Some, None}
+use Rattle.cast_box.specs.Ends.{PutterEnd, IsSamePutter}
+use Rattle.cast_node.specs.declared.entry.Entry.{Entry}
+use Rattle.cast_desk.specs.declared.notice.Notice.{Notice}
+use Rattle.cast_desk.specs.Feed.{told_by, feed_from, orders_of}
+use Rattle.cast_engine.specs.declared.feeding.Place.{Place}
+
+-- what an entry, if there is one, tells the client, after this many orders of the node
+abbrev pub told_at : ℕ → ℕ → Option Entry → List Notice
+told_at client orders None = []
+told_at client orders (Some e) = told_by client orders e.kind
+
+-- what the entry at the place tells
+abbrev pub told_here : ℕ → List Entry → Place → List Notice
+told_here client log place = told_at client place.orders (slice_get log place.entry)
+
+-- the notice is the next
+abbrev pub IsNext : ℕ → List Entry → Place → Notice → Type 0
+IsNext client log place notice = slice_get (told_here client log place) place.told ≡ Some notice
+
+-- what the client was told, up to the place
+abbrev pub told_to : ℕ → List Entry → Place → List Notice
+told_to client log place = feed_from client 0 (take place.entry log) ++ take place.told (told_here client log place)
+
+pub record IsPlaced (client : ℕ) (log : List Entry) (place : Place) : Type 0 where
+  pub within : place.entry ≤ length log
+  pub counted : place.orders ≡ orders_of (take place.entry log)
+  pub begun : place.told ≤ length (told_here client log place)
+  pub waits : (notice : Notice) → place.waiting ≡ Some notice → IsNext client log place notice
+
+abbrev pub IsFed : ℕ → List Entry → Place → List Notice → Type 0
+IsFed client log place put = IsPlaced client log place × (put ≡ told_to client log place)
+
+abbrev pub AreFed : List Entry → List (PutterEnd Notice) → List Place → Type 0
+AreFed log trays places =
+    (length places ≡ length trays)
+    × ((c : ℕ) (tray : PutterEnd Notice) (place : Place) → slice_get trays c ≡ Some tray → slice_get places c ≡ Some place → IsFed c log place tray.put)
+
+-- the client's tray is fed up to the place
+abbrev pub FedIn : ℕ → List Entry → List (PutterEnd Notice) → Place → Type 0
+FedIn client log trays place = (tray : PutterEnd Notice) × (slice_get trays client ≡ Some tray) × IsFed client log place tray.put
+
+-- one tray may have got a notice more, and is fed up to the place
+abbrev pub FedAt : ℕ → List Entry → List (PutterEnd Notice) → List (PutterEnd Notice) → Place → Type 0
+FedAt client log old new place =
+    (was : PutterEnd Notice) × (now : PutterEnd Notice)
+    × (slice_get old client ≡ Some was) × (new ≡ slice_set old client now) × IsSamePutter was now × IsFed client log place now.put
+
+-- where a client was told nothing
+abbrev pub first_place : Place
+first_place = record { entry = 0; orders = 0; told = 0; waiting = None }

@@ -1,0 +1,119 @@
+-- The node, the log and the clock of an engine, and what a call changes of them.
+use Rattle.std.specs.Prelude.{◌≡◌, ◌≢◌, ℕ, suc, ◌+◌, ◌<◌, ◌≤◌, ◌^◌, Bool, true, false, List, [], ◌∷◌, ◌++◌, length, slice_get, Option, Some, None, Result, Ok, Err, ◌⊎◌, refl}
+use Rattle.std.specs.Coded.{Coded, code_by, coded×, coded_ℕ, coded_list, coded_option}
+use Rattle.cast_message.specs.declared.config.Config.{Config}
+use Rattle.cast_message.specs.declared.event.Event.{Event}
+use Rattle.cast_message.specs.declared.event.Event.TheVariants.{Crash}
+use Rattle.cast_message.specs.declared.event.Answer.{Answer}
+use Rattle.cast_message.specs.declared.event.Answer.TheVariants.{Ordered as AnswerOrdered}
+use Rattle.cast_message.specs.declared.event.Outcome.{Outcome}
+use Rattle.cast_message.specs.declared.message.Item.{Item}
+use Rattle.cast_message.specs.declared.event.StepFault.{StepFault}
+use Rattle.cast_message.specs.Steps.{Step, Ordered, Stopped}
+use Rattle.cast_node.specs.declared.entry.Origin.{Origin}
+use Rattle.cast_node.specs.declared.entry.Entry.{Entry}
+use Rattle.cast_node.specs.declared.entry.EntryKind.{EntryKind}
+use Rattle.cast_node.specs.declared.entry.EntryKind.TheVariants.{Step as StepEntry, Refused}
+use Rattle.cast_node.specs.Kept.{Kept}
+use Rattle.cast_node.specs.Turns.{Gives}
+use Rattle.cast_desk.specs.declared.desk.OrderIn.{OrderIn}
+use Rattle.cast_merge.specs.declared.report.EngineEnd.{EngineEnd}
+use Rattle.cast_merge.specs.declared.report.EngineEnd.TheVariants.{Crashed, LogFull}
+use Rattle.cast_merge.specs.Linked.{event_of, outcome_in_answer}
+use Rattle.cast_engine.specs.Runs.{origin_of}
+
+pub record JournalState : Type 0 where
+  pub config : Config
+  pub node : Kept
+  pub log : List Entry
+  pub clock : ℕ
+  pub crash : Option ℕ  -- after so many entries the engine crashes
+  pub ended : Option EngineEnd
+
+-- an entry may be logged: there is room, a greater stamp, and no crash is due
+pub record MayLog (j : JournalState) : Type 0 where
+  pub running : j.ended ≡ None
+  pub room : length j.log < j.config.log_limit
+  pub time : j.clock + 1 < 2 ^ 64
+  pub safe : (n : ℕ) → j.crash ≡ Some n → length j.log < n
+
+-- one entry was logged
+pub record Logs (old new : JournalState) (stamp : ℕ) (kind : EntryKind) : Type 0 where
+  pub same_config : new.config ≡ old.config
+  pub same_crash : new.crash ≡ old.crash
+  pub log : new.log ≡ old.log ++ record { stamp = stamp; kind = kind } ∷ []
+  pub clock : new.clock ≡ stamp
+
+-- the node took a step, which was logged with a stamp above this one
+pub record LogsStep (old new : JournalState) (step : Step) (origin : Option Origin) (above : ℕ) : Type 0 where
+  pub answer : Answer
+  pub stamp : ℕ
+  pub gives : Gives old.node step (Ok answer) new.node
+  pub logs : Logs old new stamp (StepEntry (event_of old.node.me step) origin (outcome_in_answer answer))
+  pub later : above < stamp
+
+-- the node refused an order
+pub record LogsRefusal (old new : JournalState) (order : OrderIn) : Type 0 where
+  pub fault : StepFault
+  pub stamp : ℕ
+  pub gives : Gives old.node (Ordered order.item) (Err fault) new.node
+  pub logs : Logs old new stamp (Refused (origin_of order) fault)
+
+abbrev pub LogsOrder : JournalState → JournalState → OrderIn → Type 0
+LogsOrder old new order = LogsStep old new (Ordered order.item) (Some (origin_of order)) old.clock ⊎ LogsRefusal old new order
+
+-- a node was asked to take up an item, which it did or refused
+abbrev pub AsksOrder : Kept → Kept → Item → Result (Item × Outcome) StepFault → Type 0
+AsksOrder old new item (Ok told) = (number : ℕ) × Gives old (Ordered item) (Ok (AnswerOrdered number told.1)) new
+AsksOrder old new item (Err fault) = Gives old (Ordered item) (Err fault) new
+
+-- an end that no fact of the log is tied to
+abbrev pub IsQuietEnd : EngineEnd → Type 0
+IsQuietEnd Crashed = ⊥
+IsQuietEnd LogFull = ⊥
+IsQuietEnd _ = Unit {0}
+
+-- only the end was noted
+abbrev pub OnlyEnds : JournalState → JournalState → Type 0
+OnlyEnds old new = new ≡ record old { ended = new.ended }
+
+-- the engine ends here, by a crash or without one
+abbrev pub Halts : JournalState → JournalState → Type 0
+Halts old new = OnlyEnds old new ⊎ LogsStep old new Stopped None old.clock
+
+-- the stamps rise from `first` on and end at the clock
+unfoldable pub Rises : ℕ → List Entry → ℕ → Type 0
+Rises first [] clock = clock ≡ first
+Rises first (e ∷ es) clock = (first < e.stamp) × Rises e.stamp es clock
+
+abbrev pub is_crash_event : Event → Bool
+is_crash_event (Crash node) = true
+is_crash_event _ = false
+
+abbrev pub is_crash : EntryKind → Bool
+is_crash (StepEntry event origin outcome) = is_crash_event event
+is_crash (Refused origin fault) = false
+
+-- how a log may end: a crash stands last, after as many entries as the plan says, and exactly where the end is Crashed; the end LogFull comes only at
+-- the limit
+pub record EndsAs (limit : ℕ) (crash : Option ℕ) (ended : Option EngineEnd) (log : List Entry) : Type 0 where
+  pub within : length log ≤ limit
+  pub full : ended ≡ Some LogFull → length log ≡ limit
+  pub due : ended ≢ Some Crashed → (n : ℕ) → crash ≡ Some n → length log ≤ n
+  pub last : (i : ℕ) (e : Entry) → slice_get log i ≡ Some e → is_crash e.kind ≡ true → (suc i ≡ length log) × (crash ≡ Some i) × (ended ≡ Some Crashed)
+  pub crashed : ended ≡ Some Crashed → (i : ℕ) × (e : Entry) × (slice_get log i ≡ Some e) × (is_crash e.kind ≡ true)
+
+-- what a journal keeps: room for its whole log, rising stamps, how the log may end, and a live node before a crash
+pub record JournalKeeps (config : Config) (room : ℕ) (node : Kept) (log : List Entry) (clock : ℕ) (crash : Option ℕ) (ended : Option EngineEnd) : Type 0 where
+  pub has_room : config.log_limit ≤ room
+  pub rises : Rises config.first_stamp log clock
+  pub ends : EndsAs config.log_limit crash ended log
+  pub lives : ended ≢ Some Crashed → node.live ≡ true
+
+abbrev pub journal_code : Coded Config → Coded Kept → Coded Entry → Coded EngineEnd → Coded JournalState
+journal_code config kept entry end =
+    code_by (Config × (Kept × (List Entry × (ℕ × (Option ℕ × Option EngineEnd)))))
+    (coded× config (coded× kept (coded× (coded_list entry) (coded× coded_ℕ (coded× (coded_option coded_ℕ) (coded_option end))))))
+    (λ j. (j.config, (j.node, (j.log, (j.clock, (j.crash, j.ended))))))
+    (λ p. record { config = p.0; node = p.1.0; log = p.1.1.0; clock = p.1.1.1.0; crash = p.1.1.1.1.0; ended = p.1.1.1.1.1 })
+    (λ _. refl)

@@ -1,0 +1,125 @@
+-- What an engine did, entry by entry: its log as a function of it, and what ties it to its boxes.
+--     Read, Run                        an entry with the step or the order that it came of; all of them, the newest first
+--     trail_of run                     the steps
+--     log_of config p run              the log
+--     orders_of run                    the orders, accepted or refused, in order
+--     IsRun config p run               each was taken or refused where it stands
+--     AreReceived taken run            the frame of each arrival came in a parcel with a smaller stamp
+--     IsMade config p run x            the parcel has a frame that a step made, with the stamp of the step
+use Rattle.std.specs.Prelude.{◌≡◌, ℕ, ◌<◌, Bool, true, false, List, [], ◌∷◌, ◌++◌, map, slice_get, Option, Some, None}
+use Rattle.cast_message.specs.declared.config.Config.{Config}
+use Rattle.cast_message.specs.declared.event.StepFault.{StepFault}
+use Rattle.cast_message.specs.Replies.{IsRefused}
+use Rattle.cast_message.specs.Steps.{Step, Ordered, Arrived, Steps}
+use Rattle.cast_message.specs.OwnSteps.{own_fault, node_reply}
+use Rattle.cast_node.specs.declared.entry.Origin.{Origin}
+use Rattle.cast_node.specs.declared.entry.Entry.{Entry}
+use Rattle.cast_node.specs.declared.entry.EntryKind.TheVariants.{Step as StepEntry, Refused}
+use Rattle.cast_node.specs.Kept.{Kept}
+use Rattle.cast_node.specs.Stands.{Stands}
+use Rattle.cast_desk.specs.declared.desk.OrderIn.{OrderIn}
+use Rattle.cast_engine.specs.declared.parcel.Parcel.{Parcel}
+use Rattle.cast_merge.specs.Linked.{Mark, Trail, event_of, outcome_in, steps_in, made_in, kept_in, stamped, IsFor}
+
+-- x stands in the list
+abbrev pub Has : {A : Type 0} → List A → A → Type 0
+Has xs x = (i : ℕ) × (slice_get xs i ≡ Some x)
+
+-- An entry, and what it came of.
+pub data Read : Type 0 where
+  Moved : (stamp : ℕ) (step : Step) → Read
+  Served : (stamp : ℕ) (order : OrderIn) → Read
+  Denied : (stamp : ℕ) (order : OrderIn) (fault : StepFault) → Read
+
+-- what an engine did, the newest first
+abbrev pub Run : Type 0
+Run = List Read
+
+abbrev pub mark : ℕ → Step → Mark
+mark stamp step = record { stamp = stamp; step = step }
+
+abbrev pub with_mark : Read → Trail → Trail
+with_mark (Moved stamp step) trail = mark stamp step ∷ trail
+with_mark (Served stamp order) trail = mark stamp (Ordered order.item) ∷ trail
+with_mark (Denied stamp order fault) trail = trail
+
+-- the steps, the newest first
+unfoldable pub trail_of : Run → Trail
+trail_of [] = []
+trail_of (r ∷ rs) = with_mark r (trail_of rs)
+
+abbrev pub origin_of : OrderIn → Origin
+origin_of order = record { client = order.client; ticket = order.ticket }
+
+abbrev pub step_entry : Config → ℕ → Steps → ℕ → Step → Option Origin → Entry
+step_entry config p steps stamp step origin = record { stamp = stamp; kind = StepEntry (event_of p step) origin (outcome_in (node_reply config p steps step)) }
+
+abbrev pub entry_by : Config → ℕ → Steps → Read → Entry
+entry_by config p steps (Moved stamp step) = step_entry config p steps stamp step None
+entry_by config p steps (Served stamp order) = step_entry config p steps stamp (Ordered order.item) (Some (origin_of order))
+entry_by config p steps (Denied stamp order fault) = record { stamp = stamp; kind = Refused (origin_of order) fault }
+
+-- the log
+unfoldable pub log_of : Config → ℕ → Run → List Entry
+log_of config p [] = []
+log_of config p (r ∷ rs) = log_of config p rs ++ entry_by config p (steps_in config p (trail_of rs)) r ∷ []
+
+abbrev pub order_by : Read → List OrderIn
+order_by (Moved stamp step) = []
+order_by (Served stamp order) = order ∷ []
+order_by (Denied stamp order fault) = order ∷ []
+
+-- the orders, in order
+unfoldable pub orders_of : Run → List OrderIn
+orders_of [] = []
+orders_of (r ∷ rs) = orders_of rs ++ order_by r
+
+abbrev pub is_order : Step → Bool
+is_order (Ordered item) = true
+is_order _ = false
+
+abbrev pub IsRead : Config → ℕ → Steps → Read → Type 0
+IsRead config p steps (Moved stamp step) = (own_fault config p steps step ≡ None) × IsFor p step × (is_order step ≡ false)
+IsRead config p steps (Served stamp order) = own_fault config p steps (Ordered order.item) ≡ None
+IsRead config p steps (Denied stamp order fault) = IsRefused (own_fault config p steps (Ordered order.item)) fault
+
+-- each step was taken, and each order refused that was refused, where it stands
+unfoldable pub IsRun : Config → ℕ → Run → Type 0
+IsRun config p [] = Unit {0}
+IsRun config p (r ∷ rs) = IsRun config p rs × IsRead config p (steps_in config p (trail_of rs)) r
+
+abbrev pub parcel : ℕ → Rattle.cast_message.specs.declared.message.Frame.Frame → Parcel
+parcel stamp frame = record { stamp = stamp; frame = frame }
+
+abbrev pub IsReceivedBy : List (ℕ × Parcel) → ℕ → Step → Type 0
+IsReceivedBy taken stamp (Arrived frame) = (number : ℕ) × (sent : ℕ) × Has taken (number, parcel sent frame) × (sent < stamp)
+IsReceivedBy taken stamp _ = Unit {0}
+
+abbrev pub IsReceived : List (ℕ × Parcel) → Read → Type 0
+IsReceived taken (Moved stamp step) = IsReceivedBy taken stamp step
+IsReceived taken (Served stamp order) = Unit {0}
+IsReceived taken (Denied stamp order fault) = Unit {0}
+
+-- the frame of each arrival came in a parcel with a smaller stamp
+unfoldable pub AreReceived : List (ℕ × Parcel) → Run → Type 0
+AreReceived taken [] = Unit {0}
+AreReceived taken (r ∷ rs) = AreReceived taken rs × IsReceived taken r
+
+-- a step made the frame, with the stamp of the parcel
+abbrev pub IsMade : Config → ℕ → Run → Parcel → Type 0
+IsMade config p run x = slice_get (made_in config p (trail_of run)) x.frame.seq ≡ Some (stamped x.stamp x.frame)
+
+-- what a log, a node and boxes show of an engine
+pub record EngineKeeps (config : Config) (p : ℕ) (kept : Kept) (log : List Entry) (put : List Parcel) (held : Option Parcel) (arrived : List (ℕ × Parcel)) (orders : List (ℕ × OrderIn)) : Type 0 where
+  pub run : Run
+  pub runs : IsRun config p run
+  pub is_log : log ≡ log_of config p run
+  pub stands : Stands config p (steps_in config p (trail_of run)) kept
+  pub reached : kept ≡ kept_in config p (trail_of run)
+  -- what was put into the outbox, and what it refused, are frames of the node with the stamps of their steps
+  pub sent : (x : Parcel) → Has put x → IsMade config p run x
+  pub waits : (x : Parcel) → held ≡ Some x → IsMade config p run x
+  -- the frame of each arrival came in a parcel taken from the inbox, with a smaller stamp
+  pub received : AreReceived arrived run
+  -- the orders, one for one, are those taken from the desk
+  pub ordered : orders_of run ≡ map (λ m. m.1) orders

@@ -1,0 +1,384 @@
+//! A carrier: takes parcels from an outbox and puts each into the inbox of its frame's target, once, twice or never, as the
+//! plan says.
+ghost use Rattle.std.specs.Prelude.{◌≡◌, IfOk};
+ghost use Rattle.cast_box.specs.Ends.{AreSamePutters};
+ghost use Rattle.cast_engine.specs.Carriers.{IsSameCarrier, AreUnused, Brings, Moves, MovesOn, Puts, Still, StillWith};
+
+use crate::board::Board;
+use crate::parcel::Parcel;
+use cast_box::{Putter, Taker};
+use cast_message::{FrameBody, NodeId};
+use cast_script::{Fault, FrameKind};
+use std::alloc::{AllocError, Global};
+use std::marker::Model;
+use std::sync::Wait;
+use std::thread;
+use std::thread::Parker;
+use std::time::Duration;
+
+// So often in succession a carrier that finds nothing gives up the processor. Then it sleeps, so many microseconds at a time, to
+// which the system adds some fifty.
+//
+// A thread that gives up the processor again and again is as busy to the scheduler as one that works: carriers with nothing to
+// carry would keep a core for themselves, while engines share the others. Where all cores have work, a few turns of the others
+// are enough until there is something to carry, and a sleep would only hold up frames.
+const PATIENCE: u64 = 8;
+
+const NAP: u64 = 20;
+
+/// A parcel that is kept until so many more frames were taken for its target.
+#[derive(Drop)]
+pub struct Delayed {
+    pub left: u64,
+    pub twice: bool,
+    pub parcel: Parcel,
+}
+
+/// How many frames of each kind were taken for a target.
+#[derive(Clone, Copy)]
+pub struct Ordinals {
+    pub carry: u64,
+    pub took: u64,
+}
+
+/// What becomes of a frame.
+#[derive(Clone, Copy)]
+pub struct Fate {
+    pub lost: bool,
+    /// How many more frames are taken for its target before it is handed on.
+    pub delay: u64,
+    pub twice: bool,
+}
+
+/// Carries the parcels of one engine.
+#[derive(Drop)]
+pub struct Carrier {
+    outbox: Taker<Parcel>,
+    // By target.
+    inboxes: Vec<Putter<Parcel>>,
+    faults: Vec<Fault>,
+    // By target.
+    ordinals: Vec<Ordinals>,
+    delayed: Vec<Delayed>,
+}
+
+impl Model for Carrier {
+    ghost use Rattle.cast_engine.specs.Carriers.{CarrierState, CarrierKeeps};
+
+    ghost Value = { CarrierState };
+
+    ghost view = { λ c. record { outbox = c.outbox; inboxes = c.inboxes.items } };
+
+    ghost invariant = { λ c. CarrierKeeps c.outbox.taken c.inboxes.items c.delayed.items };
+}
+
+impl Carrier {
+    /// The carrier of these ends, which acts on the faults of the plan.
+    pub fn new(
+        alloc: Global,
+        outbox: Taker<Parcel>,
+        inboxes: Vec<Putter<Parcel>>,
+        faults: Vec<Fault>,
+    ) -> Result<Carrier, AllocError>
+        requires { AreUnused inboxes.items }
+        ensures { IfOk result (λ c. c ≡ record { outbox = outbox; inboxes = inboxes.items }) }
+    {
+        let mut ordinals = Vec::new(alloc);
+        for _target in 0..inboxes.len() {
+            ordinals.push(Ordinals { carry: 0, took: 0 })?;
+        }
+        Ok(Carrier {
+            outbox,
+            inboxes,
+            faults,
+            ordinals,
+            delayed: Vec::new(alloc),
+        })
+    }
+
+    /// Carries one parcel. Answers whether there was one.
+    pub fn carry<R: Wait>(&mut self, rt: &R) -> bool
+        ensures { IsSameCarrier self.old self.new }
+    {
+        match self.outbox.take(rt) {
+            Some(parcel) => {
+                let fate = fate_of(&self.faults, &mut self.ordinals, &parcel);
+                take_over(rt, &mut self.inboxes, &mut self.delayed, parcel, fate);
+                true
+            }
+            None => false,
+        }
+    }
+
+    /// The ends. What is delayed is lost.
+    pub fn into_parts(self) -> (Taker<Parcel>, Vec<Putter<Parcel>>)
+        ensures parts { (result.0 ≡ self.outbox) × (result.1.items ≡ self.inboxes) }
+        ensures kept { Brings self.outbox.taken self.inboxes }
+    {
+        let Carrier {
+            outbox,
+            inboxes,
+            ..
+        } = self;
+        (outbox, inboxes)
+    }
+}
+
+/// Runs a carrier until its engine has ended and the outbox is empty.
+pub fn run_carrier<R: Wait>(rt: &R, mut carrier: Carrier, board: &Board, node: usize) -> Carrier
+    ensures { IsSameCarrier carrier result }
+{
+    let bed = Parker::new();
+    let mut idle = 0;
+    for _ in rt.forever() {
+        let last = board.has_ended(node);
+        if carrier.carry(rt) {
+            idle = 0;
+            continue;
+        }
+        if last {
+            break;
+        }
+        wait(rt, &bed, idle);
+        idle = idle.saturating_add(1);
+    }
+    carrier
+}
+
+// Lets others run, after so many waits in succession.
+fn wait<R: Wait>(rt: &R, bed: &Parker, waits: u64) {
+    if waits < PATIENCE {
+        thread::yield_now();
+    } else {
+        bed.park_timeout(rt, Duration::from_micros(NAP));
+    }
+}
+
+// What becomes of a parcel by the plan, which counts its frame.
+fn fate_of(faults: &[Fault], ordinals: &mut [Ordinals], parcel: &Parcel) -> Fate {
+    let to = parcel.frame.to;
+    let kind = match &parcel.frame.body {
+        FrameBody::Carry { .. } => FrameKind::Carry,
+        FrameBody::Took { .. } => FrameKind::Took,
+    };
+    let mut fate = Fate {
+        lost: false,
+        delay: 0,
+        twice: false,
+    };
+    let Some(counts) = ordinals.get_mut(usize::from(to.0)) else {
+        return fate;
+    };
+    let ordinal = count(counts, kind);
+    let frame = NamedFrame {
+        kind,
+        from: parcel.frame.from,
+        to,
+        ordinal,
+    };
+    for fault in faults {
+        fate = suffer(fate, *fault, &frame);
+    }
+    fate
+}
+
+// The ordinal of the next frame of the kind, which stays at its greatest value once there.
+fn count(counts: &mut Ordinals, kind: FrameKind) -> u64 {
+    match kind {
+        FrameKind::Carry => {
+            let ordinal = counts.carry;
+            counts.carry = ordinal.saturating_add(1);
+            ordinal
+        }
+        FrameKind::Took => {
+            let ordinal = counts.took;
+            counts.took = ordinal.saturating_add(1);
+            ordinal
+        }
+    }
+}
+
+// A frame by what the faults of a plan name of it.
+#[derive(Drop)]
+struct NamedFrame {
+    kind: FrameKind,
+    from: NodeId,
+    to: NodeId,
+    ordinal: u64,
+}
+
+impl NamedFrame {
+    // Whether a fault of these frames names it: their ordinals are first, first + step, first + 2 * step, ..; with no step,
+    // first alone.
+    fn is_hit(&self, kind: FrameKind, from: NodeId, to: NodeId, first: u64, step: u64) -> bool {
+        let is_ordinal = match self.ordinal.checked_sub(first) {
+            Some(0) => true,
+            Some(past) => step != 0 && past % step == 0,
+            None => false,
+        };
+        kind == self.kind && from == self.from && to == self.to && is_ordinal
+    }
+}
+
+// What becomes of a frame by one fault more. Of several delays the longest holds.
+fn suffer(mut fate: Fate, fault: Fault, frame: &NamedFrame) -> Fate {
+    match fault {
+        Fault::Lose {
+            kind,
+            from,
+            to,
+            first,
+            step,
+        } => fate.lost = fate.lost || frame.is_hit(kind, from, to, first, step),
+        Fault::Repeat {
+            kind,
+            from,
+            to,
+            first,
+            step,
+        } => fate.twice = fate.twice || frame.is_hit(kind, from, to, first, step),
+        Fault::Delay {
+            kind,
+            from,
+            to,
+            first,
+            step,
+            count,
+        } => {
+            if frame.is_hit(kind, from, to, first, step) {
+                fate.delay = fate.delay.max(count);
+            }
+        }
+        Fault::Crash { .. } => {}
+    }
+    fate
+}
+
+// Hands on what is due by one more frame for the target, and then loses, keeps or hands on the parcel.
+fn take_over<R: Wait>(
+    rt: &R,
+    inboxes: &mut Vec<Putter<Parcel>>,
+    delayed: &mut Vec<Delayed>,
+    parcel: Parcel,
+    fate: Fate,
+)
+    ensures same { AreSamePutters inboxes.old.items inboxes.new.items }
+    ensures moves { Moves inboxes.old.items delayed.old.items parcel inboxes.new.items delayed.new.items }
+{
+    pass_time(rt, inboxes, delayed, &parcel);
+    if fate.lost {
+        lose(parcel);
+        return;
+    }
+    if fate.delay > 0 {
+        keep(delayed, parcel, fate.delay, fate.twice);
+        return;
+    }
+    hand_on(rt, inboxes, parcel, fate.twice);
+}
+
+// Hands on what is due by one more frame for the target.
+fn pass_time<R: Wait>(
+    rt: &R,
+    inboxes: &mut Vec<Putter<Parcel>>,
+    delayed: &mut Vec<Delayed>,
+    parcel: &Parcel,
+)
+    ensures same { AreSamePutters inboxes.old.items inboxes.new.items }
+    ensures moves { MovesOn inboxes.old.items delayed.old.items inboxes.new.items delayed.new.items }
+{
+    count_down(delayed, parcel.frame.to);
+    release(rt, inboxes, delayed);
+}
+
+fn lose(_parcel: Parcel) {}
+
+// One frame more was taken for a target.
+fn count_down(delayed: &mut Vec<Delayed>, to: NodeId)
+    ensures { Still delayed.old.items delayed.new.items }
+{
+    for place in 0..delayed.len() {
+        count_one(&mut delayed[place], to);
+    }
+}
+
+fn count_one(one: &mut Delayed, to: NodeId)
+    ensures { one.new.parcel ≡ one.old.parcel }
+{
+    if one.parcel.frame.to == to {
+        one.left = one.left.saturating_sub(1);
+    }
+}
+
+// Hands on what is due.
+fn release<R: Wait>(rt: &R, inboxes: &mut Vec<Putter<Parcel>>, delayed: &mut Vec<Delayed>)
+    ensures same { AreSamePutters inboxes.old.items inboxes.new.items }
+    ensures moves { MovesOn inboxes.old.items delayed.old.items inboxes.new.items delayed.new.items }
+{
+    let mut place = 0;
+    while place < delayed.len() {
+        if delayed[place].left == 0 {
+            let Delayed { parcel, twice, .. } = delayed.remove(place);
+            hand_on(rt, inboxes, parcel, twice);
+        } else {
+            place += 1;
+        }
+    }
+}
+
+// Keeps a parcel until so many more were taken for its target. It is lost where there is no memory.
+fn keep(delayed: &mut Vec<Delayed>, parcel: Parcel, left: u64, twice: bool)
+    ensures { StillWith delayed.old.items parcel delayed.new.items }
+{
+    let _lost = try_keep(delayed, parcel, left, twice);
+}
+
+fn try_keep(
+    delayed: &mut Vec<Delayed>,
+    parcel: Parcel,
+    left: u64,
+    twice: bool,
+) -> Result<(), AllocError>
+    ensures { StillWith delayed.old.items parcel delayed.new.items }
+{
+    delayed.push(Delayed {
+        left,
+        twice,
+        parcel,
+    })?;
+    Ok(())
+}
+
+// Hands on a parcel once or twice. A copy that finds no memory is lost.
+fn hand_on<R: Wait>(rt: &R, inboxes: &mut Vec<Putter<Parcel>>, parcel: Parcel, twice: bool)
+    ensures same { AreSamePutters inboxes.old.items inboxes.new.items }
+    ensures puts { Puts inboxes.old.items parcel inboxes.new.items }
+{
+    put_copy(rt, inboxes, &parcel, twice);
+    put(rt, inboxes, parcel);
+}
+
+// Where the parcel is handed on twice, puts a copy.
+fn put_copy<R: Wait>(rt: &R, inboxes: &mut Vec<Putter<Parcel>>, parcel: &Parcel, twice: bool)
+    ensures same { AreSamePutters inboxes.old.items inboxes.new.items }
+    ensures puts { Puts inboxes.old.items parcel.now inboxes.new.items }
+{
+    if !twice {
+        return;
+    }
+    if let Ok(copy) = parcel.copy() {
+        put(rt, inboxes, copy);
+    }
+}
+
+// Puts a parcel into the inbox of its target. It is lost where that is full.
+fn put<R: Wait>(rt: &R, inboxes: &mut Vec<Putter<Parcel>>, parcel: Parcel)
+    ensures same { AreSamePutters inboxes.old.items inboxes.new.items }
+    ensures puts { Puts inboxes.old.items parcel inboxes.new.items }
+{
+    let to = usize::from(parcel.frame.to.0);
+    if to < inboxes.len() {
+        let inbox = &mut inboxes[to];
+        let _ = inbox.put(rt, parcel);
+    }
+}

@@ -1,0 +1,494 @@
+//! An engine: the owner of a node, its log and its clock, with the ends of its boxes.
+ghost use Rattle.std.specs.Prelude.{◌≡◌, ◌<◌, [], length, IfOk};
+ghost use Rattle.cast_box.specs.Ends.{IsSamePutter, IsNextToEnd};
+ghost use Rattle.cast_engine.specs.Group.{with_ended};
+ghost use Rattle.cast_engine.specs.Engines.{EngineState, IsSameEngine, IsSameDesk, TakesOrder, TakesIn, Handed, Leaves, Tells, WereTold, IsUnused, trays_at};
+ghost use Rattle.cast_engine.specs.Journals.{MayLog, IsQuietEnd};
+
+use crate::board::{Board, Quiet};
+use crate::feeding::{Place, first_places, notify_all};
+use crate::gate::Gate;
+use crate::journal::Journal;
+use crate::parcel::Parcel;
+use crate::resend::Resend;
+use cast_box::{Full, Putter, Taker};
+use cast_desk::{Desk, OrderIn};
+use cast_merge::EngineEnd;
+use cast_message::{Config, FrameBody, NodeId};
+use cast_node::{Entry, EntryKind, Node};
+use std::alloc::{AllocError, Global};
+use std::marker::Model;
+use std::sync::Wait;
+use std::thread;
+
+/// The owner of a node, its log and its clock.
+#[derive(Drop)]
+pub struct Engine {
+    journal: Journal,
+    outbox: Putter<Parcel>,
+    inbox: Taker<Parcel>,
+    // The parcel that the outbox refused last.
+    held: Option<Parcel>,
+    // Where the node has clients.
+    desk: Option<Desk>,
+    // By client.
+    places: Vec<Place>,
+    resend: Resend,
+    // How many turns are left.
+    turns: u64,
+}
+
+impl Model for Engine {
+    ghost use Rattle.cast_engine.specs.Engines.{EngineState, EngineStays};
+
+    ghost Value = { EngineState };
+
+    ghost view = { λ e. record { config = e.journal.config; me = e.journal.node.me; crash = e.journal.crash; outbox = e.outbox; inbox = e.inbox; desk = e.desk } };
+
+    ghost invariant = { λ e. EngineStays e.journal e.outbox.put e.held e.inbox.taken (e.desk) e.places.items };
+}
+
+/// A frame that arrived and is to be acknowledged.
+#[derive(Clone, Copy)]
+pub struct Owing {
+    pub to: NodeId,
+    pub slot: u64,
+}
+
+/// What an engine that ended leaves: the log and the node, the end, and the ends of its boxes.
+#[derive(Drop)]
+pub struct EngineParts {
+    pub log: Vec<Entry>,
+    pub node: Node,
+    pub ended: Option<EngineEnd>,
+    pub outbox: Putter<Parcel>,
+    pub inbox: Taker<Parcel>,
+    pub desk: Option<Desk>,
+}
+
+/// What an engine is made of.
+#[derive(Drop)]
+pub struct EngineEnds {
+    pub outbox: Putter<Parcel>,
+    pub inbox: Taker<Parcel>,
+    /// Where the node has clients.
+    pub desk: Option<Desk>,
+}
+
+impl Engine {
+    /// The engine of a new node, which crashes after so many entries, if it is to crash. All room that its log ever takes is
+    /// made here.
+    pub fn new(
+        alloc: Global,
+        config: &Config,
+        me: NodeId,
+        crash: Option<u64>,
+        turns: u64,
+        ends: EngineEnds,
+    ) -> Result<Engine, AllocError>
+        requires node { me < config.now.nodes }
+        requires outbox { ends.outbox.put ≡ [] }
+        requires inbox { ends.inbox.taken ≡ [] }
+        requires desk { IsUnused ends.desk }
+        ensures { IfOk result (λ e. e ≡ record { config = config.now; me = me; crash = crash; outbox = ends.outbox; inbox = ends.inbox; desk = ends.desk }) }
+    {
+        let journal = Journal::new(alloc, config, me, crash)?;
+        let places = first_places(alloc, clients_of(&ends.desk))?;
+        let resend = Resend::new(alloc, config)?;
+        let EngineEnds {
+            outbox,
+            inbox,
+            desk,
+        } = ends;
+        Ok(Engine {
+            journal,
+            outbox,
+            inbox,
+            held: None,
+            desk,
+            places,
+            resend,
+            turns,
+        })
+    }
+
+    /// One turn. Answers whether the engine goes on.
+    #[tactic(auto, using(crate::proofs::Again::desk_same))]
+    pub fn turn<G: Gate, R: Wait>(
+        &mut self,
+        rt: &R,
+        gate: &mut G,
+        board: &Board,
+        quiet: &mut Quiet,
+    ) -> bool
+        ensures { IsSameEngine self.old self.new }
+    {
+        if !self.may_go_on() {
+            return false;
+        }
+        if !self.count_turn() {
+            self.end(EngineEnd::TurnLimit);
+            return false;
+        }
+        gate.pass(rt);
+        let logged = self.journal.log().len();
+        let moved = self.work(rt, board, quiet);
+        if let Some(entries) = self.journal.log().get(logged..) {
+            tell_gate(gate, entries);
+        }
+        if quiet.may_stop(board) {
+            self.end(EngineEnd::Stopped);
+            return false;
+        }
+        if !moved {
+            thread::yield_now();
+        }
+        true
+    }
+
+    // Steps 2 to 7. Answers whether 2 to 6 did anything. The jobs are asked before the desk is found empty.
+    #[tactic(auto, using(crate::proofs::Again::desk_same))]
+    fn work<R: Wait>(&mut self, rt: &R, board: &Board, quiet: &mut Quiet) -> bool
+        ensures { IsSameEngine self.old self.new }
+    {
+        let exchanged = self.exchange(rt, board, quiet);
+        let jobs_ended = quiet.jobs_ended(board);
+        let ordered = self.take_order(rt);
+        let told = self.notify(rt);
+        quiet.write(board, jobs_ended && !ordered && self.is_settled(board));
+        exchanged || ordered || told
+    }
+
+    // Steps 2, 3 and 5.
+    #[tactic(auto, using(crate::proofs::Again::desk_same))]
+    fn exchange<R: Wait>(&mut self, rt: &R, board: &Board, quiet: &mut Quiet) -> bool
+        ensures { IsSameEngine self.old self.new }
+    {
+        let put = self.flush(rt);
+        let received = self.receive_and_acknowledge(rt, board, quiet);
+        let sent = self.resend(rt);
+        put || received || sent
+    }
+
+    // Step 3. While a parcel waits, none is taken.
+    #[tactic(auto, using(crate::proofs::Again::desk_same))]
+    fn receive_and_acknowledge<R: Wait>(&mut self, rt: &R, board: &Board, quiet: &mut Quiet) -> bool
+        ensures { IsSameEngine self.old self.new }
+    {
+        if self.held.is_some() {
+            return false;
+        }
+        let Some(owing) = self.receive(rt) else {
+            return false;
+        };
+        quiet.write(board, false);
+        self.acknowledge(rt, owing);
+        true
+    }
+
+    // Whether no parcel waits and nothing is owed to an engine that has not ended.
+    fn is_settled(&self, board: &Board) -> bool {
+        if self.held.is_some() {
+            return false;
+        }
+        for peer in 0..board.len() {
+            if owes(self.journal.node(), peer) && !board.has_ended(peer) {
+                return false;
+            }
+        }
+        true
+    }
+
+    /// Ends the next putter of the inbox.
+    #[tactic(auto, using(crate::proofs::Again::desk_same))]
+    pub fn end_inbox(&mut self, putter: Putter<Parcel>)
+        requires { IsNextToEnd putter self.old.inbox }
+        ensures { self.new ≡ with_ended self.old putter.put }
+    {
+        self.inbox.end(putter);
+    }
+
+    /// What the engine leaves.
+    pub fn into_parts(self) -> EngineParts
+        ensures ends { (result.outbox ≡ self.outbox) × (result.inbox ≡ self.inbox) × (result.desk ≡ self.desk) }
+        ensures leaves { Leaves self result.log.items result.node result.ended }
+        ensures tells { Tells self result.log.items result.node }
+        ensures told { WereTold result.log.items (trays_at self.desk) }
+    {
+        let Engine {
+            journal,
+            outbox,
+            inbox,
+            desk,
+            ..
+        } = self;
+        let (log, node, ended) = journal.into_parts();
+        EngineParts {
+            log,
+            node,
+            ended,
+            outbox,
+            inbox,
+            desk,
+        }
+    }
+
+    /// Step 2: puts the parcel that the outbox refused last, where there is one. Answers whether it was put.
+    #[tactic(auto, using(crate::proofs::Again::desk_same))]
+    fn flush<R: Wait>(&mut self, rt: &R) -> bool
+        ensures { IsSameEngine self.old self.new }
+    {
+        let Some(parcel) = self.held.take() else {
+            return false;
+        };
+        hand(rt, &mut self.outbox, &mut self.held, parcel)
+    }
+
+    /// Step 3, the first half: takes one parcel, and logs its arrival. Answers what is to be acknowledged.
+    #[tactic(auto, using(crate::proofs::Again::desk_same))]
+    fn receive<R: Wait>(&mut self, rt: &R) -> Option<Owing>
+        ensures { IsSameEngine self.old self.new }
+    {
+        if !self.journal.may_log() {
+            return None;
+        }
+        match self.inbox.take(rt) {
+            Some(parcel) => {
+                self.resend.hear(&parcel.frame);
+                take_in(&mut self.journal, parcel)
+            }
+            None => None,
+        }
+    }
+
+    /// Step 3, the second half: acknowledges a slot that was taken.
+    #[tactic(auto, using(crate::proofs::Again::desk_same))]
+    fn acknowledge<R: Wait>(&mut self, rt: &R, owing: Owing)
+        ensures { IsSameEngine self.old self.new }
+    {
+        if !self.journal.may_log() {
+            return;
+        }
+        let Ok(parcel) = self.journal.ack(owing.to, owing.slot) else {
+            return;
+        };
+        hand(rt, &mut self.outbox, &mut self.held, parcel);
+    }
+
+    /// Step 5: sends a slot that is due, to the next peer in cyclic order to which one is. Answers whether it did.
+    #[tactic(auto, using(crate::proofs::Again::desk_same))]
+    fn resend<R: Wait>(&mut self, rt: &R) -> bool
+        ensures { IsSameEngine self.old self.new }
+    {
+        self.next_turn();
+        self.send_due(rt)
+    }
+
+    // Sends the slot that is due next. Answers whether there was one.
+    #[tactic(auto, using(crate::proofs::Again::desk_same))]
+    fn send_due<R: Wait>(&mut self, rt: &R) -> bool
+        ensures { IsSameEngine self.old self.new }
+    {
+        if self.held.is_some() || !self.journal.may_log() {
+            return false;
+        }
+        let Some((to, slot)) = self.resend.next_due(self.journal.node()) else {
+            return false;
+        };
+        let Ok(parcel) = self.journal.send(to, slot) else {
+            return false;
+        };
+        self.resend.note(to, slot);
+        hand(rt, &mut self.outbox, &mut self.held, parcel);
+        true
+    }
+
+    // What was sent long ago is due again.
+    #[tactic(auto, using(crate::proofs::Again::desk_same))]
+    fn next_turn(&mut self)
+        ensures { self.new ≡ self.old }
+    {
+        self.resend.next_turn(self.journal.node());
+    }
+
+    /// Step 6: for each client, puts the next notice of its feed, where the tray has room. Answers whether one was put.
+    #[tactic(auto, using(crate::proofs::Again::desk_same))]
+    fn notify<R: Wait>(&mut self, rt: &R) -> bool
+        ensures { IsSameEngine self.old self.new }
+    {
+        match &mut self.desk {
+            Some(desk) => notify_all(rt, desk, &mut self.places, self.journal.log()),
+            None => false,
+        }
+    }
+
+    /// Whether the engine may go on: its log and its clock are not full, and no crash is due, which is logged here.
+    #[tactic(auto, using(crate::proofs::Again::desk_same))]
+    fn may_go_on(&mut self) -> bool
+        ensures { IsSameEngine self.old self.new }
+    {
+        self.journal.may_log()
+    }
+
+    /// Notes that the engine ends.
+    #[tactic(auto, using(crate::proofs::Again::desk_same))]
+    fn end(&mut self, end: EngineEnd)
+        requires { IsQuietEnd end }
+        ensures { IsSameEngine self.old self.new }
+    {
+        self.journal.end(end);
+    }
+
+    /// Step 1: counts the turn. Answers whether there was one left.
+    #[tactic(auto, using(crate::proofs::Again::desk_same))]
+    fn count_turn(&mut self) -> bool
+        ensures { IsSameEngine self.old self.new }
+    {
+        let _ends = &self.outbox;
+        if self.turns == 0 {
+            return false;
+        }
+        self.turns -= 1;
+        true
+    }
+
+    /// Step 4: takes one order and logs it. Answers whether there was one.
+    #[tactic(auto, using(crate::proofs::Again::desk_same))]
+    fn take_order<R: Wait>(&mut self, rt: &R) -> bool
+        ensures { IsSameEngine self.old self.new }
+    {
+        if !self.journal.may_log() {
+            return false;
+        }
+        let Some(order) = take_order(rt, &mut self.desk) else {
+            return false;
+        };
+        self.journal.order(order);
+        true
+    }
+}
+
+// Tells the gate how many messages were delivered in these entries, where there are any.
+fn tell_gate<G: Gate>(gate: &mut G, entries: &[Entry]) {
+    let mut count = 0usize;
+    for entry in entries {
+        if let EntryKind::Step { outcome, .. } = &entry.kind {
+            count = count.saturating_add(outcome.deliveries.as_slice().len());
+        }
+    }
+    if count > 0 {
+        gate.delivered(count as u64);
+    }
+}
+
+// Whether a node owes a peer.
+fn owes(node: &Node, peer: usize) -> bool {
+    match u8::try_from(peer) {
+        Ok(peer) => node.owed(NodeId(peer)).unwrap_or(0) > 0,
+        Err(_) => false,
+    }
+}
+
+fn clients_of(desk: &Option<Desk>) -> usize
+    ensures { result ≡ length (trays_at desk.now) }
+{
+    match desk {
+        Some(desk) => desk.trays.len(),
+        None => 0,
+    }
+}
+
+// Logs the arrival of a parcel, and lets it go.
+fn take_in(journal: &mut Journal, parcel: Parcel) -> Option<Owing>
+    requires { MayLog journal.old }
+    ensures { TakesIn journal.old journal.new parcel }
+{
+    log_arrival(journal, &parcel)
+}
+
+// Logs the arrival of a parcel, and answers what is to be acknowledged. A parcel for another node, and one that finds no
+// memory, is dropped, and one with the last stamp ends the engine.
+fn log_arrival(journal: &mut Journal, parcel: &Parcel) -> Option<Owing>
+    requires { MayLog journal.old }
+    ensures { TakesIn journal.old journal.new parcel.now }
+{
+    if parcel.stamp == u64::MAX {
+        journal.end(EngineEnd::ClockFull);
+        return None;
+    }
+    if parcel.frame.to != journal.id() {
+        return None;
+    }
+    match journal.arrive(parcel) {
+        Ok(()) => owing_by(parcel),
+        Err(_) => None,
+    }
+}
+
+/// Runs an engine until it ends, and says so on the board.
+pub fn run_engine<G: Gate + Drop, R: Wait>(
+    rt: &R,
+    mut engine: Engine,
+    mut gate: G,
+    board: &Board,
+    mut quiet: Quiet,
+) -> Engine
+    ensures { IsSameEngine engine result }
+{
+    for _ in rt.forever() {
+        if board.is_stopped() {
+            quiet.end(board);
+            return engine;
+        }
+        if !engine.turn(rt, &mut gate, board, &mut quiet) {
+            quiet.end(board);
+            return engine;
+        }
+    }
+    unreachable!()
+}
+
+// What is to be acknowledged of a frame that arrived.
+fn owing_by(parcel: &Parcel) -> Option<Owing> {
+    match &parcel.frame.body {
+        FrameBody::Carry { slot, .. } => Some(Owing {
+            to: parcel.frame.from,
+            slot: *slot,
+        }),
+        FrameBody::Took { .. } => None,
+    }
+}
+
+// Puts a parcel into the outbox, or keeps it where that is full.
+fn hand<R: Wait>(
+    rt: &R,
+    outbox: &mut Putter<Parcel>,
+    held: &mut Option<Parcel>,
+    parcel: Parcel,
+) -> bool
+    ensures same { IsSamePutter outbox.old outbox.new }
+    ensures handed { Handed outbox.old.put outbox.new.put held.new parcel }
+{
+    match outbox.put(rt, parcel) {
+        Ok(()) => {
+            *held = None;
+            true
+        }
+        Err(Full { item: parcel }) => {
+            *held = Some(parcel);
+            false
+        }
+    }
+}
+
+// Takes an order from the desk, where there is one.
+#[tactic(auto, using(crate::proofs::Again::desk_same))]
+fn take_order<R: Wait>(rt: &R, desk: &mut Option<Desk>) -> Option<OrderIn>
+    ensures same { IsSameDesk desk.old desk.new }
+    ensures taken { TakesOrder desk.old result desk.new }
+{
+    match desk {
+        Some(desk) => desk.take(rt),
+        None => None,
+    }
+}

@@ -1,0 +1,180 @@
+//! What the clients of a node are told of its log, notice by notice.
+ghost use Rattle.std.specs.Prelude.{◌≡◌, ◌∷◌, replicate, slice_get, None, IfOk, IfSome};
+ghost use Rattle.std.specs.Option.{option_to_list};
+ghost use Rattle.cast_box.specs.Ends.{AreSamePutters};
+ghost use Rattle.cast_desk.specs.Feed.{told_by, reply_of, news_of, orders_in};
+ghost use Rattle.cast_engine.specs.Feeding.{IsNext, AreFed, FedIn, FedAt, IsPlaced, told_to, first_place};
+
+use cast_box::Full;
+use cast_desk::{Desk, Notice};
+use cast_message::{Event, Outcome};
+use cast_node::{Entry, EntryKind, Origin};
+use std::alloc::{AllocError, Global};
+use std::sync::Wait;
+
+/// A client's place in its feed: what the entries before it told was put, and so many notices of the entry at it.
+#[derive(Drop)]
+pub struct Place {
+    pub entry: usize,
+    /// How many orders stand before that entry.
+    pub orders: u64,
+    pub told: usize,
+    /// The next notice, where it found the tray full.
+    pub waiting: Option<Notice>,
+}
+
+/// The places of clients that were told nothing.
+pub fn first_places(alloc: Global, clients: usize) -> Result<Vec<Place>, AllocError>
+    ensures { IfOk result (λ places. places.items ≡ replicate clients first_place) }
+{
+    let mut places = Vec::new(alloc);
+    for _client in 0..clients {
+        places.push(Place {
+            entry: 0,
+            orders: 0,
+            told: 0,
+            waiting: None,
+        })?;
+    }
+    Ok(places)
+}
+
+/// For each client that has something to be told, puts the next notice of its feed, where its tray has room. Answers
+/// whether one was put.
+pub fn notify_all<R: Wait>(rt: &R, desk: &mut Desk, places: &mut Vec<Place>, log: &[Entry]) -> bool
+    requires { AreFed log.now desk.old.trays.items places.old.items }
+    ensures fed { AreFed log.now desk.new.trays.items places.new.items }
+    ensures orders { desk.new.orders ≡ desk.old.orders }
+    ensures trays { AreSamePutters desk.old.trays.items desk.new.trays.items }
+{
+    let mut moved = false;
+    for client in 0..places.len() {
+        moved |= notify(rt, desk, client, &mut places[client], log);
+    }
+    moved
+}
+
+// Puts the next notice of a client's feed, where its tray has room.
+fn notify<R: Wait>(rt: &R, desk: &mut Desk, client: usize, place: &mut Place, log: &[Entry]) -> bool
+    requires { FedIn client log.now desk.old.trays.items place.old }
+    ensures orders { desk.new.orders ≡ desk.old.orders }
+    ensures fed { FedAt client log.now desk.old.trays.items desk.new.trays.items place.new }
+{
+    let Ok(Some(notice)) = next_notice(client as u64, place, log) else {
+        return false;
+    };
+    let Some(told) = place.told.checked_add(1) else {
+        return false;
+    };
+    match desk.notify(rt, client as u64, notice) {
+        Ok(()) => {
+            place.told = told;
+            true
+        }
+        Err(Full { item: notice }) => {
+            place.waiting = Some(notice);
+            false
+        }
+    }
+}
+
+// The next notice of a client's feed, where there is one; or want of memory, and then it stays the next.
+fn next_notice(client: u64, place: &mut Place, log: &[Entry]) -> Result<Option<Notice>, AllocError>
+    requires { IsPlaced client log.now place.old }
+    ensures placed { IsPlaced client log.now place.new }
+    ensures fed { told_to client log.now place.new ≡ told_to client log.now place.old }
+    ensures notice { IfOk result (λ found. IfSome found (λ notice. IsNext client log.now place.new notice × (place.new.waiting ≡ None))) }
+{
+    if let Some(notice) = place.waiting.take() {
+        return Ok(Some(notice));
+    }
+    while place.entry < log.len() {
+        let kind = &log[place.entry].kind;
+        if let Some(notice) = notice_at(kind, client, place.orders, place.told)? {
+            return Ok(Some(notice));
+        }
+        place.orders = place.orders.wrapping_add(orders_in(kind));
+        place.entry += 1;
+        place.told = 0;
+    }
+    Ok(None)
+}
+
+// The notice of this number of those that an entry brings a client.
+fn notice_at(
+    kind: &EntryKind,
+    client: u64,
+    orders: u64,
+    told: usize,
+) -> Result<Option<Notice>, AllocError>
+    ensures { IfOk result (λ found. found ≡ slice_get (told_by client orders kind.now) told) }
+{
+    match kind {
+        EntryKind::Step {
+            event,
+            origin,
+            outcome,
+        } => match reply(event, origin, client, orders) {
+            Some(reply) => after_reply(reply, outcome, told),
+            None => news_at(outcome, told),
+        },
+        EntryKind::Refused { origin, fault } => {
+            if origin.client == client && told == 0 {
+                let outcome = Err(*fault);
+                let ticket = origin.ticket;
+                return Ok(Some(Notice::Reply { ticket, outcome }));
+            }
+            Ok(None)
+        }
+    }
+}
+
+fn after_reply(reply: Notice, outcome: &Outcome, told: usize) -> Result<Option<Notice>, AllocError>
+    ensures { IfOk result (λ found. found ≡ slice_get (reply ∷ news_of outcome.now) told) }
+{
+    match told.checked_sub(1) {
+        Some(before) => news_at(outcome, before),
+        None => Ok(Some(reply)),
+    }
+}
+
+// The reply to a client's own order.
+fn reply(event: &Event, origin: &Option<Origin>, client: u64, orders: u64) -> Option<Notice>
+    ensures { option_to_list result ≡ reply_of client event.now origin.now orders }
+{
+    if let (Event::Order { .. }, Some(origin)) = (event, origin) {
+        if origin.client == client {
+            let outcome = Ok(orders);
+            let ticket = origin.ticket;
+            return Some(Notice::Reply { ticket, outcome });
+        }
+    }
+    None
+}
+
+// The notice of this number of those that a step's outcome brings every client.
+fn news_at(outcome: &Outcome, at: usize) -> Result<Option<Notice>, AllocError>
+    ensures { IfOk result (λ found. found ≡ slice_get (news_of outcome.now) at) }
+{
+    let deliveries = outcome.deliveries.as_slice();
+    if at < deliveries.len() {
+        let message = deliveries[at].copy()?;
+        return Ok(Some(Notice::Delivered(message)));
+    }
+    match outcome.decisions.as_slice().get(at - deliveries.len()) {
+        Some(decision) => Ok(Some(Notice::Decided(*decision))),
+        None => Ok(None),
+    }
+}
+
+fn orders_in(kind: &EntryKind) -> u64
+    ensures { result ≡ orders_in kind.now }
+{
+    match kind {
+        EntryKind::Step {
+            event: Event::Order { .. },
+            ..
+        } => 1,
+        _ => 0,
+    }
+}

@@ -1,0 +1,301 @@
+//! The node of an engine, with its log and its clock.
+ghost use Rattle.std.specs.Prelude.{◌≡◌, ◌+◌, ◌<◌, ◌^◌, [], length, Some, None, IfOk, OnOk, OnErr, IsTrue, IsFalse};
+ghost use Rattle.cast_message.specs.Steps.{Sent, Acknowledged, Arrived, Stopped};
+ghost use Rattle.cast_node.specs.Kept.{nothing_kept};
+ghost use Rattle.cast_node.specs.Turns.{carry_of, took_of};
+ghost use Rattle.cast_message.specs.OwnSteps.{nothing};
+ghost use Rattle.cast_engine.specs.Journals.{MayLog, LogsStep, LogsOrder, OnlyEnds, Halts, Rises, EndsAs, AsksOrder, IsQuietEnd};
+
+use crate::parcel::Parcel;
+use cast_desk::OrderIn;
+use cast_merge::EngineEnd;
+use cast_message::{Config, Event, Item, List, NodeId, Outcome, StepFault};
+use cast_node::{Entry, EntryKind, Node, Origin};
+use std::alloc::{AllocError, Global};
+use std::marker::Model;
+
+/// The node of an engine, its log and its clock. The log's room is made when the journal is.
+#[derive(Drop)]
+pub struct Journal {
+    alloc: Global,
+    config: Config,
+    node: Node,
+    log: Vec<Entry>,
+    clock: u64,
+    // After so many entries the engine crashes.
+    crash: Option<u64>,
+    ended: Option<EngineEnd>,
+}
+
+impl Model for Journal {
+    ghost use Rattle.std.specs.Prelude.{vec_capacity};
+    ghost use Rattle.cast_engine.specs.Journals.{JournalState, JournalKeeps, journal_code};
+    ghost use Rattle.cast_message.specs.contracts.config.Config as configs;
+    ghost use Rattle.cast_node.specs.contracts.node.Node as nodes;
+    ghost use Rattle.cast_node.specs.contracts.entry.Entry as entries;
+    ghost use Rattle.cast_merge.specs.contracts.report.EngineEnd as engine_ends;
+
+    ghost Value = { JournalState };
+
+    ghost coded = { journal_code configs.the_row.coded nodes.the_row.coded entries.the_row.coded engine_ends.the_row.coded };
+
+    ghost view = { λ j. record { config = j.config; node = j.node; log = j.log.items; clock = j.clock; crash = j.crash; ended = j.ended } };
+
+    ghost invariant = { λ j. JournalKeeps j.config (vec_capacity j.log) j.node j.log.items j.clock j.crash j.ended };
+}
+
+impl Journal {
+    /// The journal of a new node of the group, with room for its whole log. Only memory can be wanting.
+    pub fn new(
+        alloc: Global,
+        config: &Config,
+        me: NodeId,
+        crash: Option<u64>,
+    ) -> Result<Journal, AllocError>
+        requires { me < config.now.nodes }
+        ensures { IfOk result (λ j. j ≡ record { config = config.now; node = nothing_kept config.now me; log = []; clock = config.now.first_stamp; crash = crash; ended = None }) }
+    {
+        let Ok(node) = Node::new(alloc, config, me) else {
+            return Err(AllocError);
+        };
+        let mut log = Vec::new(alloc);
+        log.reserve(config.log_limit() as usize)?;
+        Ok(Journal {
+            alloc,
+            config: config.copy(),
+            node,
+            log,
+            clock: config.first_stamp(),
+            crash,
+            ended: None,
+        })
+    }
+
+    /// Whether an entry may be logged. Where none may, the engine has ended: its log or its clock is full, or it crashes now.
+    pub fn may_log(&mut self) -> bool
+        ensures may { IsTrue result → (self.new ≡ self.old) × MayLog self.old }
+        ensures halts { IsFalse result → Halts self.old self.new }
+    {
+        if self.ended.is_some() {
+            return false;
+        }
+        if self.log.len() as u64 >= self.config.log_limit() {
+            self.ended = Some(EngineEnd::LogFull);
+            return false;
+        }
+        if self.clock == u64::MAX {
+            self.ended = Some(EngineEnd::ClockFull);
+            return false;
+        }
+        if self.crash == Some(self.log.len() as u64) {
+            self.log_crash();
+            return false;
+        }
+        true
+    }
+
+    // Logs the crash that is due.
+    fn log_crash(&mut self)
+        requires running { self.old.ended ≡ None }
+        requires room { length self.old.log < self.old.config.log_limit }
+        requires time { self.old.clock + 1 < 2 ^ 64 }
+        requires due { self.old.crash ≡ Some (length self.old.log) }
+        ensures { LogsStep self.old self.new Stopped None self.old.clock }
+    {
+        let me = self.node.id();
+        let crashed = self.node.crash().is_ok();
+        prove!(crashed);
+        let stamp = self.clock + 1;
+        self.log.push_reserved(Entry {
+            stamp,
+            kind: EntryKind::Step {
+                event: Event::Crash { node: me },
+                origin: None,
+                outcome: no_news(self.alloc),
+            },
+        });
+        self.clock = stamp;
+        self.ended = Some(EngineEnd::Crashed);
+    }
+
+    /// Takes a frame that arrives, and logs it. A refusal changes nothing.
+    pub fn arrive(&mut self, parcel: &Parcel) -> Result<(), StepFault>
+        requires may { MayLog self.old }
+        requires to { parcel.now.frame.to ≡ self.old.node.me }
+        requires stamp { parcel.now.stamp + 1 < 2 ^ 64 }
+        ensures ok { OnOk result (LogsStep self.old self.new (Arrived parcel.now.frame) None parcel.now.stamp) }
+        ensures err { OnErr result (self.new ≡ self.old) }
+    {
+        let outcome = self.node.arrive(&parcel.frame)?;
+        let stamp = self.clock.max(parcel.stamp) + 1;
+        let event = Event::Arrive {
+            from: parcel.frame.from,
+            seq: parcel.frame.seq,
+        };
+        self.log.push_reserved(Entry {
+            stamp,
+            kind: EntryKind::Step {
+                event,
+                origin: None,
+                outcome,
+            },
+        });
+        self.clock = stamp;
+        Ok(())
+    }
+
+    /// Makes a frame that carries a slot to a peer, and logs it. A refusal changes nothing.
+    pub fn send(&mut self, to: NodeId, slot: u64) -> Result<Parcel, StepFault>
+        requires { MayLog self.old }
+        ensures ok { OnOk result (LogsStep self.old self.new (Sent to slot) None self.old.clock) }
+        ensures parcel { IfOk result (λ parcel. (parcel.frame ≡ carry_of self.old.node to slot) × (parcel.stamp ≡ self.new.clock)) }
+        ensures err { OnErr result (self.new ≡ self.old) }
+    {
+        let from = self.node.id();
+        let frame = self.node.send(to, slot)?;
+        let stamp = self.clock + 1;
+        self.log.push_reserved(Entry {
+            stamp,
+            kind: EntryKind::Step {
+                event: Event::Send { from, to, slot },
+                origin: None,
+                outcome: no_news(self.alloc),
+            },
+        });
+        self.clock = stamp;
+        Ok(Parcel { stamp, frame })
+    }
+
+    /// Makes a frame that acknowledges a peer's slot, and logs it. A refusal changes nothing.
+    pub fn ack(&mut self, to: NodeId, slot: u64) -> Result<Parcel, StepFault>
+        requires { MayLog self.old }
+        ensures ok { OnOk result (LogsStep self.old self.new (Acknowledged to slot) None self.old.clock) }
+        ensures parcel { IfOk result (λ parcel. (parcel.frame ≡ took_of self.old.node to slot) × (parcel.stamp ≡ self.new.clock)) }
+        ensures err { OnErr result (self.new ≡ self.old) }
+    {
+        let from = self.node.id();
+        let frame = self.node.ack(to, slot)?;
+        let stamp = self.clock + 1;
+        self.log.push_reserved(Entry {
+            stamp,
+            kind: EntryKind::Step {
+                event: Event::Ack { from, to, slot },
+                origin: None,
+                outcome: no_news(self.alloc),
+            },
+        });
+        self.clock = stamp;
+        Ok(Parcel { stamp, frame })
+    }
+
+    /// Takes up a client's order, and logs it, or logs that it was refused.
+    pub fn order(&mut self, order: OrderIn)
+        requires { MayLog self.old }
+        ensures { LogsOrder self.old self.new order }
+    {
+        let node = self.node.id();
+        let OrderIn {
+            client,
+            ticket,
+            item,
+        } = order;
+        let origin = Origin { client, ticket };
+        let stamp = self.clock + 1;
+        match ask(&mut self.node, item) {
+            Ok((item, outcome)) => {
+                self.log.push_reserved(Entry {
+                    stamp,
+                    kind: EntryKind::Step {
+                        event: Event::Order { node, item },
+                        origin: Some(origin),
+                        outcome,
+                    },
+                });
+                self.clock = stamp;
+            }
+            Err(fault) => {
+                self.log.push_reserved(Entry {
+                    stamp,
+                    kind: EntryKind::Refused { origin, fault },
+                });
+                self.clock = stamp;
+            }
+        }
+    }
+
+    /// Notes that the engine ends, where it has not.
+    pub fn end(&mut self, end: EngineEnd)
+        requires { IsQuietEnd end }
+        ensures { OnlyEnds self.old self.new }
+    {
+        if self.ended.is_none() {
+            self.ended = Some(end);
+        }
+    }
+
+    /// The node.
+    pub fn node(&self) -> &Node
+        ensures { result.now ≡ self.now.node }
+    {
+        &self.node
+    }
+
+    /// The number of the node.
+    pub fn id(&self) -> NodeId
+        ensures { result ≡ self.now.node.me }
+    {
+        self.node.id()
+    }
+
+    /// The log.
+    pub fn log(&self) -> &[Entry]
+        ensures { result.now ≡ self.now.log }
+    {
+        self.log.as_slice()
+    }
+
+    /// Why the engine ended, where it has.
+    pub fn ended(&self) -> Option<EngineEnd>
+        ensures { result ≡ self.now.ended }
+    {
+        self.ended
+    }
+
+    /// The log, the node and the end, where the engine ended.
+    pub fn into_parts(self) -> (Vec<Entry>, Node, Option<EngineEnd>)
+        ensures parts { (result.0.items ≡ self.log) × (result.1 ≡ self.node) × (result.2 ≡ self.ended) }
+        ensures rises { Rises self.config.first_stamp self.log self.clock }
+        ensures ends { EndsAs self.config.log_limit self.crash self.ended self.log }
+    {
+        let Journal {
+            log,
+            node,
+            ended,
+            ..
+        } = self;
+        (log, node, ended)
+    }
+}
+
+// Asks the node to take up an item, of which a copy is kept for the log.
+fn ask(node: &mut Node, item: Item) -> Result<(Item, Outcome), StepFault>
+    ensures gives { AsksOrder node.old node.new item result }
+    ensures copy { IfOk result (λ told. told.0 ≡ item) }
+{
+    if let Some(fault) = node.order_fault(&item) {
+        return Err(fault);
+    }
+    let copy = item.copy()?;
+    let (_number, outcome) = node.order(item)?;
+    Ok((copy, outcome))
+}
+
+/// Nothing is delivered or decided.
+fn no_news(alloc: Global) -> Outcome
+    ensures { result ≡ nothing }
+{
+    Outcome {
+        deliveries: List::new(alloc),
+        decisions: List::new(alloc),
+    }
+}

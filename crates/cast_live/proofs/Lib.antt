@@ -1,0 +1,4 @@
+pub mod Replaying
+pub mod SummaryLemmas
+pub mod VerdictLemmas
+pub mod LiveLemmas

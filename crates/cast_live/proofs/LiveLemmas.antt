@@ -1,0 +1,119 @@
+-- Running the group of a script, and what its faults mean.
+use Rattle.std.proofs.Common.{◌≡◌, ℕ, zero, suc, ◌==◌, ◌<◌, ◌≤◌, Bool, true, false, cond, List, [], ◌∷◌, ◌++◌, length, map, Option, slice_get, Some, refl, sym, ap, subst, ◌∙◌, arith, append_assoc}
+use Rattle.std.proofs.lemmas.List.{map-append}
+use Rattle.std.specs.Io.KnownBytes.{Appends}
+use Rattle.std.proofs.KnownBytes.{Keeps-refl}
+use Rattle.cast_message.specs.Replies.{history}
+use Rattle.cast_words.specs.Written.{WroteAll, WrotePrefix}
+use Rattle.cast_run.specs.declared.submit_all.SubmitAll.{SubmitAll}
+use Rattle.cast_message.specs.declared.message.Item.{Item}
+use Rattle.cast_box.specs.Lists.{of}
+use Rattle.cast_script.specs.declared.live_fault.LiveFault.{LiveFault}
+use Rattle.cast_script.specs.declared.live_fault.LiveFault.TheVariants as lives
+use Rattle.cast_run.specs.Faults.{JobsFit, IsFaultOf}
+use Rattle.cast_run.specs.Jobs.{Submits, told_job, replies_in}
+use Rattle.cast_script.specs.declared.script.Script.{Script}
+use Rattle.cast_live.specs.declared.live.FinishedRun.{FinishedRun}
+use Rattle.cast_live.specs.declared.summary.Summary.{Summary}
+use Rattle.cast_text.specs.declared.text.TextFault.{TextFault}
+use Rattle.cast_text.specs.declared.text.TextFault.TheVariants as faults
+use Rattle.cast_text.specs.Text.{IsScriptIn, WroteFront, fault_of_live}
+use Rattle.cast_live.specs.Live.{IsNewJob, AreNewJobs, items_of, IsFinished, IsMergedRun, IsRunOf, IsOfRunning, IsSummaryOf, WritesSummary, SummaryBreaksOff, LiveFails, ends_of, summary_text}
+
+pub new_more : (all : List (ℕ × SubmitAll)) (x : ℕ × SubmitAll) → AreNewJobs all → IsNewJob x.1 → AreNewJobs (all ++ x ∷ [])
+new_more [] x each new zero a at = let same : x ≡ a = cc in subst (λ (b : ℕ × SubmitAll). IsNewJob b.1) same new
+new_more [] x each new (suc i) a at = absurd cc
+new_more (y ∷ ys) x each new zero a at = each zero a at
+new_more (y ∷ ys) x each new (suc i) a at = new_more ys x (λ j. each (suc j)) new i a at
+
+-- what a new job's fact says before its first turn
+pub new_fact : (job : SubmitAll) → IsNewJob job → Submits job.items job.next job.replies [] [] false
+unfolding replies_in
+new_fact job new = subst (λ n. Submits job.items n job.replies [] [] false) (sym new.0) (subst (λ r. Submits job.items 0 r [] [] false) (sym new.1)
+    (record { first = refl; within = omega arith; replied = refl; below = omega arith; all = λ e. absurd cc }))
+
+-- ---- the jobs that are handed in are those of the script
+
+pub items_more : (jobs : List (ℕ × List Item)) (more : List (ℕ × SubmitAll)) (node : ℕ) (job : SubmitAll) (items : List Item) (handed : List (ℕ × SubmitAll)) (rest : List (ℕ × List Item))
+    → map items_of handed ++ (node, items) ∷ rest ≡ jobs → job.items ≡ items → more ≡ handed ++ told_job node job ∷ [] → map items_of more ++ rest ≡ jobs
+items_more jobs more node job items handed rest whole same is =
+    ap (λ xs. map items_of xs ++ rest) is ∙ ap (λ xs. xs ++ rest) (map-append items_of handed (told_job node job ∷ []))
+    ∙ append_assoc (map items_of handed) ((node, job.items) ∷ []) rest ∙ ap (λ x. map items_of handed ++ (node, x) ∷ rest) same ∙ whole
+
+length-of : (p : ℕ) (handed : List (ℕ × SubmitAll)) → length (of p (map items_of handed)) ≡ length (of p handed)
+length-of p [] = refl
+length-of p (job ∷ handed) = by_test (p == job.0) (length-of p handed)
+  where
+    by_test : (b : Bool) → length (of p (map items_of handed)) ≡ length (of p handed)
+        → length (cond b (job.1.items ∷ of p (map items_of handed)) (of p (map items_of handed))) ≡ length (cond b (job.1 ∷ of p handed) (of p handed))
+    by_test true e = ap suc e
+    by_test false e = e
+
+placed_at : (nodes : ℕ) (handed : List (ℕ × SubmitAll)) → ((i : ℕ) (job : ℕ × SubmitAll) → slice_get handed i ≡ Some job → job.0 < nodes)
+    → (i : ℕ) (job : ℕ × List Item) → slice_get (map items_of handed) i ≡ Some job → job.0 < nodes
+placed_at nodes [] each i job at = absurd cc
+placed_at nodes (h ∷ handed) each zero job at = let same : items_of h ≡ job = cc in subst (λ (j : ℕ × List Item). j.0 < nodes) same (each zero h refl)
+placed_at nodes (h ∷ handed) each (suc i) job at = placed_at nodes handed (λ k. each (suc k)) i job at
+
+placed_back : (nodes : ℕ) (handed : List (ℕ × SubmitAll)) → ((i : ℕ) (job : ℕ × List Item) → slice_get (map items_of handed) i ≡ Some job → job.0 < nodes)
+    → (i : ℕ) (job : ℕ × SubmitAll) → slice_get handed i ≡ Some job → job.0 < nodes
+placed_back nodes [] each i job at = absurd cc
+placed_back nodes (h ∷ handed) each zero job at = let same : h ≡ job = cc in subst (λ (j : ℕ × SubmitAll). j.0 < nodes) same (each zero (items_of h) refl)
+placed_back nodes (h ∷ handed) each (suc i) job at = placed_back nodes handed (λ k. each (suc k)) i job at
+
+fit_items : (nodes : ℕ) (handed : List (ℕ × SubmitAll)) → JobsFit nodes handed → JobsFit nodes (map items_of handed)
+fit_items nodes handed fit = record { placed = placed_at nodes handed fit.placed; few = λ p l. subst (λ n. n ≤ 4) (sym (length-of p handed)) (fit.few p l) }
+
+fit_handed : (nodes : ℕ) (handed : List (ℕ × SubmitAll)) → JobsFit nodes (map items_of handed) → JobsFit nodes handed
+fit_handed nodes handed fit = record { placed = placed_back nodes handed fit.placed; few = λ p l. subst (λ n. n ≤ 4) (length-of p handed) (fit.few p l) }
+
+module _ (script : Script) (handed : List (ℕ × SubmitAll)) (same : map items_of handed ≡ script.jobs) (gates : ℕ) (many : gates ≡ script.config.nodes) where
+  fits : JobsFit script.config.nodes handed → JobsFit script.config.nodes script.jobs
+  fits fit = subst (JobsFit script.config.nodes) same (fit_items script.config.nodes handed fit)
+
+  pub refused_for : (why : LiveFault) → IsFaultOf script.config.nodes handed gates script.plan.faults why → IsOfRunning script (fault_of_live why)
+  refused_for lives.Jobs is = λ fit. is (fit_handed script.config.nodes handed (subst (JobsFit script.config.nodes) (sym same) fit))
+  refused_for lives.Gates is = absurd (is.1 many)
+  refused_for lives.Plan is = (fits is.0, is.2)
+  refused_for lives.Memory is = tt
+  refused_for lives.Threads is = (fits is.jobs_fit, is.plan_fits)
+
+-- ---- what is told of a run
+
+pub run_fails : (input old : Option (List ℕ)) (read_failed failed : Bool) (script : Script) (fault : TextFault) → IsScriptIn input script → IsOfRunning script fault → LiveFails input read_failed old old failed fault
+run_fails input old read_failed failed script (faults.Live why) read is = (record { script = script; read = read; cause = is }, Keeps-refl old)
+run_fails input old read_failed failed script faults.Memory read is = (tt, Keeps-refl old)
+run_fails input old read_failed failed script faults.Read read is = absurd is
+run_fails input old read_failed failed script faults.TooLong read is = absurd is
+run_fails input old read_failed failed script (faults.Script why) read is = absurd is
+run_fails input old read_failed failed script faults.Write read is = absurd is
+run_fails input old read_failed failed script faults.NotV1 read is = absurd is
+
+module _ (input old new : Option (List ℕ)) (failed : Bool) (script : Script) (run : FinishedRun) (said : Summary) (read : IsScriptIn input script) (same : run.report.config ≡ script.config)
+    (ran : IsRunOf script run.report.reports) (finished : IsFinished run) (told : IsSummaryOf run.report.config run.assembly.events said) where
+  pub summary_done : WroteAll old new failed (summary_text run.report.config (history run.report.config run.assembly.events) (ends_of run.report.reports) said) → WritesSummary input old new said
+  summary_done wrote = record {
+    script = script;
+    read = read;
+    reports = run.report.reports;
+    ran = ran;
+    events = run.assembly.events;
+    merged = subst (λ config. IsMergedRun config run.report.reports run.assembly.events) same finished.merged;
+    told = subst (λ config. IsSummaryOf config run.assembly.events said) same told;
+    appends = subst (λ config. Appends old new (summary_text config (history config run.assembly.events) (ends_of run.report.reports) said)) same wrote.appends;
+  }
+
+  pub summary_breaks : WrotePrefix old new failed (summary_text run.report.config (history run.report.config run.assembly.events) (ends_of run.report.reports) said) → SummaryBreaksOff input old new failed
+  summary_breaks wrote = record {
+    script = script;
+    read = read;
+    reports = run.report.reports;
+    ran = ran;
+    events = run.assembly.events;
+    merged = subst (λ config. IsMergedRun config run.report.reports run.assembly.events) same finished.merged;
+    said = said;
+    told = subst (λ config. IsSummaryOf config run.assembly.events said) same told;
+    broken = wrote.broken;
+    front = subst (λ config. WroteFront old new (summary_text config (history config run.assembly.events) (ends_of run.report.reports) said)) same
+        (record { front = wrote.front; rest = wrote.rest; parts = wrote.parts; appends = wrote.appends });
+  }

@@ -1,0 +1,28 @@
+use Rattle.std.proofs.Common.{◌∙◌, ap, sym, subst}
+use Rattle.std.proofs.lemmas.Result.{err_from_is_err_and}
+use Rattle.cast_run.specs.Jobs.{told_job}
+use Rattle.cast_live.specs.Live.{IsRunOf}
+use Rattle.cast_live.proofs.LiveLemmas.{new_fact, refused_for}
+use Rattle.cast_live.proofs.live.run_script.Goals as goal
+
+pub run_live-requires-clause-facts : goal.run_live-requires-clause-facts
+run_live-requires-clause-facts g c lifetimes within i node job at = new_fact job (c.in_ok-jobs.ensures.new i (told_job node job) at)
+
+pub returns-in_err-run-clause-err : goal.returns-in_err-run-clause-err
+returns-in_err-run-clause-err g c =
+    let p = err_from_is_err_and c.from_residual-in_err-run.result c.from_residual-in_err-run.ensures.1 in
+    rw (p.1, p.2) (refused_for c.args.script c.in_ok-jobs.jobs.items c.in_ok-jobs.ensures.items _ (c.in_ok-gates.ensures ∙ c.nodes.ensures) c.in_err-run.field-0.0 c.in_err-run.ensures.fault)
+
+pub returns-clause-ran : goal.returns-clause-ran
+returns-clause-ran g c =
+    let run = c.in_ok-run.run' in
+    subst (IsRunOf c.args.script) (ap (λ report. report.reports) (sym c.in_ok-merge_logs.ensures.report)) (record {
+      logs = c.in_ok-run.ensures.logs;
+      handed = c.in_ok-jobs.jobs.items;
+      back = run.jobs.items;
+      clients = run.clients.items;
+      items = c.in_ok-jobs.ensures.items;
+      new = c.in_ok-jobs.ensures.new;
+      served = c.in_ok-run.ensures.jobs;
+      origins = c.in_ok-run.ensures.origins;
+    })

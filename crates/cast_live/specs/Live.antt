@@ -1,0 +1,175 @@
+-- What became of a group that ran in threads, and what is told of it.
+--     IsMergedRun config reports events    the events are the merge of these linked logs
+--     IsRunOf script reports               these are the reports of a run of the script, with a client for each of its jobs
+--     IsFinished run                       the report's logs are merged, and the world stands for the merged events
+--     end_word ended                       the word of an end
+--     node_text config past p ended        the line of node p: its end, and how many items it delivered from each node
+--     summary_text config past ends said   the whole summary
+--     WritesSummary input old new said     the writer has the summary of a run of the script that was read
+--     LiveFails                            what each fault means
+use Rattle.std.specs.Prelude.{◌≡◌, ℕ, ◌+◌, ◌<◌, ◌≤◌, ◌++◌, ◌↔◌, [], ◌∷◌, List, Bool, true, false, IsTrue, length, map, flat_map, codes, decimal, reverse, slice_get, Some, None, Option}
+use Rattle.std.specs.List.{range_with_len}
+use Rattle.std.specs.Io.KnownBytes.{Appends, Keeps}
+use Rattle.cast_message.specs.declared.config.Config.{Config}
+use Rattle.cast_message.specs.declared.event.Event.{Event}
+use Rattle.cast_message.specs.declared.message.Item.{Item}
+use Rattle.cast_message.specs.History.{History}
+use Rattle.cast_message.specs.Delivery.{delivered}
+use Rattle.cast_message.specs.Replies.{history, replies}
+use Rattle.cast_message.specs.Rounds.{AreAccepted, Rest}
+use Rattle.cast_world.specs.Group.{Stands}
+use Rattle.cast_merge.specs.declared.report.EngineEnd.{EngineEnd}
+use Rattle.cast_merge.specs.declared.report.EngineEnd.TheVariants.{Stopped, Crashed, TurnLimit, LogFull, ClockFull}
+use Rattle.cast_merge.specs.declared.report.NodeReport.{NodeReport}
+use Rattle.cast_merge.specs.Linked.{Linked}
+use Rattle.cast_merge.specs.Merge.{TellsMerge}
+use Rattle.cast_record.specs.declared.verdict.Verdict.TheVariants.{Good}
+use Rattle.cast_record.specs.VerdictText.{verdict_text}
+use Rattle.cast_desk.specs.declared.desk.OrderIn.{OrderIn}
+use Rattle.cast_desk.specs.declared.notice.Notice.{Notice}
+use Rattle.cast_run.specs.declared.reports.ClientReport.{ClientReport}
+use Rattle.cast_run.specs.Faults.{JobsFit}
+use Rattle.cast_engine.specs.Plans.{ArePlanned, crash_from}
+use Rattle.cast_run.specs.Jobs.{Submits}
+use Rattle.cast_engine.specs.Journals.{EndsAs}
+use Rattle.cast_run.specs.Serves.{AreServed, HaveOrigins}
+use Rattle.cast_script.specs.declared.live_fault.LiveFault.{LiveFault}
+use Rattle.cast_script.specs.declared.live_fault.LiveFault.TheVariants as lives
+use Rattle.cast_run.specs.declared.submit_all.SubmitAll.{SubmitAll}
+use Rattle.cast_script.specs.declared.script.Script.{Script}
+use Rattle.cast_live.specs.declared.live.FinishedRun.{FinishedRun}
+use Rattle.cast_live.specs.declared.summary.Summary.{Summary}
+use Rattle.cast_text.specs.declared.text.TextFault.{TextFault}
+use Rattle.cast_text.specs.declared.text.TextFault.TheVariants as faults
+use Rattle.cast_text.specs.Text.{IsScriptIn, IsOfScript, WroteFront, fault_of_live}
+
+-- ---- the run
+
+abbrev pub ends_of : List NodeReport → List EngineEnd
+ends_of reports = map (λ report. report.ended) reports
+
+-- the events are the merge of the linked logs of a group with this configuration, and the group accepts each of them
+pub record IsMergedRun (config : Config) (reports : List NodeReport) (events : List Event) : Type 0 where
+  pub linked : Linked config reports
+  pub merge : TellsMerge (map (λ report. report.log) reports) events (replies config events)
+  pub accepted : AreAccepted config [] events
+  pub whole : history config events ≡ reverse events
+
+-- the run's events and replies are those of its linked logs, and its world stands for them
+pub record IsFinished (run : FinishedRun) : Type 0 where
+  pub merged : IsMergedRun run.report.config run.report.reports run.assembly.events
+  pub replies : run.assembly.replies ≡ replies run.report.config run.assembly.events
+  pub stands : Stands run.report.config (history run.report.config run.assembly.events) run.assembly.world
+
+-- a job that has submitted nothing
+abbrev pub IsNewJob : SubmitAll → Type 0
+IsNewJob job = (job.next ≡ 0) × (job.replies ≡ 0)
+
+abbrev pub AreNewJobs : List (ℕ × SubmitAll) → Type 0
+AreNewJobs jobs = (i : ℕ) (job : ℕ × SubmitAll) → slice_get jobs i ≡ Some job → IsNewJob job.1
+
+-- the node of a job, and the items that it submits
+abbrev pub items_of : ℕ × SubmitAll → ℕ × List Item
+items_of job = (job.0, job.1.items)
+
+abbrev pub fact_of : SubmitAll → List OrderIn → List Notice → Bool → Type 0
+fact_of job sent got done = Submits job.items job.next job.replies sent got done
+
+-- these are reports of a run of the script: each log ends as plan and limits say, and each job of the script had a client
+pub record IsRunOf (script : Script) (reports : List NodeReport) : Type 0 where
+  pub logs : (p : ℕ) (report : NodeReport) → slice_get reports p ≡ Some report → EndsAs script.config.log_limit (crash_from p None script.plan.faults) (Some report.ended) report.log
+  -- the jobs that were handed in, and what came back of them
+  pub handed : List (ℕ × SubmitAll)
+  pub back : List SubmitAll
+  pub clients : List ClientReport
+  pub items : map items_of handed ≡ script.jobs
+  pub new : AreNewJobs handed
+  pub served : AreServed script.config fact_of handed reports back clients
+  pub origins : HaveOrigins handed reports
+
+-- ---- its summary
+
+abbrev pub end_word : EngineEnd → List ℕ
+end_word Stopped = codes "stopped"
+end_word Crashed = codes "crashed"
+end_word TurnLimit = codes "turnlimit"
+end_word LogFull = codes "logfull"
+end_word ClockFull = codes "clockfull"
+
+-- how many items node p delivered from each of these nodes, each after a blank
+abbrev pub counts_text : Config → History → ℕ → List ℕ → List ℕ
+counts_text config past p senders = flat_map (λ sender. codes " " ++ decimal (length (delivered config past p sender))) senders
+
+abbrev pub end_text : ℕ → EngineEnd → List ℕ
+end_text p ended = codes "node " ++ (decimal p ++ (codes " " ++ end_word ended))
+
+abbrev pub node_text : Config → History → ℕ → EngineEnd → List ℕ
+node_text config past p ended = end_text p ended ++ (counts_text config past p (range_with_len 0 config.nodes) ++ codes "\n")
+
+-- the lines of the nodes from p on, which ended so
+unfoldable pub nodes_text : Config → History → ℕ → List EngineEnd → List ℕ
+nodes_text config past p [] = []
+nodes_text config past p (ended ∷ ends) = node_text config past p ended ++ nodes_text config past (p + 1) ends
+
+abbrev pub rest_text : Bool → List ℕ
+rest_text true = codes "rest yes\n"
+rest_text false = codes "rest no\n"
+
+abbrev pub summary_text : Config → History → List EngineEnd → Summary → List ℕ
+summary_text config past ends said =
+    nodes_text config past 0 ends ++ (rest_text said.rest ++ (codes "verdict " ++ (verdict_text said.verdict ++ 10 ∷ [])))
+
+-- rest is told where the group is at rest after these events, and the record of them is good
+pub record IsSummaryOf (config : Config) (events : List Event) (said : Summary) : Type 0 where
+  pub rest : IsTrue said.rest ↔ Rest config (history config events)
+  pub good : said.verdict ≡ Good
+
+-- the writer has the summary of a run of the script that was read, and nothing else
+pub record WritesSummary (input old new : Option (List ℕ)) (said : Summary) : Type 0 where
+  pub script : Script
+  pub read : IsScriptIn input script
+  pub reports : List NodeReport
+  pub ran : IsRunOf script reports
+  pub events : List Event
+  pub merged : IsMergedRun script.config reports events
+  pub told : IsSummaryOf script.config events said
+  pub appends : Appends old new (summary_text script.config (history script.config events) (ends_of reports) said)
+
+-- ---- faults
+
+-- why the group of a script is not run: the first cause that holds, where all is well a thread that was not started
+abbrev pub IsRefusedFor : Script → LiveFault → Type 0
+IsRefusedFor script lives.Jobs = ¬ JobsFit script.config.nodes script.jobs
+IsRefusedFor script lives.Plan = JobsFit script.config.nodes script.jobs × ¬ ArePlanned script.config.nodes script.plan.faults
+IsRefusedFor script lives.Threads = JobsFit script.config.nodes script.jobs × ArePlanned script.config.nodes script.plan.faults
+IsRefusedFor script _ = ⊥
+
+abbrev pub IsOfRunning : Script → TextFault → Type 0
+IsOfRunning script (faults.Live why) = IsRefusedFor script why
+IsOfRunning script faults.Memory = Unit {0}
+IsOfRunning script fault = ⊥
+
+-- the script that was read is not run for this
+pub record DoesNotRun (input : Option (List ℕ)) (why : LiveFault) : Type 0 where
+  pub script : Script
+  pub read : IsScriptIn input script
+  pub cause : IsRefusedFor script why
+
+-- the summary of a run of the script that was read broke off
+pub record SummaryBreaksOff (input old new : Option (List ℕ)) (failed : Bool) : Type 0 where
+  pub script : Script
+  pub read : IsScriptIn input script
+  pub reports : List NodeReport
+  pub ran : IsRunOf script reports
+  pub events : List Event
+  pub merged : IsMergedRun script.config reports events
+  pub said : Summary
+  pub told : IsSummaryOf script.config events said
+  pub broken : failed ≡ true
+  pub front : WroteFront old new (summary_text script.config (history script.config events) (ends_of reports) said)
+
+-- each fault has its cause, and nothing was written but where the summary broke off
+abbrev pub LiveFails : Option (List ℕ) → Bool → Option (List ℕ) → Option (List ℕ) → Bool → TextFault → Type 0
+LiveFails input read_failed old new failed (faults.Live why) = DoesNotRun input why × Keeps old new
+LiveFails input read_failed old new failed faults.Write = SummaryBreaksOff input old new failed
+LiveFails input read_failed old new failed fault = IsOfScript input read_failed fault × Keeps old new

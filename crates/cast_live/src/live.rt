@@ -1,0 +1,153 @@
+//! Running the group of a script in threads, and telling what became of it.
+ghost use Rattle.std.specs.Prelude.{◌≡◌, ◌++◌, ◌∷◌, [], false, IfOk, IfErr, OnOk, map};
+ghost use Rattle.cast_record.specs.Text.{record_text};
+ghost use Rattle.cast_run.specs.Jobs.{told_job};
+ghost use Rattle.cast_script.specs.Replay.{script_text};
+ghost use Rattle.cast_live.specs.Live.{IsFinished, IsNewJob, AreNewJobs, items_of, IsOfRunning, IsRunOf, WritesSummary, LiveFails};
+ghost use Rattle.cast_text.specs.Recorded.{Writes};
+ghost use Rattle.cast_text.specs.Text.{IsTold};
+ghost use Rattle.cast_live.specs.Replayed.{record_of_accepted, RecordsReplay};
+
+use crate::replay::{is_replayed, write_run_record};
+use crate::summary::{Summary, summarize, write_summary};
+use cast_merge::{Assembly, GroupReport, assemble};
+use cast_message::{Item, List, NodeId};
+use cast_run::{CountingGate, Progress, SubmitAll, run_live};
+use cast_script::{Script, write_script};
+use cast_text::{TextFault, read_script_text};
+use cast_words::Meter;
+use std::alloc::{AllocError, Global};
+use std::io::{Read, Write};
+use std::sync::{Arc, Wait};
+use std::thread::Threads;
+
+/// What came back of a group that ran in threads, and its logs merged and taken by the group as one value.
+#[derive(Drop)]
+pub struct FinishedRun {
+    pub report: GroupReport,
+    pub assembly: Assembly,
+}
+
+/// Reads a script to its end, runs its group in threads, with its plan and a client for each of its jobs, and writes the
+/// summary of the run. The events of the script are left aside. Nothing is written before all threads have ended: after
+/// `Write` a front of the summary stands, or nothing, after any other fault nothing.
+pub fn live_text<R: Read, W: Write, T: Threads + Wait + Copy + Send + 'static>(
+    rt: T,
+    alloc: Global,
+    reader: &mut Meter<R>,
+    writer: &mut Meter<W>,
+) -> Result<Summary, TextFault>
+    requires reader { reader.old.failed ≡ false }
+    requires writer { writer.old.failed ≡ false }
+    // The summary is that of a run of the script that was read, and the writer has its text and nothing else.
+    ensures ok { IfOk result (WritesSummary (R.remaining reader.old.inner) (W.contents writer.old.inner) (W.contents writer.new.inner)) }
+    ensures err { IfErr result (LiveFails (R.remaining reader.old.inner) reader.new.failed (W.contents writer.old.inner) (W.contents writer.new.inner) writer.new.failed) }
+    // What failed is told, and nothing else is.
+    ensures sound { OnOk result ((reader.new.failed ≡ false) × (writer.new.failed ≡ false)) }
+    ensures told { IfErr result (λ fault. IsTold fault reader.new.failed writer.new.failed) }
+{
+    let script = read_script_text(alloc, reader)?;
+    let progress = Progress::shared(alloc, script.config.nodes())?;
+    let run = run_script(rt, alloc, script, &progress)?;
+    let summary = summarize(alloc, &run)?;
+    write_summary(&run, summary, writer)?;
+    Ok(summary)
+}
+
+/// Runs the group of a script in threads, with its plan and a client for each of its jobs, and merges its logs. The events of
+/// the script are left aside. All threads have ended when it returns; until then `progress`, which has room for each node of
+/// the script, tells another thread how far the run is.
+pub fn run_script<T: Threads + Wait + Copy + Send + 'static>(
+    rt: T,
+    alloc: Global,
+    script: Script,
+    progress: &Arc<Progress, Global>,
+) -> Result<FinishedRun, TextFault>
+    ensures config { IfOk result (λ run. run.report.config ≡ script.config) }
+    ensures ran { IfOk result (λ run. IsRunOf script run.report.reports) }
+    ensures ok { IfOk result IsFinished }
+    ensures err { IfErr result (IsOfRunning script) }
+{
+    let Script {
+        config,
+        turns,
+        plan,
+        jobs,
+        ..
+    } = script;
+    let gates = CountingGate::for_nodes(alloc, config.nodes(), progress)?;
+    let jobs = submit_all(alloc, jobs)?;
+    let run = run_live(rt, alloc, config, &plan, jobs, gates, turns)?;
+    Ok(merge_logs(alloc, run.report)?)
+}
+
+fn merge_logs(alloc: Global, report: GroupReport) -> Result<FinishedRun, AllocError>
+    ensures report { IfOk result (λ run. run.report ≡ report) }
+    ensures ok { IfOk result IsFinished }
+{
+    let assembly = assemble(alloc, &report)?;
+    let _linked = report.reports();
+    Ok(FinishedRun { report, assembly })
+}
+
+/// Writes the record of what happened in the run: of the merged events, and the replies to them. After a fault a front of it
+/// was written, or nothing.
+pub fn write_record_of<W: Write>(
+    alloc: Global,
+    run: &FinishedRun,
+    writer: &mut Meter<W>,
+) -> Result<(), TextFault>
+    requires run { IsFinished run.now }
+    requires writer { writer.old.failed ≡ false }
+    ensures { Writes (W.contents writer.old.inner) (W.contents writer.new.inner) writer.new.failed result (record_text (record_of_accepted run.now.report.config run.now.assembly.events)) }
+{
+    write_run_record(
+        alloc,
+        run.report.config(),
+        run.assembly.events.as_slice(),
+        run.assembly.replies.as_slice(),
+        writer,
+    )
+}
+
+/// Writes the script that says what happened in the run: its configuration, and the merged events. It takes no memory. After
+/// a fault a front of it was written, or nothing.
+pub fn write_replay_of<W: Write>(run: &FinishedRun, writer: &mut Meter<W>) -> Result<(), TextFault>
+    requires run { IsFinished run.now }
+    requires writer { writer.old.failed ≡ false }
+    ensures text { Writes (W.contents writer.old.inner) (W.contents writer.new.inner) writer.new.failed result (script_text run.now.report.config run.now.assembly.events) }
+    // Running that script writes the record of the run, and no line of it is a refusal.
+    ensures law { RecordsReplay run.now.report.config run.now.assembly.events }
+{
+    let config = run.report.config();
+    let events = run.assembly.events.as_slice();
+    is_replayed(config, events);
+    write_script(config, events, writer)?;
+    Ok(())
+}
+
+// For each job of the script the one that submits its items.
+fn submit_all(
+    alloc: Global,
+    jobs: List<(NodeId, List<Item>)>,
+) -> Result<Vec<(NodeId, SubmitAll)>, AllocError>
+    ensures new { IfOk result (λ all. AreNewJobs all.items) }
+    ensures items { IfOk result (λ all. map items_of all.items ≡ jobs) }
+{
+    let mut all = Vec::new(alloc);
+    for (node, items) in jobs.into_vec() {
+        add_job(&mut all, node, items)?;
+    }
+    Ok(all)
+}
+
+fn add_job(
+    all: &mut Vec<(NodeId, SubmitAll)>,
+    node: NodeId,
+    items: List<Item>,
+) -> Result<(), AllocError>
+    ensures { OnOk result ((job : SubmitAll) × IsNewJob job × (job.items ≡ items) × (all.new.items ≡ all.old.items ++ told_job node job ∷ [])) }
+{
+    all.push((node, SubmitAll::new(items)))?;
+    Ok(())
+}

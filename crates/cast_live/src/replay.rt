@@ -1,0 +1,71 @@
+//! The record of a run whose events and replies are at hand, and that of the script which says what happened in it.
+ghost use Rattle.std.specs.Prelude.{◌≡◌, ◌^◌, ◌<◌, false, length};
+ghost use Rattle.std.specs.List.{All};
+ghost use Rattle.cast_record.specs.Lines.{lines_for};
+ghost use Rattle.cast_record.specs.Text.{record_text};
+ghost use Rattle.cast_text.specs.Ranges.{HasEventRange};
+ghost use Rattle.cast_text.specs.Recorded.{Writes};
+ghost use Rattle.cast_live.specs.Replayed.{run_record, RecordsReplay};
+
+use cast_message::{Config, Event, Reply};
+use cast_record::{Line, lines_of, write_record};
+use cast_script::is_read_back;
+use cast_text::{TextFault, put_head, put_line, tell_event_range};
+use cast_words::Meter;
+use std::alloc::Global;
+use std::io::Write;
+
+/// Running the script that `write_script` writes for this configuration and these events writes the record that
+/// `write_run_record` writes of them and the replies to them. That record is good, and where all events are accepted no
+/// line of it is a refusal.
+pub fn is_replayed(config: &Config, events: &[Event])
+    ensures law { RecordsReplay config.now events.now }
+{
+    is_read_back(config, events);
+    tell_event_ranges(events);
+}
+
+fn tell_event_ranges(events: &[Event])
+    ensures ranges { All HasEventRange events.now }
+    ensures few { length events.now < 2 ^ 64 }
+{
+    let _count = events.len();
+    for event in events {
+        tell_event_range(event);
+    }
+}
+
+/// Writes the record of a run: its head, the lines of its events with these replies, and its end. After a fault a front of
+/// it was written, or nothing.
+pub fn write_run_record<W: Write>(
+    alloc: Global,
+    config: &Config,
+    events: &[Event],
+    replies: &[Reply],
+    writer: &mut Meter<W>,
+) -> Result<(), TextFault>
+    requires sound { writer.old.failed ≡ false }
+    requires replies { length replies.now ≡ length events.now }
+    ensures { Writes (W.contents writer.old.inner) (W.contents writer.new.inner) writer.new.failed result (record_text (run_record config.now events.now replies.now)) }
+{
+    put_head(config, writer)?;
+    for (index, event) in events.iter().enumerate() {
+        put_lines(alloc, index as u64, event, &replies[index], writer)?;
+    }
+    put_line(&Line::End, writer)
+}
+
+fn put_lines<W: Write>(
+    alloc: Global,
+    index: u64,
+    event: &Event,
+    reply: &Reply,
+    writer: &mut Meter<W>,
+) -> Result<(), TextFault>
+    requires { writer.old.failed ≡ false }
+    ensures { Writes (W.contents writer.old.inner) (W.contents writer.new.inner) writer.new.failed result (record_text (lines_for index event.now reply.now)) }
+{
+    let lines = lines_of(alloc, index, event, reply)?;
+    write_record(lines.as_slice(), writer)?;
+    Ok(())
+}

@@ -1,0 +1,176 @@
+//! The summary of a group that ran in threads: how each node ended, how many items it delivered from each, whether the group
+//! is at rest, and the verdict on the record of what happened.
+ghost use Rattle.std.specs.Prelude.{◌≡◌, ◌<◌, ◌++◌, false, IfOk, OnOk, codes, decimal, length};
+ghost use Rattle.std.specs.List.{range_with_len};
+ghost use Rattle.cast_message.specs.History.{History};
+ghost use Rattle.cast_message.specs.Delivery.{delivered};
+ghost use Rattle.cast_message.specs.Replies.{history};
+ghost use Rattle.cast_world.specs.Group.{Stands};
+ghost use Rattle.cast_words.specs.Written.{Writes};
+ghost use Rattle.cast_live.specs.Live.{IsFinished, IsSummaryOf, ends_of, end_word, end_text, counts_text, node_text, nodes_text, rest_text, summary_text};
+
+use crate::live::FinishedRun;
+use crate::replay::is_replayed;
+use crate::verdict::judge_run;
+use cast_judge::Verdict;
+use cast_merge::{EngineEnd, NodeReport};
+use cast_message::{Config, NodeId};
+use cast_record::write_verdict;
+use cast_words::{Meter, WriteFault, write_bytes, write_number};
+use cast_world::World;
+use std::alloc::{AllocError, Global};
+use std::io::Write;
+
+/// What is told of a group that ran in threads.
+#[derive(Clone, Copy, Debug, PartialEq, Eq)]
+pub struct Summary {
+    /// Whether no live node owes a live node anything after the merged events.
+    pub rest: bool,
+    /// The judge's verdict on the record of the merged events.
+    pub verdict: Verdict,
+}
+
+/// Judges the record of the merged events, and asks whether the group is at rest after them.
+pub fn summarize(alloc: Global, run: &FinishedRun) -> Result<Summary, AllocError>
+    requires { IsFinished run.now }
+    ensures { IfOk result (IsSummaryOf run.now.report.config run.now.assembly.events) }
+{
+    let config = run.report.config();
+    let events = run.assembly.events.as_slice();
+    is_replayed(config, events);
+    let verdict = judge_run(alloc, config, events, run.assembly.replies.as_slice())?;
+    Ok(Summary {
+        rest: run.assembly.world.at_rest(),
+        verdict,
+    })
+}
+
+/// Writes the summary of the run. It takes no memory. A refusal comes only where the writer failed or took no byte; a front of
+/// the text stands then.
+pub fn write_summary<W: Write>(
+    run: &FinishedRun,
+    said: Summary,
+    writer: &mut Meter<W>,
+) -> Result<(), WriteFault>
+    requires run { IsFinished run.now }
+    requires writer { writer.old.failed ≡ false }
+    ensures { Writes (W.contents writer.old.inner) (W.contents writer.new.inner) writer.new.failed result
+        (summary_text run.now.report.config (history run.now.report.config run.now.assembly.events) (ends_of run.now.report.reports) said) }
+{
+    write_nodes(
+        run.report.config(),
+        &run.assembly.world,
+        run.report.reports(),
+        writer,
+    )?;
+    write_bytes(rest_line(said.rest), writer)?;
+    write_bytes(b"verdict ", writer)?;
+    write_verdict(said.verdict, writer)
+}
+
+// The line of each node.
+fn write_nodes<W: Write>(
+    config: &Config,
+    world: &World,
+    reports: &[NodeReport],
+    writer: &mut Meter<W>,
+) -> Result<(), WriteFault>
+    requires size { length reports.now ≡ config.now.nodes }
+    requires writer { writer.old.failed ≡ false }
+    ensures sound { OnOk result (writer.new.failed ≡ false) }
+    ensures text { (past : History) → Stands config.now past world.now → Writes (W.contents writer.old.inner) (W.contents writer.new.inner) writer.new.failed result
+        (nodes_text config.now past 0 (ends_of reports.now)) }
+{
+    for (node, report) in reports.iter().enumerate() {
+        write_node(config, world, node as u8, report.ended, writer)?;
+    }
+    Ok(())
+}
+
+fn write_node<W: Write>(
+    config: &Config,
+    world: &World,
+    node: u8,
+    ended: EngineEnd,
+    writer: &mut Meter<W>,
+) -> Result<(), WriteFault>
+    requires node { node < config.now.nodes }
+    requires writer { writer.old.failed ≡ false }
+    ensures sound { OnOk result (writer.new.failed ≡ false) }
+    ensures text { (past : History) → Stands config.now past world.now → Writes (W.contents writer.old.inner) (W.contents writer.new.inner) writer.new.failed result
+        (node_text config.now past node ended) }
+{
+    write_end(u64::from(node), ended, writer)?;
+    write_counts(config, world, node, writer)?;
+    write_bytes(b"\n", writer)
+}
+
+// The number of a node, and how it ended.
+fn write_end<W: Write>(node: u64, ended: EngineEnd, writer: &mut Meter<W>) -> Result<(), WriteFault>
+    requires { writer.old.failed ≡ false }
+    ensures { Writes (W.contents writer.old.inner) (W.contents writer.new.inner) writer.new.failed result (end_text node ended) }
+{
+    write_bytes(b"node ", writer)?;
+    write_number(node, writer)?;
+    write_bytes(b" ", writer)?;
+    write_bytes(end_name(ended), writer)
+}
+
+// How many items the node delivered from each node, each after a blank.
+fn write_counts<W: Write>(
+    config: &Config,
+    world: &World,
+    node: u8,
+    writer: &mut Meter<W>,
+) -> Result<(), WriteFault>
+    requires node { node < config.now.nodes }
+    requires writer { writer.old.failed ≡ false }
+    ensures sound { OnOk result (writer.new.failed ≡ false) }
+    ensures text { (past : History) → Stands config.now past world.now → Writes (W.contents writer.old.inner) (W.contents writer.new.inner) writer.new.failed result
+        (counts_text config.now past node (range_with_len 0 config.now.nodes)) }
+{
+    let nodes = config.nodes() as u8;
+    for sender in 0..nodes {
+        write_count(delivered_count(config, world, node, sender), writer)?;
+    }
+    Ok(())
+}
+
+fn write_count<W: Write>(count: u64, writer: &mut Meter<W>) -> Result<(), WriteFault>
+    requires { writer.old.failed ≡ false }
+    ensures { Writes (W.contents writer.old.inner) (W.contents writer.new.inner) writer.new.failed result (codes " " ++ decimal count) }
+{
+    write_bytes(b" ", writer)?;
+    write_number(count, writer)
+}
+
+// How many items the node delivered from the sender.
+fn delivered_count(config: &Config, world: &World, node: u8, sender: u8) -> u64
+    requires node { node < config.now.nodes }
+    requires sender { sender < config.now.nodes }
+    ensures { (past : History) → Stands config.now past world.now → result ≡ length (delivered config.now past node sender) }
+{
+    let _nodes = config.nodes();
+    match world.delivered(NodeId(node), NodeId(sender)) {
+        Some(items) => items.len() as u64,
+        None => 0,
+    }
+}
+
+fn end_name(ended: EngineEnd) -> &'static [u8]
+    ensures { result.now ≡ end_word ended }
+{
+    match ended {
+        EngineEnd::Stopped => b"stopped",
+        EngineEnd::Crashed => b"crashed",
+        EngineEnd::TurnLimit => b"turnlimit",
+        EngineEnd::LogFull => b"logfull",
+        EngineEnd::ClockFull => b"clockfull",
+    }
+}
+
+fn rest_line(rest: bool) -> &'static [u8]
+    ensures { result.now ≡ rest_text rest }
+{
+    if rest { b"rest yes\n" } else { b"rest no\n" }
+}

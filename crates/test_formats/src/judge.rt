@@ -1,0 +1,273 @@
+//! Texts by their verdicts, whole and in pieces.
+use cast_judge::{Judging, Verdict, judge};
+use std::alloc::{AllocError, Global};
+use std::process::Abort;
+use std::test::Fail;
+
+const TWO_VALUES_RECORD: &str =
+    "cast/1 3 1 2\nb 0 0 prop:7:3\nd 0 0 0 prop:7:3\nb 1 0 prop:7:1\nd 1 1 0 prop:7:1\nb 2 0 prop:7:2\nd 2 2 0 prop:7:2\nd 0 2 0 prop:7:2\nv 0 7 2\nd 1 0 0 prop:7:3\nv 1 7 1\nd 2 1 0 prop:7:1\nv 2 7 1\nend\n";
+
+fn bad(line: u64, rule: u64) -> Verdict {
+    Verdict::Bad { line, rule }
+}
+
+/// The verdict on a text that is fed in pieces of so many bytes.
+fn judge_in_pieces(alloc: Global, text: &[u8], size: usize) -> Result<Verdict, AllocError> {
+    let mut judging = Judging::new(alloc);
+    let mut start = 0;
+    for _ in 0..text.len() {
+        let end = start + size.min(text.len() - start);
+        judging.feed(&text[start..end])?;
+        start = end;
+    }
+    judging.finish()
+}
+
+fn expect_verdict(
+    rt: &(impl Abort + AllocGlobal),
+    text: &str,
+    wanted: Verdict,
+) -> Result<(), Fail> {
+    let bytes = text.as_bytes();
+    assert_eq!(rt; judge(rt.alloc(), bytes)?, wanted, "{text}");
+    for size in [1, 7, bytes.len()] {
+        assert_eq!(rt;
+            judge_in_pieces(rt.alloc(), bytes, size)?,
+            wanted,
+            "{text} by {size}"
+        );
+    }
+    Ok(())
+}
+
+#[test]
+fn tells_the_least_rule(rt: HostRuntime) -> Result<(), Fail> {
+    let rows = [
+        ("", bad(1, 0)),
+        ("cast/1 1 0 1\nb 0 0 data:61\n", bad(3, 0)),
+        (
+            "cast/1 2 0 1\nb 0 0 data:61\nb 0 1 data:62\nd 1 0 1 data:62\nend\n",
+            bad(4, 1),
+        ),
+        ("cast/1 1 0 1\nb 0 0 close\nb 0 1 data:61\nend\n", bad(3, 2)),
+        ("cast/1 1 0 1\nv 0 7 5\nend\n", bad(2, 3)),
+        (
+            "cast/1 3 1 2\nb 0 0 prop:7:1\nb 1 0 prop:7:2\nb 2 0 prop:7:3\nv 0 7 1\nv 1 7 2\nv 2 7 3\nend\n",
+            bad(7, 4),
+        ),
+        (
+            "cast/1 3 1 1\nb 0 0 prop:7:1\nb 1 0 prop:7:2\nb 2 0 prop:7:3\nv 0 7 1\nv 1 7 2\nv 2 7 3\nend\n",
+            Verdict::Good,
+        ),
+        ("cast/1 1 0 1\nx 0\nb 0 0 data:61\nend\n", bad(3, 5)),
+        ("cast/2 1 0 1 basic\nx 0\nb 0 0 data:61\nend\n", bad(3, 5)),
+        (
+            "cast/1 1 0 1\nb 0 0 prop:7:1\nb 0 1 prop:7:2\nend\n",
+            bad(3, 6),
+        ),
+        ("cast/1 2 0 1\nend\n", Verdict::Good),
+        ("cast/2 64 31 1 uniform\nr 9 12\nend\n", Verdict::Good),
+        (TWO_VALUES_RECORD, Verdict::Good),
+    ];
+    for (text, wanted) in rows {
+        expect_verdict(&rt, text, wanted)?;
+    }
+    Ok(())
+}
+
+#[test]
+fn reads_what_offends_against_the_grammar(rt: HostRuntime) -> Result<(), Fail> {
+    let rows = [
+        ("\n", bad(1, 0)),
+        ("end\n", bad(1, 0)),
+        ("cast/1 17 0 1\nend\n", bad(1, 0)),
+        ("cast/1 1 0 1 \nend\n", bad(1, 0)),
+        ("cast/1 01 0 1\nend\n", bad(1, 0)),
+        ("cast/2 2 1 1 uniform\nend\n", bad(1, 0)),
+        ("cast/1 1 0 1\ncast/1 1 0 1\nend\n", bad(2, 0)),
+        ("cast/1 1 0 1\nx 1\nend\n", bad(2, 0)),
+        ("cast/1 1 0 1\nr 0 13\nend\n", bad(2, 0)),
+        ("cast/1 1 0 1\nb 0 0 data:6\nend\n", bad(2, 0)),
+        ("cast/1 1 0 1\nb 0 0 data:6A\nend\n", bad(2, 0)),
+        ("cast/1 1 0 1\nv 0 0 18446744073709551616\nend\n", bad(2, 0)),
+        ("cast/1 1 0 1\nend\n\n", bad(3, 0)),
+        ("cast/1 1 0 1\nend\nend\n", bad(3, 0)),
+        ("cast/1 1 0 1\nend\n ", bad(3, 0)),
+        ("cast/1 1 0 1\nend", bad(2, 0)),
+    ];
+    for (text, wanted) in rows {
+        expect_verdict(&rt, text, wanted)?;
+    }
+    Ok(())
+}
+
+#[test]
+fn nothing_fed_is_no_record(rt: HostRuntime) -> Result<(), Fail> {
+    let judging = Judging::new(rt.alloc());
+    assert_eq!(&rt; judging.finish()?, bad(1, 0));
+    Ok(())
+}
+
+#[test]
+fn a_long_line_offends(rt: HostRuntime) -> Result<(), Fail> {
+    for size in [1, 7, 5_014] {
+        let mut text = Vec::new(rt.alloc());
+        text.extend_from_slice(b"cast/1 1 0 1\n".as_slice())?;
+        for _ in 0..5_000 {
+            text.push(b'a')?;
+        }
+        text.push(b'\n')?;
+        let verdict = judge_in_pieces(rt.alloc(), text.as_slice(), size)?;
+        assert_eq!(&rt; verdict, bad(2, 0), "by {size}");
+    }
+    Ok(())
+}
+
+#[test]
+fn each_front_of_a_record_stops_early(rt: HostRuntime) -> Result<(), Fail> {
+    let record = TWO_VALUES_RECORD.as_bytes();
+    let mut line = 1u64;
+    for end in 0..record.len() {
+        assert_eq!(&rt;
+            judge(rt.alloc(), &record[..end])?,
+            bad(line, 0),
+            "{end} bytes"
+        );
+        if record[end] == b'\n' {
+            line = line.saturating_add(1);
+        }
+    }
+    Ok(())
+}
+
+#[test]
+fn a_record_is_judged_alike_wherever_it_is_cut(rt: HostRuntime) -> Result<(), Fail> {
+    let record = TWO_VALUES_RECORD.as_bytes();
+    for cut in 0..record.len() {
+        let mut judging = Judging::new(rt.alloc());
+        judging.feed(&record[..cut])?;
+        judging.feed(&record[cut..])?;
+        assert_eq!(&rt; judging.finish()?, Verdict::Good, "cut at {cut}");
+    }
+    Ok(())
+}
+
+#[test]
+fn what_follows_an_offence_is_skipped(rt: HostRuntime) -> Result<(), Fail> {
+    let mut text = String::new(rt.alloc());
+    text.push_str("cast/1 1 0 1\nx 1\nb 0 0 data:61\n")?;
+    for _ in 0..1_000 {
+        text.push_str("d 0 0 0 data:61")?;
+    }
+    text.push_str("\nend\n")?;
+    expect_verdict(&rt, text.as_str(), bad(2, 0))
+}
+
+#[test]
+fn deliveries_are_of_the_words_that_were_broadcast(rt: HostRuntime) -> Result<(), Fail> {
+    let rows = [
+        ("d 1 0 0 data:61", Verdict::Good),
+        ("d 1 0 0 data:61\nd 0 0 0 data:61", Verdict::Good),
+        ("x 0\nd 1 0 0 data:61", Verdict::Good),
+        ("d 1 0 0 data:", bad(3, 1)),
+        ("d 1 0 0 data:62", bad(3, 1)),
+        ("d 1 0 0 data:6161", bad(3, 1)),
+        ("d 1 0 0 close", bad(3, 1)),
+        ("d 1 0 0 prop:6:1", bad(3, 1)),
+        ("d 1 1 0 data:61", bad(3, 1)),
+        ("d 1 0 1 data:61", bad(3, 1)),
+        ("d 1 0 18446744073709551615 data:61", bad(3, 1)),
+        ("d 1 0 0 data:61\nd 1 0 0 data:61", bad(4, 1)),
+        ("x 1\nd 1 0 0 data:61", bad(4, 5)),
+        ("d 1 0 0 data:6", bad(3, 0)),
+        ("d 1 0 0 data:6A", bad(3, 0)),
+        ("d 1 0 0 data:61 ", bad(3, 0)),
+        ("d 1 0 0 data:61\r", bad(3, 0)),
+        ("d 1 0 0 ", bad(3, 0)),
+        ("d 1 0 0", bad(3, 0)),
+        ("d 1 0 00 data:61", bad(3, 0)),
+        ("d 1 00 0 data:61", bad(3, 0)),
+        ("d 01 0 0 data:61", bad(3, 0)),
+        ("d 2 0 0 data:61", bad(3, 0)),
+        ("d 1 2 0 data:61", bad(3, 0)),
+        ("d 64 0 0 data:61", bad(3, 0)),
+        ("d 1 64 0 data:61", bad(3, 0)),
+        ("d 256 0 0 data:61", bad(3, 0)),
+        ("d 1 0 18446744073709551616 data:61", bad(3, 0)),
+    ];
+    for (lines, wanted) in rows {
+        let text = format!(in rt.alloc(); "cast/1 2 0 1\nb 0 0 data:61\n{lines}\nend\n")?;
+        expect_verdict(&rt, text.as_str(), wanted)?;
+    }
+    Ok(())
+}
+
+#[test]
+fn judges_instances_in_any_order(rt: HostRuntime) -> Result<(), Fail> {
+    let rows = [
+        (
+            "b 0 0 prop:0:5\nb 0 1 prop:1:6\nb 0 2 prop:2:7\nv 0 0 5\nv 0 1 6\nv 0 2 7",
+            Verdict::Good,
+        ),
+        (
+            "b 0 0 prop:2:5\nb 0 1 prop:1:6\nb 0 2 prop:0:7\nv 0 2 5\nv 0 1 6\nv 0 0 7",
+            Verdict::Good,
+        ),
+        (
+            "b 0 0 prop:0:5\nb 1 0 prop:0:6\nv 0 0 5\nv 1 0 5\nv 2 0 6",
+            Verdict::Good,
+        ),
+        (
+            "b 0 0 prop:1:5\nb 0 1 prop:0:6\nb 1 0 prop:1:7\nv 0 1 5\nv 1 1 7\nb 0 2 prop:1:8",
+            bad(7, 6),
+        ),
+        (
+            "b 0 0 prop:1:5\nv 0 1 5\nb 1 0 prop:1:6\nv 1 1 6\nb 0 1 prop:0:1\nb 2 0 prop:1:7\nv 2 1 7",
+            bad(8, 4),
+        ),
+        (
+            "b 0 0 prop:0:5\nb 1 0 prop:0:5\nb 2 0 prop:0:6\nv 0 0 5\nv 1 0 5\nv 2 0 6\nv 0 0 6",
+            Verdict::Good,
+        ),
+        (
+            "b 0 0 prop:0:5\nb 1 0 prop:0:6\nb 2 0 prop:0:7\nv 0 0 7\nv 1 0 7\nv 0 0 5\nv 2 0 6",
+            bad(8, 4),
+        ),
+        ("b 0 0 prop:0:5\nv 0 1 5", bad(3, 3)),
+        ("b 0 0 prop:1:5\nv 0 0 5", bad(3, 3)),
+        ("b 0 0 prop:0:5\nb 1 0 prop:0:6\nv 0 0 7", bad(4, 3)),
+        ("b 0 0 prop:0:5\nb 0 1 prop:0:5", bad(3, 6)),
+        (
+            "b 0 0 prop:18446744073709551615:5\nb 1 0 prop:18446744073709551615:5\nv 2 18446744073709551615 5",
+            Verdict::Good,
+        ),
+        (
+            "b 0 0 prop:18446744073709551615:5\nb 1 0 prop:0:5\nb 0 1 prop:18446744073709551615:5",
+            bad(4, 6),
+        ),
+    ];
+    for (lines, wanted) in rows {
+        let text = format!(in rt.alloc(); "cast/1 3 1 2\n{lines}\nend\n")?;
+        expect_verdict(&rt, text.as_str(), wanted)?;
+    }
+    Ok(())
+}
+
+#[test]
+fn judges_the_longest_items(rt: HostRuntime) -> Result<(), Fail> {
+    for (digits, wanted) in [
+        (2_048, Verdict::Good),
+        (2_047, bad(2, 0)),
+        (2_050, bad(2, 0)),
+    ] {
+        let mut word = String::new(rt.alloc());
+        for _ in 0..digits {
+            word.push('a')?;
+        }
+        let text = format!(in rt.alloc();
+            "cast/1 1 0 1\nb 0 0 data:{word}\nd 0 0 0 data:{word}\nend\n"
+        )?;
+        expect_verdict(&rt, text.as_str(), wanted)?;
+    }
+    Ok(())
+}

@@ -1,0 +1,5 @@
+//! The calls over streams, by worked rows and with readers and writers that fail.
+#![tactic(auto)]
+
+#[cfg(test)]
+mod streams;

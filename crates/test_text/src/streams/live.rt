@@ -1,0 +1,184 @@
+//! Groups that run in threads by their summaries, their records and their replays.
+ghost use Rattle.std.specs.Prelude.{IfOk};
+ghost use Rattle.cast_live.specs.Live.{IsFinished};
+
+use super::{Failing, Halting, Stopping};
+use cast_live::{
+    Counted, FinishedRun, Summary, live_text, run_script, summarize, write_record_of,
+    write_replay_of, write_summary,
+};
+use cast_run::{LiveFault, Progress};
+use cast_text::{TextFault, Verdict, read_script_text, run_text};
+use cast_words::Meter;
+use std::alloc::Global;
+use std::io::Write;
+use std::sync::{Arc, Wait};
+use std::test::Fail;
+use std::thread::Threads;
+
+const TWO_NODES: &[u8] =
+    br#"{"nodes":2,"faults":0,"choices":1,"jobs":[[0,[["data","61"]]],[1,[["close"]]]]}"#;
+
+const TWO_NODES_SUMMARY: &[u8] =
+    b"node 0 stopped 1 1\nnode 1 stopped 1 1\nrest yes\nverdict good\n";
+
+const AT_REST: Summary = Summary {
+    rest: true,
+    verdict: Verdict::Good,
+};
+
+/// What came of running a script in threads whose reader and writer fail after so many calls, and what was written.
+fn live<T: Threads + Wait + Copy + Send + 'static>(
+    rt: T,
+    alloc: Global,
+    script: &[u8],
+    reads: u64,
+    writes: u64,
+    failing: Failing,
+) -> (Result<Summary, TextFault>, Vec<u8>) {
+    let mut reader = Meter::new(Halting {
+        left: script,
+        calls_left: reads,
+    });
+    let mut writer = Meter::new(Stopping {
+        taken: Vec::new(alloc),
+        calls_left: writes,
+        failing,
+    });
+    let result = live_text(rt, alloc, &mut reader, &mut writer);
+    let Stopping { taken, .. } = writer.into_inner();
+    (result, taken)
+}
+
+#[test]
+fn tells_what_became_of_a_group(rt: HostRuntime) {
+    let (result, taken) = live(rt, rt.alloc(), TWO_NODES, 1_000, 1_000, Failing::Answers);
+    assert_eq!(rt; result, Ok(AT_REST));
+    assert_eq!(rt; taken.as_slice(), TWO_NODES_SUMMARY);
+}
+
+#[test]
+fn a_failed_read_runs_nothing(rt: HostRuntime) {
+    // Two reads give the script, and the third tells that it ends there.
+    for reads in 0..3 {
+        let (result, taken) = live(rt, rt.alloc(), TWO_NODES, reads, 1_000, Failing::Answers);
+        assert_eq!(rt; result, Err(TextFault::Read), "after {reads}");
+        assert!(rt; taken.is_empty());
+    }
+}
+
+#[test]
+fn a_failed_write_of_a_summary_leaves_a_front(rt: HostRuntime) {
+    for failing in [Failing::Answers, Failing::TakesNone] {
+        let mut last = Err(TextFault::Write);
+        for writes in 0..24 {
+            let (result, taken) = live(rt, rt.alloc(), TWO_NODES, 1_000, writes, failing);
+            assert!(rt;
+                result.is_ok() || result == Err(TextFault::Write),
+                "after {writes}"
+            );
+            assert!(rt; TWO_NODES_SUMMARY.starts_with(taken.as_slice()));
+            last = result;
+        }
+        assert_eq!(rt; last, Ok(AT_REST));
+    }
+}
+
+#[test]
+fn refuses_jobs_and_plans_that_name_no_node(rt: HostRuntime) {
+    let rows: [(&[u8], LiveFault); 3] = [
+        (
+            br#"{"nodes":2,"faults":0,"choices":1,"jobs":[[2,[]]]}"#,
+            LiveFault::Jobs,
+        ),
+        (
+            br#"{"nodes":1,"faults":0,"choices":1,"jobs":[[0,[]],[0,[]],[0,[]],[0,[]],[0,[]]]}"#,
+            LiveFault::Jobs,
+        ),
+        (
+            br#"{"nodes":2,"faults":0,"choices":1,"plan":[["crash",2,0]]}"#,
+            LiveFault::Plan,
+        ),
+    ];
+    for (script, why) in rows {
+        let (result, taken) = live(rt, rt.alloc(), script, 1_000, 1_000, Failing::Answers);
+        assert_eq!(rt; result, Err(TextFault::Live(why)));
+        assert!(rt; taken.is_empty());
+    }
+}
+
+/// A run of two nodes in threads, which counted what it did.
+fn run_two<T: Threads + Wait + Copy + Send + 'static>(
+    rt: T,
+    alloc: Global,
+    progress: &Arc<Progress, Global>,
+) -> Result<FinishedRun, TextFault>
+    ensures { IfOk result IsFinished }
+{
+    let script = read_script_text(alloc, &mut Meter::new(TWO_NODES))?;
+    run_script(rt, alloc, script, progress)
+}
+
+/// The record of a run in threads, and that of its replay run step by step.
+fn both_records<T: Threads + Wait + Copy + Send + 'static>(
+    rt: T,
+    alloc: Global,
+) -> Result<(Vec<u8>, Vec<u8>), TextFault> {
+    let run = run_two(rt, alloc, &Progress::shared(alloc, 2)?)?;
+    let mut record = Meter::new(Vec::new(alloc));
+    write_record_of(alloc, &run, &mut record)?;
+    let mut replay = Meter::new(Vec::new(alloc));
+    write_replay_of(&run, &mut replay)?;
+    let mut again = Meter::new(Vec::new(alloc));
+    run_text(
+        alloc,
+        &mut Meter::new(replay.into_inner().as_slice()),
+        &mut again,
+    )?;
+    Ok((record.into_inner(), again.into_inner()))
+}
+
+#[test]
+fn a_replay_writes_the_record_of_its_run(rt: HostRuntime) -> Result<(), Fail> {
+    let Ok((record, again)) = both_records(rt, rt.alloc()) else {
+        return Err(Fail::from(std::alloc::AllocError));
+    };
+    assert!(rt; record.as_slice().starts_with(b"cast/1 2 0 1\n"));
+    assert!(rt; record.as_slice() == again.as_slice());
+    Ok(())
+}
+
+/// How many bytes the summary of a run takes, as a counted writer tells.
+fn counted_summary<T: Threads + Wait + Copy + Send + 'static>(
+    rt: T,
+    alloc: Global,
+) -> Result<u64, TextFault> {
+    let run = run_two(rt, alloc, &Progress::shared(alloc, 2)?)?;
+    let summary = summarize(alloc, &run)?;
+    let mut counted = Counted::new(Vec::new(alloc));
+    write_summary(&run, summary, &mut Meter::new(&mut counted))?;
+    Ok(counted.count())
+}
+
+#[test]
+fn counts_what_a_writer_took(rt: HostRuntime) {
+    assert_eq!(rt;
+        counted_summary(rt, rt.alloc()),
+        Ok(TWO_NODES_SUMMARY.len() as u64)
+    );
+}
+
+/// The deliveries that were counted of a run, and whether any turn was.
+fn counted_run<T: Threads + Wait + Copy + Send + 'static>(
+    rt: T,
+    alloc: Global,
+) -> Result<(u64, bool), TextFault> {
+    let progress = Progress::shared(alloc, 2)?;
+    let _run = run_two(rt, alloc, &progress)?;
+    Ok((progress.deliveries(), progress.turns() > 0))
+}
+
+#[test]
+fn counts_the_deliveries_of_a_run(rt: HostRuntime) {
+    assert_eq!(rt; counted_run(rt, rt.alloc()), Ok((4, true)));
+}
