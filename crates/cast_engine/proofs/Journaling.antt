@@ -10,8 +10,8 @@ use Rattle.cast_message.specs.declared.event.Answer.{Answer}
 use Rattle.cast_message.specs.declared.message.FrameBody.{FrameBody}
 use Rattle.cast_message.specs.declared.message.FrameBody.TheVariants.{Carry, Took}
 use Rattle.cast_message.specs.declared.message.Message.{Message}
-use Rattle.cast_message.specs.Steps.{Step, Ordered, Sent, Acknowledged, Arrived, Stopped}
-use Rattle.cast_message.specs.OwnSteps.{is_stop}
+use Rattle.cast_model.specs.Steps.{Step, Ordered, Sent, Acknowledged, Arrived, Stopped}
+use Rattle.cast_model.specs.OwnSteps.{is_stop}
 use Rattle.std.specs.Prelude.{Ok}
 use Rattle.cast_relay.specs.Held.{holds}
 use Rattle.cast_node.specs.declared.entry.Entry.{Entry}

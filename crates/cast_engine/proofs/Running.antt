@@ -4,8 +4,8 @@ use Rattle.std.specs.Prelude.{Ok, Err, if◌then◌else◌, is_some, ◌||◌}
 use Rattle.std.proofs.lemmas.List.{length-append, length-map, append-nil, map-append}
 use Rattle.cast_message.specs.declared.config.Config.{Config}
 use Rattle.cast_message.specs.declared.message.Frame.{Frame}
-use Rattle.cast_message.specs.Steps.{Step, Ordered, Sent, Acknowledged, Arrived, Stopped, Steps, frame_count, frames_by}
-use Rattle.cast_message.specs.OwnSteps.{own_fault, own_made, node_after, is_ignored}
+use Rattle.cast_model.specs.Steps.{Step, Ordered, Sent, Acknowledged, Arrived, Stopped, Steps, frame_count, frames_by}
+use Rattle.cast_model.specs.OwnSteps.{own_fault, own_made, node_after, is_ignored}
 use Rattle.cast_node.specs.declared.entry.Origin.{Origin}
 use Rattle.cast_node.specs.declared.entry.EntryKind.TheVariants.{Step as StepEntry, Refused}
 use Rattle.cast_node.specs.Turns.{kept_after, carry_of, took_of}

@@ -4,7 +4,7 @@ use Rattle.std.specs.Prelude.{IsTrue, IsFalse, replicate}
 use Rattle.std.proofs.lemmas.List.{length-replicate}
 use Rattle.cast_message.specs.declared.config.Config.{Config}
 use Rattle.cast_node.proofs.Beginning.{stands_for_nothing}
-use Rattle.cast_message.specs.Steps.{Step, Sent, Acknowledged, Arrived, Stopped}
+use Rattle.cast_model.specs.Steps.{Step, Sent, Acknowledged, Arrived, Stopped}
 use Rattle.cast_node.specs.declared.entry.Origin.{Origin}
 use Rattle.cast_node.specs.declared.entry.Entry.{Entry}
 use Rattle.cast_node.specs.Kept.{Kept, nothing_kept}

@@ -16,7 +16,7 @@ use Rattle.cast_engine.specs.Serving.{Serves}
 use Rattle.cast_engine.specs.Journals.{JournalState, LogsStep, OnlyEnds, Rises, EndsAs}
 use Rattle.cast_merge.specs.declared.report.EngineEnd.{EngineEnd}
 use Rattle.cast_node.specs.Kept.{Kept}
-use Rattle.cast_message.specs.Steps.{Arrived}
+use Rattle.cast_model.specs.Steps.{Arrived}
 use Rattle.cast_engine.specs.Feeding.{AreFed}
 
 pub record EngineState : Type 0 where

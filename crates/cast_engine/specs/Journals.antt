@@ -9,7 +9,7 @@ use Rattle.cast_message.specs.declared.event.Answer.TheVariants.{Ordered as Answ
 use Rattle.cast_message.specs.declared.event.Outcome.{Outcome}
 use Rattle.cast_message.specs.declared.message.Item.{Item}
 use Rattle.cast_message.specs.declared.event.StepFault.{StepFault}
-use Rattle.cast_message.specs.Steps.{Step, Ordered, Stopped}
+use Rattle.cast_model.specs.Steps.{Step, Ordered, Stopped}
 use Rattle.cast_node.specs.declared.entry.Origin.{Origin}
 use Rattle.cast_node.specs.declared.entry.Entry.{Entry}
 use Rattle.cast_node.specs.declared.entry.EntryKind.{EntryKind}

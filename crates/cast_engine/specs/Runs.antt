@@ -9,9 +9,9 @@
 use Rattle.std.specs.Prelude.{◌≡◌, ℕ, ◌<◌, Bool, true, false, List, [], ◌∷◌, ◌++◌, map, slice_get, Option, Some, None}
 use Rattle.cast_message.specs.declared.config.Config.{Config}
 use Rattle.cast_message.specs.declared.event.StepFault.{StepFault}
-use Rattle.cast_message.specs.Replies.{IsRefused}
-use Rattle.cast_message.specs.Steps.{Step, Ordered, Arrived, Steps}
-use Rattle.cast_message.specs.OwnSteps.{own_fault, node_reply}
+use Rattle.cast_model.specs.Replies.{IsRefused}
+use Rattle.cast_model.specs.Steps.{Step, Ordered, Arrived, Steps}
+use Rattle.cast_model.specs.OwnSteps.{own_fault, node_reply}
 use Rattle.cast_node.specs.declared.entry.Origin.{Origin}
 use Rattle.cast_node.specs.declared.entry.Entry.{Entry}
 use Rattle.cast_node.specs.declared.entry.EntryKind.TheVariants.{Step as StepEntry, Refused}

@@ -9,9 +9,9 @@ use Rattle.cast_message.specs.declared.config.Config.{Config}
 use Rattle.cast_message.specs.declared.event.Event.TheVariants.{Order}
 use Rattle.cast_message.specs.declared.event.Outcome.{Outcome}
 use Rattle.cast_message.specs.declared.message.Item.{Item}
-use Rattle.cast_message.specs.Replies.{IsRefused}
-use Rattle.cast_message.specs.Steps.{Steps, Ordered}
-use Rattle.cast_message.specs.OwnSteps.{own_fault}
+use Rattle.cast_model.specs.Replies.{IsRefused}
+use Rattle.cast_model.specs.Steps.{Steps, Ordered}
+use Rattle.cast_model.specs.OwnSteps.{own_fault}
 use Rattle.cast_node.specs.declared.entry.Origin.{Origin}
 use Rattle.cast_node.specs.declared.entry.Entry.{Entry}
 use Rattle.cast_node.specs.declared.entry.EntryKind.{EntryKind}

@@ -1,9 +1,9 @@
 //! The node of an engine, with its log and its clock.
 ghost use Rattle.std.specs.Prelude.{◌≡◌, ◌+◌, ◌<◌, ◌^◌, [], length, Some, None, IfOk, OnOk, OnErr, IsTrue, IsFalse};
-ghost use Rattle.cast_message.specs.Steps.{Sent, Acknowledged, Arrived, Stopped};
+ghost use Rattle.cast_model.specs.Steps.{Sent, Acknowledged, Arrived, Stopped};
 ghost use Rattle.cast_node.specs.Kept.{nothing_kept};
 ghost use Rattle.cast_node.specs.Turns.{carry_of, took_of};
-ghost use Rattle.cast_message.specs.OwnSteps.{nothing};
+ghost use Rattle.cast_model.specs.OwnSteps.{nothing};
 ghost use Rattle.cast_engine.specs.Journals.{MayLog, LogsStep, LogsOrder, OnlyEnds, Halts, Rises, EndsAs, AsksOrder, IsQuietEnd};
 
 use crate::parcel::Parcel;

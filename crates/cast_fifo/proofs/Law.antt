@@ -9,7 +9,7 @@ use Rattle.std.proofs.lemmas.Bool.Decides.{nat_tests, eqb_tells}
 use Rattle.cast_message.specs.declared.message.Item.{Item}
 use Rattle.cast_message.specs.declared.message.Item.TheVariants.{Close}
 use Rattle.cast_message.specs.declared.message.Message.{Message}
-use Rattle.cast_message.specs.History.{numbered}
+use Rattle.cast_model.specs.History.{numbered}
 use Rattle.cast_fifo.specs.Held.{Held, nothing_held, held_of, came, with_item, known_items, known_after, offered_items, offered_after}
 use Rattle.cast_fifo.specs.Calls.{Call, Hold, Known, Offer, is_pair, is_offer_of, is_hold_of, is_mark_of, is_ready, first_of, item_of, message_of, between, sender_of, held_after, held_by, answer, MayCall, MayBeCalled, GivesInOrder}
 use Rattle.cast_fifo.proofs.Stands.{Stands, same_stands, came_is, holds, knows, with_one, numbered-map}

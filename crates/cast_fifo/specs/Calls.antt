@@ -11,7 +11,7 @@ use Rattle.std.specs.List.{list_any, range_with_len}
 use Rattle.cast_message.specs.declared.message.Item.{Item}
 use Rattle.cast_message.specs.declared.message.Item.TheVariants.{Close}
 use Rattle.cast_message.specs.declared.message.Message.{Message}
-use Rattle.cast_message.specs.History.{numbered}
+use Rattle.cast_model.specs.History.{numbered}
 use Rattle.cast_fifo.specs.Held.{Held, nothing_held, held_of, came, with_item, known_items, known_after, offered_items, offered_after, is_close}
 
 pub data Call : Type 0 where

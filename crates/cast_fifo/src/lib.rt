@@ -6,7 +6,7 @@
 ghost use Rattle.std.specs.Prelude.{[], nat_lt, IsTrue, ◌≡◌, ◌+◌, ◌<◌, ◌≤◌, ◌^◌, ◌++◌, true, length, replicate, slice_set, vec_len, vec_capacity, IfOk, OnOk, OnErr};
 ghost use Rattle.std.specs.List.{All};
 ghost use Rattle.std.specs.Map.{keys_of};
-ghost use Rattle.cast_message.specs.History.{numbered};
+ghost use Rattle.cast_model.specs.History.{numbered};
 ghost use Rattle.cast_fifo.specs.Held.{nothing_held, held_of, came, with_item, without_item, known_items, known_after, offered_items, offered_after};
 ghost use Rattle.cast_fifo.specs.Calls.{GivesInOrder};
 

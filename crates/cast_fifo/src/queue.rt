@@ -7,7 +7,7 @@ ghost use Rattle.std.specs.Map.{keys_of, set_value, remove_entry};
 ghost use Rattle.std.specs.Ordering.{nat_cmp};
 ghost use Rattle.std.specs.BTreeMap.{insert_entry, is_at, IsOrdered};
 ghost use Rattle.std.specs.VecDeque.{deque_capacity, deque_len};
-ghost use Rattle.cast_message.specs.History.{numbered};
+ghost use Rattle.cast_model.specs.History.{numbered};
 ghost use Rattle.cast_fifo.specs.Held.{nothing_held, waiting_at, came, marked, with_item, with_mark, run_from, rest_from, is_close, known_items, known_after, offered_items, offered_after, turned_items, turned_after, advanced, without_item, item_due};
 ghost use Rattle.cast_fifo.specs.Windows.{entries_from, entries_of, is_marked, marked_front, due_front, front_item, HasFront, next_item, next_far, HasNext, IsWindow};
 

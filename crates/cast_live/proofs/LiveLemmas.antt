@@ -3,7 +3,7 @@ use Rattle.std.proofs.Common.{◌≡◌, ℕ, zero, suc, ◌==◌, ◌<◌, ◌�
 use Rattle.std.proofs.lemmas.List.{map-append}
 use Rattle.std.specs.Io.KnownBytes.{Appends}
 use Rattle.std.proofs.KnownBytes.{Keeps-refl}
-use Rattle.cast_message.specs.Replies.{history}
+use Rattle.cast_model.specs.Replies.{history}
 use Rattle.cast_words.specs.Written.{WroteAll, WrotePrefix}
 use Rattle.cast_run.specs.declared.submit_all.SubmitAll.{SubmitAll}
 use Rattle.cast_message.specs.declared.message.Item.{Item}

@@ -17,8 +17,8 @@ use Rattle.cast_message.specs.declared.event.Outcome.{Outcome}
 use Rattle.cast_message.specs.declared.event.StepFault.{StepFault}
 use Rattle.cast_message.specs.declared.message.Message.{Message}
 use Rattle.cast_message.specs.declared.message.Decision.{Decision}
-use Rattle.cast_message.specs.History.{History}
-use Rattle.cast_message.specs.Replies.{fault, answer, reply, after, after_by, history_from, history, replies_from, replies}
+use Rattle.cast_model.specs.History.{History}
+use Rattle.cast_model.specs.Replies.{fault, answer, reply, after, after_by, history_from, history, replies_from, replies}
 use Rattle.cast_record.specs.declared.line.Line.{Line}
 use Rattle.cast_record.specs.declared.line.Line.TheVariants.{Head, Head2, Delivered, Decided, End}
 use Rattle.cast_record.specs.declared.verdict.Verdict.TheVariants.{Good}

@@ -3,10 +3,10 @@ use Rattle.std.proofs.Common.{◌≡◌, ℕ, zero, suc, ◌+◌, ◌-◌, ◌<�
 use Rattle.std.specs.List.{range_with_len}
 use Rattle.std.proofs.lemmas.List.{drop_all}
 use Rattle.cast_message.specs.declared.config.Config.{Config}
-use Rattle.cast_message.specs.History.{History}
-use Rattle.cast_message.specs.Delivery.{delivered}
+use Rattle.cast_model.specs.History.{History}
+use Rattle.cast_model.specs.Delivery.{delivered}
 use Rattle.cast_merge.specs.declared.report.NodeReport.{NodeReport}
-use Rattle.cast_message.specs.Replies.{history}
+use Rattle.cast_model.specs.Replies.{history}
 use Rattle.cast_world.specs.Group.{Stands}
 use Rattle.cast_record.specs.VerdictText.{verdict_text}
 use Rattle.cast_words.proofs.WritingLemmas.{drop-next}

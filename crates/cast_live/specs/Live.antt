@@ -13,10 +13,10 @@ use Rattle.std.specs.Io.KnownBytes.{Appends, Keeps}
 use Rattle.cast_message.specs.declared.config.Config.{Config}
 use Rattle.cast_message.specs.declared.event.Event.{Event}
 use Rattle.cast_message.specs.declared.message.Item.{Item}
-use Rattle.cast_message.specs.History.{History}
-use Rattle.cast_message.specs.Delivery.{delivered}
-use Rattle.cast_message.specs.Replies.{history, replies}
-use Rattle.cast_message.specs.Rounds.{AreAccepted, Rest}
+use Rattle.cast_model.specs.History.{History}
+use Rattle.cast_model.specs.Delivery.{delivered}
+use Rattle.cast_model.specs.Replies.{history, replies}
+use Rattle.cast_model.specs.Rounds.{AreAccepted, Rest}
 use Rattle.cast_world.specs.Group.{Stands}
 use Rattle.cast_merge.specs.declared.report.EngineEnd.{EngineEnd}
 use Rattle.cast_merge.specs.declared.report.EngineEnd.TheVariants.{Stopped, Crashed, TurnLimit, LogFull, ClockFull}

@@ -9,7 +9,7 @@ use Rattle.cast_message.specs.declared.config.Config.{Config}
 use Rattle.cast_message.specs.declared.event.Answer.{Answer}
 use Rattle.cast_message.specs.declared.event.Event.{Event}
 use Rattle.cast_message.specs.declared.event.StepFault.{StepFault}
-use Rattle.cast_message.specs.Replies.{history, replies}
+use Rattle.cast_model.specs.Replies.{history, replies}
 use Rattle.cast_record.specs.declared.line.Line.{Line}
 use Rattle.cast_record.specs.declared.line.Line.TheVariants.{Refused, End}
 use Rattle.cast_record.specs.declared.verdict.Verdict.TheVariants.{Good}

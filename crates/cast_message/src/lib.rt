@@ -1,5 +1,4 @@
-//! The messages of a broadcast group: items, frames, events, answers and the configuration. `specs/` has the definitions
-//! of all that a group does, read off its list of events; every crate above cites them from there.
+//! The messages of a broadcast group: items, frames, events, answers and the configuration, with their limits.
 #![tactic(auto)]
 
 mod config;

@@ -7,18 +7,18 @@ use Rattle.cast_message.specs.declared.config.Config.{Config}
 use Rattle.cast_message.specs.declared.message.Item.{Item}
 use Rattle.cast_message.specs.declared.message.Item.TheVariants.{Close}
 use Rattle.cast_message.specs.declared.message.Message.{Message}
-use Rattle.cast_message.specs.History.{has_pair, numbered}
-use Rattle.cast_message.specs.Delivery.{is_pair}
-use Rattle.cast_message.specs.Steps.{Step, Steps, Held, copy_of, held}
-use Rattle.cast_message.specs.OwnSteps.{own_copies, own_is_ready, own_known_enough, own_next, message_at, messages_from, IsOwnAccepted}
-use Rattle.cast_message.proofs.Members.{Member, here, there}
-use Rattle.cast_message.proofs.Dues.{range_bounds}
-use Rattle.cast_message.proofs.OwnFronts.{own_below_next, own_not_at_next, own_held_below}
+use Rattle.cast_model.specs.History.{has_pair, numbered}
+use Rattle.cast_model.specs.Delivery.{is_pair}
+use Rattle.cast_model.specs.Steps.{Step, Steps, Held, copy_of, held}
+use Rattle.cast_model.specs.OwnSteps.{own_copies, own_is_ready, own_known_enough, own_next, message_at, messages_from, IsOwnAccepted}
+use Rattle.cast_model.proofs.Members.{Member, here, there}
+use Rattle.cast_model.proofs.Dues.{range_bounds}
+use Rattle.cast_model.proofs.OwnFronts.{own_below_next, own_not_at_next, own_held_below}
 use Rattle.cast_fifo.specs.Held.{Held as HeldBack, with_item, known_items, known_after}
 use Rattle.cast_fifo.specs.Calls.{first_of}
 use Rattle.cast_fifo.proofs.Stands.{Stands as HoldsBack, same_stands, with_one, holds, Turned, knows, numbered-map}
-use Rattle.cast_message.proofs.OwnGrowth.{own_ready_kept}
-use Rattle.cast_message.specs.Shown.{item_of}
+use Rattle.cast_model.proofs.OwnGrowth.{own_ready_kept}
+use Rattle.cast_model.specs.Shown.{item_of}
 use Rattle.cast_node.specs.Stands.{item_at}
 use Rattle.cast_node.proofs.Places.{same_number, other_number}
 

@@ -9,9 +9,9 @@ use Rattle.std.specs.FinMap.{get-empty, len-empty}
 use Rattle.std.proofs.lemmas.Bool.Decides.{nat_tests}
 use Rattle.cast_message.specs.declared.config.Config.{Config}
 use Rattle.cast_message.specs.declared.message.Message.{Message}
-use Rattle.cast_message.specs.History.{has_pair}
-use Rattle.cast_message.specs.Steps.{own_items, frame_count, frames_in, held}
-use Rattle.cast_message.specs.OwnSteps.{own_live, own_given, own_taken, own_acked, own_owed, own_is_ready, own_log, message_in, message_at, IsOwnAccepted}
+use Rattle.cast_model.specs.History.{has_pair}
+use Rattle.cast_model.specs.Steps.{own_items, frame_count, frames_in, held}
+use Rattle.cast_model.specs.OwnSteps.{own_live, own_given, own_taken, own_acked, own_owed, own_is_ready, own_log, message_in, message_at, IsOwnAccepted}
 use Rattle.cast_fifo.specs.Held.{nothing_held}
 use Rattle.cast_fifo.proofs.Stands.{Stands as HoldsBack}
 use Rattle.cast_node.specs.Kept.{nothing_kept}

@@ -9,9 +9,9 @@ use Rattle.cast_message.specs.declared.event.StepFault.{StepFault}
 use Rattle.cast_message.specs.declared.message.Frame.{Frame}
 use Rattle.cast_message.specs.declared.message.FrameBody.{FrameBody}
 use Rattle.cast_message.specs.declared.message.FrameBody.TheVariants.{Carry, Took}
-use Rattle.cast_message.specs.Replies.{IsRefused, reply_by}
-use Rattle.cast_message.specs.Steps.{Step, Ordered, Sent, Acknowledged, Arrived, Stopped, Steps}
-use Rattle.cast_message.specs.OwnSteps.{own_given, own_fault, own_answer, node_reply, node_after, nothing, is_ignored, is_possible, is_possible_body, IsOwnAccepted}
+use Rattle.cast_model.specs.Replies.{IsRefused, reply_by}
+use Rattle.cast_model.specs.Steps.{Step, Ordered, Sent, Acknowledged, Arrived, Stopped, Steps}
+use Rattle.cast_model.specs.OwnSteps.{own_given, own_fault, own_answer, node_reply, node_after, nothing, is_ignored, is_possible, is_possible_body, IsOwnAccepted}
 use Rattle.cast_node.specs.Kept.{Kept}
 use Rattle.cast_node.specs.Turns.{arrived, arrived_body, unmoved, may_arrive, may_bring, kept_answer, kept_after, Gives}
 use Rattle.cast_node.specs.Stands.{Stands, Continues}

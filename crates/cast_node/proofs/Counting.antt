@@ -10,8 +10,8 @@ use Rattle.cast_message.specs.declared.message.Item.{Item}
 use Rattle.cast_message.specs.declared.message.Item.TheVariants.{Data, Propose, Close}
 use Rattle.cast_message.specs.declared.message.Message.{Message}
 use Rattle.cast_message.specs.declared.message.Decision.{Decision}
-use Rattle.cast_message.specs.Delivery.{value_in, votes, least, decision_by}
-use Rattle.cast_message.specs.OwnSteps.{is_first_vote, first_votes, own_decision_on, own_decisions_of}
+use Rattle.cast_model.specs.Delivery.{value_in, votes, least, decision_by}
+use Rattle.cast_model.specs.OwnSteps.{is_first_vote, first_votes, own_decision_on, own_decisions_of}
 use Rattle.cast_agree.specs.Counted.{decision as decision_counted, decision_by as decision_counted_by}
 use Rattle.cast_agree.specs.Proposals.{has_proposed, with_item, proposals, counted_of, values, least as least_of}
 use Rattle.cast_agree.proofs.Law.{decides_least, values-push, length-values, proposed-push}

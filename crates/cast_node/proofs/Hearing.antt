@@ -10,18 +10,18 @@ use Rattle.std.specs.FinMap as finite
 use Rattle.std.proofs.lemmas.Bool.Decides.{nat_tests, eqb_tells}
 use Rattle.std.proofs.lemmas.List.{append-nil}
 use Rattle.cast_message.specs.declared.config.Config.{Config}
-use Rattle.cast_message.specs.History.{has_pair}
-use Rattle.cast_message.specs.Replies.{is_from}
-use Rattle.cast_message.specs.Steps.{Step, Steps, own_items, frame_count, Held, held}
-use Rattle.cast_message.specs.OwnSteps.{own_live, own_copies, own_given, own_acked, own_knows, own_is_ready, own_taken, own_concerned, own_log, IsOwnAccepted}
-use Rattle.cast_message.proofs.OwnGrowth.{brought, held-more, own_given-more}
+use Rattle.cast_model.specs.History.{has_pair}
+use Rattle.cast_model.specs.Replies.{is_from}
+use Rattle.cast_model.specs.Steps.{Step, Steps, own_items, frame_count, Held, held}
+use Rattle.cast_model.specs.OwnSteps.{own_live, own_copies, own_given, own_acked, own_knows, own_is_ready, own_taken, own_concerned, own_log, IsOwnAccepted}
+use Rattle.cast_model.proofs.OwnGrowth.{brought, held-more, own_given-more}
 use Rattle.cast_relay.specs.Held.{holds, relays_to}
 use Rattle.cast_fifo.specs.Held.{Held as HeldBack, held_of, nothing_held, with_item}
 use Rattle.cast_fifo.proofs.Stands.{Stands as HoldsBack}
 use Rattle.cast_agree.specs.Proposals.{counted_of}
 use Rattle.cast_node.specs.Kept.{Kept, link_to, taken_from, knowers_of}
 use Rattle.cast_node.specs.Turns.{with_knower, spread, given_one, given_from}
-use Rattle.cast_message.specs.Shown.{item_of}
+use Rattle.cast_model.specs.Shown.{item_of}
 use Rattle.cast_node.specs.Stands.{item_at, newest_first, StandsOut}
 use Rattle.cast_node.proofs.Places.{length-slice_set, at_set, same_number, other_number}
 use Rattle.cast_node.proofs.Links.{length-given_from, given_from-at, goes, out_same, out_given}

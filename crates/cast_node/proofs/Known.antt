@@ -15,11 +15,11 @@ use Rattle.cast_sets.specs.Members.{members_below, contains-members_below, len-n
 use Rattle.cast_message.specs.declared.config.Config.{Config}
 use Rattle.cast_message.specs.declared.config.Mode.{Mode}
 use Rattle.cast_message.specs.declared.config.Mode.TheVariants.{Basic, Uniform}
-use Rattle.cast_message.specs.History.{has_pair}
-use Rattle.cast_message.specs.Delivery.{nodes_of}
-use Rattle.cast_message.specs.Steps.{Step, Steps, Held, copy_of}
-use Rattle.cast_message.specs.OwnSteps.{own_copies, own_knows, own_known_by, own_known_enough, own_is_ready}
-use Rattle.cast_message.proofs.OwnGrowth.{brought, own_copies-more}
+use Rattle.cast_model.specs.History.{has_pair}
+use Rattle.cast_model.specs.Delivery.{nodes_of}
+use Rattle.cast_model.specs.Steps.{Step, Steps, Held, copy_of}
+use Rattle.cast_model.specs.OwnSteps.{own_copies, own_knows, own_known_by, own_known_enough, own_is_ready}
+use Rattle.cast_model.proofs.OwnGrowth.{brought, own_copies-more}
 use Rattle.cast_node.specs.Kept.{knowers_in, is_enough_in}
 use Rattle.cast_node.specs.Turns.{known_row}
 use Rattle.cast_node.proofs.Links.{range-more}

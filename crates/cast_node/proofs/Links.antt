@@ -15,11 +15,11 @@ use Rattle.cast_message.specs.declared.message.Message.{Message}
 use Rattle.cast_message.specs.declared.message.Frame.{Frame}
 use Rattle.cast_message.specs.declared.message.FrameBody.{FrameBody}
 use Rattle.cast_message.specs.declared.message.FrameBody.TheVariants.{Carry, Took}
-use Rattle.cast_message.specs.History.{is_took_of}
-use Rattle.cast_message.specs.Steps.{Step, Steps, Held, frames_in}
-use Rattle.cast_message.specs.OwnSteps.{own_given, own_acked, own_owed, message_in, IsOwnAccepted}
-use Rattle.cast_message.proofs.Members.{Member-list_any}
-use Rattle.cast_message.proofs.OwnGrowth.{frames_given, GivenTo}
+use Rattle.cast_model.specs.History.{is_took_of}
+use Rattle.cast_model.specs.Steps.{Step, Steps, Held, frames_in}
+use Rattle.cast_model.specs.OwnSteps.{own_given, own_acked, own_owed, message_in, IsOwnAccepted}
+use Rattle.cast_model.proofs.Members.{Member-list_any}
+use Rattle.cast_model.proofs.OwnGrowth.{frames_given, GivenTo}
 use Rattle.cast_link.specs.Links.{Link}
 use Rattle.cast_relay.specs.Held.{Held as HeldPairs, relays_to}
 use Rattle.cast_node.specs.Turns.{given_one, given_from}

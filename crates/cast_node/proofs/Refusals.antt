@@ -9,9 +9,9 @@ use Rattle.std.proofs.lemmas.Bool.{not-false, ltb-true, eq-eqb, false≢true}
 use Rattle.cast_message.specs.Limits.{frame_limit}
 use Rattle.cast_message.specs.declared.config.Config.{Config}
 use Rattle.cast_message.specs.declared.event.StepFault.TheVariants.{SelfLink, Crashed, Closed, TooLong, AlreadyProposed, StreamFull, NoSlot, Acked, NotTaken, FramesFull}
-use Rattle.cast_message.specs.Replies.{Cause, no_node, is_close, is_too_long, is_second_proposal, first_fault}
-use Rattle.cast_message.specs.Steps.{Step, Ordered, Sent, Acknowledged, Arrived, Stopped, Steps, frame_count}
-use Rattle.cast_message.specs.OwnSteps.{own_live, own_given, own_acked, message_in, own_causes, own_fault}
+use Rattle.cast_model.specs.Replies.{Cause, no_node, is_close, is_too_long, is_second_proposal, first_fault}
+use Rattle.cast_model.specs.Steps.{Step, Ordered, Sent, Acknowledged, Arrived, Stopped, Steps, frame_count}
+use Rattle.cast_model.specs.OwnSteps.{own_live, own_given, own_acked, message_in, own_causes, own_fault}
 use Rattle.cast_node.specs.Kept.{Kept, link_to, taken_from}
 use Rattle.cast_node.specs.Turns.{kept_causes, kept_fault}
 use Rattle.cast_node.specs.Stands.{Stands}

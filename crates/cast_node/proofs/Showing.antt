@@ -8,14 +8,14 @@ use Rattle.std.proofs.lemmas.Bool.Decides.{nat_tests}
 use Rattle.cast_message.specs.declared.config.Config.{Config}
 use Rattle.cast_message.specs.declared.message.Item.TheVariants.{Close}
 use Rattle.cast_message.specs.declared.message.FrameBody.TheVariants.{Carry, Took}
-use Rattle.cast_message.specs.Replies.{Cause, first_fault}
-use Rattle.cast_message.specs.Steps.{Sent, Acknowledged, Steps}
-use Rattle.cast_message.specs.OwnSteps.{own_given, own_acked, own_owed, own_delivered, own_decision, own_known_by, own_made, own_fault, own_causes, message_in}
-use Rattle.cast_message.proofs.OwnFronts.{own_log-front}
+use Rattle.cast_model.specs.Replies.{Cause, first_fault}
+use Rattle.cast_model.specs.Steps.{Sent, Acknowledged, Steps}
+use Rattle.cast_model.specs.OwnSteps.{own_given, own_acked, own_owed, own_delivered, own_decision, own_known_by, own_made, own_fault, own_causes, message_in}
+use Rattle.cast_model.proofs.OwnFronts.{own_log-front}
 use Rattle.cast_agree.specs.Counted.{decision}
 use Rattle.cast_node.specs.Kept.{Kept, link_to, knowers_of}
 use Rattle.cast_node.specs.Turns.{carry_of, took_of, message_owed}
-use Rattle.cast_message.specs.Shown.{item_of}
+use Rattle.cast_model.specs.Shown.{item_of}
 use Rattle.cast_node.specs.Stands.{Stands}
 use Rattle.cast_node.proofs.Known.{known_by-is}
 use Rattle.cast_node.proofs.Counting.{decision_is}

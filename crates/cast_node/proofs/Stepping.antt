@@ -18,20 +18,20 @@ use Rattle.cast_message.specs.declared.message.Message.{Message}
 use Rattle.cast_message.specs.declared.message.Frame.{Frame}
 use Rattle.cast_message.specs.declared.message.FrameBody.{FrameBody}
 use Rattle.cast_message.specs.declared.message.FrameBody.TheVariants.{Carry, Took}
-use Rattle.cast_message.specs.History.{FirstCopy, has_pair, copy_at, is_carry_of, is_took_of}
-use Rattle.cast_message.specs.Delivery.{is_pair, tells_of}
-use Rattle.cast_message.specs.Replies.{is_from}
-use Rattle.cast_message.specs.Steps.{Step, Ordered, Sent, Acknowledged, Arrived, Stopped, Steps, item_of as items_of, own_items, frame_count, frames_in, frame_of, Held, copy_of, held_by_body, held}
-use Rattle.cast_message.specs.OwnSteps.{own_live, own_copies, own_given, own_given_copies, own_taken, own_acked, own_knows, own_is_ready, own_next, own_concerned, own_turns, own_deliveries, own_log, own_outcome, own_decisions_of, message_in, messages_from, nothing, is_ignored, is_possible, is_possible_body, IsOwnAccepted}
-use Rattle.cast_message.proofs.Members.{Member-list_any, list_any-Member}
-use Rattle.cast_message.proofs.OwnGrowth.{brought, held-more, own_copies-more, own_given-more, own_taken-more, own_acked-more}
-use Rattle.cast_message.proofs.OwnFronts.{no_messages}
+use Rattle.cast_model.specs.History.{FirstCopy, has_pair, copy_at, is_carry_of, is_took_of}
+use Rattle.cast_model.specs.Delivery.{is_pair, tells_of}
+use Rattle.cast_model.specs.Replies.{is_from}
+use Rattle.cast_model.specs.Steps.{Step, Ordered, Sent, Acknowledged, Arrived, Stopped, Steps, item_of as items_of, own_items, frame_count, frames_in, frame_of, Held, copy_of, held_by_body, held}
+use Rattle.cast_model.specs.OwnSteps.{own_live, own_copies, own_given, own_given_copies, own_taken, own_acked, own_knows, own_is_ready, own_next, own_concerned, own_turns, own_deliveries, own_log, own_outcome, own_decisions_of, message_in, messages_from, nothing, is_ignored, is_possible, is_possible_body, IsOwnAccepted}
+use Rattle.cast_model.proofs.Members.{Member-list_any, list_any-Member}
+use Rattle.cast_model.proofs.OwnGrowth.{brought, held-more, own_copies-more, own_given-more, own_taken-more, own_acked-more}
+use Rattle.cast_model.proofs.OwnFronts.{no_messages}
 use Rattle.cast_relay.specs.Held.{Held as HeldPairs, holds, with_pair, numbers_of}
 use Rattle.cast_fifo.specs.Held.{held_of}
 use Rattle.cast_agree.specs.Proposals.{counted_of}
 use Rattle.cast_node.specs.Kept.{Kept, link_to, taken_from}
 use Rattle.cast_node.specs.Turns.{told, ordered, unmoved, with_taken, with_acked, with_knower, own_taken_up, taken_up, carried, acknowledged}
-use Rattle.cast_message.specs.Shown.{item_of}
+use Rattle.cast_model.specs.Shown.{item_of}
 use Rattle.cast_node.specs.Stands.{item_at, newest_first, StandsOut, Stands}
 use Rattle.cast_node.proofs.Places.{length-slice_set, at_set, same_number, other_number}
 use Rattle.cast_node.proofs.Links.{out_same, out_acked}

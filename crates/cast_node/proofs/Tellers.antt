@@ -11,16 +11,16 @@ use Rattle.cast_message.specs.declared.message.Message.{Message}
 use Rattle.cast_message.specs.declared.message.Frame.{Frame}
 use Rattle.cast_message.specs.declared.message.FrameBody.{FrameBody}
 use Rattle.cast_message.specs.declared.message.FrameBody.TheVariants.{Carry, Took}
-use Rattle.cast_message.specs.History.{has_pair, copy_at}
-use Rattle.cast_message.specs.Delivery.{tells_of}
-use Rattle.cast_message.specs.Steps.{Step, Ordered, Sent, Acknowledged, Arrived, Stopped, Steps, copy_of, held_by_body, held, frames_in, frame_of}
-use Rattle.cast_message.specs.OwnSteps.{own_copies, own_given, own_given_copies, own_knows, is_ignored, IsOwnAccepted}
-use Rattle.cast_message.proofs.Members.{Member, Member-append, Member-one, Member-list_any, Member-filter, Member-get_or, here, there}
-use Rattle.cast_message.proofs.Sound.{has_pair-Member}
-use Rattle.cast_message.proofs.RoundSpreads.{Member-map}
-use Rattle.cast_message.proofs.Dues.{Member-map_in}
-use Rattle.cast_message.proofs.OwnGrowth.{own_copies-more, own_pair_kept, frames_in-more, frames_given, possible_given, GivenTo, tells_same}
-use Rattle.cast_message.proofs.OwnTurns.{length-map}
+use Rattle.cast_model.specs.History.{has_pair, copy_at}
+use Rattle.cast_model.specs.Delivery.{tells_of}
+use Rattle.cast_model.specs.Steps.{Step, Ordered, Sent, Acknowledged, Arrived, Stopped, Steps, copy_of, held_by_body, held, frames_in, frame_of}
+use Rattle.cast_model.specs.OwnSteps.{own_copies, own_given, own_given_copies, own_knows, is_ignored, IsOwnAccepted}
+use Rattle.cast_model.proofs.Members.{Member, Member-append, Member-one, Member-list_any, Member-filter, Member-get_or, here, there}
+use Rattle.cast_model.proofs.Sound.{has_pair-Member}
+use Rattle.cast_model.proofs.RoundSpreads.{Member-map}
+use Rattle.cast_model.proofs.Dues.{Member-map_in}
+use Rattle.cast_model.proofs.OwnGrowth.{own_copies-more, own_pair_kept, frames_in-more, frames_given, possible_given, GivenTo, tells_same}
+use Rattle.cast_model.proofs.OwnTurns.{length-map}
 use Rattle.cast_node.specs.Kept.{knowers_in}
 use Rattle.cast_node.specs.Turns.{known_row}
 use Rattle.cast_node.proofs.Places.{same_number, other_number, at_set, at_padded, length-replicated}

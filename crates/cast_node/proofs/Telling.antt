@@ -9,13 +9,13 @@ use Rattle.std.proofs.lemmas.List.Elements.{filter-append}
 use Rattle.cast_message.specs.declared.config.Config.{Config}
 use Rattle.cast_message.specs.declared.message.Item.{Item}
 use Rattle.cast_message.specs.declared.message.Message.{Message}
-use Rattle.cast_message.specs.History.{has_pair, numbered}
-use Rattle.cast_message.specs.Replies.{is_from}
-use Rattle.cast_message.specs.Steps.{Step, Steps, own_items, frame_count, held}
-use Rattle.cast_message.specs.OwnSteps.{own_live, own_copies, own_known_enough, own_is_ready, own_next, own_taken, own_concerned, own_turns, own_deliveries, own_log, own_outcome, own_decisions_of, messages_from, IsOwnAccepted}
-use Rattle.cast_message.proofs.Members.{Member}
-use Rattle.cast_message.proofs.Fronts.{filter_all, filter_none}
-use Rattle.cast_message.proofs.OwnFronts.{messages_sender, no_messages}
+use Rattle.cast_model.specs.History.{has_pair, numbered}
+use Rattle.cast_model.specs.Replies.{is_from}
+use Rattle.cast_model.specs.Steps.{Step, Steps, own_items, frame_count, held}
+use Rattle.cast_model.specs.OwnSteps.{own_live, own_copies, own_known_enough, own_is_ready, own_next, own_taken, own_concerned, own_turns, own_deliveries, own_log, own_outcome, own_decisions_of, messages_from, IsOwnAccepted}
+use Rattle.cast_model.proofs.Members.{Member}
+use Rattle.cast_model.proofs.Fronts.{filter_all, filter_none}
+use Rattle.cast_model.proofs.OwnFronts.{messages_sender, no_messages}
 use Rattle.cast_relay.specs.Held.{holds}
 use Rattle.cast_fifo.specs.Held.{held_of, nothing_held, known_items, known_after}
 use Rattle.cast_fifo.proofs.Stands.{Stands as HoldsBack, Turned}
@@ -23,7 +23,7 @@ use Rattle.cast_agree.specs.Journal.{counted_all, decisions_all}
 use Rattle.cast_agree.specs.Proposals.{counted_of}
 use Rattle.cast_node.specs.Kept.{Kept, link_to, taken_from, knowers_of, is_enough_in, is_enough}
 use Rattle.cast_node.specs.Turns.{Told, told, released, unmoved, news_of}
-use Rattle.cast_message.specs.Shown.{item_of}
+use Rattle.cast_model.specs.Shown.{item_of}
 use Rattle.cast_node.specs.Stands.{item_at, newest_first, StandsOut, Stands}
 use Rattle.cast_node.proofs.Places.{length-slice_set, at_set, same_number, other_number}
 use Rattle.cast_node.proofs.Known.{KnowsAll, enough-is}

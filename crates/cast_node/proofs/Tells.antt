@@ -7,8 +7,8 @@ use Rattle.std.proofs.lemmas.List.{set-get_or}
 use Rattle.cast_message.specs.declared.config.Mode.{Mode}
 use Rattle.cast_message.specs.declared.message.Item.{Item}
 use Rattle.cast_message.specs.declared.message.Message.{Message}
-use Rattle.cast_message.specs.History.{numbered}
-use Rattle.cast_message.specs.OwnSteps.{nothing as nothing_comes}
+use Rattle.cast_model.specs.History.{numbered}
+use Rattle.cast_model.specs.OwnSteps.{nothing as nothing_comes}
 use Rattle.cast_fifo.specs.Held.{Held as HeldBack, nothing_held, held_of, known_items, known_after, came}
 use Rattle.cast_fifo.proofs.TakenBack.{all_taken_back}
 use Rattle.cast_fifo.proofs.Turns.{numbered-none}

@@ -11,8 +11,8 @@ use Rattle.cast_message.specs.declared.config.Config.{Config}
 use Rattle.cast_message.specs.declared.event.StepFault.{StepFault}
 use Rattle.cast_message.specs.declared.message.Item.{Item}
 use Rattle.cast_message.specs.declared.message.Message.{Message}
-use Rattle.cast_message.specs.Replies.{Cause, is_close, first_fault}
-use Rattle.cast_message.specs.Steps.{Ordered, Sent, Acknowledged}
+use Rattle.cast_model.specs.Replies.{Cause, is_close, first_fault}
+use Rattle.cast_model.specs.Steps.{Ordered, Sent, Acknowledged}
 use Rattle.cast_link.specs.Links.{Link}
 use Rattle.cast_relay.specs.Held.{Held, holds, with_pair}
 use Rattle.cast_node.specs.Kept.{Kept, link_to, knowers_in, is_enough_in}
@@ -54,7 +54,7 @@ told_is kept ds s i members m f l = go (is_enough_in ds.mode ds.faults members) 
 
     go : (a b : Bool) → a ≡ b →
         (with_deliveries kept (if a then let_go (noted ds s i members) s i else noted ds s i members) ≡ (if b then released (with_knowers (with_deliveries kept ds) s i members) s i else unmoved (with_knowers (with_deliveries kept ds) s i members)).kept)
-        × ((if a then record { deliveries = Rattle.cast_node.specs.Delivering.news_in ds s i; decisions = Rattle.cast_agree.specs.Journal.decisions_all ds.agree (Rattle.cast_node.specs.Delivering.news_in ds s i) } else Rattle.cast_message.specs.OwnSteps.nothing) ≡ (if b then released (with_knowers (with_deliveries kept ds) s i members) s i else unmoved (with_knowers (with_deliveries kept ds) s i members)).outcome)
+        × ((if a then record { deliveries = Rattle.cast_node.specs.Delivering.news_in ds s i; decisions = Rattle.cast_agree.specs.Journal.decisions_all ds.agree (Rattle.cast_node.specs.Delivering.news_in ds s i) } else Rattle.cast_model.specs.OwnSteps.nothing) ≡ (if b then released (with_knowers (with_deliveries kept ds) s i members) s i else unmoved (with_knowers (with_deliveries kept ds) s i members)).outcome)
     go true true e = (refl, refl)
     go false false e = (refl, refl)
     go true false e = absurd (true≢false e)
@@ -113,7 +113,7 @@ ack_fine kept to slot e =
 -- the causes of an order that don't hold
 pub record OrderFine (kept : Kept) (item : Item) : Type 0 where
   pub unclosed : list_any is_close kept.stream ≡ false
-  pub first : Rattle.cast_message.specs.Replies.is_second_proposal kept.stream item ≡ false
+  pub first : Rattle.cast_model.specs.Replies.is_second_proposal kept.stream item ≡ false
   pub room : (not (is_close item) && nat_le (kept.config.item_limit - 1) (length kept.stream)) ≡ false
 
 pub order_fine : (kept : Kept) (item : Item) → kept_fault kept (Ordered item) ≡ None → OrderFine kept item

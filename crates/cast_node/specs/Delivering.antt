@@ -16,8 +16,8 @@ use Rattle.cast_message.specs.declared.config.Mode.{Mode}
 use Rattle.cast_message.specs.declared.event.Outcome.{Outcome}
 use Rattle.cast_message.specs.declared.message.Item.{Item}
 use Rattle.cast_message.specs.declared.message.Message.{Message}
-use Rattle.cast_message.specs.History.{numbered}
-use Rattle.cast_message.specs.OwnSteps.{nothing}
+use Rattle.cast_model.specs.History.{numbered}
+use Rattle.cast_model.specs.OwnSteps.{nothing}
 use Rattle.cast_fifo.specs.Held.{Held as HeldBack, nothing_held, held_of, with_item, without_item, known_items, known_after}
 use Rattle.cast_agree.specs.Counted.{Counted}
 use Rattle.cast_agree.specs.Journal.{counted_all, decisions_all}

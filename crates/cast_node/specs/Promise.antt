@@ -5,9 +5,9 @@ use Rattle.std.specs.FinMap as finite
 use Rattle.cast_message.specs.declared.config.Config.{Config}
 use Rattle.cast_message.specs.declared.event.Answer.{Answer}
 use Rattle.cast_message.specs.declared.event.StepFault.{StepFault}
-use Rattle.cast_message.specs.Shown.{item_of}
-use Rattle.cast_message.specs.Steps.{Step, Sent, Acknowledged, Steps}
-use Rattle.cast_message.specs.OwnSteps.{own_fault, own_made, own_delivered, own_decision, own_owed, own_known_by}
+use Rattle.cast_model.specs.Shown.{item_of}
+use Rattle.cast_model.specs.Steps.{Step, Sent, Acknowledged, Steps}
+use Rattle.cast_model.specs.OwnSteps.{own_fault, own_made, own_delivered, own_decision, own_owed, own_known_by}
 use Rattle.cast_agree.specs.Counted.{decision}
 use Rattle.cast_node.specs.Kept.{Kept, nothing_kept, link_to, knowers_of}
 use Rattle.cast_node.specs.Turns.{Gives, carry_of, took_of}

@@ -22,10 +22,10 @@ use Rattle.cast_message.specs.declared.message.Message.{Message}
 use Rattle.cast_message.specs.declared.message.Frame.{Frame}
 use Rattle.cast_message.specs.declared.message.FrameBody.{FrameBody}
 use Rattle.cast_message.specs.declared.message.FrameBody.TheVariants.{Carry, Took}
-use Rattle.cast_message.specs.History.{numbered}
-use Rattle.cast_message.specs.Replies.{Cause, IsRefused, no_node, is_close, is_too_long, is_second_proposal, first_fault}
-use Rattle.cast_message.specs.Steps.{Step, Ordered, Sent, Acknowledged, Arrived, Stopped}
-use Rattle.cast_message.specs.OwnSteps.{nothing}
+use Rattle.cast_model.specs.History.{numbered}
+use Rattle.cast_model.specs.Replies.{Cause, IsRefused, no_node, is_close, is_too_long, is_second_proposal, first_fault}
+use Rattle.cast_model.specs.Steps.{Step, Ordered, Sent, Acknowledged, Arrived, Stopped}
+use Rattle.cast_model.specs.OwnSteps.{nothing}
 use Rattle.cast_link.specs.Links.{Link}
 use Rattle.cast_relay.specs.Held.{Held, holds, with_pair, relays_to}
 use Rattle.cast_fifo.specs.Held.{held_of, with_item, known_items, known_after}

@@ -4,8 +4,8 @@ ghost use Rattle.std.specs.Prelude.{◌≡◌, ◌≢◌, ◌+◌, ◌-◌, ◌<
 ghost use Rattle.std.specs.List.{All};
 ghost use Rattle.std.specs.Map.{keys_of};
 ghost use Rattle.std.specs.FinSet as set;
-ghost use Rattle.cast_message.specs.OwnSteps.{nothing};
-ghost use Rattle.cast_message.specs.History.{numbered};
+ghost use Rattle.cast_model.specs.OwnSteps.{nothing};
+ghost use Rattle.cast_model.specs.History.{numbered};
 ghost use Rattle.cast_fifo.specs.Held.{held_of, came, known_items, known_after};
 ghost use Rattle.cast_agree.specs.Journal.{counted_all, decisions_all, restored};
 ghost use Rattle.cast_agree.specs.Counted.{decision};

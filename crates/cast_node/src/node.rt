@@ -2,7 +2,7 @@
 ghost use Rattle.std.specs.Prelude.{◌≡◌, ◌≢◌, ℕ, ◌<◌, ◌≤◌, ◌+◌, ◌∷◌, ◌++◌, [], false, true, IsTrue, length, nat_lt, Some, None, option_map, slice_get, MatchOption, if◌then◌else◌, IfOk, IfErr, OnOk, OnErr};
 ghost use Rattle.std.specs.FinMap as finite;
 ghost use Rattle.std.specs.FinSet as set;
-ghost use Rattle.cast_message.specs.Steps.{Ordered, Sent, Acknowledged, Arrived, Stopped};
+ghost use Rattle.cast_model.specs.Steps.{Ordered, Sent, Acknowledged, Arrived, Stopped};
 ghost use Rattle.cast_message.specs.declared.event.StepFault.TheVariants.{NoNode, Memory};
 ghost use Rattle.cast_message.specs.declared.message.Frame.{Frame as Arriving};
 ghost use Rattle.cast_message.specs.declared.message.Item.{Item as Carried};
@@ -11,7 +11,7 @@ ghost use Rattle.cast_link.specs.Links.{IsLeastFrom};
 ghost use Rattle.cast_relay.specs.Held.{holds};
 ghost use Rattle.cast_node.specs.Kept.{nothing_kept, link_to, knowers_of};
 ghost use Rattle.cast_node.specs.Turns.{Gives, kept_fault, carry_of, took_of, message_owed, ordered, carried, acknowledged, with_taken, may_arrive};
-ghost use Rattle.cast_message.specs.Replies.{is_close, is_too_long, is_second_proposal};
+ghost use Rattle.cast_model.specs.Replies.{is_close, is_too_long, is_second_proposal};
 ghost use Rattle.cast_node.specs.Sound.{OwesNothing};
 ghost use Rattle.cast_node.specs.Taking.{with_proposal, without_proposal};
 ghost use Rattle.cast_node.specs.Calls.{is_peer, may_carry, carried_frame, took_frame, ordered_reply, sent_reply, number_reply, numbered_reply, arrived_reply, crashed_reply};

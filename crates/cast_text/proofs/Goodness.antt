@@ -13,15 +13,15 @@ use Rattle.cast_message.specs.declared.message.Item.{Item}
 use Rattle.cast_message.specs.declared.message.Item.TheVariants.{Propose}
 use Rattle.cast_message.specs.declared.message.Message.{Message}
 use Rattle.cast_message.specs.declared.message.Decision.{Decision}
-use Rattle.cast_message.specs.History.{History, stream, is_live, broadcast, numbered}
-use Rattle.cast_message.specs.Delivery.{concerned, turns, deliveries, is_node, delivery_log, next, outcome}
-use Rattle.cast_message.specs.Replies.{reply, after, history, replies, IsAccepted, is_from, decided, decisions_in, value_for}
-use Rattle.cast_message.proofs.Members.{Member, Member-append_left, Member-append_right}
-use Rattle.cast_message.proofs.Agreement.{node_in, filter_map-Member, decided_at_most_choices, decided_in_stream}
-use Rattle.cast_message.proofs.Answered.{IsAccepted-history_from}
-use Rattle.cast_message.proofs.Possible.{stream_room}
-use Rattle.cast_message.proofs.Prefix.{delivery_log-front, delivered-take}
-use Rattle.cast_message.proofs.Runs.{history_from-push, replies_from-push}
+use Rattle.cast_model.specs.History.{History, stream, is_live, broadcast, numbered}
+use Rattle.cast_model.specs.Delivery.{concerned, turns, deliveries, is_node, delivery_log, next, outcome}
+use Rattle.cast_model.specs.Replies.{reply, after, history, replies, IsAccepted, is_from, decided, decisions_in, value_for}
+use Rattle.cast_model.proofs.Members.{Member, Member-append_left, Member-append_right}
+use Rattle.cast_model.proofs.Agreement.{node_in, filter_map-Member, decided_at_most_choices, decided_in_stream}
+use Rattle.cast_model.proofs.Answered.{IsAccepted-history_from}
+use Rattle.cast_model.proofs.Possible.{stream_room}
+use Rattle.cast_model.proofs.Prefix.{delivery_log-front, delivered-take}
+use Rattle.cast_model.proofs.Runs.{history_from-push, replies_from-push}
 use Rattle.cast_record.specs.declared.line.Line.{Line}
 use Rattle.cast_record.specs.declared.line.Line.TheVariants.{Delivered, Decided}
 use Rattle.cast_record.specs.Lines.{outcome_lines}

@@ -7,8 +7,8 @@ use Rattle.cast_message.specs.declared.config.Config.{Config}
 use Rattle.cast_message.specs.declared.event.Event.{Event}
 use Rattle.cast_message.specs.declared.event.Answer.{Answer}
 use Rattle.cast_message.specs.declared.event.StepFault.{StepFault}
-use Rattle.cast_message.specs.History.{History}
-use Rattle.cast_message.specs.Replies.{is_want_of_memory, fault, answer, reply, reply_by, after}
+use Rattle.cast_model.specs.History.{History}
+use Rattle.cast_model.specs.Replies.{is_want_of_memory, fault, answer, reply, reply_by, after}
 use Rattle.cast_world.specs.Group.{State, Stands, Continues}
 use Rattle.cast_world.proofs.Running.{settled as settled_step}
 use Rattle.cast_record.specs.declared.line.Line.{Line}

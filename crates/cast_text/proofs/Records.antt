@@ -13,14 +13,14 @@ use Rattle.cast_message.specs.declared.message.Item.{Item}
 use Rattle.cast_message.specs.declared.message.Item.TheVariants.{Data, Propose, Close}
 use Rattle.cast_message.specs.declared.message.Message.{Message}
 use Rattle.cast_message.specs.declared.message.Frame.{Frame}
-use Rattle.cast_message.specs.History.{History, stream, is_live, frames, items_ordered, given}
-use Rattle.cast_message.specs.Delivery.{concerned, concerned_by, sender_in, delivery_log, outcome}
-use Rattle.cast_message.specs.Replies.{Cause, no_node, fault, causes, causes_of_arrival, first_fault, answer, reply, reply_by, after, after_by, replies, IsAccepted, is_from, is_too_long, decided, decisions_in, target_of}
+use Rattle.cast_model.specs.History.{History, stream, is_live, frames, items_ordered, given}
+use Rattle.cast_model.specs.Delivery.{concerned, concerned_by, sender_in, delivery_log, outcome}
+use Rattle.cast_model.specs.Replies.{Cause, no_node, fault, causes, causes_of_arrival, first_fault, answer, reply, reply_by, after, after_by, replies, IsAccepted, is_from, is_too_long, decided, decisions_in, target_of}
 use Rattle.cast_message.specs.StepCode.{step_code}
-use Rattle.cast_message.proofs.Members.{Member, here, there, Member-append, Member-slice_get, Member-when, Member-one}
-use Rattle.cast_message.proofs.Accepted.{no_cause, Order-node}
-use Rattle.cast_message.proofs.OwnReplies.{frame_ends}
-use Rattle.cast_message.proofs.Possible.{stream_room}
+use Rattle.cast_model.proofs.Members.{Member, here, there, Member-append, Member-slice_get, Member-when, Member-one}
+use Rattle.cast_model.proofs.Accepted.{no_cause, Order-node}
+use Rattle.cast_model.proofs.OwnReplies.{frame_ends}
+use Rattle.cast_model.proofs.Possible.{stream_room}
 use Rattle.cast_record.specs.declared.line.Line.{Line}
 use Rattle.cast_record.specs.declared.line.Line.TheVariants.{Broadcast, Crashed, Refused}
 use Rattle.cast_record.specs.Lines.{outcome_lines, refusal_lines, lines_for}

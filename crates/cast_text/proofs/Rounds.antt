@@ -6,11 +6,11 @@ use Rattle.cast_message.specs.declared.config.Config.{Config}
 use Rattle.cast_message.specs.declared.event.Event.{Event}
 use Rattle.cast_message.specs.declared.event.Event.TheVariants.{Send, Ack, Arrive}
 use Rattle.cast_message.specs.declared.event.StepFault.{StepFault}
-use Rattle.cast_message.specs.History.{History, frames}
-use Rattle.cast_message.specs.Replies.{fault, reply}
-use Rattle.cast_message.specs.Rounds.{Due, due, events_for, plan_from, plan}
-use Rattle.cast_message.proofs.Round.{with_all, Counted}
-use Rattle.cast_message.proofs.RoundFaults.{Going, Going-next, Going-start}
+use Rattle.cast_model.specs.History.{History, frames}
+use Rattle.cast_model.specs.Replies.{fault, reply}
+use Rattle.cast_model.specs.Rounds.{Due, due, events_for, plan_from, plan}
+use Rattle.cast_model.proofs.Round.{with_all, Counted}
+use Rattle.cast_model.proofs.RoundFaults.{Going, Going-next, Going-start}
 use Rattle.cast_record.specs.declared.line.Line.{Line}
 use Rattle.cast_record.specs.Lines.{lines_for}
 use Rattle.cast_record.specs.Text.{record_text}

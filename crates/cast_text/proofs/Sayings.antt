@@ -10,8 +10,8 @@ use Rattle.cast_message.specs.declared.message.Item.{Item}
 use Rattle.cast_message.specs.declared.message.Item.TheVariants.{Data, Propose, Close}
 use Rattle.cast_message.specs.declared.message.Message.{Message}
 use Rattle.cast_message.specs.declared.message.Decision.{Decision}
-use Rattle.cast_message.specs.Replies as replies
-use Rattle.cast_message.proofs.Members.{Member, here, there, Member-uncons, Member-Contains, list_any-Member}
+use Rattle.cast_model.specs.Replies as replies
+use Rattle.cast_model.proofs.Members.{Member, here, there, Member-uncons, Member-Contains, list_any-Member}
 use Rattle.cast_record.specs.declared.line.Line.{Line}
 use Rattle.cast_record.specs.declared.line.Line.TheVariants.{Head, Head2, Broadcast, Delivered, Decided, Crashed, Refused, End}
 use Rattle.cast_record.specs.Rules as said

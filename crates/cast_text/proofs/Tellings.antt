@@ -9,9 +9,9 @@ use Rattle.cast_message.specs.declared.message.Item.{Item}
 use Rattle.cast_message.specs.declared.message.Item.TheVariants.{Propose}
 use Rattle.cast_message.specs.declared.message.Message.{Message}
 use Rattle.cast_message.specs.declared.message.Decision.{Decision}
-use Rattle.cast_message.specs.History.{numbered}
-use Rattle.cast_message.specs.Replies as replies
-use Rattle.cast_message.proofs.Members.{Member, here, there, Member-uncons, Member-slice_get}
+use Rattle.cast_model.specs.History.{numbered}
+use Rattle.cast_model.specs.Replies as replies
+use Rattle.cast_model.proofs.Members.{Member, here, there, Member-uncons, Member-slice_get}
 use Rattle.cast_record.specs.declared.line.Line.{Line}
 use Rattle.cast_record.specs.declared.line.Line.TheVariants.{Broadcast, Delivered, Decided, Crashed, Refused}
 use Rattle.cast_record.specs.Ranges.{IsItemWithin, IsWithin}

@@ -6,9 +6,9 @@ use Rattle.std.specs.Prelude.{ℕ, ◌+◌, Bool, true, false, if◌then◌else�
 use Rattle.cast_message.specs.declared.config.Config.{Config}
 use Rattle.cast_message.specs.declared.event.Event.{Event}
 use Rattle.cast_message.specs.declared.event.StepFault.{StepFault}
-use Rattle.cast_message.specs.History.{History}
-use Rattle.cast_message.specs.Replies.{fault, reply, after}
-use Rattle.cast_message.specs.Rounds.{plan}
+use Rattle.cast_model.specs.History.{History}
+use Rattle.cast_model.specs.Replies.{fault, reply, after}
+use Rattle.cast_model.specs.Rounds.{plan}
 use Rattle.cast_record.specs.declared.line.Line.{Line}
 use Rattle.cast_record.specs.declared.line.Line.TheVariants.{End}
 use Rattle.cast_record.specs.Lines.{head_of, lines_for}

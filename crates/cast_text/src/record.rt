@@ -1,8 +1,8 @@
 //! Making the record of a script, line by line, as the world takes its events.
 ghost use Rattle.std.specs.Prelude.{◌≡◌, ◌++◌, ◌∷◌, [], false, OnOk};
 ghost use Rattle.cast_message.specs.declared.config.Config.{Config as Settings};
-ghost use Rattle.cast_message.specs.History.{History};
-ghost use Rattle.cast_message.specs.Replies.{fault, reply, after, is_want_of_memory};
+ghost use Rattle.cast_model.specs.History.{History};
+ghost use Rattle.cast_model.specs.Replies.{fault, reply, after, is_want_of_memory};
 ghost use Rattle.cast_world.specs.Group.{Stands};
 ghost use Rattle.cast_record.specs.Lines.{head_of, lines_for};
 ghost use Rattle.cast_record.specs.Text.{record_text, line_text};

@@ -5,9 +5,9 @@ use Rattle.std.specs.List.{range_with_len}
 use Rattle.std.proofs.lemmas.List.{map-append}
 use Rattle.std.proofs.lemmas.List.FromFn.{length-map-range_with_len, get_or-map-range_with_len, map-range_with_len_more}
 use Rattle.cast_message.specs.declared.config.Config.{Config}
-use Rattle.cast_message.specs.History.{frames}
-use Rattle.cast_message.specs.Replies.{IsAccepted}
-use Rattle.cast_message.specs.Steps.{steps_of}
+use Rattle.cast_model.specs.History.{frames}
+use Rattle.cast_model.specs.Replies.{IsAccepted}
+use Rattle.cast_model.specs.Steps.{steps_of}
 use Rattle.cast_node.specs.Kept.{Kept, nothing_kept}
 use Rattle.cast_node.specs.Stands.{Stands as NodeStands}
 use Rattle.cast_node.proofs.Places.{at_replicate, length-replicated}

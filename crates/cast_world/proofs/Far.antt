@@ -5,11 +5,11 @@ use Rattle.cast_message.specs.declared.event.Event.{Event}
 use Rattle.cast_message.specs.declared.event.Event.TheVariants.{Order, Send, Ack, Arrive, Crash}
 use Rattle.cast_message.specs.declared.event.Answer.{Answer}
 use Rattle.cast_message.specs.declared.event.StepFault.{StepFault}
-use Rattle.cast_message.specs.History.{History}
-use Rattle.cast_message.specs.Replies.{IsAccepted, IsRefused, fault, reply, answer}
-use Rattle.cast_message.proofs.Accepted.{Send-slot, Ack-taken}
-use Rattle.cast_message.proofs.Ready.{took_in_given}
-use Rattle.cast_message.proofs.Sound.{sound}
+use Rattle.cast_model.specs.History.{History}
+use Rattle.cast_model.specs.Replies.{IsAccepted, IsRefused, fault, reply, answer}
+use Rattle.cast_model.proofs.Accepted.{Send-slot, Ack-taken}
+use Rattle.cast_model.proofs.Ready.{took_in_given}
+use Rattle.cast_model.proofs.Sound.{sound}
 use Rattle.cast_world.specs.Group.{State, Continues, IsFar, IsRefusedForCause}
 use Rattle.cast_world.proofs.Owing.{gives_few}
 use Rattle.cast_world.proofs.Stepping.{no_fault}

@@ -8,7 +8,7 @@ use Rattle.cast_message.specs.declared.message.Item.{Item}
 use Rattle.cast_message.specs.declared.message.Item.TheVariants.{Close}
 use Rattle.cast_message.specs.declared.message.FrameBody.{FrameBody}
 use Rattle.cast_message.specs.declared.message.FrameBody.TheVariants.{Carry, Took}
-use Rattle.cast_message.specs.Steps.{Arrived}
+use Rattle.cast_model.specs.Steps.{Arrived}
 use Rattle.cast_node.specs.Kept.{Kept}
 use Rattle.cast_node.specs.Calls.{carried_frame, took_frame}
 use Rattle.cast_node.specs.Turns.{Gives}

@@ -7,11 +7,11 @@ use Rattle.std.proofs.lemmas.List.Sums.{count_by-le-length}
 use Rattle.cast_message.specs.declared.config.Config.{Config}
 use Rattle.cast_message.specs.declared.event.Event.{Event}
 use Rattle.cast_message.specs.declared.event.Event.TheVariants.{Send, Ack, Arrive}
-use Rattle.cast_message.specs.History.{History}
-use Rattle.cast_message.specs.Rounds.{Due, due, frames_for, events_for, plan_from, plan}
-use Rattle.cast_message.proofs.Members.{Member, here, Member-append_right}
-use Rattle.cast_message.proofs.Dues.{due_ok}
-use Rattle.cast_message.proofs.Round.{frames_for-push}
+use Rattle.cast_model.specs.History.{History}
+use Rattle.cast_model.specs.Rounds.{Due, due, frames_for, events_for, plan_from, plan}
+use Rattle.cast_model.proofs.Members.{Member, here, Member-append_right}
+use Rattle.cast_model.proofs.Dues.{due_ok}
+use Rattle.cast_model.proofs.Round.{frames_for-push}
 use Rattle.cast_world.specs.Group.{State, Stands}
 use Rattle.cast_world.specs.Rounds.{events_after}
 use Rattle.cast_world.proofs.Rounding.{drop-next}

@@ -10,18 +10,18 @@ use Rattle.std.proofs.lemmas.List.{append-nil, append_assoc, map-append}
 use Rattle.std.proofs.lemmas.List.Elements.{filter-append}
 use Rattle.cast_message.specs.declared.config.Config.{Config}
 use Rattle.cast_message.specs.declared.message.Message.{Message}
-use Rattle.cast_message.specs.History.{History, is_live, first, given, given_of}
-use Rattle.cast_message.specs.Delivery.{nodes_of}
-use Rattle.cast_message.specs.Replies.{IsAccepted}
-use Rattle.cast_message.specs.Rounds.{Due, owed, due_between, live_nodes, due}
-use Rattle.cast_message.specs.Steps.{steps_of, copy_of}
-use Rattle.cast_message.specs.OwnSteps.{own_given, own_acked, own_owed, message_in}
-use Rattle.cast_message.proofs.Members.{Member, here, there, Member-filter}
-use Rattle.cast_message.proofs.Dues.{range_bounds}
-use Rattle.cast_message.proofs.OwnHeld.{own_live-steps_of, own_given-steps_of}
-use Rattle.cast_message.proofs.OwnTurns.{length-map}
-use Rattle.cast_message.proofs.OwnReplies.{own_owed-steps_of}
-use Rattle.cast_message.proofs.Possible.{held_bounded}
+use Rattle.cast_model.specs.History.{History, is_live, first, given, given_of}
+use Rattle.cast_model.specs.Delivery.{nodes_of}
+use Rattle.cast_model.specs.Replies.{IsAccepted}
+use Rattle.cast_model.specs.Rounds.{Due, owed, due_between, live_nodes, due}
+use Rattle.cast_model.specs.Steps.{steps_of, copy_of}
+use Rattle.cast_model.specs.OwnSteps.{own_given, own_acked, own_owed, message_in}
+use Rattle.cast_model.proofs.Members.{Member, here, there, Member-filter}
+use Rattle.cast_model.proofs.Dues.{range_bounds}
+use Rattle.cast_model.proofs.OwnHeld.{own_live-steps_of, own_given-steps_of}
+use Rattle.cast_model.proofs.OwnTurns.{length-map}
+use Rattle.cast_model.proofs.OwnReplies.{own_owed-steps_of}
+use Rattle.cast_model.proofs.Possible.{held_bounded}
 use Rattle.cast_node.specs.Kept.{link_to}
 use Rattle.cast_node.specs.Stands.{StandsOut}
 use Rattle.cast_link.specs.Links.{Link}

@@ -6,12 +6,12 @@ use Rattle.std.specs.Ordering.{nat_cmp}
 use Rattle.cast_message.specs.declared.config.Config.{Config}
 use Rattle.cast_message.specs.declared.config.Mode.TheVariants.{Uniform}
 use Rattle.cast_message.specs.declared.message.Message.{Message}
-use Rattle.cast_message.specs.History.{History}
-use Rattle.cast_message.specs.Delivery.{delivered}
-use Rattle.cast_message.specs.Replies.{IsAccepted}
-use Rattle.cast_message.specs.Rounds.{Rest, HaveFewCrashed, FewCrashedIn, owed}
-use Rattle.cast_message.proofs.DecidedAtRest.{all_delivered_same, live_stream_delivered, all_decided_same, decided_where_proposed}
-use Rattle.cast_message.proofs.UniformRest.{all_have_it}
+use Rattle.cast_model.specs.History.{History}
+use Rattle.cast_model.specs.Delivery.{delivered}
+use Rattle.cast_model.specs.Replies.{IsAccepted}
+use Rattle.cast_model.specs.Rounds.{Rest, HaveFewCrashed, FewCrashedIn, owed}
+use Rattle.cast_model.proofs.DecidedAtRest.{all_delivered_same, live_stream_delivered, all_decided_same, decided_where_proposed}
+use Rattle.cast_model.proofs.UniformRest.{all_have_it}
 use Rattle.cast_node.specs.Kept.{link_to}
 use Rattle.cast_world.specs.Group.{State, node_at, Stands}
 use Rattle.cast_world.specs.Rounds.{AgreesAtRest, HaveWhatAnyDelivered, IsSettled}

@@ -7,12 +7,12 @@ use Rattle.cast_message.specs.declared.event.Event.TheVariants.{Send, Ack, Arriv
 use Rattle.cast_message.specs.declared.event.Answer.{Answer}
 use Rattle.cast_message.specs.declared.event.StepFault.{StepFault}
 use Rattle.cast_message.specs.declared.event.StepFault.TheVariants.{FramesFull, Memory}
-use Rattle.cast_message.specs.History.{History}
-use Rattle.cast_message.specs.Replies.{IsAccepted, IsRefused, fault, history_from}
-use Rattle.cast_message.specs.Rounds.{Due, AreAccepted, due, events_for, plan_from, plan, after_round}
-use Rattle.cast_message.proofs.Round.{with_all, with_all-append, Counted}
-use Rattle.cast_message.proofs.RoundFaults.{Going, Going-next, Going-start, plan_fault, accepted_all, all_accepted, history_from-with_all}
-use Rattle.cast_message.proofs.TwoRounds.{round_frames, holds_all, holds_no_more}
+use Rattle.cast_model.specs.History.{History}
+use Rattle.cast_model.specs.Replies.{IsAccepted, IsRefused, fault, history_from}
+use Rattle.cast_model.specs.Rounds.{Due, AreAccepted, due, events_for, plan_from, plan, after_round}
+use Rattle.cast_model.proofs.Round.{with_all, with_all-append, Counted}
+use Rattle.cast_model.proofs.RoundFaults.{Going, Going-next, Going-start, plan_fault, accepted_all, all_accepted, history_from-with_all}
+use Rattle.cast_model.proofs.TwoRounds.{round_frames, holds_all, holds_no_more}
 use Rattle.cast_world.specs.Group.{State, Stands, Continues}
 use Rattle.cast_world.specs.Plans.{events_from}
 use Rattle.cast_world.specs.Rounds.{Stops, TakesAll, StopsFor, StopsRound, EndsRound, Spreads}

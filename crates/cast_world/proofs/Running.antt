@@ -5,9 +5,9 @@ use Rattle.cast_message.specs.declared.config.Config.{Config}
 use Rattle.cast_message.specs.declared.event.Event.{Event}
 use Rattle.cast_message.specs.declared.event.Answer.{Answer}
 use Rattle.cast_message.specs.declared.event.StepFault.{StepFault}
-use Rattle.cast_message.specs.History.{History}
-use Rattle.cast_message.specs.Replies.{IsRefused, is_want_of_memory, fault, answer, reply, reply_by, after, after_by, history, replies, history_from, replies_from}
-use Rattle.cast_message.proofs.Runs.{history_from-push, replies_from-push}
+use Rattle.cast_model.specs.History.{History}
+use Rattle.cast_model.specs.Replies.{IsRefused, is_want_of_memory, fault, answer, reply, reply_by, after, after_by, history, replies, history_from, replies_from}
+use Rattle.cast_model.proofs.Runs.{history_from-push, replies_from-push}
 use Rattle.cast_world.specs.Group.{State, Stands, Continues}
 
 after_answer : (past : History) (event : Event) (a b : Answer) (refusal : Option StepFault) → reply_by refusal a ≡ Ok b → after_by refusal past event ≡ event ∷ past

@@ -6,18 +6,18 @@ use Rattle.std.specs.FinMap as finite
 use Rattle.cast_message.specs.declared.config.Config.{Config}
 use Rattle.cast_message.specs.declared.event.Event.{Event}
 use Rattle.cast_message.specs.declared.message.Item.{Item}
-use Rattle.cast_message.specs.History.{History, stream, is_live, frames}
-use Rattle.cast_message.specs.Delivery.{delivered, decision, least}
-use Rattle.cast_message.specs.Replies.{IsAccepted, causes, fault}
-use Rattle.cast_message.specs.Rounds.{owed}
-use Rattle.cast_message.specs.Shown.{item_of, ShowsDelivered, ShowsOwed}
-use Rattle.cast_message.specs.Steps.{Step, steps_of}
-use Rattle.cast_message.specs.OwnSteps.{own_decision, own_log, first_votes, IsStep, orders, sends, acknowledges, takes, stops}
-use Rattle.cast_message.proofs.Members.{Member-slice_get}
-use Rattle.cast_message.proofs.Projected.{own_items-steps_of}
-use Rattle.cast_message.proofs.OwnHeld.{own_live-steps_of, step_cases, steps_same}
-use Rattle.cast_message.proofs.OwnTurns.{own_decision-steps_of, own_delivered-steps_of}
-use Rattle.cast_message.proofs.OwnReplies.{own_owed-steps_of, frame_ends}
+use Rattle.cast_model.specs.History.{History, stream, is_live, frames}
+use Rattle.cast_model.specs.Delivery.{delivered, decision, least}
+use Rattle.cast_model.specs.Replies.{IsAccepted, causes, fault}
+use Rattle.cast_model.specs.Rounds.{owed}
+use Rattle.cast_model.specs.Shown.{item_of, ShowsDelivered, ShowsOwed}
+use Rattle.cast_model.specs.Steps.{Step, steps_of}
+use Rattle.cast_model.specs.OwnSteps.{own_decision, own_log, first_votes, IsStep, orders, sends, acknowledges, takes, stops}
+use Rattle.cast_model.proofs.Members.{Member-slice_get}
+use Rattle.cast_model.proofs.Projected.{own_items-steps_of}
+use Rattle.cast_model.proofs.OwnHeld.{own_live-steps_of, step_cases, steps_same}
+use Rattle.cast_model.proofs.OwnTurns.{own_decision-steps_of, own_delivered-steps_of}
+use Rattle.cast_model.proofs.OwnReplies.{own_owed-steps_of, frame_ends}
 use Rattle.cast_agree.specs.Counted.{decision as decision_counted}
 use Rattle.cast_node.specs.Kept.{link_to}
 use Rattle.cast_node.specs.Calls.{is_peer}

@@ -14,8 +14,8 @@ use Rattle.cast_message.specs.declared.message.Message.{Message}
 use Rattle.cast_message.specs.declared.message.Frame.{Frame}
 use Rattle.cast_message.specs.declared.message.FrameBody.{FrameBody}
 use Rattle.cast_message.specs.declared.message.FrameBody.TheVariants.{Carry, Took}
-use Rattle.cast_message.specs.Replies.{Cause, IsRefused, no_node, first_fault}
-use Rattle.cast_message.specs.Steps.{Step, Ordered, Sent, Acknowledged, Arrived, Stopped}
+use Rattle.cast_model.specs.Replies.{Cause, IsRefused, no_node, first_fault}
+use Rattle.cast_model.specs.Steps.{Step, Ordered, Sent, Acknowledged, Arrived, Stopped}
 use Rattle.std.specs.FinMap as finite
 use Rattle.cast_relay.specs.Held.{holds}
 use Rattle.cast_node.specs.Kept.{Kept, nothing_kept, link_to, is_enough}

@@ -14,19 +14,19 @@ use Rattle.cast_message.specs.declared.message.Item.TheVariants.{Close}
 use Rattle.cast_message.specs.declared.message.Frame.{Frame}
 use Rattle.cast_message.specs.declared.message.FrameBody.{FrameBody}
 use Rattle.cast_message.specs.declared.message.FrameBody.TheVariants.{Carry, Took}
-use Rattle.cast_message.specs.History.{History, stream, frames, frame_arriving}
-use Rattle.cast_message.specs.Replies.{IsAccepted, IsRefused, Cause, no_node, first_fault, causes, causes_of_arrival, fault, answer, reply, reply_by, after, after_by}
-use Rattle.cast_message.specs.Steps.{Step, Ordered, Sent, Acknowledged, Arrived, Stopped, step_by, step_of, steps_of}
-use Rattle.cast_message.specs.OwnSteps.{own_fault, own_made, own_frames, node_reply, node_after, IsStep, orders, sends, acknowledges, takes, stops}
-use Rattle.cast_message.proofs.Members.{Member-slice_get}
-use Rattle.cast_message.proofs.Sound.{sound, BodyOk}
-use Rattle.cast_message.proofs.Agreement.{node_in as node_in_group}
-use Rattle.cast_message.proofs.Projected.{own_items-steps_of}
-use Rattle.cast_message.proofs.OwnTurns.{length-map}
-use Rattle.cast_message.proofs.Dues.{none_from_absent}
-use Rattle.cast_message.proofs.OwnHeld.{steps_after}
-use Rattle.cast_message.proofs.OwnReplies.{own_fault-steps_of, own_frames-steps_of, frame_ends}
-use Rattle.cast_message.proofs.Possible.{node_reply-steps_of, node_after-steps_of}
+use Rattle.cast_model.specs.History.{History, stream, frames, frame_arriving}
+use Rattle.cast_model.specs.Replies.{IsAccepted, IsRefused, Cause, no_node, first_fault, causes, causes_of_arrival, fault, answer, reply, reply_by, after, after_by}
+use Rattle.cast_model.specs.Steps.{Step, Ordered, Sent, Acknowledged, Arrived, Stopped, step_by, step_of, steps_of}
+use Rattle.cast_model.specs.OwnSteps.{own_fault, own_made, own_frames, node_reply, node_after, IsStep, orders, sends, acknowledges, takes, stops}
+use Rattle.cast_model.proofs.Members.{Member-slice_get}
+use Rattle.cast_model.proofs.Sound.{sound, BodyOk}
+use Rattle.cast_model.proofs.Agreement.{node_in as node_in_group}
+use Rattle.cast_model.proofs.Projected.{own_items-steps_of}
+use Rattle.cast_model.proofs.OwnTurns.{length-map}
+use Rattle.cast_model.proofs.Dues.{none_from_absent}
+use Rattle.cast_model.proofs.OwnHeld.{steps_after}
+use Rattle.cast_model.proofs.OwnReplies.{own_fault-steps_of, own_frames-steps_of, frame_ends}
+use Rattle.cast_model.proofs.Possible.{node_reply-steps_of, node_after-steps_of}
 use Rattle.cast_node.specs.Kept.{nothing_kept}
 use Rattle.cast_node.specs.Turns.{kept_after, kept_fault, kept_causes}
 use Rattle.cast_node.specs.Stands.{Stands as NodeStands}

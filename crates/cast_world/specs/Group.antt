@@ -17,9 +17,9 @@ use Rattle.cast_message.specs.declared.message.Item.TheVariants.{Close}
 use Rattle.cast_message.specs.declared.message.Frame.{Frame}
 use Rattle.cast_message.specs.declared.message.FrameBody.{FrameBody}
 use Rattle.cast_message.specs.declared.message.FrameBody.TheVariants.{Carry, Took}
-use Rattle.cast_message.specs.History.{History, frames}
-use Rattle.cast_message.specs.Replies.{IsAccepted, IsRefused, fault, reply}
-use Rattle.cast_message.specs.Steps.{Steps, steps_of}
+use Rattle.cast_model.specs.History.{History, frames}
+use Rattle.cast_model.specs.Replies.{IsAccepted, IsRefused, fault, reply}
+use Rattle.cast_model.specs.Steps.{Steps, steps_of}
 use Rattle.cast_node.specs.Kept.{Kept, nothing_kept}
 use Rattle.cast_node.specs.Turns.{kept_after}
 use Rattle.cast_node.specs.Stands.{Stands as NodeStands}

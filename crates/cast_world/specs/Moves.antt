@@ -8,8 +8,8 @@ use Rattle.cast_message.specs.declared.event.Event.TheVariants.{Order, Send, Ack
 use Rattle.cast_message.specs.declared.event.Answer.{Answer}
 use Rattle.cast_message.specs.declared.event.StepFault.{StepFault}
 use Rattle.cast_message.specs.declared.event.StepFault.TheVariants.{NoNode, NoFrame}
-use Rattle.cast_message.specs.Replies.{IsRefused}
-use Rattle.cast_message.specs.Steps.{Step, Ordered, Sent, Acknowledged, Arrived, Stopped}
+use Rattle.cast_model.specs.Replies.{IsRefused}
+use Rattle.cast_model.specs.Steps.{Step, Ordered, Sent, Acknowledged, Arrived, Stopped}
 use Rattle.cast_node.specs.Kept.{Kept}
 use Rattle.cast_node.specs.Turns.{kept_fault, carry_of, took_of, Gives}
 use Rattle.cast_world.specs.declared.frames.Mark.{Mark}

@@ -8,8 +8,8 @@ use Rattle.std.specs.List.{filter, flat_map, range_with_len}
 use Rattle.std.specs.FinMap as finite
 use Rattle.cast_message.specs.declared.event.Event.{Event}
 use Rattle.cast_message.specs.declared.event.Event.TheVariants.{Send, Ack, Arrive}
-use Rattle.cast_message.specs.Delivery.{nodes_of}
-use Rattle.cast_message.specs.Rounds.{Due}
+use Rattle.cast_model.specs.Delivery.{nodes_of}
+use Rattle.cast_model.specs.Rounds.{Due}
 use Rattle.cast_link.specs.Links.{Link}
 use Rattle.cast_node.specs.Kept.{link_to}
 use Rattle.cast_world.specs.Group.{State, node_at, marks_at}

@@ -12,10 +12,10 @@ use Rattle.cast_message.specs.declared.event.Event.{Event}
 use Rattle.cast_message.specs.declared.event.Event.TheVariants.{Send, Ack, Arrive}
 use Rattle.cast_message.specs.declared.event.StepFault.{StepFault}
 use Rattle.cast_message.specs.declared.event.StepFault.TheVariants.{FramesFull, Memory}
-use Rattle.cast_message.specs.History.{History, is_live, broadcast, has_pair, first}
-use Rattle.cast_message.specs.Delivery.{delivered, decision}
-use Rattle.cast_message.specs.Replies.{IsRefused, IsPrefixOf, fault, history_from}
-use Rattle.cast_message.specs.Rounds.{owed, Due, Live, AreAccepted, makes_frame, plan, after_round, proposers}
+use Rattle.cast_model.specs.History.{History, is_live, broadcast, has_pair, first}
+use Rattle.cast_model.specs.Delivery.{delivered, decision}
+use Rattle.cast_model.specs.Replies.{IsRefused, IsPrefixOf, fault, history_from}
+use Rattle.cast_model.specs.Rounds.{owed, Due, Live, AreAccepted, makes_frame, plan, after_round, proposers}
 use Rattle.cast_world.specs.Group.{State, Stands, marks_at}
 
 -- these were taken, and the next one was refused

@@ -5,8 +5,8 @@ ghost use Rattle.std.specs.FinMap as finite;
 ghost use Rattle.cast_node.specs.Kept.{link_to};
 ghost use Rattle.cast_node.specs.Calls.{is_peer};
 ghost use Rattle.cast_message.specs.declared.config.Config.{Config as Settings};
-ghost use Rattle.cast_message.specs.History.{History};
-ghost use Rattle.cast_message.specs.Rounds.{due};
+ghost use Rattle.cast_model.specs.History.{History};
+ghost use Rattle.cast_model.specs.Rounds.{due};
 ghost use Rattle.cast_world.specs.Group.{Stands, node_at};
 ghost use Rattle.cast_world.specs.Plans.{live_at, due_of, due_between_at, due_at, owed_below, events_from, IsBounded};
 
@@ -25,7 +25,7 @@ pub struct DueSlot {
 }
 
 impl Model for DueSlot {
-    ghost use Rattle.cast_message.specs.Rounds.{Due};
+    ghost use Rattle.cast_model.specs.Rounds.{Due};
 
     ghost Value = { Due };
 

@@ -3,8 +3,8 @@
 ghost use Rattle.std.specs.Prelude.{◌≡◌, ℕ, ◌==◌, true, false, List, ◌++◌, ◌∷◌, [], Some, None, IfOk, OnOk, OnErr, MatchResult, length, map, slice_get, slice_index_or};
 ghost use Rattle.cast_message.specs.declared.message.Item.TheVariants.{Close};
 ghost use Rattle.cast_message.specs.declared.config.Config.{Config as Settings};
-ghost use Rattle.cast_message.specs.Steps.{Sent, Acknowledged, Arrived};
-ghost use Rattle.cast_message.specs.Replies.{IsRefused};
+ghost use Rattle.cast_model.specs.Steps.{Sent, Acknowledged, Arrived};
+ghost use Rattle.cast_model.specs.Replies.{IsRefused};
 ghost use Rattle.cast_node.specs.Kept.{Kept};
 ghost use Rattle.cast_relay.specs.Held.{holds};
 ghost use Rattle.cast_node.specs.Turns.{Gives, kept_fault, carry_of, took_of};

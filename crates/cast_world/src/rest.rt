@@ -2,8 +2,8 @@
 ghost use Rattle.std.specs.Prelude.{◌≡◌, ℕ, ◌<◌, ◌↔◌, IsTrue};
 ghost use Rattle.cast_message.specs.declared.config.Config.{Config as Settings};
 ghost use Rattle.cast_message.specs.declared.config.Mode.TheVariants.{Uniform};
-ghost use Rattle.cast_message.specs.History.{History};
-ghost use Rattle.cast_message.specs.Rounds.{Rest, HaveFewCrashed, FewCrashedIn};
+ghost use Rattle.cast_model.specs.History.{History};
+ghost use Rattle.cast_model.specs.Rounds.{Rest, HaveFewCrashed, FewCrashedIn};
 ghost use Rattle.cast_world.specs.Group.{Stands};
 ghost use Rattle.cast_world.specs.Rounds.{IsSettled, AgreesAtRest, HaveWhatAnyDelivered};
 

@@ -3,9 +3,9 @@
 ghost use Rattle.std.specs.Prelude.{◌≡◌, ℕ, true, ◌<◌, ◌+◌, ◌^◌, ◌++◌, ◌==◌, ◌||◌, ◌↔◌, cond, IsTrue, IfOk, OnOk, length, slice_index_or};
 ghost use Rattle.cast_message.specs.declared.config.Config.{Config as Settings};
 ghost use Rattle.cast_message.specs.declared.config.Mode.TheVariants.{Uniform};
-ghost use Rattle.cast_message.specs.History.{History};
-ghost use Rattle.cast_message.specs.Replies.{IsAccepted};
-ghost use Rattle.cast_message.specs.Rounds.{Rest, HoldTheSame, FewCrashedIn, AreAccepted, plan, after_round};
+ghost use Rattle.cast_model.specs.History.{History};
+ghost use Rattle.cast_model.specs.Replies.{IsAccepted};
+ghost use Rattle.cast_model.specs.Rounds.{Rest, HoldTheSame, FewCrashedIn, AreAccepted, plan, after_round};
 ghost use Rattle.cast_world.specs.Group.{Stands};
 ghost use Rattle.cast_world.specs.Rounds.{TakesAll, TakesRound, Spreads, AgreesAtRest, HaveWhatAnyDelivered, events_after};
 

@@ -1,7 +1,7 @@
 //! A whole run: the replies to a list of events, and the world after them.
 ghost use Rattle.std.specs.Prelude.{◌≡◌, IfOk};
-ghost use Rattle.cast_message.specs.Replies.{history, replies, is_want_of_memory};
-ghost use Rattle.cast_message.specs.Headline.{DeliversPrefixes, DeliversNothingAfterClose, DecidesProposals, DecidesFewValues};
+ghost use Rattle.cast_model.specs.Replies.{history, replies, is_want_of_memory};
+ghost use Rattle.cast_model.specs.Headline.{DeliversPrefixes, DeliversNothingAfterClose, DecidesProposals, DecidesFewValues};
 ghost use Rattle.cast_world.specs.Group.{Stands};
 
 use crate::world::World;

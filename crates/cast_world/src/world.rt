@@ -2,9 +2,9 @@
 ghost use Rattle.std.specs.Prelude.{◌≡◌, ◌<◌, ◌≤◌, ◌^◌, IfOk, IfNone, OnErr, [], Some, None, length, slice_get, option_map, nat_lt, ◌&&◌, MatchOption, MatchResult};
 ghost use Rattle.std.specs.Option.{option_copied};
 ghost use Rattle.cast_message.specs.declared.config.Config.{Config as Settings};
-ghost use Rattle.cast_message.specs.History.{History, is_live};
-ghost use Rattle.cast_message.specs.Delivery.{decision};
-ghost use Rattle.cast_message.specs.Shown.{ShowsDelivered, ShowsStream, ShowsOwed};
+ghost use Rattle.cast_model.specs.History.{History, is_live};
+ghost use Rattle.cast_model.specs.Delivery.{decision};
+ghost use Rattle.cast_model.specs.Shown.{ShowsDelivered, ShowsStream, ShowsOwed};
 ghost use Rattle.cast_world.specs.Group.{Stands, Continues, IsFar, IsRefusedForCause, node_at, marks_at};
 ghost use Rattle.cast_world.specs.Moves.{StepsTo};
 

@@ -9,11 +9,11 @@ use Rattle.cast_message.specs.declared.event.Event.{Event}
 use Rattle.cast_message.specs.declared.event.Answer.{Answer}
 use Rattle.cast_message.specs.declared.event.StepFault.{StepFault}
 use Rattle.cast_message.specs.declared.message.Message.{Message}
-use Rattle.cast_message.specs.History.{History, broadcast}
-use Rattle.cast_message.specs.Delivery.{delivered}
-use Rattle.cast_message.specs.Headline.{DeliversPrefixes}
-use Rattle.cast_message.specs.Replies.{IsPrefixOf, answered, deliveries_for, is_from, after, history, replies, replies_from}
-use Rattle.cast_message.proofs.Answered.{answered-delivered}
+use Rattle.cast_model.specs.History.{History, broadcast}
+use Rattle.cast_model.specs.Delivery.{delivered}
+use Rattle.cast_model.specs.Headline.{DeliversPrefixes}
+use Rattle.cast_model.specs.Replies.{IsPrefixOf, answered, deliveries_for, is_from, after, history, replies, replies_from}
+use Rattle.cast_model.proofs.Answered.{answered-delivered}
 use Rattle.example_ledger.specs.Applied.{applied_at, of_sender, AreBooksOf}
 use Rattle.example_ledger.specs.Sheets.{BookState, IsSheetOf}
 

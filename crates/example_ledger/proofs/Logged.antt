@@ -11,13 +11,13 @@ use Rattle.cast_message.specs.declared.event.Answer.TheVariants.{Arrived as Answ
 use Rattle.cast_message.specs.declared.message.Item.{Item}
 use Rattle.cast_message.specs.declared.message.Message.{Message}
 use Rattle.cast_message.specs.declared.message.Decision.{Decision}
-use Rattle.cast_message.specs.History.{History, stream, broadcast, numbered}
-use Rattle.cast_message.specs.Replies.{IsPrefixOf, is_from, reply_by}
-use Rattle.cast_message.specs.Shown.{item_of}
-use Rattle.cast_message.specs.Steps.{Step, Ordered, Sent, Acknowledged, Arrived, Stopped, Steps, steps_of}
-use Rattle.cast_message.specs.OwnSteps.{own_log, own_deliveries, own_outcome, own_answer, own_fault, is_ignored, nothing, node_reply, node_after}
-use Rattle.cast_message.proofs.OwnTurns.{own_log-steps_of}
-use Rattle.cast_message.proofs.Prefix.{delivery_log_is_prefix}
+use Rattle.cast_model.specs.History.{History, stream, broadcast, numbered}
+use Rattle.cast_model.specs.Replies.{IsPrefixOf, is_from, reply_by}
+use Rattle.cast_model.specs.Shown.{item_of}
+use Rattle.cast_model.specs.Steps.{Step, Ordered, Sent, Acknowledged, Arrived, Stopped, Steps, steps_of}
+use Rattle.cast_model.specs.OwnSteps.{own_log, own_deliveries, own_outcome, own_answer, own_fault, is_ignored, nothing, node_reply, node_after}
+use Rattle.cast_model.proofs.OwnTurns.{own_log-steps_of}
+use Rattle.cast_model.proofs.Prefix.{delivery_log_is_prefix}
 use Rattle.cast_node.specs.declared.entry.Entry.{Entry}
 use Rattle.cast_node.specs.declared.entry.EntryKind.{EntryKind}
 use Rattle.cast_node.specs.declared.entry.EntryKind.TheVariants.{Step as StepEntry, Refused}

@@ -3,9 +3,9 @@ use Rattle.std.proofs.Common.{◌≡◌, ◌<◌, ℕ, zero, suc, List, [], ◌�
 use Rattle.std.specs.Prelude.{slice_get}
 use Rattle.std.proofs.lemmas.Option.{slice_get_within}
 use Rattle.cast_message.specs.declared.config.Config.{Config}
-use Rattle.cast_message.specs.History.{History, stream}
-use Rattle.cast_message.specs.Replies.{IsPrefixOf}
-use Rattle.cast_message.specs.Shown.{item_of}
+use Rattle.cast_model.specs.History.{History, stream}
+use Rattle.cast_model.specs.Replies.{IsPrefixOf}
+use Rattle.cast_model.specs.Shown.{item_of}
 use Rattle.cast_merge.specs.declared.report.NodeReport.{NodeReport}
 use Rattle.cast_run.specs.declared.reports.ClientReport.{ClientReport}
 use Rattle.cast_run.specs.Jobs.{told_job}

@@ -12,10 +12,10 @@ use Rattle.cast_message.specs.declared.event.Event.{Event}
 use Rattle.cast_message.specs.declared.event.Answer.{Answer}
 use Rattle.cast_message.specs.declared.event.StepFault.{StepFault}
 use Rattle.cast_message.specs.declared.message.Message.{Message}
-use Rattle.cast_message.specs.History.{History, broadcast}
-use Rattle.cast_message.specs.Delivery.{delivered}
-use Rattle.cast_message.specs.Replies.{IsPrefixOf, is_from, deliveries_for}
-use Rattle.cast_message.specs.Rounds.{Live}
+use Rattle.cast_model.specs.History.{History, broadcast}
+use Rattle.cast_model.specs.Delivery.{delivered}
+use Rattle.cast_model.specs.Replies.{IsPrefixOf, is_from, deliveries_for}
+use Rattle.cast_model.specs.Rounds.{Live}
 use Rattle.example_ledger.specs.Sheets.{BookState, IsSheetOf}
 
 abbrev pub of_sender : ℕ → List Message → List Message

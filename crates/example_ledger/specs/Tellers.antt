@@ -8,9 +8,9 @@ use Rattle.std.specs.Prelude.{◌≡◌, ℕ, ◌<◌, List, [], map, slice_get,
 use Rattle.std.specs.List.{filter_map}
 use Rattle.cast_message.specs.declared.config.Config.{Config}
 use Rattle.cast_message.specs.declared.message.Message.{Message}
-use Rattle.cast_message.specs.History.{History, stream}
-use Rattle.cast_message.specs.Replies.{IsPrefixOf}
-use Rattle.cast_message.specs.Shown.{item_of}
+use Rattle.cast_model.specs.History.{History, stream}
+use Rattle.cast_model.specs.Replies.{IsPrefixOf}
+use Rattle.cast_model.specs.Shown.{item_of}
 use Rattle.cast_desk.specs.declared.notice.Notice.{Notice}
 use Rattle.cast_desk.specs.declared.notice.Notice.TheVariants.{Reply, Delivered, Decided}
 use Rattle.cast_desk.specs.declared.desk.OrderIn.{OrderIn}

@@ -1,7 +1,7 @@
 -- The counts of the senders so far were written.
 use Rattle.std.proofs.Common.{◌≡◌, ◌-◌, false}
 use Rattle.std.specs.List.{range_with_len}
-use Rattle.cast_message.specs.History.{History}
+use Rattle.cast_model.specs.History.{History}
 use Rattle.cast_world.specs.Group.{Stands}
 use Rattle.cast_words.proofs.WritingLemmas.{IsGoing}
 use Rattle.cast_live.specs.Live.{counts_text}

@@ -1,6 +1,6 @@
 -- The lines of the nodes so far were written.
 use Rattle.std.proofs.Common.{◌≡◌, false, drop}
-use Rattle.cast_message.specs.History.{History}
+use Rattle.cast_model.specs.History.{History}
 use Rattle.cast_world.specs.Group.{Stands}
 use Rattle.cast_words.proofs.WritingLemmas.{IsGoing}
 use Rattle.cast_live.specs.Live.{nodes_text, ends_of}

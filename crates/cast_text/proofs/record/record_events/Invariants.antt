@@ -1,7 +1,7 @@
 -- The events so far were tried, and none was refused.
 use Rattle.std.proofs.Common.{◌≡◌, false, drop}
 use Rattle.cast_message.specs.declared.config.Config.{Config}
-use Rattle.cast_message.specs.History.{History}
+use Rattle.cast_model.specs.History.{History}
 use Rattle.cast_world.specs.Group.{Stands}
 use Rattle.cast_text.proofs.Recording.{IsTrying}
 use Rattle.cast_text.proofs.record.record_events.Given as goal

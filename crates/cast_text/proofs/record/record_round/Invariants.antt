@@ -1,7 +1,7 @@
 -- The slots so far were settled, and none of their events was refused.
 use Rattle.std.proofs.Common.{◌≡◌, false, take, drop}
 use Rattle.cast_message.specs.declared.config.Config.{Config}
-use Rattle.cast_message.specs.History.{History}
+use Rattle.cast_model.specs.History.{History}
 use Rattle.cast_world.specs.Group.{Stands}
 use Rattle.cast_text.proofs.Rounds.{IsRound}
 use Rattle.cast_text.proofs.record.record_round.Given as goal

@@ -1,6 +1,6 @@
 use Rattle.std.proofs.Common.{sym, subst, Ok}
 use Rattle.cast_message.specs.declared.event.Answer.TheVariants.{Arrived as AnswerArrived}
-use Rattle.cast_message.specs.Steps.{Arrived}
+use Rattle.cast_model.specs.Steps.{Arrived}
 use Rattle.cast_node.specs.Calls.{carried_frame}
 use Rattle.cast_node.specs.Turns.{Gives}
 use Rattle.cast_world.proofs.Marks.{item, gives_again}

@@ -1,11 +1,11 @@
 use Rattle.std.proofs.Common.{◌∙◌, ◌++◌, ◌∷◌, [], take, sym, ap, subst}
 use Rattle.cast_message.specs.declared.message.Item.TheVariants.{Propose}
-use Rattle.cast_message.specs.Replies.{history, replies}
-use Rattle.cast_message.specs.Headline.{DeliversPrefixes, DeliversNothingAfterClose, DecidesProposals, DecidesFewValues}
-use Rattle.cast_message.proofs.Members.{Member-Contains, Contains-Member}
-use Rattle.cast_message.proofs.Answered.{answered_is_prefix}
-use Rattle.cast_message.proofs.Closed.{answered_closed}
-use Rattle.cast_message.proofs.Agreement.{decided_in_stream, decided_at_most_choices}
+use Rattle.cast_model.specs.Replies.{history, replies}
+use Rattle.cast_model.specs.Headline.{DeliversPrefixes, DeliversNothingAfterClose, DecidesProposals, DecidesFewValues}
+use Rattle.cast_model.proofs.Members.{Member-Contains, Contains-Member}
+use Rattle.cast_model.proofs.Answered.{answered_is_prefix}
+use Rattle.cast_model.proofs.Closed.{answered_closed}
+use Rattle.cast_model.proofs.Agreement.{decided_in_stream, decided_at_most_choices}
 use Rattle.cast_world.specs.Group.{Stands}
 use Rattle.cast_world.proofs.Running.{run_begun, settled, replies_more, history_more, whole_replies}
 use Rattle.cast_world.proofs.run.run_events.Goals as goal

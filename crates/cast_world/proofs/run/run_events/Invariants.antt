@@ -1,6 +1,6 @@
 -- The replies so far are those of the definitions, and the world stands for the accepted events so far.
 use Rattle.std.proofs.Common.{◌≡◌, take}
-use Rattle.cast_message.specs.Replies.{history, replies}
+use Rattle.cast_model.specs.Replies.{history, replies}
 use Rattle.cast_world.specs.Group.{Stands}
 use Rattle.cast_world.proofs.run.run_events.Given as goal
 

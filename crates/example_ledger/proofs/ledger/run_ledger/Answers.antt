@@ -1,6 +1,6 @@
 use Rattle.std.proofs.Common.{ap, sym, ◌∙◌, [], length, subst}
-use Rattle.cast_message.specs.Headline.{DeliversPrefixes}
-use Rattle.cast_message.specs.Replies.{history}
+use Rattle.cast_model.specs.Headline.{DeliversPrefixes}
+use Rattle.cast_model.specs.Replies.{history}
 use Rattle.example_ledger.proofs.Applying.{length-replies, applied-delivered, applied_is_prefix}
 use Rattle.example_ledger.proofs.Summing.{sheets_agree}
 use Rattle.example_ledger.proofs.ledger.run_ledger.Goals as goal

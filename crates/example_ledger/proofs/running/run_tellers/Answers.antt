@@ -1,5 +1,5 @@
 use Rattle.std.proofs.Common.{subst}
-use Rattle.cast_message.specs.Replies.{history}
+use Rattle.cast_model.specs.Replies.{history}
 use Rattle.cast_world.specs.Group.{Stands}
 use Rattle.example_ledger.proofs.Telling.{tellers_apply_prefixes, tellers_keep_sheets}
 use Rattle.example_ledger.proofs.running.run_tellers.Goals as goal

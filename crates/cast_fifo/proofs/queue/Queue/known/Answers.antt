@@ -1,5 +1,5 @@
 use Rattle.std.proofs.Common.{inl, ap, sym, ◌∙◌, arith}
-use Rattle.cast_message.specs.History.{numbered}
+use Rattle.cast_model.specs.History.{numbered}
 use Rattle.cast_fifo.specs.Held.{Held}
 use Rattle.cast_fifo.proofs.Turns.{marked_elsewhere, marked_before, numbered-none, front_fits}
 use Rattle.cast_fifo.proofs.queue.Queue.known.Goals as goal

@@ -1,5 +1,5 @@
 use Rattle.std.proofs.Common.{ap, sym, ◌∙◌}
-use Rattle.cast_message.specs.History.{numbered}
+use Rattle.cast_model.specs.History.{numbered}
 use Rattle.cast_fifo.proofs.Turns.{offered_elsewhere, numbered-none}
 use Rattle.cast_fifo.proofs.queue.Queue.offer.Goals as goal
 

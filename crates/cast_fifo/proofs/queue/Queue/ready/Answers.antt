@@ -1,6 +1,6 @@
 use Rattle.std.proofs.Common.{◌≡◌, ◌-◌, ◌++◌, ◌∷◌, [], sym, ap, ◌∙◌, arith}
 use Rattle.std.specs.Option.{option_copied}
-use Rattle.cast_message.specs.History.{numbered}
+use Rattle.cast_model.specs.History.{numbered}
 use Rattle.cast_fifo.specs.Held.{with_mark}
 use Rattle.cast_fifo.proofs.Turns.{marked_elsewhere, numbered-none, append_none}
 use Rattle.cast_fifo.proofs.Releases.{messages_at, turns_end, turn_more, turn_none, turn_last, all_turns}

@@ -1,7 +1,7 @@
 use Rattle.std.proofs.Common.{◌≡◌, ◌≤◌, ◌+◌, ◌++◌, length, vec_len}
 use Rattle.std.specs.Prelude.{vec_capacity}
 use Rattle.std.specs.VecDeque.{deque_capacity}
-use Rattle.cast_message.specs.History.{numbered}
+use Rattle.cast_model.specs.History.{numbered}
 use Rattle.cast_fifo.specs.Held.{run_from, advanced, turned_items, turned_after}
 use Rattle.cast_fifo.specs.Windows.{entries_of}
 use Rattle.cast_fifo.proofs.Entries.{seen}

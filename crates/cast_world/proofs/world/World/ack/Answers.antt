@@ -1,6 +1,6 @@
 use Rattle.std.proofs.Common.{◌∙◌, arith, map, sym, subst}
 use Rattle.std.specs.Prelude.{[], ◌∷◌, slice_set}
-use Rattle.cast_message.specs.Steps.{Acknowledged}
+use Rattle.cast_model.specs.Steps.{Acknowledged}
 use Rattle.cast_node.specs.Turns.{took_of}
 use Rattle.cast_world.specs.Group.{node_at, mark_of}
 use Rattle.cast_world.specs.Moves.{TakesStep}

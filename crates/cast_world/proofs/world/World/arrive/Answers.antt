@@ -1,6 +1,6 @@
 use Rattle.std.proofs.Common.{◌∙◌, ap, map, refl, sym, subst}
 use Rattle.cast_message.specs.declared.message.Frame.{Frame}
-use Rattle.cast_message.specs.Replies.{IsRefused}
+use Rattle.cast_model.specs.Replies.{IsRefused}
 use Rattle.cast_world.specs.Group.{frame_in}
 use Rattle.cast_world.specs.declared.frames.Mark.{Mark}
 use Rattle.cast_world.proofs.Sounding.{arrived_me, arrival_refused, sound_arrived, arrived_steps}

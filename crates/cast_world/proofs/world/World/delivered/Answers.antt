@@ -1,6 +1,6 @@
 use Rattle.std.proofs.Common.{◌∙◌, sym, subst, ap}
 use Rattle.std.specs.Prelude.{slice_get}
-use Rattle.cast_message.specs.Shown.{ShowsDelivered}
+use Rattle.cast_model.specs.Shown.{ShowsDelivered}
 use Rattle.cast_world.proofs.Showing.{shown_delivered}
 use Rattle.cast_world.proofs.world.World.delivered.Goals as goal
 

@@ -1,5 +1,5 @@
 use Rattle.std.proofs.Common.{arith}
-use Rattle.cast_message.specs.Steps.{Ordered}
+use Rattle.cast_model.specs.Steps.{Ordered}
 use Rattle.cast_node.specs.Calls.{ordered_reply}
 use Rattle.cast_world.proofs.Sounding.{sound_stepped}
 use Rattle.cast_world.proofs.world.World.order.Goals as goal

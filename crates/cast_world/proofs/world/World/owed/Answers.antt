@@ -1,7 +1,7 @@
 use Rattle.std.proofs.Common.{◌∙◌, ap, subst, sym, Some, None}
 use Rattle.std.specs.Prelude.{if◌then◌else◌}
 use Rattle.std.specs.FinMap as finite
-use Rattle.cast_message.specs.Shown.{ShowsOwed}
+use Rattle.cast_model.specs.Shown.{ShowsOwed}
 use Rattle.cast_node.specs.Kept.{link_to}
 use Rattle.cast_node.specs.Calls.{is_peer}
 use Rattle.cast_world.proofs.Showing.{shown_owed}

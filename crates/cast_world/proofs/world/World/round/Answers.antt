@@ -1,9 +1,9 @@
 use Rattle.std.proofs.Common.{◌∙◌, ◌*◌, take, drop, ap, sym}
 use Rattle.std.proofs.lemmas.Result.{err_from_is_err_and}
 use Rattle.std.proofs.lemmas.List.{drop_all}
-use Rattle.cast_message.specs.Rounds.{after_round}
-use Rattle.cast_message.proofs.Round.{with_all}
-use Rattle.cast_message.proofs.TwoRounds.{rests, two_rounds_rest}
+use Rattle.cast_model.specs.Rounds.{after_round}
+use Rattle.cast_model.proofs.Round.{with_all}
+use Rattle.cast_model.proofs.TwoRounds.{rests, two_rounds_rest}
 use Rattle.cast_world.proofs.Rounding.{under_way, slot_next, before_next, slot_settled, slot_stops, not_begun, round_ends, round_spreads}
 use Rattle.cast_world.proofs.world.World.round.Goals as goal
 

@@ -1,8 +1,8 @@
 -- The events of the slots so far, and how many frames they make.
 use Rattle.std.proofs.Common.{◌≡◌, [], take}
 use Rattle.cast_message.specs.declared.config.Config.{Config}
-use Rattle.cast_message.specs.History.{History}
-use Rattle.cast_message.specs.Rounds.{due, plan_from}
+use Rattle.cast_model.specs.History.{History}
+use Rattle.cast_model.specs.Rounds.{due, plan_from}
 use Rattle.cast_world.specs.Group.{Stands}
 use Rattle.cast_world.proofs.Numbering.{AreCounted}
 use Rattle.cast_world.proofs.world.World.round_plan.Given as goal

@@ -1,6 +1,6 @@
 use Rattle.std.proofs.lemmas.Result.{err_from_is_err_and}
 use Rattle.std.proofs.lemmas.List.{drop_all}
-use Rattle.cast_message.proofs.Round.{with_all}
+use Rattle.cast_model.proofs.Round.{with_all}
 use Rattle.cast_world.proofs.Rounding.{taking_next, taking_more, taking_stops, taking_done}
 use Rattle.cast_world.proofs.world.World.take_all.Goals as goal
 

@@ -1,7 +1,7 @@
 -- The events so far were taken.
 use Rattle.std.proofs.Common.{drop}
 use Rattle.cast_message.specs.declared.config.Config.{Config}
-use Rattle.cast_message.specs.History.{History}
+use Rattle.cast_model.specs.History.{History}
 use Rattle.cast_world.specs.Group.{Stands}
 use Rattle.cast_world.proofs.Rounding.{IsTaking}
 use Rattle.cast_world.proofs.world.World.take_all.Given as goal

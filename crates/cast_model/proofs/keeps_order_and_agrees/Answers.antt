@@ -1,0 +1,20 @@
+use Rattle.cast_message.specs.declared.message.Item.TheVariants.{Propose}
+use Rattle.cast_model.proofs.Members.{Member-Contains, Contains-Member}
+use Rattle.cast_model.proofs.Answered.{answered_is_prefix}
+use Rattle.cast_model.proofs.Closed.{answered_closed}
+use Rattle.cast_model.proofs.Agreement.{decided_in_stream, decided_at_most_choices}
+use Rattle.cast_model.proofs.keeps_order_and_agrees.Goals as goal
+
+pub returns-clause-prefix : goal.returns-clause-prefix
+returns-clause-prefix c = answered_is_prefix
+
+pub returns-clause-closed : goal.returns-clause-closed
+returns-clause-closed c = answered_closed
+
+pub returns-clause-proposed : goal.returns-clause-proposed
+returns-clause-proposed c config events j v in_values =
+    let r = decided_in_stream config events j v (Contains-Member v _ in_values) in
+    (r.0, r.1, Member-Contains (Propose j v) _ r.2)
+
+pub returns-clause-few : goal.returns-clause-few
+returns-clause-few c config events fewer = decided_at_most_choices config fewer events

@@ -1,0 +1,150 @@
+-- What a node delivers and decides, read off the accepted events.
+--     known_by config past p s i     how many nodes p knows to hold the pair
+--     is_ready config past q s i     q may deliver the pair once its turn has come
+--     next config past q s           the least number of s that q may not deliver yet
+--     delivered config past q s      what q has delivered from s
+--     deliveries config past event   the messages that an event after past delivers
+--     delivery_log config past q     all that q delivered, in order
+--     decisions_of config log news   the decisions by these deliveries, where log was delivered before
+--     outcome config past event      both
+--     decision config past q j       what q decided in instance j
+use Rattle.std.specs.Prelude.{ℕ, ◌-◌, ◌==◌, nat_lt, nat_le, min, take, Bool, true, false, ◌&&◌, ◌||◌, if◌then◌else◌, List, [], ◌∷◌, ◌++◌, length, slice_get, slice_range}
+use Rattle.std.specs.Prelude.{Option, Some, None}
+use Rattle.std.specs.List.{list_any, filter_map, count_by, prefix_len, take_while, range_with_len, fold}
+use Rattle.cast_message.specs.declared.config.Config.{Config}
+use Rattle.cast_message.specs.declared.config.Mode.{Mode}
+use Rattle.cast_message.specs.declared.config.Mode.TheVariants.{Basic, Uniform}
+use Rattle.cast_message.specs.declared.event.Event.{Event}
+use Rattle.cast_message.specs.declared.event.Event.TheVariants.{Order, Arrive}
+use Rattle.cast_message.specs.declared.event.Outcome.{Outcome}
+use Rattle.cast_message.specs.declared.message.Item.{Item}
+use Rattle.cast_message.specs.declared.message.Item.TheVariants.{Propose}
+use Rattle.cast_message.specs.declared.message.Message.{Message}
+use Rattle.cast_message.specs.declared.message.Decision.{Decision}
+use Rattle.cast_message.specs.declared.message.Frame.{Frame}
+use Rattle.cast_message.specs.declared.message.FrameBody.{FrameBody}
+use Rattle.cast_message.specs.declared.message.FrameBody.TheVariants.{Carry, Took}
+use Rattle.cast_model.specs.History.{History, FirstCopy, has_pair, copy_at, broadcast, first, given, frames, arrivals}
+
+-- the numbers of the nodes
+abbrev pub nodes_of : Config → List ℕ
+nodes_of config = range_with_len 0 config.nodes
+
+abbrev pub is_pair : FirstCopy → ℕ → ℕ → Bool
+is_pair copy s i = copy.sender == s && copy.number == i
+
+-- a frame with this body tells p that its maker, whom p gave these copies, holds the pair
+abbrev pub tells_of : List FirstCopy → ℕ → ℕ → FrameBody → Bool
+tells_of copies s i (Carry slot message) = message.sender == s && message.number == i
+tells_of copies s i (Took slot) = is_pair (copy_at copies slot) s i
+
+-- p, which holds the pair, knows that r holds it: r is p or the sender, or a frame from r told it
+unfoldable pub knows : History → ℕ → ℕ → ℕ → ℕ → Bool
+knows past p s i r = r == p || r == s || list_any (λ frame. frame.from == r && tells_of (given past p r) s i frame.body) (arrivals past p)
+
+-- how many nodes p knows to hold the pair, which is none where p doesn't
+unfoldable pub known_by : Config → History → ℕ → ℕ → ℕ → ℕ
+known_by config past p s i = if has_pair (first past p) s i then count_by (knows past p s i) (nodes_of config) else 0
+
+-- enough nodes are known to hold the pair: in basic mode p alone will do
+unfoldable pub is_known_enough : Mode → Config → History → ℕ → ℕ → ℕ → Bool
+is_known_enough Basic config past p s i = true
+is_known_enough Uniform config past p s i = nat_lt config.faults (known_by config past p s i)
+
+-- q may deliver the pair once its turn has come: the one place at which the modes differ
+unfoldable pub is_ready : Config → History → ℕ → ℕ → ℕ → Bool
+is_ready config past q s i = has_pair (first past q) s i && is_known_enough config.mode config past q s i
+
+-- how many messages of s, from its first on, q may deliver: so the least number that it may not deliver yet
+unfoldable pub next : Config → History → ℕ → ℕ → ℕ
+next config past q s = prefix_len (λ message. is_ready config past q s message.number) (broadcast past s)
+
+-- what q has delivered from s: the longest front of what s broadcast that q may deliver
+unfoldable pub delivered : Config → History → ℕ → ℕ → List Message
+delivered config past q s = take_while (λ message. is_ready config past q s message.number) (broadcast past s)
+
+-- whose pair an event at a node brings to notice
+abbrev pub sender_in : List FirstCopy → FrameBody → ℕ
+sender_in copies (Carry slot message) = message.sender
+sender_in copies (Took slot) = (copy_at copies slot).sender
+
+-- a node that may deliver by an event, and the sender of the pair ordered, carried or acknowledged
+pub record Concerned : Type 0 where
+  pub node : ℕ
+  pub sender : ℕ
+
+abbrev pub concerned_by : History → Option Frame → Option Concerned
+concerned_by past None = None
+concerned_by past (Some frame) = Some (record { node = frame.to; sender = sender_in (given past frame.to frame.from) frame.body })
+
+unfoldable pub concerned : History → Event → Option Concerned
+concerned past (Order node item) = Some (record { node = node; sender = node })
+concerned past (Arrive from seq) = concerned_by past (slice_get (frames past from) seq)
+concerned past _ = None
+
+-- the messages of s whose turn comes at q by an event
+unfoldable pub turns : Config → History → Event → ℕ → ℕ → List Message
+turns config past event q s = slice_range (broadcast (event ∷ past) s) (next config past q s) (next config (event ∷ past) q s)
+
+abbrev pub turns_of : Config → History → Event → Option Concerned → List Message
+turns_of config past event None = []
+turns_of config past event (Some c) = turns config past event c.node c.sender
+
+-- the messages that an event after past delivers
+unfoldable pub deliveries : Config → History → Event → List Message
+deliveries config past event = turns_of config past event (concerned past event)
+
+-- the node of an order or an arrival is q
+abbrev pub is_node : Option Concerned → ℕ → Bool
+is_node None q = false
+is_node (Some c) q = c.node == q
+
+-- all that q delivered, in the order in which it did
+unfoldable pub delivery_log : Config → History → ℕ → List Message
+delivery_log config [] q = []
+delivery_log config (event ∷ past) q =
+    delivery_log config past q ++ (if is_node (concerned past event) q then deliveries config past event else [])
+
+-- the value that an item proposes in an instance
+abbrev pub value_in : ℕ → Item → Option ℕ
+value_in j (Propose instance value) = if instance == j then Some value else None
+value_in j _ = None
+
+-- the values proposed in instance j by these messages, in order
+unfoldable pub votes : ℕ → List Message → List ℕ
+votes j messages = filter_map (λ message. value_in j message.item) messages
+
+-- the least of some numbers
+unfoldable pub least : List ℕ → ℕ
+least [] = 0
+least (x ∷ xs) = fold min x xs
+
+-- the decision where the votes of instance j are complete, with the last of them just delivered
+abbrev pub decision_by : Config → ℕ → List ℕ → List Decision
+decision_by config j values = if length values == config.nodes - config.faults then record { instance = j; value = least values } ∷ [] else []
+
+abbrev pub decision_on : Config → List Message → Item → List Decision
+decision_on config log (Propose instance value) = decision_by config instance (votes instance log)
+decision_on config log _ = []
+
+-- the decisions by these deliveries, one after another, where log was delivered before
+unfoldable pub decisions_of : Config → List Message → List Message → List Decision
+decisions_of config log [] = []
+decisions_of config log (message ∷ messages) =
+    decision_on config (log ++ message ∷ []) message.item ++ decisions_of config (log ++ message ∷ []) messages
+
+abbrev pub log_of : Config → History → Option Concerned → List Message
+log_of config past None = []
+log_of config past (Some c) = delivery_log config past c.node
+
+-- what an event after past delivers and decides
+unfoldable pub outcome : Config → History → Event → Outcome
+outcome config past event =
+    let news = deliveries config past event in
+    record { deliveries = news; decisions = decisions_of config (log_of config past (concerned past event)) news }
+
+-- what q decided in instance j: the least of the votes that completed it, once they were delivered
+unfoldable pub decision : Config → History → ℕ → ℕ → Option ℕ
+decision config past q j =
+    let values = votes j (delivery_log config past q) in
+    if nat_le (config.nodes - config.faults) (length values) then Some (least (take (config.nodes - config.faults) values)) else None

@@ -1,0 +1,10 @@
+pub mod History
+pub mod Delivery
+pub mod Replies
+pub mod Headline
+pub mod Rounds
+pub mod Steps
+pub mod OwnSteps
+pub mod Shown
+pub mod RunLaws
+pub mod RestLaws

@@ -1,0 +1,53 @@
+//! The laws of the definitions, for every configuration and every list of events: what follows from the definitions alone,
+//! whatever program keeps them. Each function does nothing; its contract is the law.
+#![tactic(auto)]
+
+ghost use Rattle.cast_model.specs.RunLaws.{AllRunsDeliverPrefixes, AllRunsCloseStreams, AllRunsDecideProposals, AllRunsDecideFewValues};
+ghost use Rattle.cast_model.specs.RestLaws.{RefusesRoundsAsFullAlone, RoundsSpread, RoundsAddNothing, RoundsRest, TwoRoundsRest};
+ghost use Rattle.cast_model.specs.RestLaws.{RestsWhereNothingIsDue, NothingIsDueAtRest, DeliversTheSameAtRest, DeliversWholeStreamsAtRest, DeliversWhatAnyDeliveredAtRest};
+ghost use Rattle.cast_model.specs.RestLaws.{DecidesTheSameAtRest, DecidesWhatIsProposedAtRest, NodesAnswerAsTheGroup, NodesStepAsTheGroup};
+ghost use Rattle.cast_model.specs.RestLaws.{NodesMakeTheFrames, NodesDeliverAsTheGroup, NodesDecideAsTheGroup, NodesOweAsTheGroup};
+
+/// What a node delivers from a sender is a prefix of what that sender broadcast, with nothing after its close; each
+/// decided value was proposed in its instance; and where the faults are fewer than k, at most k values are decided.
+pub fn keeps_order_and_agrees()
+    ensures prefix { AllRunsDeliverPrefixes }
+    ensures closed { AllRunsCloseStreams }
+    ensures proposed { AllRunsDecideProposals }
+    ensures few { AllRunsDecideFewValues }
+{}
+
+/// A round is refused only where a node's frames are full. After a round each live node holds exactly what some live
+/// node held before it, and two rounds bring rest.
+pub fn rests_after_two_rounds()
+    ensures refused { RefusesRoundsAsFullAlone }
+    ensures spread { RoundsSpread }
+    ensures nothing_else { RoundsAddNothing }
+    ensures rest { RoundsRest }
+    ensures two { TwoRoundsRest }
+{}
+
+/// Nothing is due exactly at rest. There all live nodes have delivered the same, the whole stream of a live sender, and
+/// decided the same instances, among them each that enough senders proposed in what they delivered; in uniform mode as long
+/// as no more nodes have crashed than are tolerated, or none is tolerated. In uniform mode each live node has delivered what any
+/// node delivered, a crashed one too, where no more have crashed than are tolerated.
+pub fn agrees_at_rest()
+    ensures rests { RestsWhereNothingIsDue }
+    ensures nothing_due { NothingIsDueAtRest }
+    ensures same { DeliversTheSameAtRest }
+    ensures whole { DeliversWholeStreamsAtRest }
+    ensures uniform { DeliversWhatAnyDeliveredAtRest }
+    ensures decided { DecidesTheSameAtRest }
+    ensures proposed { DecidesWhatIsProposedAtRest }
+{}
+
+/// Each node of a group answers by its own steps as the group does, and makes, delivers, decides and owes what the group
+/// says.
+pub fn answers_by_own_steps()
+    ensures reply { NodesAnswerAsTheGroup }
+    ensures steps { NodesStepAsTheGroup }
+    ensures frames { NodesMakeTheFrames }
+    ensures delivered { NodesDeliverAsTheGroup }
+    ensures decided { NodesDecideAsTheGroup }
+    ensures owed { NodesOweAsTheGroup }
+{}
