@@ -1,20 +1,25 @@
-//! The laws of the definitions, for every configuration and every list of events: what follows from the definitions alone,
-//! whatever program keeps them. Each function does nothing; its contract is the law.
+//! What a group does, defined, and what follows from the definitions alone, for every configuration and every list of events,
+//! whatever program keeps them. `specs/` has the definitions, the words of the main promise in `specs/Headline`; each function
+//! below does nothing, and its contract is a law.
 #![tactic(auto)]
 
 ghost use Rattle.cast_model.specs.RunLaws.{AllRunsDeliverPrefixes, AllRunsCloseStreams, AllRunsDecideProposals, AllRunsDecideFewValues};
+ghost use Rattle.cast_model.specs.RunLaws.{AllRunsAnswerWhatIsDelivered, OnlyTakenSlotsAreAcknowledged};
 ghost use Rattle.cast_model.specs.RestLaws.{RefusesRoundsAsFullAlone, RoundsSpread, RoundsAddNothing, RoundsRest, TwoRoundsRest};
 ghost use Rattle.cast_model.specs.RestLaws.{RestsWhereNothingIsDue, NothingIsDueAtRest, DeliversTheSameAtRest, DeliversWholeStreamsAtRest, DeliversWhatAnyDeliveredAtRest};
 ghost use Rattle.cast_model.specs.RestLaws.{DecidesTheSameAtRest, DecidesWhatIsProposedAtRest, NodesAnswerAsTheGroup, NodesStepAsTheGroup};
-ghost use Rattle.cast_model.specs.RestLaws.{NodesMakeTheFrames, NodesDeliverAsTheGroup, NodesDecideAsTheGroup, NodesOweAsTheGroup};
+ghost use Rattle.cast_model.specs.RestLaws.{NodesMakeTheFrames, NodesDeliverAsTheGroup, NodesDecideAsTheGroup, NodesOweAsTheGroup, NodesKnowHoldersAsTheGroup};
 
 /// What a node delivers from a sender is a prefix of what that sender broadcast, with nothing after its close; each
-/// decided value was proposed in its instance; and where the faults are fewer than k, at most k values are decided.
+/// decided value was proposed in its instance; and where the faults are fewer than k, at most k values are decided. What the
+/// replies say of deliveries is what each node has delivered, and what is acknowledged was taken.
 pub fn keeps_order_and_agrees()
     ensures prefix { AllRunsDeliverPrefixes }
     ensures closed { AllRunsCloseStreams }
     ensures proposed { AllRunsDecideProposals }
     ensures few { AllRunsDecideFewValues }
+    ensures shown { AllRunsAnswerWhatIsDelivered }
+    ensures acknowledged { OnlyTakenSlotsAreAcknowledged }
 {}
 
 /// A round is refused only where a node's frames are full. After a round each live node holds exactly what some live
@@ -42,7 +47,7 @@ pub fn agrees_at_rest()
 {}
 
 /// Each node of a group answers by its own steps as the group does, and makes, delivers, decides and owes what the group
-/// says.
+/// says, and knows the holders of each pair that the group says.
 pub fn answers_by_own_steps()
     ensures reply { NodesAnswerAsTheGroup }
     ensures steps { NodesStepAsTheGroup }
@@ -50,4 +55,5 @@ pub fn answers_by_own_steps()
     ensures delivered { NodesDeliverAsTheGroup }
     ensures decided { NodesDecideAsTheGroup }
     ensures owed { NodesOweAsTheGroup }
+    ensures known { NodesKnowHoldersAsTheGroup }
 {}

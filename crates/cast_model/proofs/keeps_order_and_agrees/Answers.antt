@@ -1,6 +1,8 @@
 use Rattle.cast_message.specs.declared.message.Item.TheVariants.{Propose}
 use Rattle.cast_model.proofs.Members.{Member-Contains, Contains-Member}
-use Rattle.cast_model.proofs.Answered.{answered_is_prefix}
+use Rattle.cast_model.proofs.Answered.{answered_is_prefix, answered-delivered}
+use Rattle.cast_model.proofs.AtRest.{acked_taken}
+use Rattle.cast_model.proofs.Sound.{sound}
 use Rattle.cast_model.proofs.Closed.{answered_closed}
 use Rattle.cast_model.proofs.Agreement.{decided_in_stream, decided_at_most_choices}
 use Rattle.cast_model.proofs.keeps_order_and_agrees.Goals as goal
@@ -18,3 +20,9 @@ returns-clause-proposed c config events j v in_values =
 
 pub returns-clause-few : goal.returns-clause-few
 returns-clause-few c config events fewer = decided_at_most_choices config fewer events
+
+pub returns-clause-shown : goal.returns-clause-shown
+returns-clause-shown c = answered-delivered
+
+pub returns-clause-acknowledged : goal.returns-clause-acknowledged
+returns-clause-acknowledged c config past accepted = acked_taken past (sound config past accepted)
