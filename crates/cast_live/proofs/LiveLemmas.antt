@@ -15,8 +15,8 @@ use Rattle.cast_run.specs.Jobs.{Submits, told_job, replies_in}
 use Rattle.cast_script.specs.declared.script.Script.{Script}
 use Rattle.cast_live.specs.declared.live.FinishedRun.{FinishedRun}
 use Rattle.cast_live.specs.declared.summary.Summary.{Summary}
-use Rattle.cast_text.specs.declared.text.TextFault.{TextFault}
-use Rattle.cast_text.specs.declared.text.TextFault.TheVariants as faults
+use Rattle.cast_text.specs.declared.fault.TextFault.{TextFault}
+use Rattle.cast_text.specs.declared.fault.TextFault.TheVariants as faults
 use Rattle.cast_text.specs.Text.{IsScriptIn, WroteFront, fault_of_live}
 use Rattle.cast_live.specs.Live.{IsNewJob, AreNewJobs, items_of, IsFinished, IsMergedRun, IsRunOf, IsOfRunning, IsSummaryOf, WritesSummary, SummaryBreaksOff, LiveFails, ends_of, summary_text}
 

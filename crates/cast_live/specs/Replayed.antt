@@ -19,7 +19,7 @@ use Rattle.cast_record.specs.Verdicts.{verdict}
 use Rattle.cast_script.specs.Replay.{script_text}
 use Rattle.cast_script.specs.declared.script.ScriptFault.{ScriptFault}
 use Rattle.cast_script.specs.declared.script.ScriptFault.TheVariants.{Memory}
-use Rattle.cast_text.specs.declared.text.TextFault.TheVariants as faults
+use Rattle.cast_text.specs.declared.fault.TextFault.TheVariants as faults
 use Rattle.cast_text.specs.Text.{WritesRecord, Fails}
 
 unfoldable pub lines_told : ℕ → List Event → List (Result Answer StepFault) → List Line

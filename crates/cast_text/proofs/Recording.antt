@@ -18,8 +18,8 @@ use Rattle.cast_record.specs.Lines.{lines_for, head_of}
 use Rattle.cast_record.specs.Text.{record_text, line_text}
 use Rattle.cast_words.specs.Written.{WroteAll, WrotePrefix}
 use Rattle.cast_words.proofs.WritingLemmas.{IsGoing, going_start, going_again, going_more, going_done, drop-next}
-use Rattle.cast_text.specs.declared.text.TextFault.{TextFault}
-use Rattle.cast_text.specs.declared.text.TextFault.TheVariants as faults
+use Rattle.cast_text.specs.declared.fault.TextFault.{TextFault}
+use Rattle.cast_text.specs.declared.fault.TextFault.TheVariants as faults
 use Rattle.cast_text.specs.Rec.{one_left, tried, round_left, settled, left_by, lines_from}
 use Rattle.cast_text.specs.Recorded.{Writes, Tries, Leaves}
 use Rattle.cast_text.specs.Text.{WroteFront, BreaksOff}

@@ -16,7 +16,7 @@ use Rattle.cast_record.specs.Lines.{lines_for}
 use Rattle.cast_record.specs.Text.{record_text}
 use Rattle.cast_words.specs.Written.{WroteAll}
 use Rattle.cast_words.proofs.WritingLemmas.{IsGoing, going_start, going_again, going_more, going_done, drop-next}
-use Rattle.cast_text.specs.declared.text.TextFault.{TextFault}
+use Rattle.cast_text.specs.declared.fault.TextFault.{TextFault}
 use Rattle.cast_text.specs.Rec.{Left, tried, round_left}
 use Rattle.cast_text.specs.Recorded.{Tries}
 use Rattle.cast_text.specs.Text.{BreaksOff}

@@ -6,8 +6,8 @@ use Rattle.cast_record.specs.Text.{record_text}
 use Rattle.cast_record.specs.Verdicts.{verdict}
 use Rattle.cast_script.specs.declared.script.Script.{Script}
 use Rattle.cast_script.specs.Script.{Reads}
-use Rattle.cast_text.specs.declared.text.TextFault.{TextFault}
-use Rattle.cast_text.specs.declared.text.TextFault.TheVariants as faults
+use Rattle.cast_text.specs.declared.fault.TextFault.{TextFault}
+use Rattle.cast_text.specs.declared.fault.TextFault.TheVariants as faults
 use Rattle.cast_text.specs.Rec.{record_of}
 use Rattle.cast_text.specs.Recorded.{Writes}
 use Rattle.cast_text.specs.Text.{IsScriptIn, input_limit, WritesRecord, Fails}

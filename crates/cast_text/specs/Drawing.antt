@@ -3,8 +3,8 @@ use Rattle.std.specs.Prelude.{◌≡◌, ◌<◌, ◌≤◌, ◌⊎◌, List, �
 use Rattle.std.specs.Io.KnownBytes.{Appends, Keeps}
 use Rattle.cast_script.specs.declared.script.Script.{Script}
 use Rattle.cast_script.specs.Script.{Reads}
-use Rattle.cast_text.specs.declared.text.TextFault.{TextFault}
-use Rattle.cast_text.specs.declared.text.TextFault.TheVariants as faults
+use Rattle.cast_text.specs.declared.fault.TextFault.{TextFault}
+use Rattle.cast_text.specs.declared.fault.TextFault.TheVariants as faults
 use Rattle.cast_text.specs.Text.{input_limit, IsScriptIn, WroteFront}
 
 -- a script was read, and the writer has a text more

@@ -4,8 +4,8 @@ use Rattle.std.specs.Io.KnownBytes.{Appends, Keeps}
 use Rattle.cast_record.specs.declared.verdict.Verdict.{Verdict}
 use Rattle.cast_record.specs.VerdictText.{verdict_text}
 use Rattle.cast_record.specs.Verdicts.{verdict}
-use Rattle.cast_text.specs.declared.text.TextFault.{TextFault}
-use Rattle.cast_text.specs.declared.text.TextFault.TheVariants as faults
+use Rattle.cast_text.specs.declared.fault.TextFault.{TextFault}
+use Rattle.cast_text.specs.declared.fault.TextFault.TheVariants as faults
 use Rattle.cast_text.specs.Text.{input_limit, WroteFront}
 
 -- the verdict is that on the bytes, where they are known

@@ -2,8 +2,8 @@
 use Rattle.std.specs.Prelude.{◌≡◌, ◌<◌, ◌≤◌, List, ℕ, length, Bool, true, Option, IfSome}
 use Rattle.std.specs.Io.KnownBytes.{Appends, Keeps}
 use Rattle.cast_record.specs.Migration.{IsMigrated, HasNoHead}
-use Rattle.cast_text.specs.declared.text.TextFault.{TextFault}
-use Rattle.cast_text.specs.declared.text.TextFault.TheVariants as faults
+use Rattle.cast_text.specs.declared.fault.TextFault.{TextFault}
+use Rattle.cast_text.specs.declared.fault.TextFault.TheVariants as faults
 use Rattle.cast_text.specs.Text.{input_limit, WroteFront}
 
 -- these are the bytes with their head changed, where they are known

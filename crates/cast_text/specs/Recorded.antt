@@ -4,7 +4,7 @@ use Rattle.cast_message.specs.declared.config.Config.{Config}
 use Rattle.cast_world.specs.Group.{State, Stands}
 use Rattle.cast_record.specs.Text.{record_text}
 use Rattle.cast_words.specs.Written.{WroteAll}
-use Rattle.cast_text.specs.declared.text.TextFault.{TextFault}
+use Rattle.cast_text.specs.declared.fault.TextFault.{TextFault}
 use Rattle.cast_text.specs.Rec.{Left}
 use Rattle.cast_text.specs.Text.{BreaksOff}
 

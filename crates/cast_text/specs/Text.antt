@@ -9,8 +9,8 @@ use Rattle.cast_script.specs.declared.live_fault.LiveFault.TheVariants as lives
 use Rattle.cast_script.specs.declared.script.ScriptFault.TheVariants as scripts
 use Rattle.cast_script.specs.declared.script.Script.{Script}
 use Rattle.cast_script.specs.Script.{Reads}
-use Rattle.cast_text.specs.declared.text.TextFault.{TextFault}
-use Rattle.cast_text.specs.declared.text.TextFault.TheVariants as faults
+use Rattle.cast_text.specs.declared.fault.TextFault.{TextFault}
+use Rattle.cast_text.specs.declared.fault.TextFault.TheVariants as faults
 use Rattle.cast_text.specs.Rec.{record_of}
 
 -- the most bytes of an input

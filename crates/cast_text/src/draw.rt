@@ -3,8 +3,9 @@ ghost use Rattle.std.specs.Prelude.{◌≡◌, false, IfErr, OnOk};
 ghost use Rattle.cast_text.specs.Drawing.{WritesDrawing, DrawingFails};
 ghost use Rattle.cast_text.specs.Text.{IsTold};
 
+use crate::fault::TextFault;
 use crate::record::is_want_of_memory;
-use crate::text::{TextFault, read_script_text};
+use crate::text::read_script_text;
 use cast_draw::{DrawFault, Picture, Window, write_drawing};
 use cast_message::Event;
 use cast_script::{Script, ScriptEvent};
@@ -41,7 +42,7 @@ pub fn draw_text<R: Read, W: Write>(
 
 impl From<DrawFault> for TextFault {
     ghost use Rattle.std.specs.Prelude.{◌≡◌};
-    ghost use Rattle.cast_text.specs.declared.text.TextFault.TheVariants.{Memory};
+    ghost use Rattle.cast_text.specs.declared.fault.TextFault.TheVariants.{Memory};
 
     ghost from_gives = { λ _ fault. fault ≡ Memory };
 

@@ -2,7 +2,7 @@
 ghost use Rattle.std.specs.Prelude.{◌≡◌, ◌<◌, ◌≤◌, length, false, IfOk, OnOk, IfSome, IsErrOf, IfErr};
 ghost use Rattle.cast_text.specs.Text.{IsOfReading, IsTold};
 
-use crate::text::TextFault;
+use crate::fault::TextFault;
 use cast_words::Meter;
 use std::alloc::Global;
 use std::io::Read;

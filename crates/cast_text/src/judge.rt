@@ -3,8 +3,8 @@ ghost use Rattle.std.specs.Prelude.{◌≡◌, false, IfOk, IfErr, OnOk};
 ghost use Rattle.cast_text.specs.Judging.{JudgesInput, IsOfJudging, SaysVerdict, JudgingFails};
 ghost use Rattle.cast_text.specs.Text.{IsTold};
 
+use crate::fault::TextFault;
 use crate::input::INPUT_LIMIT;
-use crate::text::TextFault;
 use cast_judge::{Judging, Verdict};
 use cast_record::write_verdict;
 use cast_words::Meter;

@@ -3,8 +3,8 @@ ghost use Rattle.std.specs.Prelude.{◌≡◌, false, OnOk, IfErr};
 ghost use Rattle.cast_text.specs.Migrating.{WritesMigrated, MigratingFails};
 ghost use Rattle.cast_text.specs.Text.{IsTold};
 
+use crate::fault::TextFault;
 use crate::input::read_input;
-use crate::text::TextFault;
 use cast_record::{MigrateFault, migrate};
 use cast_words::{Meter, write_bytes};
 use std::alloc::Global;

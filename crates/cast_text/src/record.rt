@@ -9,7 +9,7 @@ ghost use Rattle.cast_record.specs.Text.{record_text, line_text};
 ghost use Rattle.cast_text.specs.Rec.{tried, one_left, round_left, settled, left_by, record_of};
 ghost use Rattle.cast_text.specs.Recorded.{Writes, Tries, Leaves};
 
-use crate::text::TextFault;
+use crate::fault::TextFault;
 use cast_message::{Config, Event, Reply, StepFault};
 use cast_record::{Line, lines_of, write_line, write_record};
 use cast_script::{Script, ScriptEvent};
