@@ -40,7 +40,10 @@ impl Model for Agree {
 
     ghost coded = { counted_code };
 
-    ghost view = { λ a. record { quorum = a.quorum; tallies = map.from_entries a.tallies.entries } };
+    ghost view = { λ a. record {
+      quorum = a.quorum;
+      tallies = map.from_entries a.tallies.entries;
+    } };
 
     ghost use Rattle.std.specs.Prelude.{◌<◌};
 
@@ -65,7 +68,8 @@ impl Agree {
     /// where this is the proposal of the (n - f)-th distinct sender in its instance. A second proposal of a sender in an
     /// instance is not counted.
     pub fn delivered(&mut self, sender: NodeId, item: &Item) -> Result<Option<Decision>, AllocError>
-        ensures decision { IfOk result (λ decision. decision ≡ decision_by self.old sender item.now) }
+        ensures decision { IfOk result
+            (λ decision. decision ≡ decision_by self.old sender item.now) }
         ensures ok { OnOk result (self.new ≡ counted_after self.old sender item.now) }
         ensures err { OnErr result (self.new ≡ self.old) }
     {
@@ -88,9 +92,11 @@ impl Agree {
     /// Counts the items of messages that were delivered, in order, as `delivered` does. Where memory is wanting it counts none
     /// of them.
     pub fn count_all(&mut self, messages: &[Message]) -> Result<Counting, AllocError>
-        ensures decisions { IfOk result (λ counting. counting.decisions.items ≡ decisions_all self.old messages.now) }
+        ensures decisions { IfOk result
+            (λ counting. counting.decisions.items ≡ decisions_all self.old messages.now) }
         ensures ok { OnOk result (self.new ≡ counted_all self.old messages.now) }
-        ensures back { IfOk result (λ counting. restored self.new counting.before.items ≡ self.old) }
+        ensures back { IfOk result
+            (λ counting. restored self.new counting.before.items ≡ self.old) }
         ensures err { OnErr result (self.new ≡ self.old) }
     {
         let mut decisions = Vec::new(self.alloc);
@@ -125,9 +131,13 @@ impl Agree {
         decisions: &mut Vec<Decision>,
         before: &mut Vec<Before>,
     ) -> Result<(), AllocError>
-        ensures ok { OnOk result (self.new ≡ counted_after self.old message.now.sender message.now.item) }
-        ensures decisions { OnOk result (decisions.new.items ≡ decisions.old.items ++ option_to_list (decision_by self.old message.now.sender message.now.item)) }
-        ensures before { OnOk result (before.new.items ≡ before.old.items ++ before_of self.old message.now.item) }
+        ensures ok { OnOk result
+            (self.new ≡ counted_after self.old message.now.sender message.now.item) }
+        ensures decisions { OnOk result
+            (decisions.new.items ≡ decisions.old.items ++ option_to_list
+            (decision_by self.old message.now.sender message.now.item)) }
+        ensures before { OnOk result
+            (before.new.items ≡ before.old.items ++ before_of self.old message.now.item) }
         ensures err { OnErr result (self.new ≡ self.old) }
         ensures as_before { OnErr result (before.new.items ≡ before.old.items) }
     {

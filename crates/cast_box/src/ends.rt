@@ -33,10 +33,17 @@ impl<T> Model for Putter<T> {
 
     ghost Value = { PutterEnd T };
 
-    ghost view = { λ p. record { home = p.pass.table_id; size = ruled_capacity (arc_value p.queue); putters = (known p.pass).putters; number = p.number; put = (known p.pass).put } };
+    ghost view = { λ p. record {
+      home = p.pass.table_id;
+      size = ruled_capacity (arc_value p.queue);
+      putters = (known p.pass).putters;
+      number = p.number;
+      put = (known p.pass).put;
+    } };
 
     ghost invariant = { λ p. IsPassOf (arc_value p.queue) p.pass
-        × (known p.pass ≡ putter (ruled_capacity (arc_value p.queue)) (known p.pass).putters p.number (known p.pass).put)
+        × (known p.pass ≡ putter (ruled_capacity (arc_value p.queue))
+        (known p.pass).putters p.number (known p.pass).put)
         × (p.number < (known p.pass).putters) };
 }
 
@@ -57,10 +64,17 @@ impl<T> Model for Taker<T> {
 
     ghost Value = { TakerEnd T };
 
-    ghost view = { λ t. record { home = t.pass.table_id; size = ruled_capacity (arc_value t.queue); putters = (known t.pass).putters; taken = (known t.pass).taken; ended = (known t.pass).ended } };
+    ghost view = { λ t. record {
+      home = t.pass.table_id;
+      size = ruled_capacity (arc_value t.queue);
+      putters = (known t.pass).putters;
+      taken = (known t.pass).taken;
+      ended = (known t.pass).ended;
+    } };
 
     ghost invariant = { λ t. IsPassOf (arc_value t.queue) t.pass
-        × (known t.pass ≡ taker (ruled_capacity (arc_value t.queue)) (known t.pass).putters (known t.pass).putters (known t.pass).taken (known t.pass).ended) };
+        × (known t.pass ≡ taker (ruled_capacity (arc_value t.queue)) (known t.pass).putters
+        (known t.pass).putters (known t.pass).taken (known t.pass).ended) };
 }
 
 impl<T> Putter<T> {
@@ -91,7 +105,8 @@ impl<T> Taker<T> {
         ensures same { IsSameTaker self.old self.new }
         ensures taken { MatchOption result
             (self.new.taken ≡ self.old.taken)
-            (λ item. (from : ℕ) × (from < self.old.putters) × (self.new.taken ≡ self.old.taken ++ (from, item) ∷ [])) }
+            (λ item. (from : ℕ) × (from < self.old.putters)
+            × (self.new.taken ≡ self.old.taken ++ (from, item) ∷ [])) }
         ensures empty { IfNone result (HasTakenOfEnded self.old.ended self.old.taken) }
     {
         match self.queue.pop_as::<Take, R>(rt, &mut self.pass) {

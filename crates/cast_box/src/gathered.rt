@@ -29,9 +29,14 @@ impl<T> Model for Gathered<T> {
 
     ghost Value = { GatheredBox T };
 
-    ghost view = { λ g. record { put = (known g.pass).ended; taken = (known g.pass).taken; left = left_from g.next (known g.pass).left } };
+    ghost view = { λ g. record {
+      put = (known g.pass).ended;
+      taken = (known g.pass).taken;
+      left = left_from g.next (known g.pass).left;
+    } };
 
-    ghost invariant = { λ g. IsPassOf (arc_value g.queue) g.pass × OnSome g.next ((known g.pass).role ≡ Gathering) };
+    ghost invariant = { λ g. IsPassOf (arc_value g.queue) g.pass
+        × OnSome g.next ((known g.pass).role ≡ Gathering) };
 }
 
 /// Ends a box, whose ends these all are, the putters in the order of their numbers. What was taken and then what is left

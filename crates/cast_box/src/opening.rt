@@ -30,7 +30,8 @@ pub fn make_box<T: Drop>(
     size: u64,
     putters: u64,
 ) -> Result<(Vec<Putter<T>>, Taker<T>), BoxFault>
-    ensures ends { IfOk result (λ ends. AreAllEnds ends.0.items ends.1 × AreNew ends.0.items ends.1 × (ends.1.size ≡ size) × (ends.1.putters ≡ putters)) }
+    ensures ends { IfOk result (λ ends. AreAllEnds ends.0.items ends.1 × AreNew ends.0.items ends.1
+        × (ends.1.size ≡ size) × (ends.1.putters ≡ putters)) }
     ensures limits { IfOk result (λ _. IsSize size × IsPutters putters) }
     ensures fault { IfErr result (IsFaultOf size putters) }
 {
@@ -49,7 +50,8 @@ fn open<T: Drop>(
     putters: u64,
 ) -> Result<(Vec<Putter<T>>, Taker<T>), AllocError>
     requires { 0 < size }
-    ensures { IfOk result (λ ends. AreAllEnds ends.0.items ends.1 × AreNew ends.0.items ends.1 × (ends.1.size ≡ size) × (ends.1.putters ≡ putters)) }
+    ensures { IfOk result (λ ends. AreAllEnds ends.0.items ends.1 × AreNew ends.0.items ends.1
+        × (ends.1.size ≡ size) × (ends.1.putters ≡ putters)) }
 {
     let mut opening = Opening::new(alloc, size, putters)?;
     let mut all = Vec::new(alloc);
@@ -75,9 +77,16 @@ impl<T> Model for Opening<T> {
 
     ghost Value = { OpeningBox };
 
-    ghost view = { λ o. record { home = o.pass.table_id; size = ruled_capacity (arc_value o.queue); putters = (known o.pass).putters; made = (known o.pass).number } };
+    ghost view = { λ o. record {
+      home = o.pass.table_id;
+      size = ruled_capacity (arc_value o.queue);
+      putters = (known o.pass).putters;
+      made = (known o.pass).number;
+    } };
 
-    ghost invariant = { λ o. IsPassOf (arc_value o.queue) o.pass × (known o.pass ≡ taker (ruled_capacity (arc_value o.queue)) (known o.pass).putters (known o.pass).number [] []) };
+    ghost invariant = { λ o. IsPassOf (arc_value o.queue) o.pass
+        × (known o.pass ≡ taker (ruled_capacity (arc_value o.queue)) (known o.pass).putters
+        (known o.pass).number [] []) };
 }
 
 impl<T: Drop> Opening<T> {
@@ -94,7 +103,14 @@ impl<T: Drop> Opening<T> {
     // Makes the putter of the next number.
     fn next_putter(&mut self, number: u64) -> Result<Putter<T>, AllocError>
         requires { (number ≡ self.old.made) × (number < self.old.putters) }
-        ensures { IfOk result (λ p. (p ≡ record { home = self.old.home; size = self.old.size; putters = self.old.putters; number = number; put = [] })
+        ensures { IfOk result (λ p.
+            (p ≡ record {
+              home = self.old.home;
+              size = self.old.size;
+              putters = self.old.putters;
+              number = number;
+              put = [];
+            })
             × (self.new ≡ record self.old { made = number + 1 })) }
     {
         let queue = Arc::try_clone(&self.queue)?;
@@ -109,7 +125,13 @@ impl<T: Drop> Opening<T> {
     // The taker, once all putters are made.
     fn into_taker(self) -> Taker<T>
         requires { self.made ≡ self.putters }
-        ensures { result ≡ record { home = self.home; size = self.size; putters = self.putters; taken = []; ended = [] } }
+        ensures { result ≡ record {
+          home = self.home;
+          size = self.size;
+          putters = self.putters;
+          taken = [];
+          ended = [];
+        } }
     {
         let Opening { queue, pass } = self;
         Taker { queue, pass }

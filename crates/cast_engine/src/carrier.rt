@@ -263,7 +263,8 @@ fn take_over<R: Wait>(
     fate: Fate,
 )
     ensures same { AreSamePutters inboxes.old.items inboxes.new.items }
-    ensures moves { Moves inboxes.old.items delayed.old.items parcel inboxes.new.items delayed.new.items }
+    ensures moves { Moves inboxes.old.items delayed.old.items parcel inboxes.new.items
+        delayed.new.items }
 {
     pass_time(rt, inboxes, delayed, &parcel);
     if fate.lost {
@@ -285,7 +286,8 @@ fn pass_time<R: Wait>(
     parcel: &Parcel,
 )
     ensures same { AreSamePutters inboxes.old.items inboxes.new.items }
-    ensures moves { MovesOn inboxes.old.items delayed.old.items inboxes.new.items delayed.new.items }
+    ensures moves { MovesOn inboxes.old.items delayed.old.items inboxes.new.items
+        delayed.new.items }
 {
     count_down(delayed, parcel.frame.to);
     release(rt, inboxes, delayed);
@@ -313,7 +315,8 @@ fn count_one(one: &mut Delayed, to: NodeId)
 // Hands on what is due.
 fn release<R: Wait>(rt: &R, inboxes: &mut Vec<Putter<Parcel>>, delayed: &mut Vec<Delayed>)
     ensures same { AreSamePutters inboxes.old.items inboxes.new.items }
-    ensures moves { MovesOn inboxes.old.items delayed.old.items inboxes.new.items delayed.new.items }
+    ensures moves { MovesOn inboxes.old.items delayed.old.items inboxes.new.items
+        delayed.new.items }
 {
     let mut place = 0;
     while place < delayed.len() {

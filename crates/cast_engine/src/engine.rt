@@ -43,9 +43,17 @@ impl Model for Engine {
 
     ghost Value = { EngineState };
 
-    ghost view = { λ e. record { config = e.journal.config; me = e.journal.node.me; crash = e.journal.crash; outbox = e.outbox; inbox = e.inbox; desk = e.desk } };
+    ghost view = { λ e. record {
+      config = e.journal.config;
+      me = e.journal.node.me;
+      crash = e.journal.crash;
+      outbox = e.outbox;
+      inbox = e.inbox;
+      desk = e.desk;
+    } };
 
-    ghost invariant = { λ e. EngineStays e.journal e.outbox.put e.held e.inbox.taken (e.desk) e.places.items };
+    ghost invariant = { λ e. EngineStays e.journal e.outbox.put e.held e.inbox.taken
+        (e.desk) e.places.items };
 }
 
 /// A frame that arrived and is to be acknowledged.
@@ -90,7 +98,15 @@ impl Engine {
         requires outbox { ends.outbox.put ≡ [] }
         requires inbox { ends.inbox.taken ≡ [] }
         requires desk { IsUnused ends.desk }
-        ensures { IfOk result (λ e. e ≡ record { config = config.now; me = me; crash = crash; outbox = ends.outbox; inbox = ends.inbox; desk = ends.desk }) }
+        ensures { IfOk result (λ e.
+            e ≡ record {
+              config = config.now;
+              me = me;
+              crash = crash;
+              outbox = ends.outbox;
+              inbox = ends.inbox;
+              desk = ends.desk;
+            }) }
     {
         let journal = Journal::new(alloc, config, me, crash)?;
         let places = first_places(alloc, clients_of(&ends.desk))?;
@@ -210,7 +226,8 @@ impl Engine {
 
     /// What the engine leaves.
     pub fn into_parts(self) -> EngineParts
-        ensures ends { (result.outbox ≡ self.outbox) × (result.inbox ≡ self.inbox) × (result.desk ≡ self.desk) }
+        ensures ends { (result.outbox ≡ self.outbox) × (result.inbox ≡ self.inbox)
+            × (result.desk ≡ self.desk) }
         ensures leaves { Leaves self result.log.items result.node result.ended }
         ensures tells { Tells self result.log.items result.node }
         ensures told { WereTold result.log.items (trays_at self.desk) }

@@ -83,7 +83,9 @@ fn next_notice(client: u64, place: &mut Place, log: &[Entry]) -> Result<Option<N
     requires { IsPlaced client log.now place.old }
     ensures placed { IsPlaced client log.now place.new }
     ensures fed { told_to client log.now place.new ≡ told_to client log.now place.old }
-    ensures notice { IfOk result (λ found. IfSome found (λ notice. IsNext client log.now place.new notice × (place.new.waiting ≡ None))) }
+    ensures notice { IfOk result
+        (λ found. IfSome found (λ notice. IsNext client log.now place.new notice
+        × (place.new.waiting ≡ None))) }
 {
     if let Some(notice) = place.waiting.take() {
         return Ok(Some(notice));

@@ -37,11 +37,20 @@ impl Model for Journal {
 
     ghost Value = { JournalState };
 
-    ghost coded = { journal_code configs.the_row.coded nodes.the_row.coded entries.the_row.coded engine_ends.the_row.coded };
+    ghost coded = { journal_code configs.the_row.coded nodes.the_row.coded entries.the_row.coded
+        engine_ends.the_row.coded };
 
-    ghost view = { λ j. record { config = j.config; node = j.node; log = j.log.items; clock = j.clock; crash = j.crash; ended = j.ended } };
+    ghost view = { λ j. record {
+      config = j.config;
+      node = j.node;
+      log = j.log.items;
+      clock = j.clock;
+      crash = j.crash;
+      ended = j.ended;
+    } };
 
-    ghost invariant = { λ j. JournalKeeps j.config (vec_capacity j.log) j.node j.log.items j.clock j.crash j.ended };
+    ghost invariant = { λ j. JournalKeeps j.config
+        (vec_capacity j.log) j.node j.log.items j.clock j.crash j.ended };
 }
 
 impl Journal {
@@ -53,7 +62,15 @@ impl Journal {
         crash: Option<u64>,
     ) -> Result<Journal, AllocError>
         requires { me < config.now.nodes }
-        ensures { IfOk result (λ j. j ≡ record { config = config.now; node = nothing_kept config.now me; log = []; clock = config.now.first_stamp; crash = crash; ended = None }) }
+        ensures { IfOk result (λ j.
+            j ≡ record {
+              config = config.now;
+              node = nothing_kept config.now me;
+              log = [];
+              clock = config.now.first_stamp;
+              crash = crash;
+              ended = None;
+            }) }
     {
         let Ok(node) = Node::new(alloc, config, me) else {
             return Err(AllocError);
@@ -123,7 +140,8 @@ impl Journal {
         requires may { MayLog self.old }
         requires to { parcel.now.frame.to ≡ self.old.node.me }
         requires stamp { parcel.now.stamp + 1 < 2 ^ 64 }
-        ensures ok { OnOk result (LogsStep self.old self.new (Arrived parcel.now.frame) None parcel.now.stamp) }
+        ensures ok { OnOk result
+            (LogsStep self.old self.new (Arrived parcel.now.frame) None parcel.now.stamp) }
         ensures err { OnErr result (self.new ≡ self.old) }
     {
         let outcome = self.node.arrive(&parcel.frame)?;
@@ -148,7 +166,8 @@ impl Journal {
     pub fn send(&mut self, to: NodeId, slot: u64) -> Result<Parcel, StepFault>
         requires { MayLog self.old }
         ensures ok { OnOk result (LogsStep self.old self.new (Sent to slot) None self.old.clock) }
-        ensures parcel { IfOk result (λ parcel. (parcel.frame ≡ carry_of self.old.node to slot) × (parcel.stamp ≡ self.new.clock)) }
+        ensures parcel { IfOk result (λ parcel. (parcel.frame ≡ carry_of self.old.node to slot)
+            × (parcel.stamp ≡ self.new.clock)) }
         ensures err { OnErr result (self.new ≡ self.old) }
     {
         let from = self.node.id();
@@ -169,8 +188,10 @@ impl Journal {
     /// Makes a frame that acknowledges a peer's slot, and logs it. A refusal changes nothing.
     pub fn ack(&mut self, to: NodeId, slot: u64) -> Result<Parcel, StepFault>
         requires { MayLog self.old }
-        ensures ok { OnOk result (LogsStep self.old self.new (Acknowledged to slot) None self.old.clock) }
-        ensures parcel { IfOk result (λ parcel. (parcel.frame ≡ took_of self.old.node to slot) × (parcel.stamp ≡ self.new.clock)) }
+        ensures ok { OnOk result
+            (LogsStep self.old self.new (Acknowledged to slot) None self.old.clock) }
+        ensures parcel { IfOk result (λ parcel. (parcel.frame ≡ took_of self.old.node to slot)
+            × (parcel.stamp ≡ self.new.clock)) }
         ensures err { OnErr result (self.new ≡ self.old) }
     {
         let from = self.node.id();
@@ -263,7 +284,8 @@ impl Journal {
 
     /// The log, the node and the end, where the engine ended.
     pub fn into_parts(self) -> (Vec<Entry>, Node, Option<EngineEnd>)
-        ensures parts { (result.0.items ≡ self.log) × (result.1 ≡ self.node) × (result.2 ≡ self.ended) }
+        ensures parts { (result.0.items ≡ self.log) × (result.1 ≡ self.node)
+            × (result.2 ≡ self.ended) }
         ensures rises { Rises self.config.first_stamp self.log self.clock }
         ensures ends { EndsAs self.config.log_limit self.crash self.ended self.log }
     {

@@ -74,7 +74,8 @@ impl Judging {
     pub fn feed(&mut self, piece: &[u8]) -> Result<(), AllocError>
         requires { self.old.fed + length piece.now < 2 ^ 63 }
         ensures fed { self.new.fed ≡ self.old.fed + length piece.now }
-        ensures stands { (text : List ℕ) → Stands text self.old → OnOk result (Stands (text ++ piece.now) self.new) }
+        ensures stands { (text : List ℕ) → Stands text self.old →
+            OnOk result (Stands (text ++ piece.now) self.new) }
         ensures refused { is_refused self.old ≡ true → IsErr result }
         ensures skipped { is_offended self.old ≡ true → IsOk result }
         ensures unchanged { is_reading self.old ≡ false → IsSkipped self.old self.new }
@@ -104,7 +105,8 @@ impl Judging {
 
     /// The verdict on all pieces joined. It takes no memory, and answers want of memory only where a piece was refused.
     pub fn finish(self) -> Result<Verdict, AllocError>
-        ensures said { (text : List ℕ) → Stands text self → IfOk result (λ said. said ≡ verdict text) }
+        ensures said { (text : List ℕ) → Stands text self →
+            IfOk result (λ said. said ≡ verdict text) }
         ensures refused { is_refused self ≡ true → IsErr result }
         ensures ok { is_refused self ≡ false → IsOk result }
     {
@@ -132,7 +134,8 @@ impl Judging {
         requires reading { is_reading self.old ≡ true }
         requires room { self.old.lines + length piece.now ≤ self.old.fed }
         ensures fed { self.new.fed ≡ self.old.fed }
-        ensures stands { (text : List ℕ) → Stands text self.old → OnOk result (Stands (text ++ piece.now) self.new) }
+        ensures stands { (text : List ℕ) → Stands text self.old →
+            OnOk result (Stands (text ++ piece.now) self.new) }
         ensures ok { OnOk result (is_refused self.new ≡ false) }
     {
         let mut rest = piece;
@@ -159,7 +162,8 @@ impl Judging {
         requires room { self.old.lines + length part.now + 1 ≤ self.old.fed }
         ensures fed { self.new.fed ≡ self.old.fed }
         ensures lines { self.new.lines ≤ self.old.lines + 1 }
-        ensures stands { (text : List ℕ) → Stands text self.old → OnOk result (Stands (text ++ (part.now ++ 10 ∷ [])) self.new) }
+        ensures stands { (text : List ℕ) → Stands text self.old →
+            OnOk result (Stands (text ++ (part.now ++ 10 ∷ [])) self.new) }
         ensures ok { OnOk result (is_refused self.new ≡ false) }
     {
         if self.tail.is_empty() {
@@ -219,7 +223,8 @@ impl Judging {
         requires clean { HasNone 10 part.now }
         requires room { self.old.lines + length part.now ≤ self.old.fed }
         ensures fed { self.new.fed ≡ self.old.fed }
-        ensures stands { (text : List ℕ) → Stands text self.old → OnOk result (Stands (text ++ part.now) self.new) }
+        ensures stands { (text : List ℕ) → Stands text self.old →
+            OnOk result (Stands (text ++ part.now) self.new) }
         ensures ok { OnOk result (is_refused self.new ≡ false) }
     {
         if part.is_empty() {

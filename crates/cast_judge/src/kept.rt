@@ -180,8 +180,12 @@ impl Kept {
         ensures place { self.new.place ≡ self.old.place }
         ensures faults { self.new.faults ≡ self.old.faults }
         ensures choices { self.new.choices ≡ self.old.choices }
-        ensures nodes { OnOk result (self.new.nodes.items ≡ slice_set self.old.nodes.items sender (with_item (node_at self.old.nodes.items sender) item.now)) }
-        ensures instances { OnOk result ((q : ℕ) → instance_at self.new.instances q ≡ item_changes sender item.now q (instance_at self.old.instances q)) }
+        ensures nodes { OnOk result
+            (self.new.nodes.items ≡ slice_set self.old.nodes.items sender
+            (with_item (node_at self.old.nodes.items sender) item.now)) }
+        ensures instances { OnOk result ((q : ℕ) →
+            instance_at self.new.instances q ≡ item_changes sender item.now q
+            (instance_at self.old.instances q)) }
     {
         if let Some((instance, value)) = item.proposal() {
             let proposal = Proposal {
@@ -290,7 +294,9 @@ impl Kept {
     }
 
     fn node(&self, node: NodeId) -> Option<&Sender>
-        ensures { MatchOption result (length self.now.nodes.items ≤ node) (λ found. (node < length self.now.nodes.items) × (found.now ≡ node_at self.now.nodes.items node)) }
+        ensures { MatchOption result (length self.now.nodes.items ≤ node)
+            (λ found. (node < length self.now.nodes.items)
+            × (found.now ≡ node_at self.now.nodes.items node)) }
     {
         self.nodes.get(usize::from(node.0))
     }
@@ -332,7 +338,9 @@ impl Kept {
     }
 
     fn exceeds_choices(&self, decision: Decision) -> bool
-        ensures { result ≡ nat_lt self.now.choices (count_with (instance_at self.now.instances decision.instance).candidates decision.value) }
+        ensures { result ≡ nat_lt self.now.choices
+            (count_with (instance_at self.now.instances decision.instance).candidates
+            decision.value) }
     {
         match self.instances.get(decision.instance) {
             Some(instance) => instance.exceeds(self.choices, decision.value),
@@ -412,7 +420,8 @@ fn new_nodes(alloc: Global, count: u64) -> Result<Vec<Sender>, AllocError>
 }
 
 fn put_item(nodes: &mut Vec<Sender>, node: NodeId, item: &ItemWord<'_>) -> Result<(), AllocError>
-    ensures { OnOk result (nodes.new.items ≡ slice_set nodes.old.items node (with_item (node_at nodes.old.items node) item.now)) }
+    ensures { OnOk result (nodes.new.items ≡ slice_set nodes.old.items node
+        (with_item (node_at nodes.old.items node) item.now)) }
 {
     let place = usize::from(node.0);
     if place < nodes.len() {
@@ -422,7 +431,8 @@ fn put_item(nodes: &mut Vec<Sender>, node: NodeId, item: &ItemWord<'_>) -> Resul
 }
 
 fn put_delivery(nodes: &mut Vec<Sender>, node: NodeId, sender: NodeId)
-    ensures { nodes.new.items ≡ slice_set nodes.old.items node (with_delivery (node_at nodes.old.items node) sender) }
+    ensures { nodes.new.items ≡ slice_set nodes.old.items node
+        (with_delivery (node_at nodes.old.items node) sender) }
 {
     let place = usize::from(node.0);
     if place < nodes.len() {
@@ -431,7 +441,8 @@ fn put_delivery(nodes: &mut Vec<Sender>, node: NodeId, sender: NodeId)
 }
 
 fn put_crash(nodes: &mut Vec<Sender>, node: NodeId)
-    ensures { nodes.new.items ≡ slice_set nodes.old.items node (with_crash (node_at nodes.old.items node)) }
+    ensures { nodes.new.items ≡ slice_set nodes.old.items node
+        (with_crash (node_at nodes.old.items node)) }
 {
     let place = usize::from(node.0);
     if place < nodes.len() {

@@ -40,8 +40,11 @@ pub fn live_text<R: Read, W: Write, T: Threads + Wait + Copy + Send + 'static>(
     requires reader { reader.old.failed ≡ false }
     requires writer { writer.old.failed ≡ false }
     // The summary is that of a run of the script that was read, and the writer has its text and nothing else.
-    ensures ok { IfOk result (WritesSummary (R.remaining reader.old.inner) (W.contents writer.old.inner) (W.contents writer.new.inner)) }
-    ensures err { IfErr result (LiveFails (R.remaining reader.old.inner) reader.new.failed (W.contents writer.old.inner) (W.contents writer.new.inner) writer.new.failed) }
+    ensures ok { IfOk result (WritesSummary (R.remaining reader.old.inner)
+        (W.contents writer.old.inner) (W.contents writer.new.inner)) }
+    ensures err { IfErr result
+        (LiveFails (R.remaining reader.old.inner) reader.new.failed (W.contents writer.old.inner)
+        (W.contents writer.new.inner) writer.new.failed) }
     // What failed is told, and nothing else is.
     ensures sound { OnOk result ((reader.new.failed ≡ false) × (writer.new.failed ≡ false)) }
     ensures told { IfErr result (λ fault. IsTold fault reader.new.failed writer.new.failed) }
@@ -99,7 +102,9 @@ pub fn write_record_of<W: Write>(
 ) -> Result<(), TextFault>
     requires run { IsFinished run.now }
     requires writer { writer.old.failed ≡ false }
-    ensures { Writes (W.contents writer.old.inner) (W.contents writer.new.inner) writer.new.failed result (record_text (record_of_accepted run.now.report.config run.now.assembly.events)) }
+    ensures { Writes (W.contents writer.old.inner)
+        (W.contents writer.new.inner) writer.new.failed result
+        (record_text (record_of_accepted run.now.report.config run.now.assembly.events)) }
 {
     write_run_record(
         alloc,
@@ -115,7 +120,9 @@ pub fn write_record_of<W: Write>(
 pub fn write_replay_of<W: Write>(run: &FinishedRun, writer: &mut Meter<W>) -> Result<(), TextFault>
     requires run { IsFinished run.now }
     requires writer { writer.old.failed ≡ false }
-    ensures text { Writes (W.contents writer.old.inner) (W.contents writer.new.inner) writer.new.failed result (script_text run.now.report.config run.now.assembly.events) }
+    ensures text { Writes (W.contents writer.old.inner)
+        (W.contents writer.new.inner) writer.new.failed result
+        (script_text run.now.report.config run.now.assembly.events) }
     // Running that script writes the record of the run, and no line of it is a refusal.
     ensures law { RecordsReplay run.now.report.config run.now.assembly.events }
 {
@@ -146,7 +153,8 @@ fn add_job(
     node: NodeId,
     items: List<Item>,
 ) -> Result<(), AllocError>
-    ensures { OnOk result ((job : SubmitAll) × IsNewJob job × (job.items ≡ items) × (all.new.items ≡ all.old.items ++ told_job node job ∷ [])) }
+    ensures { OnOk result ((job : SubmitAll) × IsNewJob job × (job.items ≡ items)
+        × (all.new.items ≡ all.old.items ++ told_job node job ∷ [])) }
 {
     all.push((node, SubmitAll::new(items)))?;
     Ok(())

@@ -46,7 +46,9 @@ pub fn write_run_record<W: Write>(
 ) -> Result<(), TextFault>
     requires sound { writer.old.failed ≡ false }
     requires replies { length replies.now ≡ length events.now }
-    ensures { Writes (W.contents writer.old.inner) (W.contents writer.new.inner) writer.new.failed result (record_text (run_record config.now events.now replies.now)) }
+    ensures { Writes (W.contents writer.old.inner)
+        (W.contents writer.new.inner) writer.new.failed result
+        (record_text (run_record config.now events.now replies.now)) }
 {
     put_head(config, writer)?;
     for (index, event) in events.iter().enumerate() {
@@ -63,7 +65,9 @@ fn put_lines<W: Write>(
     writer: &mut Meter<W>,
 ) -> Result<(), TextFault>
     requires { writer.old.failed ≡ false }
-    ensures { Writes (W.contents writer.old.inner) (W.contents writer.new.inner) writer.new.failed result (record_text (lines_for index event.now reply.now)) }
+    ensures { Writes (W.contents writer.old.inner)
+        (W.contents writer.new.inner) writer.new.failed result
+        (record_text (lines_for index event.now reply.now)) }
 {
     let lines = lines_of(alloc, index, event, reply)?;
     write_record(lines.as_slice(), writer)?;

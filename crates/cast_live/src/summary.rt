@@ -54,8 +54,10 @@ pub fn write_summary<W: Write>(
 ) -> Result<(), WriteFault>
     requires run { IsFinished run.now }
     requires writer { writer.old.failed ≡ false }
-    ensures { Writes (W.contents writer.old.inner) (W.contents writer.new.inner) writer.new.failed result
-        (summary_text run.now.report.config (history run.now.report.config run.now.assembly.events) (ends_of run.now.report.reports) said) }
+    ensures { Writes (W.contents writer.old.inner)
+        (W.contents writer.new.inner) writer.new.failed result
+        (summary_text run.now.report.config (history run.now.report.config run.now.assembly.events)
+        (ends_of run.now.report.reports) said) }
 {
     write_nodes(
         run.report.config(),
@@ -78,7 +80,8 @@ fn write_nodes<W: Write>(
     requires size { length reports.now ≡ config.now.nodes }
     requires writer { writer.old.failed ≡ false }
     ensures sound { OnOk result (writer.new.failed ≡ false) }
-    ensures text { (past : History) → Stands config.now past world.now → Writes (W.contents writer.old.inner) (W.contents writer.new.inner) writer.new.failed result
+    ensures text { (past : History) → Stands config.now past world.now →
+        Writes (W.contents writer.old.inner) (W.contents writer.new.inner) writer.new.failed result
         (nodes_text config.now past 0 (ends_of reports.now)) }
 {
     for (node, report) in reports.iter().enumerate() {
@@ -97,7 +100,8 @@ fn write_node<W: Write>(
     requires node { node < config.now.nodes }
     requires writer { writer.old.failed ≡ false }
     ensures sound { OnOk result (writer.new.failed ≡ false) }
-    ensures text { (past : History) → Stands config.now past world.now → Writes (W.contents writer.old.inner) (W.contents writer.new.inner) writer.new.failed result
+    ensures text { (past : History) → Stands config.now past world.now →
+        Writes (W.contents writer.old.inner) (W.contents writer.new.inner) writer.new.failed result
         (node_text config.now past node ended) }
 {
     write_end(u64::from(node), ended, writer)?;
@@ -108,7 +112,8 @@ fn write_node<W: Write>(
 // The number of a node, and how it ended.
 fn write_end<W: Write>(node: u64, ended: EngineEnd, writer: &mut Meter<W>) -> Result<(), WriteFault>
     requires { writer.old.failed ≡ false }
-    ensures { Writes (W.contents writer.old.inner) (W.contents writer.new.inner) writer.new.failed result (end_text node ended) }
+    ensures { Writes (W.contents writer.old.inner)
+        (W.contents writer.new.inner) writer.new.failed result (end_text node ended) }
 {
     write_bytes(b"node ", writer)?;
     write_number(node, writer)?;
@@ -126,7 +131,8 @@ fn write_counts<W: Write>(
     requires node { node < config.now.nodes }
     requires writer { writer.old.failed ≡ false }
     ensures sound { OnOk result (writer.new.failed ≡ false) }
-    ensures text { (past : History) → Stands config.now past world.now → Writes (W.contents writer.old.inner) (W.contents writer.new.inner) writer.new.failed result
+    ensures text { (past : History) → Stands config.now past world.now →
+        Writes (W.contents writer.old.inner) (W.contents writer.new.inner) writer.new.failed result
         (counts_text config.now past node (range_with_len 0 config.now.nodes)) }
 {
     let nodes = config.nodes() as u8;
@@ -138,7 +144,8 @@ fn write_counts<W: Write>(
 
 fn write_count<W: Write>(count: u64, writer: &mut Meter<W>) -> Result<(), WriteFault>
     requires { writer.old.failed ≡ false }
-    ensures { Writes (W.contents writer.old.inner) (W.contents writer.new.inner) writer.new.failed result (codes " " ++ decimal count) }
+    ensures { Writes (W.contents writer.old.inner)
+        (W.contents writer.new.inner) writer.new.failed result (codes " " ++ decimal count) }
 {
     write_bytes(b" ", writer)?;
     write_number(count, writer)
@@ -148,7 +155,8 @@ fn write_count<W: Write>(count: u64, writer: &mut Meter<W>) -> Result<(), WriteF
 fn delivered_count(config: &Config, world: &World, node: u8, sender: u8) -> u64
     requires node { node < config.now.nodes }
     requires sender { sender < config.now.nodes }
-    ensures { (past : History) → Stands config.now past world.now → result ≡ length (delivered config.now past node sender) }
+    ensures { (past : History) → Stands config.now past world.now →
+        result ≡ length (delivered config.now past node sender) }
 {
     let _nodes = config.nodes();
     match world.delivered(NodeId(node), NodeId(sender)) {

@@ -19,7 +19,8 @@ pub fn judge_run(
     replies: &[Reply],
 ) -> Result<Verdict, AllocError>
     requires { length replies.now ≡ length events.now }
-    ensures { IfOk result (λ said. said ≡ verdict (record_text (run_record config.now events.now replies.now))) }
+    ensures { IfOk result (λ said.
+        said ≡ verdict (record_text (run_record config.now events.now replies.now))) }
 {
     let mut judging = Judging::new(alloc);
     feed_lines(alloc, &mut judging, &[Line::head(config)])?;
@@ -33,7 +34,8 @@ pub fn judge_run(
 
 // Feeds the judge the text of these lines. A text of 2^63 bytes in all finds no memory.
 fn feed_lines(alloc: Global, judging: &mut Judging, lines: &[Line]) -> Result<(), AllocError>
-    ensures { (text : List ℕ) → Stands text judging.old → OnOk result (Stands (text ++ record_text lines.now) judging.new) }
+    ensures { (text : List ℕ) → Stands text judging.old →
+        OnOk result (Stands (text ++ record_text lines.now) judging.new) }
 {
     let mut meter = Meter::new(Vec::new(alloc));
     if write_record(lines, &mut meter).is_err() {

@@ -97,11 +97,17 @@ impl Config {
         first_stamp: u64,
         mode: Mode,
     ) -> Result<Config, ConfigFault>
-        ensures ok { IfOk result (λ config. (config.nodes ≡ nodes) × (config.faults ≡ faults) × (config.choices ≡ choices)
-            × (config.item_limit ≡ item_limit) × (config.log_limit ≡ log_limit) × (config.box_size ≡ box_size)
+        ensures ok { IfOk result (λ config. (config.nodes ≡ nodes) × (config.faults ≡ faults)
+            × (config.choices ≡ choices)
+            × (config.item_limit ≡ item_limit) × (config.log_limit ≡ log_limit)
+            × (config.box_size ≡ box_size)
             × (config.first_stamp ≡ first_stamp) × (config.mode ≡ mode)) }
-        ensures none { OnOk result (first_config_fault (config_causes nodes faults choices item_limit log_limit box_size mode) ≡ None) }
-        ensures fault { IfErr result (λ fault. first_config_fault (config_causes nodes faults choices item_limit log_limit box_size mode) ≡ Some fault) }
+        ensures none { OnOk result
+            (first_config_fault
+            (config_causes nodes faults choices item_limit log_limit box_size mode) ≡ None) }
+        ensures fault { IfErr result
+            (λ fault. first_config_fault
+            (config_causes nodes faults choices item_limit log_limit box_size mode) ≡ Some fault) }
     {
         if nodes < 1 || nodes > 64 {
             return Err(ConfigFault::Nodes);

@@ -13,7 +13,8 @@ pub fn find_byte(bytes: &[u8], byte: u8) -> Option<usize>
 
 /// The first part, and what stands after its separator, if one does.
 pub fn split_part(bytes: &[u8], separator: u8) -> (&[u8], Option<&[u8]>)
-    ensures { slice_split (λ b. b == separator) bytes.now ≡ result.0.now ∷ parts_of separator (option_map (λ rest. rest.now) result.1) }
+    ensures { slice_split (λ b. b == separator) bytes.now ≡ result.0.now ∷ parts_of separator
+        (option_map (λ rest. rest.now) result.1) }
 {
     match find_byte(bytes, separator) {
         Some(at) => (&bytes[..at], Some(&bytes[at + 1..])),
@@ -23,7 +24,8 @@ pub fn split_part(bytes: &[u8], separator: u8) -> (&[u8], Option<&[u8]>)
 
 /// The one part, where there is exactly one.
 pub fn one_part(bytes: &[u8], separator: u8) -> Option<&[u8]>
-    ensures { option_map (λ part. part.now) result ≡ one_of (slice_split (λ b. b == separator) bytes.now) }
+    ensures { option_map (λ part. part.now) result ≡ one_of
+        (slice_split (λ b. b == separator) bytes.now) }
 {
     match split_part(bytes, separator) {
         (part, None) => Some(part),
@@ -33,7 +35,8 @@ pub fn one_part(bytes: &[u8], separator: u8) -> Option<&[u8]>
 
 /// The two parts, where there are exactly two.
 pub fn two_parts(bytes: &[u8], separator: u8) -> Option<(&[u8], &[u8])>
-    ensures { option_map (λ parts. (parts.0.now, parts.1.now)) result ≡ two_of (slice_split (λ b. b == separator) bytes.now) }
+    ensures { option_map (λ parts. (parts.0.now, parts.1.now)) result ≡ two_of
+        (slice_split (λ b. b == separator) bytes.now) }
 {
     let (first, rest) = split_part(bytes, separator);
     let second = one_part(rest?, separator)?;
@@ -42,7 +45,8 @@ pub fn two_parts(bytes: &[u8], separator: u8) -> Option<(&[u8], &[u8])>
 
 /// The three parts, where there are exactly three.
 pub fn three_parts(bytes: &[u8], separator: u8) -> Option<(&[u8], &[u8], &[u8])>
-    ensures { option_map (λ parts. (parts.0.now, parts.1.now, parts.2.now)) result ≡ three_of (slice_split (λ b. b == separator) bytes.now) }
+    ensures { option_map (λ parts. (parts.0.now, parts.1.now, parts.2.now)) result ≡ three_of
+        (slice_split (λ b. b == separator) bytes.now) }
 {
     let (first, rest) = split_part(bytes, separator);
     let (second, third) = two_parts(rest?, separator)?;
@@ -51,7 +55,8 @@ pub fn three_parts(bytes: &[u8], separator: u8) -> Option<(&[u8], &[u8], &[u8])>
 
 /// The four parts, where there are exactly four.
 pub fn four_parts(bytes: &[u8], separator: u8) -> Option<(&[u8], &[u8], &[u8], &[u8])>
-    ensures { option_map (λ parts. (parts.0.now, parts.1.now, parts.2.now, parts.3.now)) result ≡ four_of (slice_split (λ b. b == separator) bytes.now) }
+    ensures { option_map (λ parts. (parts.0.now, parts.1.now, parts.2.now, parts.3.now)) result
+        ≡ four_of (slice_split (λ b. b == separator) bytes.now) }
 {
     let (first, rest) = split_part(bytes, separator);
     let (second, third, fourth) = three_parts(rest?, separator)?;

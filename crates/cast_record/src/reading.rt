@@ -32,7 +32,8 @@ pub fn read_line(alloc: Global, bytes: &[u8]) -> Result<Option<Line>, AllocError
 
 // The line of this name whose other words stand in the rest.
 fn line(alloc: Global, name: &[u8], rest: &[u8]) -> Result<Option<Line>, AllocError>
-    ensures { IfOk result (λ line. line ≡ line_named name.now (slice_split (λ b. b == 32) rest.now)) }
+    ensures { IfOk result (λ line.
+        line ≡ line_named name.now (slice_split (λ b. b == 32) rest.now)) }
 {
     if name == b"d".as_slice() {
         delivered(alloc, rest)
@@ -72,7 +73,8 @@ pub fn end(name: &[u8]) -> Option<Line>
 }
 
 fn delivered(alloc: Global, rest: &[u8]) -> Result<Option<Line>, AllocError>
-    ensures { IfOk result (λ line. line ≡ option_and_then delivered_by (four_of (slice_split (λ b. b == 32) rest.now))) }
+    ensures { IfOk result (λ line.
+        line ≡ option_and_then delivered_by (four_of (slice_split (λ b. b == 32) rest.now))) }
 {
     let Some((receiver, sender, place, word)) = four_parts(rest, BLANK) else {
         return Ok(None);
@@ -88,7 +90,8 @@ fn delivered(alloc: Global, rest: &[u8]) -> Result<Option<Line>, AllocError>
 }
 
 fn broadcast(alloc: Global, rest: &[u8]) -> Result<Option<Line>, AllocError>
-    ensures { IfOk result (λ line. line ≡ option_and_then broadcast_by (three_of (slice_split (λ b. b == 32) rest.now))) }
+    ensures { IfOk result (λ line.
+        line ≡ option_and_then broadcast_by (three_of (slice_split (λ b. b == 32) rest.now))) }
 {
     let Some((sender, place, word)) = three_parts(rest, BLANK) else {
         return Ok(None);

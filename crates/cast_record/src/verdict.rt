@@ -21,7 +21,8 @@ pub enum Verdict {
 /// the writer failed or took no byte; the meter tells so from then on, and a front of the text stands.
 pub fn write_verdict<W: Write>(verdict: Verdict, writer: &mut Meter<W>) -> Result<(), WriteFault>
     requires { writer.old.failed ≡ false }
-    ensures { Writes (W.contents writer.old.inner) (W.contents writer.new.inner) writer.new.failed result (verdict_text verdict ++ 10 ∷ []) }
+    ensures { Writes (W.contents writer.old.inner)
+        (W.contents writer.new.inner) writer.new.failed result (verdict_text verdict ++ 10 ∷ []) }
 {
     match verdict {
         Verdict::Good => write_words(b"good", &[], writer),

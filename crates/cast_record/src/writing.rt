@@ -15,7 +15,8 @@ use std::io::Write;
 /// byte; the meter tells so from then on, and a front of the text stands.
 pub fn write_record<W: Write>(lines: &[Line], writer: &mut Meter<W>) -> Result<(), WriteFault>
     requires { writer.old.failed ≡ false }
-    ensures { Writes (W.contents writer.old.inner) (W.contents writer.new.inner) writer.new.failed result (record_text lines.now) }
+    ensures { Writes (W.contents writer.old.inner)
+        (W.contents writer.new.inner) writer.new.failed result (record_text lines.now) }
 {
     for line in lines {
         write_line(line, writer)?;
@@ -27,7 +28,8 @@ pub fn write_record<W: Write>(lines: &[Line], writer: &mut Meter<W>) -> Result<(
 /// the meter tells so from then on, and a front of the text stands.
 pub fn write_line<W: Write>(line: &Line, writer: &mut Meter<W>) -> Result<(), WriteFault>
     requires { writer.old.failed ≡ false }
-    ensures { Writes (W.contents writer.old.inner) (W.contents writer.new.inner) writer.new.failed result (line_text line.now ++ 10 ∷ []) }
+    ensures { Writes (W.contents writer.old.inner)
+        (W.contents writer.new.inner) writer.new.failed result (line_text line.now ++ 10 ∷ []) }
 {
     match line {
         Line::Head {
@@ -97,7 +99,8 @@ pub fn write_words<W: Write>(
     writer: &mut Meter<W>,
 ) -> Result<(), WriteFault>
     requires { writer.old.failed ≡ false }
-    ensures { Writes (W.contents writer.old.inner) (W.contents writer.new.inner) writer.new.failed result
+    ensures { Writes (W.contents writer.old.inner)
+        (W.contents writer.new.inner) writer.new.failed result
         (join_with_byte 32 (name.now ∷ map word_text words.now) ++ 10 ∷ []) }
 {
     write_bytes(name, writer)?;
@@ -110,7 +113,8 @@ pub fn write_words<W: Write>(
 
 fn write_word<W: Write>(word: &Word<'_>, writer: &mut Meter<W>) -> Result<(), WriteFault>
     requires { writer.old.failed ≡ false }
-    ensures { Writes (W.contents writer.old.inner) (W.contents writer.new.inner) writer.new.failed result (word_text word.now) }
+    ensures { Writes (W.contents writer.old.inner)
+        (W.contents writer.new.inner) writer.new.failed result (word_text word.now) }
 {
     match word {
         Number(number) => write_number(*number, writer),
@@ -121,7 +125,8 @@ fn write_word<W: Write>(word: &Word<'_>, writer: &mut Meter<W>) -> Result<(), Wr
 
 fn write_item<W: Write>(item: &Item, writer: &mut Meter<W>) -> Result<(), WriteFault>
     requires { writer.old.failed ≡ false }
-    ensures { Writes (W.contents writer.old.inner) (W.contents writer.new.inner) writer.new.failed result (item_word item.now) }
+    ensures { Writes (W.contents writer.old.inner)
+        (W.contents writer.new.inner) writer.new.failed result (item_word item.now) }
 {
     match item {
         Item::Data(payload) => {

@@ -48,14 +48,16 @@ impl Model for Relay {
 
     ghost use Rattle.cast_relay.specs.Held.{HoldsOwnBelow};
 
-    ghost invariant = { λ r. (r.me < length r.numbers.items) × (length r.numbers.items ≤ 256) × HoldsOwnBelow r.me r.own r.numbers.items };
+    ghost invariant = { λ r. (r.me < length r.numbers.items) × (length r.numbers.items ≤ 256)
+        × HoldsOwnBelow r.me r.own r.numbers.items };
 }
 
 impl Relay {
     /// The node `me` of a group of this many nodes, which holds nothing. The group has the node: `me` is below `nodes`.
     pub fn new(alloc: Global, me: NodeId, nodes: u64) -> Result<Relay, AllocError>
         requires { me < nodes }
-        ensures { IfOk result (λ relay. relay ≡ record { me = me; own = 0; numbers = replicate 256 set.empty }) }
+        ensures { IfOk result (λ relay.
+            relay ≡ record { me = me; own = 0; numbers = replicate 256 set.empty }) }
     {
         let mut numbers = Vec::new(alloc);
         for _sender in 0..nodes.min(256) {
@@ -73,8 +75,12 @@ impl Relay {
     /// fewer than `u64::MAX` messages before.
     pub fn own(&mut self, item: Item) -> Result<Message, AllocError>
         requires { self.old.own + 1 < 2 ^ 64 }
-        ensures message { IfOk result (λ message. message ≡ record { sender = self.old.me; number = self.old.own; item = item }) }
-        ensures ok { OnOk result (self.new ≡ record (with_pair self.old self.old.me self.old.own) { own = self.old.own + 1 }) }
+        ensures message { IfOk result
+            (λ message. message
+            ≡ record { sender = self.old.me; number = self.old.own; item = item }) }
+        ensures ok { OnOk result
+            (self.new ≡ record
+            (with_pair self.old self.old.me self.old.own) { own = self.old.own + 1 }) }
         ensures err { OnErr result (self.new ≡ self.old) }
         ensures fresh { holds self.old self.old.me self.old.own ≡ false }
     {
@@ -93,8 +99,10 @@ impl Relay {
     /// peer.
     pub fn arrive(&mut self, message: &Message, _from: NodeId) -> Result<Taken, AllocError>
         requires { message.now.sender ≢ self.old.me }
-        ensures taken { IfOk result (λ taken. taken ≡ taken_of self.old message.now.sender message.now.number) }
-        ensures ok { OnOk result (self.new ≡ with_pair self.old message.now.sender message.now.number) }
+        ensures taken { IfOk result
+            (λ taken. taken ≡ taken_of self.old message.now.sender message.now.number) }
+        ensures ok { OnOk result
+            (self.new ≡ with_pair self.old message.now.sender message.now.number) }
         ensures err { OnErr result (self.new ≡ self.old) }
     {
         let place = place_of(message.sender);
@@ -110,7 +118,8 @@ impl Relay {
     /// item. It takes no memory.
     pub fn disown(&mut self)
         requires { 0 < self.old.own }
-        ensures { self.new ≡ record (without_pair self.old self.old.me (self.old.own - 1)) { own = self.old.own - 1 } }
+        ensures { self.new ≡ record
+            (without_pair self.old self.old.me (self.old.own - 1)) { own = self.old.own - 1 } }
     {
         self.own -= 1;
         let place = place_of(self.me);

@@ -38,11 +38,14 @@ pub fn prepare<J: Drop>(
 ) -> Result<Prepared<J>, AllocError>
     requires fit { JobsFit config.now.nodes jobs.items }
     requires counted { IsCount config.now.nodes jobs.items counts.now }
-    ensures group { IfOk result (λ r. IsGroup r.engines.items r.carriers.items × (length r.engines.items ≡ config.now.nodes) × (length r.carriers.items ≡ config.now.nodes)) }
+    ensures group { IfOk result (λ r. IsGroup r.engines.items r.carriers.items
+        × (length r.engines.items ≡ config.now.nodes)
+        × (length r.carriers.items ≡ config.now.nodes)) }
     ensures set { IfOk result (λ r. AreSetUp config.now faults.now r.engines.items) }
     ensures seated { IfOk result (λ r. AreSeated r.engines.items (map seat_client r.seats.items)) }
     ensures jobs { IfOk result (λ r. map seat_job r.seats.items ≡ jobs.items) }
-    ensures fresh { IfOk result (λ r. (i : ℕ) (s : Seat J) → slice_get r.seats.items i ≡ Some s → IsFresh s.client) }
+    ensures fresh { IfOk result (λ r. (i : ℕ) (s : Seat J) → slice_get r.seats.items i ≡ Some s →
+        IsFresh s.client) }
     ensures rows { IfOk result (λ r. AreNewRows counts.now r.rows.items) }
 {
     let rows = make_rows(alloc, counts)?;

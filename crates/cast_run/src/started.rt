@@ -74,13 +74,19 @@ fn start_all<
     gates: Vec<G>,
     turns: u64,
 ) -> Result<(), StartFault>
-    requires facts { (i : ℕ) (s : Seat J) → slice_get seats.items i ≡ Some s → J.fact s.job (submitted s.client) (got s.client) false }
+    requires facts { (i : ℕ) (s : Seat J) → slice_get seats.items i ≡ Some s →
+        J.fact s.job (submitted s.client) (got s.client) false }
     requires gates { length gates.items ≡ length group.0.items }
-    requires room { IsRoomFor (vec_len group.0) threads.old.engines × IsRoomFor (vec_len group.1) threads.old.carriers
+    requires room { IsRoomFor (vec_len group.0) threads.old.engines
+        × IsRoomFor (vec_len group.1) threads.old.carriers
         × IsRoomFor (vec_len seats) threads.old.jobs }
-    ensures engines { OnOk result (map (λ t. t.promise.was.value) threads.new.engines.items ≡ group.0.items) }
-    ensures carriers { OnOk result (map (λ t. t.promise.was.value) threads.new.carriers.items ≡ group.1.items) }
-    ensures jobs { OnOk result (map (λ t. told t.promise.node t.promise.was.value) threads.new.jobs.items ≡ map seat_client seats.items) }
+    ensures engines { OnOk result
+        (map (λ t. t.promise.was.value) threads.new.engines.items ≡ group.0.items) }
+    ensures carriers { OnOk result
+        (map (λ t. t.promise.was.value) threads.new.carriers.items ≡ group.1.items) }
+    ensures jobs { OnOk result
+        (map (λ t. told t.promise.node t.promise.was.value) threads.new.jobs.items
+        ≡ map seat_client seats.items) }
 {
     let (engines, carriers) = group;
     start_engines(rt, alloc, board, &mut threads.engines, engines, gates)?;
@@ -103,11 +109,14 @@ pub fn run_threads<
     board: Arc<Board, Global>,
     turns: u64,
 ) -> Result<(Group, Vec<Ended<J>>), StartFault>
-    requires group { IsGroup group.0.items group.1.items × (length group.1.items ≡ length group.0.items) }
+    requires group { IsGroup group.0.items group.1.items
+        × (length group.1.items ≡ length group.0.items) }
     requires gates { length gates.items ≡ length group.0.items }
-    requires facts { (i : ℕ) (s : Seat J) → slice_get seats.items i ≡ Some s → J.fact s.job (submitted s.client) (got s.client) false }
+    requires facts { (i : ℕ) (s : Seat J) → slice_get seats.items i ≡ Some s →
+        J.fact s.job (submitted s.client) (got s.client) false }
     ensures group { IfOk result (λ r. IsGroup r.0.0.items r.0.1.items) }
-    ensures many { IfOk result (λ r. (length r.0.0.items ≡ length group.0.items) × (length r.0.1.items ≡ length group.1.items)) }
+    ensures many { IfOk result (λ r. (length r.0.0.items ≡ length group.0.items)
+        × (length r.0.1.items ≡ length group.1.items)) }
     ensures same { IfOk result (λ r. AreSame IsSameEngine group.0.items r.0.0.items) }
     ensures jobs { IfOk result (λ r. AreEnded J.fact (map seat_client seats.items) r.1.items) }
 {

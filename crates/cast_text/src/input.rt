@@ -13,9 +13,11 @@ pub const INPUT_LIMIT: usize = 67_108_864;
 /// All that the reader has left. No byte is asked for past the one that tells that there are too many.
 pub fn read_input<R: Read>(alloc: Global, reader: &mut Meter<R>) -> Result<Vec<u8>, TextFault>
     requires { reader.old.failed ≡ false }
-    ensures whole { IfOk result (λ v. IfSome (R.remaining reader.old.inner) (λ input. v.items ≡ input)) }
+    ensures whole { IfOk result
+        (λ v. IfSome (R.remaining reader.old.inner) (λ input. v.items ≡ input)) }
     ensures short { IfOk result (λ v. length v.items ≤ INPUT_LIMIT) }
-    ensures long { IsErrOf result TextFault.TooLong → IfSome (R.remaining reader.old.inner) (λ input. INPUT_LIMIT < length input) }
+    ensures long { IsErrOf result TextFault.TooLong →
+        IfSome (R.remaining reader.old.inner) (λ input. INPUT_LIMIT < length input) }
     ensures faults { IfErr result IsOfReading }
     ensures sound { OnOk result (reader.new.failed ≡ false) }
     ensures told { IfErr result (λ fault. IsTold fault reader.new.failed false) }

@@ -25,7 +25,9 @@ pub fn write_script_record<W: Write>(
     writer: &mut Meter<W>,
 ) -> Result<(), TextFault>
     requires { writer.old.failed ≡ false }
-    ensures { Writes (W.contents writer.old.inner) (W.contents writer.new.inner) writer.new.failed result (record_text (record_of script.now)) }
+    ensures { Writes (W.contents writer.old.inner)
+        (W.contents writer.new.inner) writer.new.failed result
+        (record_text (record_of script.now)) }
 {
     let mut world = World::new(alloc, script.config.copy())?;
     put_head(&script.config, writer)?;
@@ -37,7 +39,9 @@ pub fn write_script_record<W: Write>(
 
 pub fn put_head<W: Write>(config: &Config, writer: &mut Meter<W>) -> Result<(), TextFault>
     requires { writer.old.failed ≡ false }
-    ensures { Writes (W.contents writer.old.inner) (W.contents writer.new.inner) writer.new.failed result (line_text (head_of config.now) ++ 10 ∷ []) }
+    ensures { Writes (W.contents writer.old.inner)
+        (W.contents writer.new.inner) writer.new.failed result
+        (line_text (head_of config.now) ++ 10 ∷ []) }
 {
     let head = Line::head(config);
     put_line(&head, writer)
@@ -45,7 +49,8 @@ pub fn put_head<W: Write>(config: &Config, writer: &mut Meter<W>) -> Result<(), 
 
 pub fn put_line<W: Write>(line: &Line, writer: &mut Meter<W>) -> Result<(), TextFault>
     requires { writer.old.failed ≡ false }
-    ensures { Writes (W.contents writer.old.inner) (W.contents writer.new.inner) writer.new.failed result (line_text line.now ++ 10 ∷ []) }
+    ensures { Writes (W.contents writer.old.inner)
+        (W.contents writer.new.inner) writer.new.failed result (line_text line.now ++ 10 ∷ []) }
 {
     write_line(line, writer)?;
     Ok(())
@@ -61,7 +66,9 @@ fn record_script_event<W: Write>(
 ) -> Result<(), TextFault>
     requires { writer.old.failed ≡ false }
     ensures sound { OnOk result (writer.new.failed ≡ false) }
-    ensures left { (config : Settings) (past : History) → Stands config past world.old → Leaves config (left_by config index past event.now) world.new (W.contents writer.old.inner) (W.contents writer.new.inner) writer.new.failed result }
+    ensures left { (config : Settings) (past : History) → Stands config past world.old →
+        Leaves config (left_by config index past event.now) world.new (W.contents writer.old.inner)
+        (W.contents writer.new.inner) writer.new.failed result }
 {
     match event {
         ScriptEvent::Core(event) => {
@@ -86,7 +93,9 @@ fn record_round<W: Write>(
 ) -> Result<bool, TextFault>
     requires { writer.old.failed ≡ false }
     ensures sound { OnOk result (writer.new.failed ≡ false) }
-    ensures left { (config : Settings) (past : History) → Stands config past world.old → Tries config (round_left config index past) world.new (W.contents writer.old.inner) (W.contents writer.new.inner) writer.new.failed result }
+    ensures left { (config : Settings) (past : History) → Stands config past world.old →
+        Tries config (round_left config index past) world.new (W.contents writer.old.inner)
+        (W.contents writer.new.inner) writer.new.failed result }
 {
     let due = world.due()?;
     for slot in due.as_slice() {
@@ -108,7 +117,9 @@ fn record_events<W: Write>(
 ) -> Result<bool, TextFault>
     requires { writer.old.failed ≡ false }
     ensures sound { OnOk result (writer.new.failed ≡ false) }
-    ensures left { (config : Settings) (past : History) → Stands config past world.old → Tries config (tried config index past events.now) world.new (W.contents writer.old.inner) (W.contents writer.new.inner) writer.new.failed result }
+    ensures left { (config : Settings) (past : History) → Stands config past world.old →
+        Tries config (tried config index past events.now) world.new (W.contents writer.old.inner)
+        (W.contents writer.new.inner) writer.new.failed result }
 {
     for event in events {
         if !record_event(alloc, world, index, event, writer)? {
@@ -128,7 +139,9 @@ fn record_event<W: Write>(
 ) -> Result<bool, TextFault>
     requires { writer.old.failed ≡ false }
     ensures sound { OnOk result (writer.new.failed ≡ false) }
-    ensures left { (config : Settings) (past : History) → Stands config past world.old → Tries config (one_left config index past event.now) world.new (W.contents writer.old.inner) (W.contents writer.new.inner) writer.new.failed result }
+    ensures left { (config : Settings) (past : History) → Stands config past world.old →
+        Tries config (one_left config index past event.now) world.new (W.contents writer.old.inner)
+        (W.contents writer.new.inner) writer.new.failed result }
 {
     let reply = world.step(event);
     if is_want_of_memory(&reply) {

@@ -21,8 +21,11 @@ pub fn run_text<R: Read, W: Write>(
     requires reader { reader.old.failed ≡ false }
     requires writer { writer.old.failed ≡ false }
     // The bytes are a script's, and the writer has its record, which is good, and nothing else.
-    ensures ok { OnOk result (WritesRecord (R.remaining reader.old.inner) (W.contents writer.old.inner) (W.contents writer.new.inner)) }
-    ensures err { IfErr result (Fails (R.remaining reader.old.inner) reader.new.failed (W.contents writer.old.inner) (W.contents writer.new.inner) writer.new.failed) }
+    ensures ok { OnOk result (WritesRecord (R.remaining reader.old.inner)
+        (W.contents writer.old.inner) (W.contents writer.new.inner)) }
+    ensures err { IfErr result
+        (Fails (R.remaining reader.old.inner) reader.new.failed (W.contents writer.old.inner)
+        (W.contents writer.new.inner) writer.new.failed) }
     // What failed is told, and nothing else is.
     ensures sound { OnOk result ((reader.new.failed ≡ false) × (writer.new.failed ≡ false)) }
     ensures told { IfErr result (λ fault. IsTold fault reader.new.failed writer.new.failed) }

@@ -51,7 +51,8 @@ impl<S: Read> Meter<S> {
     /// error.
     pub fn read(&mut self, buf: &mut [u8]) -> Result<usize, Failed>
         ensures bound { ReadsAtMost result buf.new }
-        ensures bytes { ReadConsumes (S.remaining self.old.inner) (S.remaining self.new.inner) result buf.new }
+        ensures bytes { ReadConsumes (S.remaining self.old.inner)
+            (S.remaining self.new.inner) result buf.new }
         ensures ok { OnOk result (self.new.failed ≡ self.old.failed) }
         ensures err { OnErr result (self.new.failed ≡ true) }
     {
@@ -70,7 +71,8 @@ impl<S: Write> Meter<S> {
     /// error.
     pub fn write(&mut self, buf: &[u8]) -> Result<usize, Failed>
         ensures bound { WritesAtMost result buf.now }
-        ensures bytes { WriteAppends (S.contents self.old.inner) (S.contents self.new.inner) result buf.now }
+        ensures bytes { WriteAppends (S.contents self.old.inner)
+            (S.contents self.new.inner) result buf.now }
         ensures ok { IfOk result (λ n. 0 < n → self.new.failed ≡ self.old.failed) }
         ensures empty { IfOk result (λ n. length buf.now ≡ 0 → self.new.failed ≡ self.old.failed) }
         ensures stuck { IfOk result (λ n. n ≡ 0 → 0 < length buf.now → self.new.failed ≡ true) }

@@ -21,7 +21,8 @@ pub enum WriteFault {
 /// Writes the number in decimal digits. It takes no memory; a refusal comes as in `write_bytes`.
 pub fn write_number<W: Write>(number: u64, writer: &mut Meter<W>) -> Result<(), WriteFault>
     requires { writer.old.failed ≡ false }
-    ensures { Writes (W.contents writer.old.inner) (W.contents writer.new.inner) writer.new.failed result (decimal number) }
+    ensures { Writes (W.contents writer.old.inner)
+        (W.contents writer.new.inner) writer.new.failed result (decimal number) }
 {
     write_bytes(Digits::new(number).as_slice(), writer)
 }
@@ -29,7 +30,8 @@ pub fn write_number<W: Write>(number: u64, writer: &mut Meter<W>) -> Result<(), 
 /// Writes each byte as two digits. It takes no memory; a refusal comes as in `write_bytes`.
 pub fn write_hex<W: Write>(bytes: &[u8], writer: &mut Meter<W>) -> Result<(), WriteFault>
     requires { writer.old.failed ≡ false }
-    ensures { Writes (W.contents writer.old.inner) (W.contents writer.new.inner) writer.new.failed result (hex bytes.now) }
+    ensures { Writes (W.contents writer.old.inner)
+        (W.contents writer.new.inner) writer.new.failed result (hex bytes.now) }
 {
     let mut rest = bytes;
     while !rest.is_empty() {
@@ -44,7 +46,8 @@ pub fn write_hex<W: Write>(bytes: &[u8], writer: &mut Meter<W>) -> Result<(), Wr
 /// so from then on, and a front of the bytes stands.
 pub fn write_bytes<W: Write>(bytes: &[u8], writer: &mut Meter<W>) -> Result<(), WriteFault>
     requires { writer.old.failed ≡ false }
-    ensures { Writes (W.contents writer.old.inner) (W.contents writer.new.inner) writer.new.failed result bytes.now }
+    ensures { Writes (W.contents writer.old.inner)
+        (W.contents writer.new.inner) writer.new.failed result bytes.now }
 {
     let mut rest = bytes;
     while !rest.is_empty() {

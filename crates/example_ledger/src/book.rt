@@ -68,7 +68,11 @@ impl Model for Book {
 
     ghost Value = { BookState };
 
-    ghost view = { λ b. record { journal = b.journal.items; sheet = b.sheet; room = vec_capacity b.journal } };
+    ghost view = { λ b. record {
+      journal = b.journal.items;
+      sheet = b.sheet;
+      room = vec_capacity b.journal;
+    } };
 
     ghost invariant = { λ b. IsSheetOf b.sheet b.journal.items };
 }

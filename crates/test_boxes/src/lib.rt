@@ -63,7 +63,8 @@ impl Promise<Taken> for TakesNumbers {
     ghost use Rattle.std.specs.Prelude.{◌≡◌, length, IfOk};
     ghost use Rattle.test_boxes.specs.Uses.{TookThese};
 
-    ghost kept_by = { λ p taken. IfOk taken (λ t. TookThese p.was.value t.1.items t.0 × (length t.1.items ≡ p.count)) };
+    ghost kept_by = { λ p taken.
+        IfOk taken (λ t. TookThese p.was.value t.1.items t.0 × (length t.1.items ≡ p.count)) };
 }
 
 /// Takes `count` numbers, and tries again where the box is empty.
@@ -94,7 +95,9 @@ fn start_putters<R: Threads + Wait + Copy + Send + 'static>(
     count: u64,
 ) -> Result<Vec<PutterThread>, AllocError>
     requires { length putters.items * count < 2 ^ 64 }
-    ensures { IfOk result (λ threads. map (λ t. told t.promise.was.value t.promise.first t.promise.count) threads.items ≡ each_told 0 count putters.items) }
+    ensures { IfOk result (λ threads.
+        map (λ t. told t.promise.was.value t.promise.first t.promise.count) threads.items
+        ≡ each_told 0 count putters.items) }
 {
     let mut threads = Vec::new(alloc);
     let mut first = 0;
@@ -122,7 +125,9 @@ fn join_putters<R: Threads>(
     rt: &R,
     threads: Vec<PutterThread>,
 ) -> Result<Vec<Putter<u64>>, AllocError>
-    ensures { IfOk result (λ back. CameBack (map (λ t. told t.promise.was.value t.promise.first t.promise.count) threads.items) back.items) }
+    ensures { IfOk result (λ back.
+        CameBack (map (λ t. told t.promise.was.value t.promise.first t.promise.count) threads.items)
+        back.items) }
 {
     let putters = thread::join_promised(rt, threads)?;
     Ok(putters)
@@ -144,7 +149,8 @@ fn start_taker<R: Threads + Wait + Copy + Send + 'static>(
         &rt,
         promise,
         move || -> Taken
-            ensures { IfOk result (λ r. TookThese taker r.1.items r.0 × (length r.1.items ≡ takes)) }
+            ensures { IfOk result (λ r. TookThese taker r.1.items r.0
+                × (length r.1.items ≡ takes)) }
         { take_numbers(&rt, alloc, taker, takes) },
     )?;
     Ok(thread)
@@ -162,9 +168,11 @@ pub fn exchange<R: Threads + Wait + Copy + Send + 'static>(
     takes: usize,
 ) -> Result<(Vec<u64>, Gathered<u64>), AllocError>
     requires { putters * count < 2 ^ 64 }
-    ensures taken { IfOk result (λ r. (r.0.items ≡ map (λ m. m.1) r.1.taken) × (length r.0.items ≡ takes)) }
+    ensures taken { IfOk result (λ r. (r.0.items ≡ map (λ m. m.1) r.1.taken)
+        × (length r.0.items ≡ takes)) }
     ensures room { IfOk result (λ r. length r.1.left ≤ size) }
-    ensures fair { IfOk result (λ r. (a : ℕ) → a < putters → of a (r.1.taken ++ r.1.left) ≡ range_with_len (a * count) count) }
+    ensures fair { IfOk result (λ r. (a : ℕ) → a < putters →
+        of a (r.1.taken ++ r.1.left) ≡ range_with_len (a * count) count) }
     ensures others { IfOk result (λ r. (a : ℕ) → putters ≤ a → of a (r.1.taken ++ r.1.left) ≡ []) }
 {
     let Ok((ends, taker)) = make_box::<u64>(alloc, size, putters) else {
