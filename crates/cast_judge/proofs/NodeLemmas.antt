@@ -1,7 +1,7 @@
 -- What is kept of a node, at its place and past the last one.
 use Rattle.std.proofs.Common.{◌≡◌, ℕ, ◌≤◌, List, length, replicate, slice_index, sym, ap, ◌∙◌, arith}
 use Rattle.std.proofs.lemmas.Grind.{common_steps}
-use Rattle.cast_judge.specs.declared.kept.Sender.{Sender}
+use Rattle.cast_judge.specs.declared.sender.Sender.{Sender}
 use Rattle.cast_judge.specs.Kept.{nobody, node_at}
 
 pub past_all : (nodes : List Sender) (p : ℕ) → length nodes ≤ p → node_at nodes p ≡ nobody

@@ -19,7 +19,7 @@ use Rattle.cast_judge.specs.Candidates.{is_for, is_decided, count_decided}
 use Rattle.cast_judge.specs.declared.instances.Instance.{Instance}
 use Rattle.cast_judge.specs.declared.instances.Addition.TheVariants as adds
 use Rattle.cast_judge.specs.declared.kept.Place.TheVariants.{Body, Ended}
-use Rattle.cast_judge.specs.declared.kept.Sender.{Sender}
+use Rattle.cast_judge.specs.declared.sender.Sender.{Sender}
 use Rattle.cast_judge.specs.declared.kept.Kept.{Kept}
 use Rattle.cast_judge.specs.Kept as kept
 use Rattle.cast_judge.specs.Stands.{items_in, items_of, StandsFor, StandsForNode, StandsForInstance}

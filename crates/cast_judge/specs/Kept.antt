@@ -22,7 +22,7 @@ use Rattle.cast_judge.specs.declared.instances.Addition.{Addition}
 use Rattle.cast_judge.specs.declared.instances.Addition.TheVariants as adds
 use Rattle.cast_judge.specs.declared.kept.Place.{Place}
 use Rattle.cast_judge.specs.declared.kept.Place.TheVariants.{Start, Body, Ended}
-use Rattle.cast_judge.specs.declared.kept.Sender.{Sender}
+use Rattle.cast_judge.specs.declared.sender.Sender.{Sender}
 use Rattle.cast_judge.specs.declared.kept.Kept.{Kept}
 
 -- ---- instances

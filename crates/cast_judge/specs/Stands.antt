@@ -10,7 +10,7 @@ use Rattle.cast_record.specs.Rules.{is_end, group_of, has_broadcast, has_closed,
 use Rattle.cast_judge.specs.declared.instances.Instance.{Instance}
 use Rattle.cast_judge.specs.declared.kept.Place.{Place}
 use Rattle.cast_judge.specs.declared.kept.Place.TheVariants.{Start, Body, Ended}
-use Rattle.cast_judge.specs.declared.kept.Sender.{Sender}
+use Rattle.cast_judge.specs.declared.sender.Sender.{Sender}
 use Rattle.cast_judge.specs.declared.kept.Kept.{Kept}
 use Rattle.cast_judge.specs.Kept.{node_at, instance_at, has_item, has_value}
 use Rattle.cast_judge.specs.Candidates.{is_for, is_decided, count_decided}

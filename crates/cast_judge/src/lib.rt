@@ -10,6 +10,8 @@ mod items;
 mod judging;
 mod kept;
 mod lines;
+mod rules;
+mod sender;
 
 pub use cast_record::Verdict;
 pub use judging::{Judging, judge};

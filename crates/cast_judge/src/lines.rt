@@ -5,6 +5,7 @@ ghost use Rattle.cast_judge.specs.Stands.{StandsFor};
 ghost use Rattle.cast_judge.specs.Judges.{Judges, Takes};
 
 use crate::kept::Kept;
+use crate::rules::broken_rule;
 use cast_record::{read_delivery, read_words};
 use memchr::memchr;
 use std::alloc::AllocError;
@@ -44,7 +45,7 @@ fn judge_any(kept: &mut Kept, bytes: &[u8]) -> Result<Option<u64>, AllocError>
     let Some(line) = read_words(bytes) else {
         return Ok(Some(0));
     };
-    if let Some(rule) = kept.broken(&line) {
+    if let Some(rule) = broken_rule(kept, &line) {
         return Ok(Some(rule));
     }
     kept.keep(&line)?;

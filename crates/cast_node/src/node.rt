@@ -177,7 +177,7 @@ impl Node {
     /// Takes a frame that arrives, and answers what is delivered and decided. The frame is for this node. Refused is an arrival
     /// at a crashed node. A frame that no node of the group could have made for this node changes nothing, and nothing comes of
     /// it.
-    #[tactic(auto, using(std::proofs::lemmas::Bool::Decides::nat_tests), unfolding(cast_message::specs::Replies::first_fault, crate::specs::Turns::kept_causes, crate::specs::Turns::kept_fault))]
+    #[tactic(auto, using(std::proofs::lemmas::Bool::Decides::nat_tests), unfolding(cast_model::specs::Replies::first_fault, crate::specs::Turns::kept_causes, crate::specs::Turns::kept_fault))]
     pub fn arrive(&mut self, frame: &Frame) -> Result<Outcome, StepFault>
         requires { frame.now.to ≡ self.old.me }
         ensures exact { Gives self.old (Arrived frame.now) (arrived_reply self.old.me result) self.new }
@@ -197,7 +197,7 @@ impl Node {
 
     /// Takes a frame that arrives from a peer with a message that the node holds, told by its slot and its numbers, as `arrive`
     /// does whatever the message's item.
-    #[tactic(auto, using(std::proofs::lemmas::Bool::Decides::nat_tests), unfolding(cast_message::specs::Replies::first_fault, crate::specs::Turns::kept_causes, crate::specs::Turns::kept_fault))]
+    #[tactic(auto, using(std::proofs::lemmas::Bool::Decides::nat_tests), unfolding(cast_model::specs::Replies::first_fault, crate::specs::Turns::kept_causes, crate::specs::Turns::kept_fault))]
     pub fn arrive_again(
         &mut self,
         from: NodeId,
@@ -218,7 +218,7 @@ impl Node {
     }
 
     /// Takes a frame that arrives from a peer with its word that it took a slot, as `arrive` does.
-    #[tactic(auto, using(std::proofs::lemmas::Bool::Decides::nat_tests), unfolding(cast_message::specs::Replies::first_fault, crate::specs::Turns::kept_causes, crate::specs::Turns::kept_fault))]
+    #[tactic(auto, using(std::proofs::lemmas::Bool::Decides::nat_tests), unfolding(cast_model::specs::Replies::first_fault, crate::specs::Turns::kept_causes, crate::specs::Turns::kept_fault))]
     pub fn arrive_took(&mut self, from: NodeId, slot: u64) -> Result<Outcome, StepFault>
         ensures exact { (seq : ℕ) → Gives self.old (Arrived (took_frame self.old.me from seq slot)) (arrived_reply self.old.me result) self.new }
     {
@@ -232,7 +232,7 @@ impl Node {
     }
 
     /// Stops for good. Refused is a second crash.
-    #[tactic(auto, using(std::proofs::lemmas::Bool::Decides::nat_tests), unfolding(cast_message::specs::Replies::first_fault, crate::specs::Turns::kept_causes, crate::specs::Turns::kept_fault))]
+    #[tactic(auto, using(std::proofs::lemmas::Bool::Decides::nat_tests), unfolding(cast_model::specs::Replies::first_fault, crate::specs::Turns::kept_causes, crate::specs::Turns::kept_fault))]
     pub fn crash(&mut self) -> Result<(), StepFault>
         ensures exact { Gives self.old Stopped (crashed_reply result) self.new }
         ensures refused { OnErr result (self.old.live ≡ false) }
@@ -498,7 +498,7 @@ impl Node {
     }
 
     /// Why an order of this item is refused, if it is, want of memory aside. It takes no memory.
-    #[tactic(auto, using(std::proofs::lemmas::Bool::Decides::nat_tests), unfolding(cast_message::specs::Replies::first_fault, crate::specs::Turns::kept_causes, crate::specs::Turns::kept_fault))]
+    #[tactic(auto, using(std::proofs::lemmas::Bool::Decides::nat_tests), unfolding(cast_model::specs::Replies::first_fault, crate::specs::Turns::kept_causes, crate::specs::Turns::kept_fault))]
     pub fn order_fault(&self, item: &Item) -> Option<StepFault>
         ensures { result ≡ kept_fault self.now (Ordered item.now) }
     {
@@ -521,7 +521,7 @@ impl Node {
     }
 
     /// Why a send of this slot to a peer is refused, if it is, want of memory aside. It takes no memory.
-    #[tactic(auto, using(std::proofs::lemmas::Bool::Decides::nat_tests), unfolding(cast_message::specs::Replies::first_fault, crate::specs::Turns::kept_causes, crate::specs::Turns::kept_fault))]
+    #[tactic(auto, using(std::proofs::lemmas::Bool::Decides::nat_tests), unfolding(cast_model::specs::Replies::first_fault, crate::specs::Turns::kept_causes, crate::specs::Turns::kept_fault))]
     pub fn send_fault(&self, to: NodeId, slot: u64) -> Option<StepFault>
         ensures { result ≡ kept_fault self.now (Sent to slot) }
     {
@@ -548,7 +548,7 @@ impl Node {
     }
 
     /// Why an acknowledgement of this slot of a peer is refused, if it is, want of memory aside. It takes no memory.
-    #[tactic(auto, using(std::proofs::lemmas::Bool::Decides::nat_tests), unfolding(cast_message::specs::Replies::first_fault, crate::specs::Turns::kept_causes, crate::specs::Turns::kept_fault))]
+    #[tactic(auto, using(std::proofs::lemmas::Bool::Decides::nat_tests), unfolding(cast_model::specs::Replies::first_fault, crate::specs::Turns::kept_causes, crate::specs::Turns::kept_fault))]
     pub fn ack_fault(&self, to: NodeId, slot: u64) -> Option<StepFault>
         ensures { result ≡ kept_fault self.now (Acknowledged to slot) }
     {
@@ -571,7 +571,7 @@ impl Node {
     }
 
     /// Why the arrival of a frame is refused, if it is, want of memory aside. It takes no memory.
-    #[tactic(auto, using(std::proofs::lemmas::Bool::Decides::nat_tests), unfolding(cast_message::specs::Replies::first_fault, crate::specs::Turns::kept_causes, crate::specs::Turns::kept_fault))]
+    #[tactic(auto, using(std::proofs::lemmas::Bool::Decides::nat_tests), unfolding(cast_model::specs::Replies::first_fault, crate::specs::Turns::kept_causes, crate::specs::Turns::kept_fault))]
     pub fn arrive_fault(&self) -> Option<StepFault>
         ensures { (frame : Arriving) → result ≡ kept_fault self.now (Arrived frame) }
     {

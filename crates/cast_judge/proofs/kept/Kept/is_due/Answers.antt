@@ -2,7 +2,7 @@ use Rattle.std.proofs.Common.{◌≡◌, ◌∙◌, sym, ap, subst, slice_index,
 use Rattle.std.proofs.lemmas.Bool.Decides.{nat_tests}
 use Rattle.std.proofs.lemmas.Grind.{common_steps}
 use Rattle.cast_judge.specs.ItemList.{IsWordAt}
-use Rattle.cast_judge.specs.declared.kept.Sender.{Sender}
+use Rattle.cast_judge.specs.declared.sender.Sender.{Sender}
 use Rattle.cast_judge.proofs.DueLemmas.{due}
 use Rattle.cast_judge.proofs.kept.Kept.is_due.Goals as goal
 

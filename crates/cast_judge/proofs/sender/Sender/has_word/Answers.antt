@@ -1,7 +1,7 @@
 use Rattle.std.proofs.Common.{◌∙◌, sym, subst, List, ℕ}
 use Rattle.cast_record.proofs.ReadLemmas.{text_same}
 use Rattle.cast_judge.specs.ItemList.{IsWordAt}
-use Rattle.cast_judge.proofs.kept.Sender.has_word.Goals as goal
+use Rattle.cast_judge.proofs.sender.Sender.has_word.Goals as goal
 
 pub returns-in-Some : goal.returns-in-Some
 returns-in-Some c told =

@@ -1,0 +1,125 @@
+//! What is kept of a node: its items, how many it delivered from each, and whether it closed or crashed.
+ghost use Rattle.std.specs.Prelude.{◌≡◌, replicate, slice_set, slice_index, true, IfOk, OnOk};
+ghost use Rattle.cast_judge.specs.ItemList.{IsWordAt};
+ghost use Rattle.cast_judge.specs.Kept.{node_at, has_item, nobody, with_item, with_delivery, with_crash};
+
+use crate::items::Items;
+use cast_message::NodeId;
+use cast_record::ItemWord;
+use std::alloc::{AllocError, Global};
+
+/// What is kept of a node.
+#[derive(Debug, Drop)]
+pub struct Sender {
+    /// The items that it broadcast, in order.
+    pub items: Items,
+    pub closed: bool,
+    pub crashed: bool,
+    /// How many items it delivered, by their sender.
+    pub delivered: [u64; 64],
+}
+
+impl Sender {
+    pub fn new(alloc: Global) -> Sender
+        ensures { result ≡ nobody }
+    {
+        Sender {
+            items: Items::new(alloc),
+            closed: false,
+            crashed: false,
+            delivered: [0; 64],
+        }
+    }
+
+    pub fn count_from(&self, sender: NodeId) -> u64
+        ensures { result ≡ slice_index self.now.delivered sender }
+    {
+        match self.delivered.get(usize::from(sender.0)) {
+            Some(count) => *count,
+            None => 0,
+        }
+    }
+
+    pub fn has_item(&self, number: u64, item: &ItemWord<'_>) -> bool
+        ensures { result ≡ has_item self.now.items number item.now }
+    {
+        match self.items.word(number) {
+            Some(word) => word == item.as_slice(),
+            None => false,
+        }
+    }
+
+    // Whether this is the word that is kept of the item of this number.
+    pub fn has_word(&self, number: u64, word: &[u8]) -> bool
+        ensures { result ≡ true → IsWordAt self.now.items number word.now }
+    {
+        match self.items.word(number) {
+            Some(kept) => kept == word,
+            None => false,
+        }
+    }
+
+    pub fn put_item(&mut self, item: &ItemWord<'_>) -> Result<(), AllocError>
+        ensures { OnOk result (self.new ≡ with_item self.old item.now) }
+    {
+        if item.is_close() {
+            self.closed = true;
+        }
+        self.items.push(item)
+    }
+
+    pub fn put_delivery(&mut self, sender: NodeId)
+        ensures { self.new ≡ with_delivery self.old sender }
+    {
+        let count = self.count_from(sender).saturating_add(1);
+        let place = usize::from(sender.0);
+        if place < 64 {
+            self.delivered[place] = count;
+        }
+    }
+}
+
+pub fn new_nodes(alloc: Global, count: u64) -> Result<Vec<Sender>, AllocError>
+    ensures { IfOk result (λ nodes. nodes.items ≡ replicate count nobody) }
+{
+    let mut nodes = Vec::new(alloc);
+    for _ in 0..count {
+        nodes.push(Sender::new(alloc))?;
+    }
+    Ok(nodes)
+}
+
+pub fn put_item(
+    nodes: &mut Vec<Sender>,
+    node: NodeId,
+    item: &ItemWord<'_>,
+) -> Result<(), AllocError>
+    ensures { OnOk result (nodes.new.items ≡ slice_set nodes.old.items node
+        (with_item (node_at nodes.old.items node) item.now)) }
+{
+    let place = usize::from(node.0);
+    if place < nodes.len() {
+        nodes[place].put_item(item)?;
+    }
+    Ok(())
+}
+
+pub fn put_delivery(nodes: &mut Vec<Sender>, node: NodeId, sender: NodeId)
+    ensures { nodes.new.items ≡ slice_set nodes.old.items node
+        (with_delivery (node_at nodes.old.items node) sender) }
+{
+    let place = usize::from(node.0);
+    if place < nodes.len() {
+        nodes[place].put_delivery(sender);
+    }
+}
+
+pub fn put_crash(nodes: &mut Vec<Sender>, node: NodeId)
+    ensures { nodes.new.items ≡ slice_set nodes.old.items node
+        (with_crash (node_at nodes.old.items node)) }
+{
+    let place = usize::from(node.0);
+    if place < nodes.len() {
+        nodes[place].crashed = true;
+    }
+}
