@@ -10,7 +10,7 @@ use Rattle.cast_desk.specs.Feed.{told_by, feed_from, orders_of, orders_in}
 use Rattle.cast_desk.proofs.Feeds.{take_all, counted_more, fed_more as fed_more'}
 use Rattle.cast_engine.specs.declared.feeding.Place.{Place}
 use Rattle.cast_engine.specs.Feeding.{told_at, told_here, IsNext, IsPlaced, IsFed, told_to, AreFed, FedIn, FedAt}
-use Rattle.cast_engine.proofs.Lists.{get_left}
+use Rattle.cast_engine.proofs.Lists.{get_left, set_apart}
 
 take_front : {A : Type 0} (xs ys : List A) (n : ℕ) → n ≤ length xs → take n (xs ++ ys) ≡ take n xs
 take_front xs ys zero h = refl
@@ -46,15 +46,6 @@ less_or_not (suc a) (suc b) = ⊎_elim (λ (h : a < b). inl (omega arith)) (λ (
 none_of_nothing : {A : Type 0} (n : ℕ) (x : A) → slice_get [] n ≡ Some x → ⊥
 none_of_nothing zero x e = cc
 none_of_nothing (suc n) x e = cc
-
-set_apart : {A : Type 0} (xs : List A) (i j : ℕ) (a x : A) → slice_get (slice_set xs i a) j ≡ Some x → ((j ≡ i) × (a ≡ x)) ⊎ ((j ≢ i) × (slice_get xs j ≡ Some x))
-set_apart [] i j a x e = absurd cc
-set_apart (y ∷ ys) zero zero a x e = inl (refl, cc)
-set_apart (y ∷ ys) zero (suc j) a x e = let ne : suc j ≢ zero = omega arith in inr (ne, e)
-set_apart (y ∷ ys) (suc i) zero a x e = let ne : zero ≢ suc i = omega arith in inr (ne, e)
-set_apart {A = A} (y ∷ ys) (suc i) (suc j) a x e =
-    ⊎_elim (λ (t : (j ≡ i) × (a ≡ x)). inl (ap suc t.0, t.1))
-    (λ (t : (j ≢ i) × (slice_get ys j ≡ Some x)). let n = t.0 in let ne : suc j ≢ suc i = omega arith in inr (ne, t.1)) (set_apart ys i j a x e)
 
 module _ (client : ℕ) (log more : List Entry) (place : Place) (f : IsPlaced client log place) where
   front : take place.entry (log ++ more) ≡ take place.entry log

@@ -1,5 +1,5 @@
 -- Lists read by place.
-use Rattle.std.proofs.Common.{◌≡◌, ℕ, zero, suc, List, [], ◌∷◌, ◌++◌, length, slice_get, Some, refl, ◌⊎◌, inl, inr, ⊎_elim}
+use Rattle.std.proofs.Common.{◌≡◌, ◌≢◌, ℕ, zero, suc, List, [], ◌∷◌, ◌++◌, ap, arith, length, slice_get, slice_set, Some, refl, ◌⊎◌, inl, inr, ⊎_elim}
 use Rattle.cast_box.proofs.Closing.{get_snoc}
 use Rattle.cast_engine.specs.Runs.{Has}
 
@@ -24,3 +24,13 @@ module _ {A : Type 0} where
 
   pub has_none : (x : A) → Has [] x → ⊥
   has_none x h = let e = h.1 in cc
+
+-- a place after one place was set
+pub set_apart : {A : Type 0} (xs : List A) (i j : ℕ) (a x : A) → slice_get (slice_set xs i a) j ≡ Some x → ((j ≡ i) × (a ≡ x)) ⊎ ((j ≢ i) × (slice_get xs j ≡ Some x))
+set_apart [] i j a x e = absurd cc
+set_apart (y ∷ ys) zero zero a x e = inl (refl, cc)
+set_apart (y ∷ ys) zero (suc j) a x e = let ne : suc j ≢ zero = omega arith in inr (ne, e)
+set_apart (y ∷ ys) (suc i) zero a x e = let ne : zero ≢ suc i = omega arith in inr (ne, e)
+set_apart {A = A} (y ∷ ys) (suc i) (suc j) a x e =
+    ⊎_elim (λ (t : (j ≡ i) × (a ≡ x)). inl (ap suc t.0, t.1))
+    (λ (t : (j ≢ i) × (slice_get ys j ≡ Some x)). let n = t.0 in let ne : suc j ≢ suc i = omega arith in inr (ne, t.1)) (set_apart ys i j a x e)
