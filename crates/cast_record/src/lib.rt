@@ -2,6 +2,7 @@
 //! lines an event and its reply leave.
 #![tactic(auto)]
 
+mod event_lines;
 mod item_word;
 mod laws;
 mod line;
@@ -15,6 +16,7 @@ mod word_line;
 mod words;
 mod writing;
 
+pub use event_lines::write_lines_of;
 pub use item_word::{ItemKind, ItemWord};
 pub use laws::has_text_of_its_own;
 pub use line::Line;

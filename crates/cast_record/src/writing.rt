@@ -4,10 +4,11 @@ ghost use Rattle.std.specs.List.{join_with_byte};
 ghost use Rattle.cast_words.specs.Written.{Writes};
 ghost use Rattle.cast_record.specs.Text.{item_word, line_text, record_text};
 ghost use Rattle.cast_record.specs.Words.{word_text};
+ghost use Rattle.cast_record.specs.declared.line.Line.TheVariants.{Broadcast, Decided, Delivered};
 
 use crate::line::Line;
 use crate::words::Word::{self, Number};
-use cast_message::Item;
+use cast_message::{Decision, Item, Message, NodeId};
 use cast_words::{Meter, WriteFault, mode_name, write_bytes, write_hex, write_number};
 use std::io::Write;
 
@@ -56,40 +57,76 @@ pub fn write_line<W: Write>(line: &Line, writer: &mut Meter<W>) -> Result<(), Wr
             ],
             writer,
         ),
-        Line::Broadcast(message) => write_words(
-            b"b",
-            &[
-                Number(u64::from(message.sender.0)),
-                Number(message.number),
-                Word::Item(&message.item),
-            ],
-            writer,
-        ),
-        Line::Delivered { node, message } => write_words(
-            b"d",
-            &[
-                Number(u64::from(node.0)),
-                Number(u64::from(message.sender.0)),
-                Number(message.number),
-                Word::Item(&message.item),
-            ],
-            writer,
-        ),
-        Line::Decided { node, decision } => write_words(
-            b"v",
-            &[
-                Number(u64::from(node.0)),
-                Number(decision.instance),
-                Number(decision.value),
-            ],
-            writer,
-        ),
+        Line::Broadcast(message) => {
+            write_broadcast(message.sender, message.number, &message.item, writer)
+        }
+        Line::Delivered { node, message } => write_delivered(*node, message, writer),
+        Line::Decided { node, decision } => write_decided(*node, decision, writer),
         Line::Crashed { node } => write_words(b"x", &[Number(u64::from(node.0))], writer),
         Line::Refused { index, code } => {
             write_words(b"r", &[Number(*index), Number(*code)], writer)
         }
         Line::End => write_words(b"end", &[], writer),
     }
+}
+
+/// The line of a broadcast.
+pub fn write_broadcast<W: Write>(
+    sender: NodeId,
+    number: u64,
+    item: &Item,
+    writer: &mut Meter<W>,
+) -> Result<(), WriteFault>
+    requires { writer.old.failed ≡ false }
+    ensures { Writes (W.contents writer.old.inner)
+        (W.contents writer.new.inner) writer.new.failed result
+        (line_text (Broadcast (record { sender = sender; number = number; item = item.now })) ++ 10 ∷ []) }
+{
+    let words = [
+        Number(u64::from(sender.0)),
+        Number(number),
+        Word::Item(item),
+    ];
+    write_words(b"b", &words, writer)
+}
+
+/// The line of a delivery.
+pub fn write_delivered<W: Write>(
+    node: NodeId,
+    message: &Message,
+    writer: &mut Meter<W>,
+) -> Result<(), WriteFault>
+    requires { writer.old.failed ≡ false }
+    ensures { Writes (W.contents writer.old.inner)
+        (W.contents writer.new.inner) writer.new.failed result
+        (line_text (Delivered node message.now) ++ 10 ∷ []) }
+{
+    let words = [
+        Number(u64::from(node.0)),
+        Number(u64::from(message.sender.0)),
+        Number(message.number),
+        Word::Item(&message.item),
+    ];
+    write_words(b"d", &words, writer)
+}
+
+/// The line of a decision.
+pub fn write_decided<W: Write>(
+    node: NodeId,
+    decision: &Decision,
+    writer: &mut Meter<W>,
+) -> Result<(), WriteFault>
+    requires { writer.old.failed ≡ false }
+    ensures { Writes (W.contents writer.old.inner)
+        (W.contents writer.new.inner) writer.new.failed result
+        (line_text (Decided node decision.now) ++ 10 ∷ []) }
+{
+    let words = [
+        Number(u64::from(node.0)),
+        Number(decision.instance),
+        Number(decision.value),
+    ];
+    write_words(b"v", &words, writer)
 }
 
 // Writes the name and the words, parted by one blank, and a line feed.

@@ -1,0 +1,130 @@
+//! Writing the lines that an event and its reply leave in a record, from the two of them: no line is made, and no message copied.
+ghost use Rattle.std.specs.Prelude.{◌≡◌, ◌∷◌, [], false, map};
+ghost use Rattle.cast_message.specs.StepCode.{step_code};
+ghost use Rattle.cast_words.specs.Written.{Writes};
+ghost use Rattle.cast_record.specs.Lines.{answer_lines, lines_for, outcome_lines, refusal_lines};
+ghost use Rattle.cast_record.specs.Text.{record_text};
+ghost use Rattle.cast_record.specs.declared.line.Line.TheVariants.{Decided, Delivered};
+
+use crate::line::Line;
+use crate::writing::{write_broadcast, write_decided, write_delivered, write_line};
+use cast_message::{Answer, Decision, Event, Message, NodeId, Outcome, Reply, StepFault};
+use cast_words::{Meter, WriteFault};
+use std::io::Write;
+
+/// Writes the lines of the event, which has this index in its script, and its reply, each with its line feed: those that
+/// `lines_of` makes. It takes no memory. A refusal comes only where the writer failed or took no byte; the meter tells so from
+/// then on, and a front of the text stands.
+pub fn write_lines_of<W: Write>(
+    index: u64,
+    event: &Event,
+    reply: &Reply,
+    writer: &mut Meter<W>,
+) -> Result<(), WriteFault>
+    requires { writer.old.failed ≡ false }
+    ensures { Writes (W.contents writer.old.inner)
+        (W.contents writer.new.inner) writer.new.failed result
+        (record_text (lines_for index event.now reply.now)) }
+{
+    match reply {
+        Ok(answer) => write_answer(event, answer, writer),
+        Err(fault) => write_refusal(index, *fault, writer),
+    }
+}
+
+fn write_answer<W: Write>(
+    event: &Event,
+    answer: &Answer,
+    writer: &mut Meter<W>,
+) -> Result<(), WriteFault>
+    requires { writer.old.failed ≡ false }
+    ensures { Writes (W.contents writer.old.inner)
+        (W.contents writer.new.inner) writer.new.failed result
+        (record_text (answer_lines event.now answer.now)) }
+{
+    match (event, answer) {
+        (Event::Order { node, item }, Answer::Ordered { number, outcome }) => {
+            write_broadcast(*node, *number, item, writer)?;
+            write_outcome(*node, outcome, writer)
+        }
+        (Event::Arrive { .. }, Answer::Arrived { node, outcome }) => {
+            write_outcome(*node, outcome, writer)
+        }
+        (Event::Crash { node }, Answer::Down) => {
+            write_alone(&Line::Crashed { node: *node }, writer)
+        }
+        _ => Ok(()),
+    }
+}
+
+fn write_refusal<W: Write>(
+    index: u64,
+    fault: StepFault,
+    writer: &mut Meter<W>,
+) -> Result<(), WriteFault>
+    requires { writer.old.failed ≡ false }
+    ensures { Writes (W.contents writer.old.inner)
+        (W.contents writer.new.inner) writer.new.failed result
+        (record_text (refusal_lines index (step_code fault))) }
+{
+    let code = fault.code();
+    if code <= 12 {
+        return write_alone(&Line::Refused { index, code }, writer);
+    }
+    Ok(())
+}
+
+fn write_alone<W: Write>(line: &Line, writer: &mut Meter<W>) -> Result<(), WriteFault>
+    requires { writer.old.failed ≡ false }
+    ensures { Writes (W.contents writer.old.inner)
+        (W.contents writer.new.inner) writer.new.failed result (record_text (line.now ∷ [])) }
+{
+    write_line(line, writer)
+}
+
+// What was delivered at the node, and then what was decided there.
+fn write_outcome<W: Write>(
+    node: NodeId,
+    outcome: &Outcome,
+    writer: &mut Meter<W>,
+) -> Result<(), WriteFault>
+    requires { writer.old.failed ≡ false }
+    ensures { Writes (W.contents writer.old.inner)
+        (W.contents writer.new.inner) writer.new.failed result
+        (record_text (outcome_lines node outcome.now)) }
+{
+    write_deliveries(node, outcome.deliveries.as_slice(), writer)?;
+    write_decisions(node, outcome.decisions.as_slice(), writer)
+}
+
+fn write_deliveries<W: Write>(
+    node: NodeId,
+    messages: &[Message],
+    writer: &mut Meter<W>,
+) -> Result<(), WriteFault>
+    requires { writer.old.failed ≡ false }
+    ensures { Writes (W.contents writer.old.inner)
+        (W.contents writer.new.inner) writer.new.failed result
+        (record_text (map (Delivered node) messages.now)) }
+{
+    for message in messages {
+        write_delivered(node, message, writer)?;
+    }
+    Ok(())
+}
+
+fn write_decisions<W: Write>(
+    node: NodeId,
+    decisions: &[Decision],
+    writer: &mut Meter<W>,
+) -> Result<(), WriteFault>
+    requires { writer.old.failed ≡ false }
+    ensures { Writes (W.contents writer.old.inner)
+        (W.contents writer.new.inner) writer.new.failed result
+        (record_text (map (Decided node) decisions.now)) }
+{
+    for decision in decisions {
+        write_decided(node, decision, writer)?;
+    }
+    Ok(())
+}
