@@ -36,7 +36,7 @@ use Rattle.cast_live.specs.Replayed.{lines_told, is_refusal, record_of_accepted,
 use Rattle.cast_text.specs.Text.{WritesRecord}
 use Rattle.cast_words.proofs.WritingLemmas.{drop-next}
 use Rattle.cast_text.proofs.GoodRecords.{record_is_good}
-use Rattle.cast_text.proofs.Recording.{record_text-append}
+use Rattle.cast_record.proofs.WritingLemmas.{record_text-append}
 
 -- ---- a configuration is its values
 

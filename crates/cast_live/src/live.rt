@@ -95,11 +95,7 @@ fn merge_logs(alloc: Global, report: GroupReport) -> Result<FinishedRun, AllocEr
 
 /// Writes the record of what happened in the run: of the merged events, and the replies to them. After a fault a front of it
 /// was written, or nothing.
-pub fn write_record_of<W: Write>(
-    alloc: Global,
-    run: &FinishedRun,
-    writer: &mut Meter<W>,
-) -> Result<(), TextFault>
+pub fn write_record_of<W: Write>(run: &FinishedRun, writer: &mut Meter<W>) -> Result<(), TextFault>
     requires run { IsFinished run.now }
     requires writer { writer.old.failed ≡ false }
     ensures { Writes (W.contents writer.old.inner)
@@ -107,7 +103,6 @@ pub fn write_record_of<W: Write>(
         (record_text (record_of_accepted run.now.report.config run.now.assembly.events)) }
 {
     write_run_record(
-        alloc,
         run.report.config(),
         run.assembly.events.as_slice(),
         run.assembly.replies.as_slice(),

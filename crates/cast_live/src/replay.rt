@@ -8,11 +8,10 @@ ghost use Rattle.cast_text.specs.Recorded.{Writes};
 ghost use Rattle.cast_live.specs.Replayed.{run_record, RecordsReplay};
 
 use cast_message::{Config, Event, Reply};
-use cast_record::{Line, lines_of, write_record};
+use cast_record::{Line, write_lines_of};
 use cast_script::is_read_back;
 use cast_text::{TextFault, put_head, put_line, tell_event_range};
 use cast_words::Meter;
-use std::alloc::Global;
 use std::io::Write;
 
 /// Running the script that `write_script` writes for this configuration and these events writes the record that
@@ -38,7 +37,6 @@ fn tell_event_ranges(events: &[Event])
 /// Writes the record of a run: its head, the lines of its events with these replies, and its end. After a fault a front of
 /// it was written, or nothing.
 pub fn write_run_record<W: Write>(
-    alloc: Global,
     config: &Config,
     events: &[Event],
     replies: &[Reply],
@@ -52,13 +50,12 @@ pub fn write_run_record<W: Write>(
 {
     put_head(config, writer)?;
     for (index, event) in events.iter().enumerate() {
-        put_lines(alloc, index as u64, event, &replies[index], writer)?;
+        put_lines(index as u64, event, &replies[index], writer)?;
     }
     put_line(&Line::End, writer)
 }
 
 fn put_lines<W: Write>(
-    alloc: Global,
     index: u64,
     event: &Event,
     reply: &Reply,
@@ -69,7 +66,6 @@ fn put_lines<W: Write>(
         (W.contents writer.new.inner) writer.new.failed result
         (record_text (lines_for index event.now reply.now)) }
 {
-    let lines = lines_of(alloc, index, event, reply)?;
-    write_record(lines.as_slice(), writer)?;
+    write_lines_of(index, event, reply, writer)?;
     Ok(())
 }

@@ -28,7 +28,7 @@ use Rattle.cast_script.specs.declared.script.ScriptEvent.{ScriptEvent}
 use Rattle.cast_script.specs.declared.script.ScriptEvent.TheVariants.{Core, Settle}
 use Rattle.cast_text.specs.Ranges.{HasEventRange, HasScriptRange, HaveScriptRanges}
 use Rattle.cast_text.specs.Rec.{Left, tried, tried_by, round_left, settled, left_by, lines_from, record_of}
-use Rattle.cast_text.proofs.Recording.{record_text-append}
+use Rattle.cast_record.proofs.WritingLemmas.{record_text-append}
 use Rattle.cast_text.proofs.Sayings.{end_sound}
 use Rattle.cast_text.proofs.Tellings.{goes_none, goes_one, goes_then}
 use Rattle.cast_text.proofs.Goodness.{counts, Told, Grown}

@@ -2,7 +2,6 @@
 use Rattle.std.proofs.Common.{◌≡◌, ℕ, ◌+◌, ◌<◌, List, [], ◌∷◌, ◌++◌, length, drop, get_or, Bool, true, false, Option, Some, None, Result, Ok, Err, refl, sym, ap, ◌∙◌, subst, append_assoc, append-nil}
 use Rattle.std.specs.Prelude.{not, is_some, is_ok}
 use Rattle.std.proofs.KnownBytes.{Appends-nil, Appends-trans}
-use Rattle.std.proofs.lemmas.List.Concat.{flat_map-append}
 use Rattle.cast_message.specs.declared.config.Config.{Config}
 use Rattle.cast_message.specs.declared.event.Event.{Event}
 use Rattle.cast_message.specs.declared.event.Answer.{Answer}
@@ -17,6 +16,7 @@ use Rattle.cast_script.specs.declared.script.ScriptEvent.{ScriptEvent}
 use Rattle.cast_record.specs.Lines.{lines_for, head_of}
 use Rattle.cast_record.specs.Text.{record_text, line_text}
 use Rattle.cast_words.specs.Written.{WroteAll, WrotePrefix}
+use Rattle.cast_record.proofs.WritingLemmas.{record_text-append}
 use Rattle.cast_words.proofs.WritingLemmas.{IsGoing, going_start, going_again, going_more, going_done, drop-next}
 use Rattle.cast_text.specs.declared.fault.TextFault.{TextFault}
 use Rattle.cast_text.specs.declared.fault.TextFault.TheVariants as faults
@@ -56,29 +56,26 @@ going_breaks new g piece rest faults.Memory going breaks = (breaks.0, front_in r
 going_breaks new g piece rest faults.NotV1 going breaks = absurd breaks
 going_breaks new g piece rest (faults.Live why) going breaks = absurd breaks
 
-pub record_text-append : (xs ys : List Line) → record_text (xs ++ ys) ≡ record_text xs ++ record_text ys
-record_text-append xs ys = flat_map-append (λ line. line_text line ++ 10 ∷ []) xs ys
-
 -- ---- one event
 
 answered : (refusal : Option StepFault) (a : Answer) → is_ok (reply_by refusal a) ≡ not (is_some refusal)
 answered None a = refl
 answered (Some refusal) a = refl
 
-pub recorded_event : (config : Config) (past : History) (index : ℕ) (event : Event) (result : Result Answer StepFault) (world : State) (lines : List Line) (said : Bool) {old new : Option (List ℕ)} {failed : Bool} →
-    Continues config past event result world → is_want_of_memory result ≡ false → lines ≡ lines_for index event result → said ≡ is_ok result → WroteAll old new failed (record_text lines) →
+pub recorded_event : (config : Config) (past : History) (index : ℕ) (event : Event) (result : Result Answer StepFault) (world : State) (said : Bool) {old new : Option (List ℕ)} {failed : Bool} →
+    Continues config past event result world → is_want_of_memory result ≡ false → said ≡ is_ok result → WroteAll old new failed (record_text (lines_for index event result)) →
     Tries config (one_left config index past event) world old new failed (Ok said)
 unfolding reply
-recorded_event config past index event result world lines said {old = old} {new = new} {failed = failed} step had left is wrote =
+recorded_event config past index event result world said {old = old} {new = new} {failed = failed} step had is wrote =
     let here = settled_step config past event result world step had in
-    (is ∙ ap is_ok here.0 ∙ answered (fault config past event) (answer config past event), here.1, subst (λ ls. WroteAll old new failed (record_text ls)) (left ∙ ap (lines_for index event) here.0) wrote)
+    (is ∙ ap is_ok here.0 ∙ answered (fault config past event) (answer config past event), here.1, subst (λ r. WroteAll old new failed (record_text (lines_for index event r))) here.0 wrote)
 
-pub event_breaks : (config : Config) (past : History) (index : ℕ) (event : Event) (result : Result Answer StepFault) (world : State) (lines : List Line) {old new : Option (List ℕ)} {failed : Bool} →
-    Continues config past event result world → is_want_of_memory result ≡ false → lines ≡ lines_for index event result → WrotePrefix old new failed (record_text lines) →
+pub event_breaks : (config : Config) (past : History) (index : ℕ) (event : Event) (result : Result Answer StepFault) (world : State) {old new : Option (List ℕ)} {failed : Bool} →
+    Continues config past event result world → is_want_of_memory result ≡ false → WrotePrefix old new failed (record_text (lines_for index event result)) →
     BreaksOff faults.Write old new failed (record_text (one_left config index past event).lines)
-event_breaks config past index event result world lines {old = old} {new = new} {failed = failed} step had left wrote =
+event_breaks config past index event result world {old = old} {new = new} {failed = failed} step had wrote =
     let here = settled_step config past event result world step had in
-    prefix_breaks (subst (λ ls. WrotePrefix old new failed (record_text ls)) (left ∙ ap (lines_for index event) here.0) wrote)
+    prefix_breaks (subst (λ r. WrotePrefix old new failed (record_text (lines_for index event r))) here.0 wrote)
 
 -- ---- events up to the first that is refused
 

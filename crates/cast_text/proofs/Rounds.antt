@@ -20,7 +20,8 @@ use Rattle.cast_text.specs.declared.fault.TextFault.{TextFault}
 use Rattle.cast_text.specs.Rec.{Left, tried, round_left}
 use Rattle.cast_text.specs.Recorded.{Tries}
 use Rattle.cast_text.specs.Text.{BreaksOff}
-use Rattle.cast_text.proofs.Recording.{IsTrying, trying_done, going_breaks, record_text-append, tried_on, tried_end, went_on, went_no_further}
+use Rattle.cast_record.proofs.WritingLemmas.{record_text-append}
+use Rattle.cast_text.proofs.Recording.{IsTrying, trying_done, going_breaks, tried_on, tried_end, went_on, went_no_further}
 use Rattle.cast_world.specs.Group.{State, Stands}
 use Rattle.cast_world.specs.Plans.{events_from}
 use Rattle.cast_world.proofs.Stepping.{made_count}

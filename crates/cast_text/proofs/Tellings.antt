@@ -24,7 +24,7 @@ use Rattle.cast_judge.specs.Judged.{verdict_of}
 use Rattle.cast_judge.specs.Stands.{items_in, items_of}
 use Rattle.cast_judge.proofs.StandingLemmas.{numbered_on, same_number}
 use Rattle.cast_judge.proofs.TextLemmas.{line_goes}
-use Rattle.cast_text.proofs.Recording.{record_text-append}
+use Rattle.cast_record.proofs.WritingLemmas.{record_text-append}
 use Rattle.cast_text.proofs.Sayings.{Says, delivery_sound, decision_sound}
 
 -- ---- lines that break no rule

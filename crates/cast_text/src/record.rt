@@ -11,7 +11,7 @@ ghost use Rattle.cast_text.specs.Recorded.{Writes, Tries, Leaves};
 
 use crate::fault::TextFault;
 use cast_message::{Config, Event, Reply, StepFault};
-use cast_record::{Line, lines_of, write_line, write_record};
+use cast_record::{Line, write_line, write_lines_of};
 use cast_script::{Script, ScriptEvent};
 use cast_words::Meter;
 use cast_world::World;
@@ -32,7 +32,7 @@ pub fn write_script_record<W: Write>(
     let mut world = World::new(alloc, script.config.copy())?;
     put_head(&script.config, writer)?;
     for (index, event) in script.events.as_slice().iter().enumerate() {
-        record_script_event(alloc, &mut world, index as u64, event, writer)?;
+        record_script_event(&mut world, index as u64, event, writer)?;
     }
     put_line(&Line::End, writer)
 }
@@ -58,7 +58,6 @@ pub fn put_line<W: Write>(line: &Line, writer: &mut Meter<W>) -> Result<(), Text
 
 // Takes one event of a script, and writes its lines.
 fn record_script_event<W: Write>(
-    alloc: Global,
     world: &mut World,
     index: u64,
     event: &ScriptEvent,
@@ -72,12 +71,12 @@ fn record_script_event<W: Write>(
 {
     match event {
         ScriptEvent::Core(event) => {
-            let _accepted = record_event(alloc, world, index, event, writer)?;
+            let _accepted = record_event(world, index, event, writer)?;
             Ok(())
         }
         ScriptEvent::Settle => {
-            if record_round(alloc, world, index, writer)? {
-                let _accepted = record_round(alloc, world, index, writer)?;
+            if record_round(world, index, writer)? {
+                let _accepted = record_round(world, index, writer)?;
             }
             Ok(())
         }
@@ -86,7 +85,6 @@ fn record_script_event<W: Write>(
 
 // Takes one round, slot by slot of those that are due when it begins, and writes its lines. Answers whether no event was refused.
 fn record_round<W: Write>(
-    alloc: Global,
     world: &mut World,
     index: u64,
     writer: &mut Meter<W>,
@@ -100,7 +98,7 @@ fn record_round<W: Write>(
     let due = world.due()?;
     for slot in due.as_slice() {
         let events = world.events_for(*slot);
-        if !record_events(alloc, world, index, &events, writer)? {
+        if !record_events(world, index, &events, writer)? {
             return Ok(false);
         }
     }
@@ -109,7 +107,6 @@ fn record_round<W: Write>(
 
 // Takes these events up to the first that is refused, and writes their lines. Answers whether none was refused.
 fn record_events<W: Write>(
-    alloc: Global,
     world: &mut World,
     index: u64,
     events: &[Event],
@@ -122,7 +119,7 @@ fn record_events<W: Write>(
         (W.contents writer.new.inner) writer.new.failed result }
 {
     for event in events {
-        if !record_event(alloc, world, index, event, writer)? {
+        if !record_event(world, index, event, writer)? {
             return Ok(false);
         }
     }
@@ -131,7 +128,6 @@ fn record_events<W: Write>(
 
 // Takes one event, and writes its lines. Answers whether it was accepted.
 fn record_event<W: Write>(
-    alloc: Global,
     world: &mut World,
     index: u64,
     event: &Event,
@@ -147,8 +143,7 @@ fn record_event<W: Write>(
     if is_want_of_memory(&reply) {
         return Err(TextFault::Memory);
     }
-    let lines = lines_of(alloc, index, event, &reply)?;
-    write_record(lines.as_slice(), writer)?;
+    write_lines_of(index, event, &reply, writer)?;
     Ok(reply.is_ok())
 }
 

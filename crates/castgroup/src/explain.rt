@@ -71,7 +71,7 @@ pub fn explain_run<R: Runtime + AllocGlobal>(rt: &R, run: &FinishedRun, line: u6
     requires { IsFinished run.now }
 {
     let mut record = Meter::new(Vec::new(rt.alloc()));
-    if write_record_of(rt.alloc(), run, &mut record).is_err() {
+    if write_record_of(run, &mut record).is_err() {
         return;
     }
     let text = record.into_inner();

@@ -186,7 +186,7 @@ fn write_kept<R: AllocGlobal, W: Write + Drop>(
     };
     let mut writer = Meter::new(&mut output);
     let outcome = match kept {
-        Kept::Record => write_record_of(rt.alloc(), run, &mut writer),
+        Kept::Record => write_record_of(run, &mut writer),
         Kept::Replay => write_replay_of(run, &mut writer),
     };
     let flushed = output.flush();

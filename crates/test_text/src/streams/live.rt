@@ -126,7 +126,7 @@ fn both_records<T: Threads + Wait + Copy + Send + 'static>(
 ) -> Result<(Vec<u8>, Vec<u8>), TextFault> {
     let run = run_two(rt, alloc, &Progress::shared(alloc, 2)?)?;
     let mut record = Meter::new(Vec::new(alloc));
-    write_record_of(alloc, &run, &mut record)?;
+    write_record_of(&run, &mut record)?;
     let mut replay = Meter::new(Vec::new(alloc));
     write_replay_of(&run, &mut replay)?;
     let mut again = Meter::new(Vec::new(alloc));

@@ -3,7 +3,7 @@ use Rattle.cast_record.specs.declared.line.Line.TheVariants.{End}
 use Rattle.cast_record.specs.Lines.{lines_for}
 use Rattle.cast_record.specs.Text.{record_text}
 use Rattle.cast_live.specs.Replayed.{lines_told, run_record}
-use Rattle.cast_text.proofs.Recording.{record_text-append}
+use Rattle.cast_record.proofs.WritingLemmas.{record_text-append}
 use Rattle.cast_live.proofs.Replaying.{told-next, told-end}
 use Rattle.cast_live.proofs.VerdictLemmas.{fed_none, fed_more, fed_all}
 use Rattle.cast_live.proofs.verdict.judge_run.Goals as goal
