@@ -1,13 +1,13 @@
 //! The text of each line, the lines of an event, and a writer that fails.
+use crate::{Failing, stopping, taken_by};
 use bytes::Bytes;
 use cast_message::{
     Answer, Config, Decision, Event, Item, List, Message, Mode, NodeId, Outcome, Payload, Reply,
     StepFault,
 };
-use cast_record::{Line, lines_of, write_line, write_record};
+use cast_record::{Line, lines_of, write_line, write_lines_of, write_record};
 use cast_words::{Meter, WriteFault};
 use std::alloc::{AllocError, Global};
-use std::io::{self, Error, ErrorKind, Write};
 use std::test::Fail;
 
 fn data(alloc: Global, bytes: &[u8]) -> Result<Item, AllocError> {
@@ -139,10 +139,13 @@ fn outcome(alloc: Global) -> Result<Outcome, AllocError> {
     })
 }
 
-fn record_of(alloc: Global, event: &Event, reply: &Reply) -> Result<Vec<u8>, Fail> {
+/// The lines of an event, made and then written, and the same written at once.
+fn record_of(alloc: Global, event: &Event, reply: &Reply) -> Result<(Vec<u8>, Vec<u8>), Fail> {
     let lines = lines_of(alloc, 4, event, reply)?;
     let text = text_of(alloc, lines.as_slice())?;
-    Ok(text)
+    let mut writer = Meter::new(Vec::new(alloc));
+    write_lines_of(4, event, reply, &mut writer)?;
+    Ok((text, writer.into_inner()))
 }
 
 #[test]
@@ -156,9 +159,10 @@ fn lines_of_accepted_events(rt: HostRuntime) -> Result<(), Fail> {
         number: 0,
         outcome: outcome(alloc)?,
     });
-    let text = record_of(alloc, &order, &ordered)?;
+    let (text, at_once) = record_of(alloc, &order, &ordered)?;
     let wanted = b"b 2 0 close\nd 2 2 0 close\nd 2 2 1 data:61\nv 2 7 1\n";
     assert_eq!(rt; text.as_slice(), wanted.as_slice());
+    assert_eq!(rt; at_once.as_slice(), wanted.as_slice());
     let arrive = Event::Arrive {
         from: NodeId(0),
         seq: 5,
@@ -167,9 +171,10 @@ fn lines_of_accepted_events(rt: HostRuntime) -> Result<(), Fail> {
         node: NodeId(1),
         outcome: outcome(alloc)?,
     });
-    let text = record_of(alloc, &arrive, &arrived)?;
+    let (text, at_once) = record_of(alloc, &arrive, &arrived)?;
     let wanted = b"d 1 2 0 close\nd 1 2 1 data:61\nv 1 7 1\n";
     assert_eq!(rt; text.as_slice(), wanted.as_slice());
+    assert_eq!(rt; at_once.as_slice(), wanted.as_slice());
     Ok(())
 }
 
@@ -192,50 +197,14 @@ fn lines_of_short_replies(rt: HostRuntime) -> Result<(), Fail> {
         (Err(StepFault::Memory), ""),
     ];
     for (reply, wanted) in &rows {
-        let text = record_of(rt.alloc(), &send, reply)?;
+        let (text, at_once) = record_of(rt.alloc(), &send, reply)?;
         assert_eq!(rt; text.as_slice(), wanted.as_bytes());
+        assert_eq!(rt; at_once.as_slice(), wanted.as_bytes());
     }
-    let text = record_of(rt.alloc(), &crash, &Ok(Answer::Down))?;
+    let (text, at_once) = record_of(rt.alloc(), &crash, &Ok(Answer::Down))?;
     assert_eq!(rt; text.as_slice(), b"x 0\n".as_slice());
+    assert_eq!(rt; at_once.as_slice(), b"x 0\n".as_slice());
     Ok(())
-}
-
-/// What the call does in which a writer fails.
-#[derive(Clone, Copy, Debug, PartialEq)]
-enum Failing {
-    Answers,
-    TakesNone,
-}
-
-/// A writer that takes one byte at each call, up to the call in which it fails.
-#[derive(Drop)]
-struct Narrow {
-    taken: Vec<u8>,
-    calls_left: u64,
-    failing: Failing,
-}
-
-impl Write for Narrow {
-    fn write(&mut self, buf: &[u8]) -> io::Result<usize> {
-        if self.calls_left == 0 {
-            return match self.failing {
-                Failing::Answers => Err(Error::from(ErrorKind::Other)),
-                Failing::TakesNone => Ok(0),
-            };
-        }
-        self.calls_left -= 1;
-        match buf.first() {
-            Some(byte) => {
-                self.taken.push(*byte)?;
-                Ok(1)
-            }
-            None => Ok(0),
-        }
-    }
-
-    fn flush(&mut self) -> io::Result<()> {
-        Ok(())
-    }
 }
 
 #[test]
@@ -249,11 +218,7 @@ fn a_failed_write_leaves_a_front(rt: HostRuntime) -> Result<(), Fail> {
     ];
     for failing in [Failing::Answers, Failing::TakesNone] {
         for calls in 0..wanted.len() + 1 {
-            let mut writer = Meter::new(Narrow {
-                taken: Vec::new(alloc),
-                calls_left: calls as u64,
-                failing,
-            });
+            let mut writer = stopping(alloc, 1, calls as u64, failing);
             let result = write_record(&lines, &mut writer);
             assert_eq!(rt; result.is_ok(), calls == wanted.len(), "after {calls}");
             assert_eq!(rt;
@@ -261,7 +226,7 @@ fn a_failed_write_leaves_a_front(rt: HostRuntime) -> Result<(), Fail> {
                 result == Err(WriteFault::Write),
                 "after {calls}"
             );
-            let Narrow { taken, .. } = writer.into_inner();
+            let taken = taken_by(writer);
             assert_eq!(rt; taken.len(), calls);
             assert!(rt; wanted.starts_with(taken.as_slice()));
         }

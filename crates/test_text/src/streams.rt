@@ -3,70 +3,15 @@ mod live;
 
 use cast_script::ScriptFault;
 use cast_text::{TextFault, Verdict, judge_text, migrate_text, run_text};
-use cast_words::Meter;
 use std::alloc::Global;
-use std::io::{self, Error, ErrorKind, Read, Write};
 use std::test::Fail;
+use test_formats::{Failing, halting, stopping, taken_by};
 
 const TWO_VALUES_DECIDED: &[u8] =
     br#"{"nodes":3,"faults":1,"choices":2,"events":[["order",0,"propose",7,3],["order",1,"propose",7,1],["order",2,"propose",7,2],["send",2,0,0],["arrive",2,0],["send",0,1,0],["arrive",0,0],["send",1,2,0],["arrive",1,0]]}"#;
 
 const TWO_VALUES_RECORD: &[u8] =
     b"cast/1 3 1 2\nb 0 0 prop:7:3\nd 0 0 0 prop:7:3\nb 1 0 prop:7:1\nd 1 1 0 prop:7:1\nb 2 0 prop:7:2\nd 2 2 0 prop:7:2\nd 0 2 0 prop:7:2\nv 0 7 2\nd 1 0 0 prop:7:3\nv 1 7 1\nd 2 1 0 prop:7:1\nv 2 7 1\nend\n";
-
-/// A reader that gives a few bytes at each call, up to the call in which it fails.
-#[derive(Drop)]
-struct Halting<'a> {
-    left: &'a [u8],
-    calls_left: u64,
-}
-
-impl Read for Halting<'_> {
-    fn read(&mut self, buf: &mut [u8]) -> io::Result<usize> {
-        if self.calls_left == 0 {
-            return Err(Error::from(ErrorKind::Other));
-        }
-        self.calls_left -= 1;
-        let count = self.left.len().min(buf.len()).min(50);
-        let (now, later) = self.left.split_at(count);
-        buf[..count].copy_from_slice(now);
-        self.left = later;
-        Ok(count)
-    }
-}
-
-/// How a writer fails.
-#[derive(Clone, Copy)]
-enum Failing {
-    Answers,
-    TakesNone,
-}
-
-/// A writer that takes all that it is given, up to the call in which it fails.
-#[derive(Drop)]
-struct Stopping {
-    taken: Vec<u8>,
-    calls_left: u64,
-    failing: Failing,
-}
-
-impl Write for Stopping {
-    fn write(&mut self, buf: &[u8]) -> io::Result<usize> {
-        if self.calls_left == 0 {
-            return match self.failing {
-                Failing::Answers => Err(Error::from(ErrorKind::Other)),
-                Failing::TakesNone => Ok(0),
-            };
-        }
-        self.calls_left -= 1;
-        self.taken.extend_from_slice(buf)?;
-        Ok(buf.len())
-    }
-
-    fn flush(&mut self) -> io::Result<()> {
-        Ok(())
-    }
-}
 
 /// What came of a script whose reader and writer fail after so many calls, and what was written.
 fn run(
@@ -76,18 +21,10 @@ fn run(
     writes: u64,
     failing: Failing,
 ) -> (Result<(), TextFault>, Vec<u8>) {
-    let mut reader = Meter::new(Halting {
-        left: script,
-        calls_left: reads,
-    });
-    let mut writer = Meter::new(Stopping {
-        taken: Vec::new(alloc),
-        calls_left: writes,
-        failing,
-    });
+    let mut reader = halting(script, reads);
+    let mut writer = stopping(alloc, usize::MAX, writes, failing);
     let result = run_text(alloc, &mut reader, &mut writer);
-    let Stopping { taken, .. } = writer.into_inner();
-    (result, taken)
+    (result, taken_by(writer))
 }
 
 #[test]
@@ -160,18 +97,10 @@ fn judge(
     writes: u64,
     failing: Failing,
 ) -> (Result<Verdict, TextFault>, Vec<u8>) {
-    let mut reader = Meter::new(Halting {
-        left: text,
-        calls_left: reads,
-    });
-    let mut writer = Meter::new(Stopping {
-        taken: Vec::new(alloc),
-        calls_left: writes,
-        failing,
-    });
+    let mut reader = halting(text, reads);
+    let mut writer = stopping(alloc, usize::MAX, writes, failing);
     let result = judge_text(alloc, &mut reader, &mut writer);
-    let Stopping { taken, .. } = writer.into_inner();
-    (result, taken)
+    (result, taken_by(writer))
 }
 
 /// What came of migrating a text whose reader and writer fail after so many calls, and what was written.
@@ -182,18 +111,10 @@ fn migrate(
     writes: u64,
     failing: Failing,
 ) -> (Result<(), TextFault>, Vec<u8>) {
-    let mut reader = Meter::new(Halting {
-        left: text,
-        calls_left: reads,
-    });
-    let mut writer = Meter::new(Stopping {
-        taken: Vec::new(alloc),
-        calls_left: writes,
-        failing,
-    });
+    let mut reader = halting(text, reads);
+    let mut writer = stopping(alloc, usize::MAX, writes, failing);
     let result = migrate_text(alloc, &mut reader, &mut writer);
-    let Stopping { taken, .. } = writer.into_inner();
-    (result, taken)
+    (result, taken_by(writer))
 }
 
 #[test]

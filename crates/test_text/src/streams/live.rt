@@ -2,7 +2,6 @@
 ghost use Rattle.std.specs.Prelude.{IfOk};
 ghost use Rattle.cast_live.specs.Live.{IsFinished};
 
-use super::{Failing, Halting, Stopping};
 use cast_live::{
     Counted, FinishedRun, Summary, live_text, run_script, summarize, write_record_of,
     write_replay_of, write_summary,
@@ -15,6 +14,7 @@ use std::io::Write;
 use std::sync::{Arc, Wait};
 use std::test::Fail;
 use std::thread::Threads;
+use test_formats::{Failing, halting, stopping, taken_by};
 
 const TWO_NODES: &[u8] =
     br#"{"nodes":2,"faults":0,"choices":1,"jobs":[[0,[["data","61"]]],[1,[["close"]]]]}"#;
@@ -36,18 +36,10 @@ fn live<T: Threads + Wait + Copy + Send + 'static>(
     writes: u64,
     failing: Failing,
 ) -> (Result<Summary, TextFault>, Vec<u8>) {
-    let mut reader = Meter::new(Halting {
-        left: script,
-        calls_left: reads,
-    });
-    let mut writer = Meter::new(Stopping {
-        taken: Vec::new(alloc),
-        calls_left: writes,
-        failing,
-    });
+    let mut reader = halting(script, reads);
+    let mut writer = stopping(alloc, usize::MAX, writes, failing);
     let result = live_text(rt, alloc, &mut reader, &mut writer);
-    let Stopping { taken, .. } = writer.into_inner();
-    (result, taken)
+    (result, taken_by(writer))
 }
 
 #[test]
