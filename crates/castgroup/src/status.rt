@@ -39,51 +39,41 @@ impl Status {
 
 /// Says on standard error why nothing more was done.
 pub fn refuse<R: Eprint>(rt: &R, fault: TextFault) -> Status {
-    let (said, status) = match fault {
-        TextFault::Read => (eprintln!(rt; "castgroup: read fault"), Status::Channel),
-        TextFault::Write => (eprintln!(rt; "castgroup: write fault"), Status::Channel),
-        TextFault::TooLong => (eprintln!(rt; "castgroup: input too long"), Status::Refused),
-        TextFault::NotV1 => (
-            eprintln!(rt; "castgroup: not a cast/1 record"),
-            Status::Refused,
-        ),
+    let said = match fault {
+        TextFault::Read => eprintln!(rt; "castgroup: read fault"),
+        TextFault::Write => eprintln!(rt; "castgroup: write fault"),
+        TextFault::TooLong => eprintln!(rt; "castgroup: input too long"),
+        TextFault::NotV1 => eprintln!(rt; "castgroup: not a cast/1 record"),
         TextFault::Memory
         | TextFault::Script(ScriptFault::Memory)
-        | TextFault::Live(LiveFault::Memory) => {
-            (eprintln!(rt; "castgroup: out of memory"), Status::Resources)
-        }
-        TextFault::Live(LiveFault::Threads) => {
-            (
-                eprintln!(rt; "castgroup: thread refused"),
-                Status::Resources,
-            )
-        }
+        | TextFault::Live(LiveFault::Memory) => eprintln!(rt; "castgroup: out of memory"),
+        TextFault::Live(LiveFault::Threads) => eprintln!(rt; "castgroup: thread refused"),
         TextFault::Live(fault) => {
             let code = fault.code();
-            (
-                eprintln!(rt; "castgroup: live: fault {code}"),
-                Status::Refused,
-            )
+            eprintln!(rt; "castgroup: live: fault {code}")
         }
-        TextFault::Script(ScriptFault::NotJson) => {
-            (
-                eprintln!(rt; "castgroup: script: not json"),
-                Status::Refused,
-            )
+        TextFault::Script(ScriptFault::NotJson) => eprintln!(rt; "castgroup: script: not json"),
+        TextFault::Script(ScriptFault::Shape { index }) => {
+            eprintln!(rt; "castgroup: script: shape {index}")
         }
-        TextFault::Script(ScriptFault::Shape { index }) => (
-            eprintln!(rt; "castgroup: script: shape {index}"),
-            Status::Refused,
-        ),
         TextFault::Script(ScriptFault::Config(fault)) => {
             let code = fault.code();
-            (
-                eprintln!(rt; "castgroup: script: config {code}"),
-                Status::Refused,
-            )
+            eprintln!(rt; "castgroup: script: config {code}")
         }
     };
     // Where standard error fails there is nowhere left to say so: the status tells it.
     let _ = said;
-    status
+    status_of(fault)
+}
+
+fn status_of(fault: TextFault) -> Status {
+    match fault {
+        TextFault::Read | TextFault::Write => Status::Channel,
+        TextFault::Memory
+        | TextFault::Script(ScriptFault::Memory)
+        | TextFault::Live(LiveFault::Memory | LiveFault::Threads) => Status::Resources,
+        TextFault::TooLong | TextFault::NotV1 | TextFault::Script(_) | TextFault::Live(_) => {
+            Status::Refused
+        }
+    }
 }
