@@ -31,7 +31,7 @@ pub struct Stopping {
 }
 
 /// A reader of this text that fails after so many calls.
-pub fn halting(text: &[u8], calls: u64) -> Meter<Halting<'_>>
+pub fn reader_of(text: &[u8], calls: u64) -> Meter<Halting<'_>>
     ensures { result.failed ≡ false }
 {
     Meter::new(Halting {
@@ -41,7 +41,7 @@ pub fn halting(text: &[u8], calls: u64) -> Meter<Halting<'_>>
 }
 
 /// A writer that takes at most so many bytes at once, and fails so after so many calls.
-pub fn stopping(alloc: Global, at_once: usize, calls: u64, failing: Failing) -> Meter<Stopping>
+pub fn writer_of(alloc: Global, at_once: usize, calls: u64, failing: Failing) -> Meter<Stopping>
     ensures { result.failed ≡ false }
 {
     Meter::new(Stopping {

@@ -13,4 +13,4 @@ mod record;
 #[cfg(test)]
 mod script;
 
-pub use failing::{Failing, Halting, Stopping, halting, stopping, taken_by};
+pub use failing::{Failing, Halting, Stopping, reader_of, taken_by, writer_of};

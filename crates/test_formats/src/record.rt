@@ -1,5 +1,5 @@
 //! The text of each line, the lines of an event, and a writer that fails.
-use crate::{Failing, stopping, taken_by};
+use crate::{Failing, taken_by, writer_of};
 use bytes::Bytes;
 use cast_message::{
     Answer, Config, Decision, Event, Item, List, Message, Mode, NodeId, Outcome, Payload, Reply,
@@ -218,7 +218,7 @@ fn a_failed_write_leaves_a_front(rt: HostRuntime) -> Result<(), Fail> {
     ];
     for failing in [Failing::Answers, Failing::TakesNone] {
         for calls in 0..wanted.len() + 1 {
-            let mut writer = stopping(alloc, 1, calls as u64, failing);
+            let mut writer = writer_of(alloc, 1, calls as u64, failing);
             let result = write_record(&lines, &mut writer);
             assert_eq!(rt; result.is_ok(), calls == wanted.len(), "after {calls}");
             assert_eq!(rt;

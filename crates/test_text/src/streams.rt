@@ -5,7 +5,7 @@ use cast_script::ScriptFault;
 use cast_text::{TextFault, Verdict, judge_text, migrate_text, run_text};
 use std::alloc::Global;
 use std::test::Fail;
-use test_formats::{Failing, halting, stopping, taken_by};
+use test_formats::{Failing, reader_of, taken_by, writer_of};
 
 const TWO_VALUES_DECIDED: &[u8] =
     br#"{"nodes":3,"faults":1,"choices":2,"events":[["order",0,"propose",7,3],["order",1,"propose",7,1],["order",2,"propose",7,2],["send",2,0,0],["arrive",2,0],["send",0,1,0],["arrive",0,0],["send",1,2,0],["arrive",1,0]]}"#;
@@ -21,8 +21,8 @@ fn run(
     writes: u64,
     failing: Failing,
 ) -> (Result<(), TextFault>, Vec<u8>) {
-    let mut reader = halting(script, reads);
-    let mut writer = stopping(alloc, usize::MAX, writes, failing);
+    let mut reader = reader_of(script, reads);
+    let mut writer = writer_of(alloc, usize::MAX, writes, failing);
     let result = run_text(alloc, &mut reader, &mut writer);
     (result, taken_by(writer))
 }
@@ -97,8 +97,8 @@ fn judge(
     writes: u64,
     failing: Failing,
 ) -> (Result<Verdict, TextFault>, Vec<u8>) {
-    let mut reader = halting(text, reads);
-    let mut writer = stopping(alloc, usize::MAX, writes, failing);
+    let mut reader = reader_of(text, reads);
+    let mut writer = writer_of(alloc, usize::MAX, writes, failing);
     let result = judge_text(alloc, &mut reader, &mut writer);
     (result, taken_by(writer))
 }
@@ -111,8 +111,8 @@ fn migrate(
     writes: u64,
     failing: Failing,
 ) -> (Result<(), TextFault>, Vec<u8>) {
-    let mut reader = halting(text, reads);
-    let mut writer = stopping(alloc, usize::MAX, writes, failing);
+    let mut reader = reader_of(text, reads);
+    let mut writer = writer_of(alloc, usize::MAX, writes, failing);
     let result = migrate_text(alloc, &mut reader, &mut writer);
     (result, taken_by(writer))
 }

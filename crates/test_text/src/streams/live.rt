@@ -14,7 +14,7 @@ use std::io::Write;
 use std::sync::{Arc, Wait};
 use std::test::Fail;
 use std::thread::Threads;
-use test_formats::{Failing, halting, stopping, taken_by};
+use test_formats::{Failing, reader_of, taken_by, writer_of};
 
 const TWO_NODES: &[u8] =
     br#"{"nodes":2,"faults":0,"choices":1,"jobs":[[0,[["data","61"]]],[1,[["close"]]]]}"#;
@@ -36,8 +36,8 @@ fn live<T: Threads + Wait + Copy + Send + 'static>(
     writes: u64,
     failing: Failing,
 ) -> (Result<Summary, TextFault>, Vec<u8>) {
-    let mut reader = halting(script, reads);
-    let mut writer = stopping(alloc, usize::MAX, writes, failing);
+    let mut reader = reader_of(script, reads);
+    let mut writer = writer_of(alloc, usize::MAX, writes, failing);
     let result = live_text(rt, alloc, &mut reader, &mut writer);
     (result, taken_by(writer))
 }
