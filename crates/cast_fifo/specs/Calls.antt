@@ -38,7 +38,9 @@ is_mark_of s i (Known sender number) = sender == s && number == i
 is_mark_of s i (Offer message) = false
 
 abbrev pub is_ready : List Call → ℕ → ℕ → Bool
-is_ready calls s i = list_any (is_offer_of s i) calls || (list_any (is_hold_of s i) calls && list_any (is_mark_of s i) calls)
+is_ready calls s i =
+    list_any (is_offer_of s i) calls
+    || (list_any (is_hold_of s i) calls && list_any (is_mark_of s i) calls)
 
 -- the item that a call brings for a pair
 abbrev pub brought : Call → ℕ → ℕ → Option Item
@@ -75,9 +77,14 @@ sender_of (Known sender number) = sender
 sender_of (Offer message) = message.sender
 
 abbrev pub held_after : List Held → Call → List Held
-held_after all (Hold message) = slice_set all message.sender (with_item (held_of all message.sender) message.number message.item)
-held_after all (Known sender number) = slice_set all sender (known_after (held_of all sender) number)
-held_after all (Offer message) = slice_set all message.sender (offered_after (held_of all message.sender) message.number message.item)
+held_after all (Hold message) =
+    let held = held_of all message.sender in
+    slice_set all message.sender (with_item held message.number message.item)
+held_after all (Known sender number) =
+    slice_set all sender (known_after (held_of all sender) number)
+held_after all (Offer message) =
+    let held = held_of all message.sender in
+    slice_set all message.sender (offered_after held message.number message.item)
 
 abbrev pub held_by : ℕ → List Call → List Held
 held_by nodes [] = replicate nodes nothing_held
@@ -86,13 +93,17 @@ held_by nodes (call ∷ past) = held_after (held_by nodes past) call
 -- what a call answers; `hold` answers no messages
 abbrev pub answer : List Held → Call → List Message
 answer all (Hold message) = []
-answer all (Known sender number) = numbered sender (held_of all sender).next (known_items (held_of all sender) number)
-answer all (Offer message) = numbered message.sender (held_of all message.sender).next (offered_items (held_of all message.sender) message.number message.item)
+answer all (Known sender number) =
+    numbered sender (held_of all sender).next (known_items (held_of all sender) number)
+answer all (Offer message) =
+    let held = held_of all message.sender in
+    numbered message.sender held.next (offered_items held message.number message.item)
 
 -- the sender is below the number of nodes; what is marked was held or offered
 abbrev pub MayCall : ℕ → List Call → Call → Type 0
 MayCall nodes past (Hold message) = message.sender < nodes
-MayCall nodes past (Known sender number) = (sender < nodes) × (is_some (item_of past sender number) ≡ true)
+MayCall nodes past (Known sender number) =
+    (sender < nodes) × (is_some (item_of past sender number) ≡ true)
 MayCall nodes past (Offer message) = message.sender < nodes
 
 abbrev pub MayBeCalled : ℕ → List Call → Type 0
@@ -102,17 +113,21 @@ MayBeCalled nodes (call ∷ past) = MayBeCalled nodes past × MayCall nodes past
 -- what the calls leave of a sender
 pub record ShowsOf (nodes : ℕ) (calls : List Call) (s : ℕ) : Type 0 where
   pub next : IsNext calls s (held_of (held_by nodes calls) s).next
-  pub closed : (held_of (held_by nodes calls) s).closed ≡ has_close calls s (held_of (held_by nodes calls) s).next
+  pub closed : (held_of (held_by nodes calls) s).closed
+      ≡ has_close calls s (held_of (held_by nodes calls) s).next
   pub came_is : (i : ℕ) → came (held_of (held_by nodes calls) s) i ≡ is_some (item_of calls s i)
 
 -- a call answers the messages from Next before it up to Next after it
 abbrev pub AnswersTurns : ℕ → List Call → Call → Type 0
 AnswersTurns nodes past call =
     let s = sender_of call in
-    answer (held_by nodes past) call ≡ between (call ∷ past) s (held_of (held_by nodes past) s).next (held_of (held_by nodes (call ∷ past)) s).next
+    answer (held_by nodes past) call
+    ≡ between (call ∷ past) s
+    (held_of (held_by nodes past) s).next (held_of (held_by nodes (call ∷ past)) s).next
 
 abbrev pub GivesInOrder : Type 0
 GivesInOrder =
     (nodes : ℕ) →
     ((calls : List Call) → MayBeCalled nodes calls → (s : ℕ) → s < nodes → ShowsOf nodes calls s)
-    × ((past : List Call) (call : Call) → MayBeCalled nodes (call ∷ past) → AnswersTurns nodes past call)
+    × ((past : List Call) (call : Call) → MayBeCalled nodes (call ∷ past) →
+    AnswersTurns nodes past call)

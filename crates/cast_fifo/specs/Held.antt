@@ -3,17 +3,19 @@
 --     waiting_at waiting i          what waits at a number
 --     came held i                   the number had its turn or waits
 --     with_item held i item         a message is kept, of two of one number the first
+--     with_waiting held i waiting   something waits at a number
 --     without_item held i           what waits at a number is taken back
 --     with_mark held i              a message that waits is marked
 --     run_from i waiting            the items marked from a number on, without a gap
 --     advanced held                 they had their turn
 --     known_items, known_after      what a mark brings, and what is held then
 --     offered_items, offered_after  the same, where the message is kept first
+--     IsNear held                   nothing waits 4,096 numbers or more past the next
 --     held_of all s                 what is held of a sender
-use Rattle.std.specs.Prelude.{ℕ, ◌+◌, ◌==◌, nat_lt, Bool, true, false, ◌&&◌, ◌||◌, if◌then◌else◌, List, [], ◌∷◌, length, slice_index_or, Option, Some, None, is_some}
-use Rattle.std.specs.List.{list_any}
+use Rattle.std.specs.Prelude.{ℕ, ◌+◌, ◌<◌, ◌==◌, nat_lt, Bool, true, false, ◌&&◌, ◌||◌, if◌then◌else◌, List, [], ◌∷◌, length, slice_index_or, Option, Some, None, is_some}
+use Rattle.std.specs.List.{All, list_any}
 use Rattle.std.specs.Ordering.{nat_cmp}
-use Rattle.std.specs.Map.{lookup, set_value, remove_entry}
+use Rattle.std.specs.Map.{lookup, keys_of, set_value, remove_entry}
 use Rattle.std.specs.BTreeMap.{insert_entry, is_at}
 use Rattle.cast_message.specs.declared.message.Item.{Item}
 use Rattle.cast_message.specs.declared.message.Item.TheVariants.{Data, Propose, Close}
@@ -36,14 +38,19 @@ waiting_at waiting number = lookup (is_at (nat_cmp number)) waiting
 abbrev pub came : Held → ℕ → Bool
 came held number = nat_lt number held.next || is_some (waiting_at held.waiting number)
 
+abbrev pub with_waiting : Held → ℕ → Waiting → Held
+with_waiting held number waiting =
+    record held { waiting = insert_entry nat_cmp held.waiting number waiting }
+
 abbrev pub with_item : Held → ℕ → Item → Held
 with_item held number item =
     if came held number
     then held
-    else record held { waiting = insert_entry nat_cmp held.waiting number (record { item = item; known = false }) }
+    else with_waiting held number (record { item = item; known = false })
 
 abbrev pub without_item : Held → ℕ → Held
-without_item held number = record held { waiting = remove_entry (is_at (nat_cmp number)) held.waiting }
+without_item held number =
+    record held { waiting = remove_entry (is_at (nat_cmp number)) held.waiting }
 
 -- the item of a message that waits and is marked, or is about to be
 abbrev pub item_due : Option Waiting → Bool → Option Item
@@ -52,19 +59,27 @@ item_due (Some w) marked = if w.known || marked then Some w.item else None
 
 abbrev pub marked : List (ℕ × Waiting) → ℕ → Option Waiting → List (ℕ × Waiting)
 marked waiting number None = waiting
-marked waiting number (Some w) = set_value (is_at (nat_cmp number)) waiting (record { item = w.item; known = true })
+marked waiting number (Some w) =
+    set_value (is_at (nat_cmp number)) waiting (record { item = w.item; known = true })
 
 abbrev pub with_mark : Held → ℕ → Held
-with_mark held number = record held { waiting = marked held.waiting number (waiting_at held.waiting number) }
+with_mark held number =
+    record held { waiting = marked held.waiting number (waiting_at held.waiting number) }
 
 abbrev pub run_from : ℕ → List (ℕ × Waiting) → List Item
 run_from next [] = []
-run_from next (entry ∷ entries) = if entry.0 == next && entry.1.known then entry.1.item ∷ run_from (next + 1) entries else []
+run_from next (entry ∷ entries) =
+    if entry.0 == next && entry.1.known then entry.1.item ∷ run_from (next + 1) entries else []
 
 -- what waits behind them
 abbrev pub rest_from : ℕ → List (ℕ × Waiting) → List (ℕ × Waiting)
 rest_from next [] = []
-rest_from next (entry ∷ entries) = if entry.0 == next && entry.1.known then rest_from (next + 1) entries else entry ∷ entries
+rest_from next (entry ∷ entries) =
+    if entry.0 == next && entry.1.known then rest_from (next + 1) entries else entry ∷ entries
+
+-- nothing waits 4,096 numbers or more past the next
+abbrev pub IsNear : Held → Type 0
+IsNear held = All (λ number. number < held.next + 4096) (keys_of held.waiting)
 
 abbrev pub is_close : Item → Bool
 is_close (Data payload) = false

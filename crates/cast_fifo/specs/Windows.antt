@@ -5,6 +5,7 @@ use Rattle.std.specs.Map.{keys_of}
 use Rattle.cast_message.specs.declared.message.Item.{Item}
 use Rattle.cast_message.specs.declared.message.Item.TheVariants.{Close}
 use Rattle.cast_fifo.specs.declared.queue.Waiting.{Waiting}
+use Rattle.cast_fifo.specs.Held.{Held}
 
 -- the places from a number on, without the empty ones
 abbrev pub entries_from : ℕ → List (Option Waiting) → List (ℕ × Waiting)
@@ -15,6 +16,13 @@ entries_from number (Some w ∷ places) = (number, w) ∷ entries_from (number +
 abbrev pub entries_of : ℕ → List (Option Waiting) → List (ℕ × Waiting) → List (ℕ × Waiting)
 entries_of next ring far = entries_from next ring ++ far
 
+abbrev pub held_in : ℕ → Bool → List (Option Waiting) → List (ℕ × Waiting) → Held
+held_in next closed ring far =
+    record { next = next; closed = closed; waiting = entries_of next ring far }
+
+abbrev pub AllFrom : ℕ → List (ℕ × Waiting) → Type 0
+AllFrom least far = All (λ number. least ≤ number) (keys_of far)
+
 -- the first place has no mark, as its message would have had its turn
 abbrev pub StartsUnmarked : List (Option Waiting) → Type 0
 StartsUnmarked [] = Unit {0}
@@ -22,11 +30,12 @@ StartsUnmarked (None ∷ places) = Unit {0}
 StartsUnmarked (Some w ∷ places) = w.known ≡ false
 
 -- a ring of up to 4,096 places, and farther away only numbers that it doesn't reach
-pub record IsWindow (next : ℕ) (ring : List (Option Waiting)) (far : List (ℕ × Waiting)) : Type 0 where
+pub record IsWindow (next : ℕ) (ring : List (Option Waiting)) (far : List (ℕ × Waiting))
+    : Type 0 where
   pub short : length ring ≤ 4096
   pub fits : next + length ring < 2 ^ 64
   pub starts : StartsUnmarked ring
-  pub beyond : All (λ number. next + 4096 ≤ number) (keys_of far)
+  pub beyond : AllFrom (next + 4096) far
   pub below : All (λ number. number + 1 < 2 ^ 64) (keys_of far)
 
 abbrev pub is_marked : Option Waiting → Bool

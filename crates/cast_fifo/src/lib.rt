@@ -4,11 +4,8 @@
 #![tactic(auto)]
 
 ghost use Rattle.std.specs.Prelude.{[], nat_lt, IsTrue, ◌≡◌, ◌+◌, ◌<◌, ◌≤◌, ◌^◌, ◌++◌, true, length, replicate, slice_set, vec_len, vec_capacity, IfOk, OnOk, OnErr};
-ghost use Rattle.std.specs.List.{All};
-ghost use Rattle.std.specs.Map.{keys_of};
-ghost use Rattle.cast_model.specs.History.{numbered};
-ghost use Rattle.cast_fifo.specs.Held.{nothing_held, held_of, came, with_item, without_item, known_items, known_after, offered_items, offered_after};
-ghost use Rattle.cast_fifo.specs.Calls.{GivesInOrder};
+ghost use Rattle.cast_fifo.specs.Held.{nothing_held, held_of, came, without_item, known_items, known_after, IsNear};
+ghost use Rattle.cast_fifo.specs.Calls.{Hold, Known, Offer, held_after, answer, GivesInOrder};
 
 mod queue;
 #[cfg(test)]
@@ -69,7 +66,7 @@ impl HoldBack {
     pub fn hold(&mut self, message: Message) -> Result<(), AllocError>
         requires sender { message.sender < length self.old }
         requires number { message.number + 1 < 2 ^ 64 }
-        ensures ok { OnOk result (self.new ≡ slice_set self.old message.sender (with_item (held_of self.old message.sender) message.number message.item)) }
+        ensures ok { OnOk result (self.new ≡ held_after self.old (Hold message)) }
         ensures err { OnErr result (self.new ≡ self.old) }
     {
         let Message {
@@ -85,8 +82,9 @@ impl HoldBack {
     pub fn known(&mut self, sender: NodeId, number: u64) -> Result<Vec<Message>, AllocError>
         requires sender { sender < length self.old }
         requires came { came (held_of self.old sender) number ≡ true }
-        ensures messages { IfOk result (λ messages. messages.items ≡ numbered sender (held_of self.old sender).next (known_items (held_of self.old sender) number)) }
-        ensures ok { OnOk result (self.new ≡ slice_set self.old sender (known_after (held_of self.old sender) number)) }
+        ensures messages { IfOk result (λ messages.
+            messages.items ≡ answer self.old (Known sender number)) }
+        ensures ok { OnOk result (self.new ≡ held_after self.old (Known sender number)) }
         ensures err { OnErr result (self.new ≡ self.old) }
     {
         self.senders[usize::from(sender.0)].known(self.alloc, sender, number)
@@ -106,7 +104,8 @@ impl HoldBack {
         requires { sender < length self.now }
         ensures test { result ≡ nat_lt number (held_of self.now sender).next }
         ensures nothing { IsTrue result → known_items (held_of self.now sender) number ≡ [] }
-        ensures same { IsTrue result → known_after (held_of self.now sender) number ≡ held_of self.now sender }
+        ensures same { IsTrue result →
+            known_after (held_of self.now sender) number ≡ held_of self.now sender }
     {
         self.senders[usize::from(sender.0)].had_turn(number)
     }
@@ -115,7 +114,8 @@ impl HoldBack {
     /// sender is below the number of nodes. It takes no memory.
     pub fn take_back(&mut self, sender: NodeId, number: u64)
         requires { sender < length self.old }
-        ensures { self.new ≡ slice_set self.old sender (without_item (held_of self.old sender) number) }
+        ensures { self.new
+            ≡ slice_set self.old sender (without_item (held_of self.old sender) number) }
     {
         self.senders[usize::from(sender.0)].take_back(number);
     }
@@ -124,7 +124,8 @@ impl HoldBack {
     /// sender is below the number of nodes.
     pub fn ready(&self, sender: NodeId, number: u64) -> Result<Vec<Message>, AllocError>
         requires { sender < length self.now }
-        ensures { IfOk result (λ messages. messages.items ≡ numbered sender (held_of self.now sender).next (known_items (held_of self.now sender) number)) }
+        ensures { IfOk result (λ messages.
+            messages.items ≡ answer self.now (Known sender number)) }
     {
         self.senders[usize::from(sender.0)].ready(self.alloc, sender, number)
     }
@@ -134,11 +135,13 @@ impl HoldBack {
     /// numbers or more past the next. It takes no memory.
     pub fn release(&mut self, sender: NodeId, number: u64, items: &mut Vec<Item>)
         requires sender { sender < length self.old }
-        requires near { All (λ other. other < (held_of self.old sender).next + 4096) (keys_of (held_of self.old sender).waiting) }
-        requires room { vec_len items.old + length (known_items (held_of self.old sender) number) ≤ vec_capacity items.old }
-        ensures items { items.new.items ≡ items.old.items ++ known_items (held_of self.old sender) number }
+        requires near { IsNear (held_of self.old sender) }
+        requires room { vec_len items.old + length (known_items (held_of self.old sender) number)
+            ≤ vec_capacity items.old }
+        ensures items { items.new.items
+            ≡ items.old.items ++ known_items (held_of self.old sender) number }
         ensures room { vec_capacity items.new ≡ vec_capacity items.old }
-        ensures after { self.new ≡ slice_set self.old sender (known_after (held_of self.old sender) number) }
+        ensures after { self.new ≡ held_after self.old (Known sender number) }
     {
         self.senders[usize::from(sender.0)].release(number, items);
     }
@@ -148,8 +151,9 @@ impl HoldBack {
     pub fn offer(&mut self, message: Message) -> Result<Vec<Message>, AllocError>
         requires sender { message.sender < length self.old }
         requires number { message.number + 1 < 2 ^ 64 }
-        ensures messages { IfOk result (λ messages. messages.items ≡ numbered message.sender (held_of self.old message.sender).next (offered_items (held_of self.old message.sender) message.number message.item)) }
-        ensures ok { OnOk result (self.new ≡ slice_set self.old message.sender (offered_after (held_of self.old message.sender) message.number message.item)) }
+        ensures messages { IfOk result (λ messages.
+            messages.items ≡ answer self.old (Offer message)) }
+        ensures ok { OnOk result (self.new ≡ held_after self.old (Offer message)) }
         ensures err { OnErr result (self.new ≡ self.old) }
     {
         let Message {

@@ -8,8 +8,8 @@ ghost use Rattle.std.specs.Ordering.{nat_cmp};
 ghost use Rattle.std.specs.BTreeMap.{insert_entry, is_at, IsOrdered};
 ghost use Rattle.std.specs.VecDeque.{deque_capacity, deque_len};
 ghost use Rattle.cast_model.specs.History.{numbered};
-ghost use Rattle.cast_fifo.specs.Held.{nothing_held, waiting_at, came, marked, with_item, with_mark, run_from, rest_from, is_close, known_items, known_after, offered_items, offered_after, turned_items, turned_after, advanced, without_item, item_due};
-ghost use Rattle.cast_fifo.specs.Windows.{entries_from, entries_of, is_marked, marked_front, due_front, front_item, HasFront, next_item, next_far, HasNext, IsWindow};
+ghost use Rattle.cast_fifo.specs.Held.{nothing_held, waiting_at, came, marked, with_item, with_waiting, with_mark, run_from, rest_from, is_close, known_items, known_after, offered_items, offered_after, turned_items, turned_after, advanced, without_item, item_due, IsNear};
+ghost use Rattle.cast_fifo.specs.Windows.{AllFrom, held_in, entries_from, entries_of, is_marked, marked_front, due_front, front_item, HasFront, next_item, next_far, HasNext, IsWindow};
 
 use cast_message::{Item, Message, NodeId};
 use std::alloc::{AllocError, Global};
@@ -42,11 +42,11 @@ pub struct Queue {
 
 impl Model for Queue {
     ghost use Rattle.cast_fifo.specs.Held.{Held};
-    ghost use Rattle.cast_fifo.specs.Windows.{entries_of, IsWindow};
+    ghost use Rattle.cast_fifo.specs.Windows.{held_in, IsWindow};
 
     ghost Value = { Held };
 
-    ghost view = { λ q. record { next = q.next; closed = q.closed; waiting = entries_of q.next q.ring.items q.far.entries } };
+    ghost view = { λ q. held_in q.next q.closed q.ring.items q.far.entries };
 
     ghost invariant = { λ q. IsWindow q.next q.ring.items q.far.entries };
 }
@@ -98,7 +98,8 @@ impl Queue {
         number: u64,
     ) -> Result<Vec<Message>, AllocError>
         requires { came self.old number ≡ true }
-        ensures messages { IfOk result (λ messages. messages.items ≡ numbered sender self.old.next (known_items self.old number)) }
+        ensures messages { IfOk result (λ messages.
+            messages.items ≡ numbered sender self.old.next (known_items self.old number)) }
         ensures ok { OnOk result (self.new ≡ known_after self.old number) }
         ensures err { OnErr result (self.new ≡ self.old) }
     {
@@ -120,7 +121,8 @@ impl Queue {
         item: Item,
     ) -> Result<Vec<Message>, AllocError>
         requires { number + 1 < 2 ^ 64 }
-        ensures messages { IfOk result (λ messages. messages.items ≡ numbered sender self.old.next (offered_items self.old number item)) }
+        ensures messages { IfOk result (λ messages.
+            messages.items ≡ numbered sender self.old.next (offered_items self.old number item)) }
         ensures ok { OnOk result (self.new ≡ offered_after self.old number item) }
         ensures err { OnErr result (self.new ≡ self.old) }
     {
@@ -172,7 +174,8 @@ impl Queue {
         sender: NodeId,
         number: u64,
     ) -> Result<Vec<Message>, AllocError>
-        ensures { IfOk result (λ messages. messages.items ≡ numbered sender self.now.next (known_items self.now number)) }
+        ensures { IfOk result (λ messages.
+            messages.items ≡ numbered sender self.now.next (known_items self.now number)) }
     {
         let mut messages = Vec::new(alloc);
         if number != self.next {
@@ -195,8 +198,9 @@ impl Queue {
     /// Marks a number, and puts the items whose turn has come at the end of others, which have room for them. Nothing waits
     /// that the ring doesn't reach.
     pub fn release(&mut self, number: u64, items: &mut Vec<Item>)
-        requires near { All (λ other. other < self.old.next + 4096) (keys_of self.old.waiting) }
-        requires room { vec_len items.old + length (known_items self.old number) ≤ vec_capacity items.old }
+        requires near { IsNear self.old }
+        requires room { vec_len items.old + length (known_items self.old number)
+            ≤ vec_capacity items.old }
         ensures items { items.new.items ≡ items.old.items ++ known_items self.old number }
         ensures room { vec_capacity items.new ≡ vec_capacity items.old }
         ensures after { self.new ≡ known_after self.old number }
@@ -214,7 +218,8 @@ impl Queue {
     // The item at a number that is marked, or would be by a mark at the next number.
     fn item_due(&self, marked: u64, number: u64) -> Option<&Item>
         requires { self.now.next ≤ number }
-        ensures { option_copied result ≡ item_due (waiting_at self.now.waiting number) (nat_eq number marked) }
+        ensures { option_copied result
+            ≡ item_due (waiting_at self.now.waiting number) (nat_eq number marked) }
     {
         let waiting = self.at(number)?;
         if waiting.known || number == marked {
@@ -241,7 +246,7 @@ impl Queue {
         requires new { came self.old number ≡ false }
         requires number { number + 1 < 2 ^ 64 }
         requires waits { number ≡ self.old.next → waiting.known ≡ false }
-        ensures ok { OnOk result (self.new ≡ record self.old { waiting = insert_entry nat_cmp self.old.waiting number waiting }) }
+        ensures ok { OnOk result (self.new ≡ with_waiting self.old number waiting) }
         ensures err { OnErr result (self.new ≡ self.old) }
     {
         let place = number - self.next;
@@ -276,8 +281,10 @@ impl Queue {
         offered: Option<Item>,
     ) -> Result<Vec<Message>, AllocError>
         requires number { self.old.next + 1 < 2 ^ 64 }
-        requires item { is_some (waiting_at self.old.waiting self.old.next) ≡ true ⊎ IsSome offered }
-        ensures messages { IfOk result (λ messages. messages.items ≡ numbered sender self.old.next (turned_items self.old offered)) }
+        requires item { is_some (waiting_at self.old.waiting self.old.next) ≡ true
+            ⊎ IsSome offered }
+        ensures messages { IfOk result (λ messages.
+            messages.items ≡ numbered sender self.old.next (turned_items self.old offered)) }
         ensures ok { OnOk result (self.new ≡ turned_after self.old offered) }
         ensures err { OnErr result (self.new ≡ self.old) }
     {
@@ -311,7 +318,8 @@ impl Queue {
 fn pass(sender: NodeId, next: &mut u64, closed: &mut bool, item: Item, messages: &mut Vec<Message>)
     requires number { next.old + 1 < 2 ^ 64 }
     requires room { vec_len messages.old < vec_capacity messages.old }
-    ensures messages { messages.new.items ≡ messages.old.items ++ record { sender = sender; number = next.old; item = item } ∷ [] }
+    ensures messages { messages.new.items
+        ≡ messages.old.items ++ record { sender = sender; number = next.old; item = item } ∷ [] }
     ensures len { vec_len messages.new ≡ vec_len messages.old + 1 }
     ensures room { vec_capacity messages.new ≡ vec_capacity messages.old }
     ensures next { next.new ≡ next.old + 1 }
@@ -344,10 +352,14 @@ fn release_front(
 )
     requires short { length ring.old.items ≤ 4096 }
     requires fits { next.old + length ring.old.items < 2 ^ 64 }
-    requires room { vec_len items.old + length (run_from next.old (entries_of next.old ring.old.items [])) ≤ vec_capacity items.old }
-    ensures items { items.new.items ≡ items.old.items ++ run_from next.old (entries_of next.old ring.old.items []) }
+    requires room { vec_len items.old
+        + length (run_from next.old (entries_of next.old ring.old.items []))
+        ≤ vec_capacity items.old }
+    ensures items { items.new.items
+        ≡ items.old.items ++ run_from next.old (entries_of next.old ring.old.items []) }
     ensures room { vec_capacity items.new ≡ vec_capacity items.old }
-    ensures after { record { next = next.new; closed = closed.new; waiting = entries_of next.new ring.new.items [] } ≡ advanced (record { next = next.old; closed = closed.old; waiting = entries_of next.old ring.old.items [] }) }
+    ensures after { held_in next.new closed.new ring.new.items []
+        ≡ advanced (held_in next.old closed.old ring.old.items []) }
     ensures window { IsWindow next.new ring.new.items [] }
 {
     while let Some(item) = take_marked(ring) {
@@ -360,7 +372,8 @@ fn release_front(
 // The first place goes, where it is marked, and its item.
 fn take_marked(ring: &mut VecDeque<Option<Waiting>>) -> Option<Item>
     ensures item { result ≡ due_front ring.old.items }
-    ensures ring { ring.new.items ≡ (if is_some result then drop 1 ring.old.items else ring.old.items) }
+    ensures ring { ring.new.items
+        ≡ (if is_some result then drop 1 ring.old.items else ring.old.items) }
 {
     if !is_marked(ring.front()?) {
         return None;
@@ -374,8 +387,9 @@ fn ready_after(ring: &VecDeque<Option<Waiting>>, far: &BTreeMap<u64, Waiting>, n
     requires number { next + 1 < 2 ^ 64 }
     requires short { length ring.now.items ≤ 4096 }
     requires fits { next + length ring.now.items < 2 ^ 64 }
-    requires beyond { All (λ number. next + 4096 ≤ number) (keys_of far.now.entries) }
-    ensures value { result ≡ length (run_from (next + 1) (entries_of (next + 1) (drop 1 ring.now.items) far.now.entries)) }
+    requires beyond { AllFrom (next + 4096) far.now.entries }
+    ensures value { result ≡ length (run_from (next + 1)
+        (entries_of (next + 1) (drop 1 ring.now.items) far.now.entries)) }
     ensures small { result < 2 ^ 63 + 4096 }
 {
     let near = ready_in_ring(ring);
@@ -460,7 +474,8 @@ fn take_next(ring: &mut VecDeque<Option<Waiting>>, far: &mut BTreeMap<u64, Waiti
     ensures ring { ring.new.items ≡ drop 1 ring.old.items }
     ensures room { deque_capacity ring.new ≡ deque_capacity ring.old }
     ensures far { far.new.entries ≡ next_far ring.old.items far.old.entries }
-    ensures beyond { (next : ℕ) → All (λ number. next + length ring.old.items ≤ number) (keys_of far.old.entries) → All (λ number. next + 1 + length ring.new.items ≤ number) (keys_of far.new.entries) }
+    ensures beyond { (next : ℕ) → AllFrom (next + length ring.old.items) far.old.entries →
+        AllFrom (next + 1 + length ring.new.items) far.new.entries }
 {
     if let Some(Some(waiting)) = ring.pop_front() {
         return waiting.item;
@@ -486,12 +501,13 @@ fn gather(next: u64, ring: &mut VecDeque<Option<Waiting>>, far: &mut BTreeMap<u6
     requires short { length ring.old.items ≤ 4096 }
     requires room { 0 < length far.old.entries → 4096 ≤ deque_capacity ring.old }
     requires fits { next + length ring.old.items < 2 ^ 64 }
-    requires beyond { All (λ number. next + length ring.old.items ≤ number) (keys_of far.old.entries) }
+    requires beyond { AllFrom (next + length ring.old.items) far.old.entries }
     requires below { All (λ number. number + 1 < 2 ^ 64) (keys_of far.old.entries) }
-    ensures same { entries_of next ring.new.items far.new.entries ≡ entries_of next ring.old.items far.old.entries }
+    ensures same { entries_of next ring.new.items far.new.entries
+        ≡ entries_of next ring.old.items far.old.entries }
     ensures short { length ring.new.items ≤ 4096 }
     ensures fits { next + length ring.new.items < 2 ^ 64 }
-    ensures beyond { All (λ number. next + 4096 ≤ number) (keys_of far.new.entries) }
+    ensures beyond { AllFrom (next + 4096) far.new.entries }
     ensures below { All (λ number. number + 1 < 2 ^ 64) (keys_of far.new.entries) }
 {
     while let Some((first, _)) = far.first_key_value() {
@@ -541,7 +557,8 @@ fn clear_far(far: &mut BTreeMap<u64, Waiting>, number: u64)
 // Places up to this one, the new ones empty.
 fn make_places(ring: &mut VecDeque<Option<Waiting>>, place: usize) -> Result<(), AllocError>
     requires { place < 4096 }
-    ensures ok { OnOk result (ring.new.items ≡ ring.old.items ++ replicate (place + 1 - length ring.old.items) None) }
+    ensures ok { OnOk result (ring.new.items
+        ≡ ring.old.items ++ replicate (place + 1 - length ring.old.items) None) }
     ensures err { OnErr result (ring.new.items ≡ ring.old.items) }
 {
     let more = (place + 1).saturating_sub(ring.len());

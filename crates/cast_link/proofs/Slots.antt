@@ -86,7 +86,7 @@ index-drop zero words i = ap (slice_index words) (let e : i ≡ 0 + i = omega ar
 index-drop (suc n) [] i = refl
 index-drop (suc n) (w ∷ words) i = index-drop n words i ∙ ap (slice_index (w ∷ words)) (let e : suc (n + i) ≡ suc n + i = omega arith in e)
 
-is_set-drop : (words : List ℕ) (n k m : ℕ) → m ≡ 64 * n + k → is_set (drop n words) k ≡ is_set words m
+pub is_set-drop : (words : List ℕ) (n k m : ℕ) → m ≡ 64 * n + k → is_set (drop n words) k ≡ is_set words m
 is_set-drop words n k m e =
     let place : n + k / 64 ≡ m / 64 = omega (arith, e) in
     let within : k % 64 ≡ m % 64 = omega (arith, e) in

@@ -1,20 +1,13 @@
 -- The slots from a base on, as a map of what is owed.
-use Rattle.std.specs.Prelude.{◌≡◌, ◌≢◌, ℕ, zero, suc, ◌+◌, ◌-◌, ◌/◌, ◌%◌, ◌^◌, ◌≤◌, ◌<◌, nat_lt, nat_eq, Bool, true, false, cond, ◌||◌, List, [], ◌∷◌, ◌++◌, length, slice_index, slice_index_or, slice_set, Option, Some, None, is_some, refl}
+use Rattle.std.specs.Prelude.{◌≡◌, ◌≢◌, ℕ, zero, suc, ◌+◌, ◌-◌, ◌≤◌, ◌<◌, nat_lt, nat_eq, Bool, true, false, cond, List, [], ◌∷◌, ◌++◌, length, slice_index_or, slice_set, Option, Some, None, is_some, refl}
 use Rattle.std.specs.Ordering.{nat_cmp, eq_by_cmp}
 use Rattle.std.specs.Cmp.{nat_cmp_total}
 use Rattle.std.specs.FinMap as map
 use Rattle.std.specs.FinMap.{find, get-from_entries, get-insert, get-remove, get-empty, len-insert, len-remove, same_map, nat_cmp-IsAntisymmetric}
-use Rattle.std.proofs.Common.{inl, inr, sym, ap, ◌∙◌, subst, arith, length-append, length-drop, true≢false, drop}
-use Rattle.std.proofs.Math.ListN.{length-set}
+use Rattle.std.proofs.Common.{inl, inr, sym, ap, ◌∙◌, arith, true≢false, drop}
 use Rattle.std.proofs.lemmas.Bool.Decides.{nat_tests, eqb_tells, leb_tells}
 use Rattle.cast_message.specs.declared.message.Message.{Message}
-use Rattle.std.specs.Int.{bit_at}
-use Rattle.std.proofs.lemmas.Nat.Bits.{bit_at_ones}
-use Rattle.cast_sets.specs.Bits.{is_set}
-use Rattle.cast_sets.proofs.Numbers.{no_bit}
-use Rattle.cast_link.specs.Taken.{bit_of}
-use Rattle.cast_link.proofs.Slots.{bit_stays}
-use Rattle.cast_link.specs.Links.{Link, owed_from, owed_map, StartsOwed, KeepsOwed, Trimmed}
+use Rattle.cast_link.specs.Links.{Link, owed_from, owed_map, StartsOwed}
 
 -- the message owed at a slot
 abbrev pub owed_at : ℕ → List (Option Message) → ℕ → Option Message
@@ -225,84 +218,10 @@ pub popped : (before after : List (Option Message)) → 0 < length before → sl
 popped [] after l h e = absurd (omega arith)
 popped (x ∷ before) after l h e = λ i. h i ∷ sym e i
 
--- ---- marks
-
--- none is owed where a mark is set
-none_marked : (base : ℕ) (places : List (Option Message)) (marks : List ℕ) (owed slot : ℕ) → KeepsOwed base places marks owed → base ≤ slot → is_set marks (bit_of base slot) ≡ true → map.get (owed_map base places) slot ≡ None
-none_marked base places marks owed slot h l e = get-owed_map base places slot ∙ owed_inside base places slot (slot - base) (omega (arith, l)) ∙ (h.sound slot l e).1
-
--- none is owed in a word that is marked in full
-pub none_in_word : (base : ℕ) (places : List (Option Message)) (marks : List ℕ) (owed slot n other : ℕ) → KeepsOwed base places marks owed → base ≤ slot → ((k : ℕ) → k < n → is_set marks (bit_of base slot + k) ≡ true) → slot ≤ other → other < slot + n → map.get (owed_map base places) other ≡ None
-none_in_word base places marks owed slot n other h l marked m below =
-    let same : bit_of base slot + (other - slot) ≡ bit_of base other = omega (arith, l, m) in
-    none_marked base places marks owed other h (omega (arith, l, m)) (ap (is_set marks) (sym same) ∙ marked (other - slot) (omega (arith, m, below)))
-
-same_mark : (marks room : List ℕ) → ((k : ℕ) → slice_index room k ≡ slice_index marks k) → (bit : ℕ) → is_set marks bit ≡ is_set room bit
-same_mark marks room same bit = ap (λ w. nat_eq (bit_at w (bit % 64)) 1) (sym (same (bit / 64)))
-
--- more room for marks
-pub more_room : (base : ℕ) (places : List (Option Message)) (marks room : List ℕ) (owed : ℕ) → KeepsOwed base places marks owed → ((k : ℕ) → slice_index room k ≡ slice_index marks k) → length marks ≤ length room → KeepsOwed base places room owed
-more_room base places marks room owed h same more = record {
-  fits = h.fits;
-  starts = h.starts;
-  count = h.count;
-  sound = λ slot l e. h.sound slot l (same_mark marks room same (bit_of base slot) ∙ e);
-  room = omega (arith, h.room, more);
-}
-
--- one slot more
-pub one_given : (base : ℕ) (places after : List (Option Message)) (marks : List ℕ) (owed : ℕ) (message : Message) → KeepsOwed base places marks owed → after ≡ places ++ Some message ∷ [] → base + length places + 1 < 2 ^ 64 → bit_of base (base + length places) / 64 < length marks → KeepsOwed base after marks (owed + 1)
-one_given base places after marks owed message h e fits room =
-    subst (λ (ps : List (Option Message)). KeepsOwed base ps marks (owed + 1)) (sym e) record {
-      fits = omega (arith, fits, long);
-      starts = StartsOwed-push places message h.starts;
-      count = ap (λ n. n + 1) h.count ∙ sym (ap map.len (owed_map-push base places message) ∙ len-put_new (owed_map base places) (base + length places) message absent);
-      sound = λ slot l f. let s = h.sound slot l f in (omega (arith, s.0, long), at_end places (Some message) (slot - base) ∙ ap (λ b. cond b (Some message) (slice_index_or places (slot - base) None)) (not_same (slot - base) (length places) (omega (arith, l, s.0))) ∙ s.1);
-      room = omega (arith, long, room);
-    }
-  where
-    long : length (places ++ Some message ∷ []) ≡ length places + 1
-    long = length-append places (Some message ∷ [])
-
-    absent : map.get (owed_map base places) (base + length places) ≡ None
-    absent = get-owed_map base places (base + length places) ∙ none_past base places (base + length places) (omega arith)
-
-    not_same : (a b : ℕ) → a < b → nat_eq a b ≡ false
-    not_same a b l = grind (arith, nat_tests)
-
-StartsOwed-front : (places : List (Option Message)) (p : Option Message) → StartsOwed (places ++ p ∷ []) → StartsOwed places
+pub StartsOwed-front : (places : List (Option Message)) (p : Option Message) → StartsOwed (places ++ p ∷ []) → StartsOwed places
 StartsOwed-front [] p h = tt
 StartsOwed-front (None ∷ places) p h = h
 StartsOwed-front (Some m ∷ places) p h = tt
-
--- the last slot fewer, which is owed
-pub one_taken_back : (base : ℕ) (places after : List (Option Message)) (marks : List ℕ) (owed : ℕ) (message : Message) → KeepsOwed base places marks owed → places ≡ after ++ Some message ∷ [] → KeepsOwed base after marks (owed - 1)
-one_taken_back base places after marks owed message h e = record {
-  fits = omega (arith, h.fits, long);
-  starts = StartsOwed-front after (Some message) (subst StartsOwed e h.starts);
-  count = omega (arith, h.count, fewer);
-  sound = λ slot l f. let s = h.sound slot l f in go slot l (nat_eq (slot - base) (length after)) refl s.0 (sym (ap (λ ps. slice_index_or ps (slot - base) None) e ∙ at_end after (Some message) (slot - base)) ∙ s.1);
-  room = omega (arith, h.room, long);
-}
-  where
-    long : length places ≡ length after + 1
-    long = ap length e ∙ length-append after (Some message ∷ [])
-
-    absent : map.get (owed_map base after) (base + length after) ≡ None
-    absent = get-owed_map base after (base + length after) ∙ none_past base after (base + length after) (omega arith)
-
-    fewer : map.len (owed_map base places) ≡ map.len (owed_map base after) + 1
-    fewer = ap (λ ps. map.len (owed_map base ps)) e ∙ ap map.len (owed_map-push base after message) ∙ len-put_new (owed_map base after) (base + length after) message absent
-
-    some_none : ◌≡◌ {A = Option Message} (Some message) None → ⊥
-    some_none e = cc
-
-    apart : (a b : ℕ) → nat_eq a b ≡ false → a ≢ b
-    apart a b e = grind (arith, nat_tests)
-
-    go : (slot : ℕ) → base ≤ slot → (b : Bool) → nat_eq (slot - base) (length after) ≡ b → slot < base + length places → cond b (Some message) (slice_index_or after (slot - base) None) ≡ None → (slot < base + length after) × (slice_index_or after (slot - base) None ≡ None)
-    go slot l true f m g = absurd (some_none g)
-    go slot l false f m g = (let n = apart (slot - base) (length after) f in omega (arith, n, m, long, l), g)
 
 -- what is owed then
 pub owed_taken_back : (base : ℕ) (places after : List (Option Message)) (message : Message) → places ≡ after ++ Some message ∷ [] → owed_map base after ≡ map.remove (owed_map base places) (base + length after)
@@ -333,73 +252,3 @@ last_place base places link is h = (some_places, go (slice_index_or places (leng
     go : (p : Option Message) → is_some p ≡ true → (message : Message) × (p ≡ Some message)
     go None g = absurd (true≢false (sym g))
     go (Some m) g = (m, refl)
-
--- a slot that is acknowledged is marked
-pub marked_slot : (base : ℕ) (places : List (Option Message)) (marks after : List ℕ) (owed slot i : ℕ) → KeepsOwed base places marks owed → slot ≡ base + i → i < length places → ((other : ℕ) → is_set after other ≡ (nat_eq other (bit_of base slot) || is_set marks other)) → (q : ℕ) → base ≤ q → is_set after (bit_of base q) ≡ true → (q < base + length (slice_set places i None)) × (slice_index_or (slice_set places i None) (q - base) None ≡ None)
-marked_slot base places marks after owed slot i h at within bits q l e = go (nat_eq (bit_of base q) (bit_of base slot)) refl (sym (bits (bit_of base q)) ∙ e)
-  where
-    long : length (slice_set places i None) ≡ length places
-    long = length-set places i None
-
-    eq_tells : (a b : ℕ) → nat_eq a b ≡ true → a ≡ b
-    eq_tells a b e = grind (arith, nat_tests)
-
-    eq_same : (a b : ℕ) → a ≡ b → nat_eq a b ≡ true
-    eq_same a b e = grind (arith, nat_tests)
-
-    either : (b : Bool) (o : Option Message) → o ≡ None → cond b None o ≡ None
-    either true o e = refl
-    either false o e = e
-
-    go : (b : Bool) → nat_eq (bit_of base q) (bit_of base slot) ≡ b → (b || is_set marks (bit_of base q)) ≡ true → (q < base + length (slice_set places i None)) × (slice_index_or (slice_set places i None) (q - base) None ≡ None)
-    go true f g =
-        let same : q - base ≡ i = (let t = eq_tells (bit_of base q) (bit_of base slot) f in omega (arith, t, l, at)) in
-        (omega (arith, same, within, long, l), set_at places i (q - base) within ∙ ap (λ b. cond b None (slice_index_or places (q - base) None)) (eq_same (q - base) i same))
-    go false f g =
-        let s = h.sound q l g in
-        (omega (arith, s.0, long), set_at places i (q - base) within ∙ either (nat_eq (q - base) i) (slice_index_or places (q - base) None) s.1)
-
-pub trimmed_next : (before base : ℕ) (places after : List (Option Message)) (marks : List ℕ) → Trimmed before base places marks → places ≡ None ∷ after → Trimmed before (base + 1) after marks
-trimmed_next before base places after marks h e =
-    let long : length places ≡ suc (length after) = ap length e in
-    record {
-      later = omega (arith, h.later);
-      sound = λ slot l f.
-          let s = h.sound slot (omega (arith, l)) f in
-          let at : slot - base ≡ suc (slot - (base + 1)) = omega (arith, l) in
-          (omega (arith, s.0, long), (λ k. slice_index_or (None ∷ after) (sym at k) None) ∙ ap (λ ps. slice_index_or ps (slot - base) None) (sym e) ∙ s.1);
-      room = omega (arith, h.room, h.later, long);
-    }
-
-pub keeps_owed : (before base : ℕ) (places : List (Option Message)) (marks after : List ℕ) (owed : ℕ) → Trimmed before base places marks → after ≡ drop (base / 64 - before / 64) marks → base + length places < 2 ^ 64 → StartsOwed places → owed ≡ map.len (owed_map base places) → KeepsOwed base places after owed
-keeps_owed before base places marks after owed h e fits starts count =
-    subst (λ ms. KeepsOwed base places ms owed) (sym e) record {
-      fits = fits;
-      starts = starts;
-      count = count;
-      sound = λ slot l f. h.sound slot l (sym (bit_stays marks before base slot h.later l) ∙ f);
-      room = omega (arith, h.room, h.later, length-drop (base / 64 - before / 64) marks);
-    }
-
-pub nothing_kept : KeepsOwed 0 [] [] 0
-nothing_kept = record {
-  fits = omega arith;
-  starts = tt;
-  count = sym (ap map.len (owed_map-none 0) ∙ map.len-empty nat_cmp Message);
-  sound = λ slot l e. absurd (true≢false (sym e ∙ no_bit [] (bit_of 0 slot) (omega arith)));
-  room = omega arith;
-}
-
--- a word with all bits set
-pub full_bits : (words : List ℕ) (bit k : ℕ) → slice_index words (bit / 64) ≡ 2 ^ 64 - 1 → k < 64 - bit % 64 → is_set words (bit + k) ≡ true
-full_bits words bit k e l =
-    let place : (bit + k) / 64 ≡ bit / 64 = omega (arith, l) in
-    ap (λ w. nat_eq (bit_at w ((bit + k) % 64)) 1) (ap (slice_index words) place ∙ e) ∙ ap (λ b. nat_eq b 1) (bit_at_ones 64 ((bit + k) % 64) (omega arith))
-
--- the marks of a window whose base hasn't moved yet
-pub not_moved : (base : ℕ) (places : List (Option Message)) (marks after : List ℕ) (owed slot i : ℕ) → KeepsOwed base places marks owed → slot ≡ base + i → i < length places → length after ≡ length marks → ((other : ℕ) → is_set after other ≡ (nat_eq other (bit_of base slot) || is_set marks other)) → Trimmed base base (slice_set places i None) after
-not_moved base places marks after owed slot i h at within len bits = record {
-  later = omega arith;
-  sound = marked_slot base places marks after owed slot i h at within bits;
-  room = omega (arith, h.room, len, length-set places i None);
-}

@@ -1,9 +1,10 @@
 -- The slots taken: those below a base, those with a bit, and those farther away.
 --     bit_of base slot                the place of a slot among the bits, which begin with the word of the base
+--     IsFullWord words place          all bits of that word are set
 --     is_marked base words far slot   the slot has a bit or is farther away
 --     taken_set base words far        the slots taken
 --     IsWindow base words far         how they are kept
-use Rattle.std.specs.Prelude.{◌≡◌, ◌+◌, ◌≤◌, ◌<◌, length, false, ℕ, ◌-◌, ◌*◌, ◌/◌, ◌^◌, nat_lt, Bool, ◌||◌, List}
+use Rattle.std.specs.Prelude.{◌≡◌, ◌+◌, ◌≤◌, ◌<◌, length, true, false, ℕ, ◌-◌, ◌*◌, ◌/◌, ◌^◌, nat_eq, nat_lt, Bool, ◌||◌, List}
 use Rattle.std.specs.List.{list_any, All}
 use Rattle.std.specs.Ordering.{nat_cmp}
 use Rattle.std.specs.FinSet as set
@@ -14,8 +15,23 @@ use Rattle.cast_sets.specs.Bits.{is_set}
 abbrev pub bit_of : ℕ → ℕ → ℕ
 bit_of base slot = slot - 64 * (base / 64)
 
+-- the bits that were set, and this one
+abbrev pub SetsBit : List ℕ → ℕ → List ℕ → Type 0
+SetsBit before bit after =
+    (other : ℕ) → is_set after other ≡ (nat_eq other bit || is_set before other)
+
+-- all bits of a word are set
+abbrev pub IsFullWord : List ℕ → ℕ → Type 0
+IsFullWord words place = (k : ℕ) → k < 64 → is_set words (64 * place + k) ≡ true
+
 abbrev pub is_marked : ℕ → List ℕ → List ℕ → ℕ → Bool
-is_marked base words far slot = is_set words (bit_of base slot) || list_any (is_at (nat_cmp slot)) far
+is_marked base words far slot =
+    is_set words (bit_of base slot) || list_any (is_at (nat_cmp slot)) far
+
+-- from the base on, these mark the slots that those mark
+abbrev pub MarksTheSame : ℕ → List ℕ → List ℕ → List ℕ → List ℕ → Type 0
+MarksTheSame base words far words' far' =
+    (slot : ℕ) → base ≤ slot → is_marked base words' far' slot ≡ is_marked base words far slot
 
 abbrev pub is_taken : ℕ → List ℕ → List ℕ → ℕ → Bool
 is_taken base words far slot = nat_lt slot base || is_marked base words far slot

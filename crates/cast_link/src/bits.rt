@@ -1,12 +1,12 @@
 //! Bits in words, of which the front can go: the slots that a link took from its base on.
-ghost use Rattle.std.specs.Prelude.{◌≡◌, ◌+◌, ◌≤◌, ◌<◌, ◌/◌, ◌∷◌, ◌||◌, ℕ, ◌^◌, OnErr, IsTrue, true, false, drop, nat_eq, length, slice_index, OnOk};
+ghost use Rattle.std.specs.Prelude.{◌≡◌, ◌+◌, ◌-◌, ◌≤◌, ◌<◌, ◌/◌, ◌%◌, ◌∷◌, ◌||◌, ℕ, ◌^◌, OnErr, IsTrue, true, false, take, drop, nat_eq, length, slice_index, OnOk};
 ghost use Rattle.std.specs.List.{All, list_any};
 ghost use Rattle.std.specs.FinSet as set;
 ghost use Rattle.std.specs.Ordering.{nat_cmp};
 ghost use Rattle.std.specs.BTreeMap.{is_at};
 ghost use Rattle.std.specs.VecDeque.{deque_capacity};
 ghost use Rattle.cast_sets.specs.Bits.{is_set};
-ghost use Rattle.cast_link.specs.Taken.{bit_of, is_marked, taken_set, IsWindow};
+ghost use Rattle.cast_link.specs.Taken.{bit_of, SetsBit, is_marked, MarksTheSame, IsFullWord, taken_set, IsWindow};
 
 use std::alloc::AllocError;
 use std::collections::{BTreeSet, VecDeque};
@@ -36,12 +36,21 @@ pub fn has_bit(words: &VecDeque<u64>, bit: u64) -> bool
 
 /// How many bits there are from this one on in its word, where all of the word's bits are set; else none.
 pub fn full_word(words: &VecDeque<u64>, bit: u64) -> u64
-    ensures { (k : ℕ) → k < result → is_set words.now.items (bit + k) ≡ true }
+    ensures set { (k : ℕ) → k < result → is_set words.now.items (bit + k) ≡ true }
+    ensures full { IsFullWord words.now.items (bit / 64) → result ≡ 64 - bit % 64 }
 {
     match words.get((bit / 64) as usize) {
-        Some(word) if *word == u64::MAX => 64 - bit % 64,
+        Some(&word) if has_all_bits(word) => 64 - bit % 64,
         _ => 0,
     }
+}
+
+// Whether all bits of a word are set.
+fn has_all_bits(word: u64) -> bool
+    ensures all { result ≡ true → word ≡ 2 ^ 64 - 1 }
+    ensures not_all { result ≡ false → word < 2 ^ 64 - 1 }
+{
+    word == u64::MAX
 }
 
 /// Makes words up to a bit, the new ones with no bit set.
@@ -63,7 +72,7 @@ pub fn set_bit(words: &mut VecDeque<u64>, bit: u64)
     requires { bit / 64 < length words.old.items }
     ensures len { length words.new.items ≡ length words.old.items }
     ensures room { deque_capacity words.new ≡ deque_capacity words.old }
-    ensures bits { (other : ℕ) → is_set words.new.items other ≡ (nat_eq other bit || is_set words.old.items other) }
+    ensures bits { SetsBit words.old.items bit words.new.items }
 {
     words[(bit / 64) as usize] |= 1 << (bit % 64);
 }
@@ -77,8 +86,10 @@ pub fn advance(
     requires more { base.old + 1 < 2 ^ 64 }
     requires window { IsWindow base.old words.old.items far.old.keys }
     ensures window { IsWindow base.new words.new.items far.new.keys }
-    ensures ok { OnOk result (taken_set base.new words.new.items far.new.keys ≡ set.insert (taken_set base.old words.old.items far.old.keys) base.old) }
-    ensures err { OnErr result (taken_set base.new words.new.items far.new.keys ≡ taken_set base.old words.old.items far.old.keys) }
+    ensures ok { OnOk result (taken_set base.new words.new.items far.new.keys
+        ≡ set.insert (taken_set base.old words.old.items far.old.keys) base.old) }
+    ensures err { OnErr result (taken_set base.new words.new.items far.new.keys
+        ≡ taken_set base.old words.old.items far.old.keys) }
 {
     let next = first_free(*base, words, far, *base + 1);
     make_reach(words, far)?;
@@ -91,8 +102,10 @@ pub fn advance(
 // The first slot from one on that neither has a bit nor is far, or the greatest slot there is.
 fn first_free(base: u64, words: &VecDeque<u64>, far: &BTreeSet<u64>, from: u64) -> u64
     ensures least { from ≤ result }
-    ensures taken { (slot : ℕ) → from ≤ slot → slot < result → IsTrue (is_marked base words.now.items far.now.keys slot) }
-    ensures free { result + 1 < 2 ^ 64 → is_marked base words.now.items far.now.keys result ≡ false }
+    ensures taken { (slot : ℕ) → from ≤ slot → slot < result →
+        IsTrue (is_marked base words.now.items far.now.keys slot) }
+    ensures free { result + 1 < 2 ^ 64 →
+        is_marked base words.now.items far.now.keys result ≡ false }
 {
     for slot in from..u64::MAX {
         if !has_bit(words, bit_of(base, slot)) && !far.contains(&slot) {
@@ -124,12 +137,19 @@ pub fn drop_front(words: &mut VecDeque<u64>, count: u64)
     }
 }
 
+/// Drops the words behind that of a bit.
+pub fn drop_back(words: &mut VecDeque<u64>, bit: u64)
+    ensures { words.new.items ≡ take (bit / 64 + 1) words.old.items }
+{
+    words.truncate((bit / 64) as usize + 1);
+}
+
 // Gives bits to the far slots that a base reaches.
 fn gather(base: u64, words: &mut VecDeque<u64>, far: &mut BTreeSet<u64>)
     requires short { length words.old.items ≤ 4097 }
     requires room { 0 < length far.old.keys → 4097 ≤ deque_capacity words.old }
     ensures short { length words.new.items ≤ 4097 }
-    ensures same { (slot : ℕ) → base ≤ slot → is_marked base words.new.items far.new.keys slot ≡ is_marked base words.old.items far.old.keys slot }
+    ensures same { MarksTheSame base words.old.items far.old.keys words.new.items far.new.keys }
     ensures beyond { All (λ slot. base + 262144 ≤ slot) far.new.keys }
 {
     while let Some(first) = far.first() {
@@ -159,7 +179,8 @@ fn give_bit(base: u64, words: &mut VecDeque<u64>, slot: u64)
     requires room { 4097 ≤ deque_capacity words.old }
     ensures short { length words.new.items ≤ 4097 }
     ensures room { deque_capacity words.new ≡ deque_capacity words.old }
-    ensures bits { (other : ℕ) → base ≤ other → is_set words.new.items (bit_of base other) ≡ (nat_eq other slot || is_set words.old.items (bit_of base other)) }
+    ensures bits { (other : ℕ) → base ≤ other → is_set words.new.items (bit_of base other)
+        ≡ (nat_eq other slot || is_set words.old.items (bit_of base other)) }
 {
     if slot < base {
         return;

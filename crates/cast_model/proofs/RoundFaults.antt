@@ -120,7 +120,7 @@ module _ (config : Config) where
   accepted_front past [] accepted = accepted
   accepted_front past (event ∷ events) accepted = accepted_before past event (accepted_front (event ∷ past) events accepted)
 
-  fault-Send : (past : History) (p q slot : ℕ) → p < config.nodes → q < config.nodes → (p ≡ q → ⊥) → is_live past p ≡ true → slot < length (given past p q) → acked past p q slot ≡ false → fault config past (Send p q slot) ≡ full past p
+  pub fault-Send : (past : History) (p q slot : ℕ) → p < config.nodes → q < config.nodes → (p ≡ q → ⊥) → is_live past p ≡ true → slot < length (given past p q) → acked past p q slot ≡ false → fault config past (Send p q slot) ≡ full past p
   unfolding fault causes
   fault-Send past p q slot p_in q_in apart live inside open_slot =
       quiet _ _ (ap not (lt-ltb p config.nodes p_in))

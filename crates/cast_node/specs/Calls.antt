@@ -1,6 +1,7 @@
 -- What a node's calls answer, as the answers of steps.
 --     is_peer kept q          another node
 --     may_carry kept slot s i      a peer could carry this pair in this slot
+--     carry_slot slot s i item     what a frame says that carries the message of these numbers
 --     carried_frame me from ..     the frame to this node that carries the message of these numbers; took_frame: a word that a slot
 --                                  was taken
 use Rattle.std.specs.Prelude.{ℕ, ◌*◌, ◌==◌, nat_lt, Bool, not, ◌&&◌, Result, Ok, Err}
@@ -10,6 +11,7 @@ use Rattle.cast_message.specs.declared.event.Answer.TheVariants.{Ordered, Sent, 
 use Rattle.cast_message.specs.declared.event.StepFault.{StepFault}
 use Rattle.cast_message.specs.declared.message.Frame.{Frame}
 use Rattle.cast_message.specs.declared.message.Item.{Item}
+use Rattle.cast_message.specs.declared.message.FrameBody.{FrameBody}
 use Rattle.cast_message.specs.declared.message.FrameBody.TheVariants.{Carry, Took}
 use Rattle.cast_node.specs.declared.node.Numbers.{Numbers}
 use Rattle.cast_node.specs.Kept.{Kept}
@@ -20,10 +22,18 @@ is_peer kept q = nat_lt q kept.config.nodes && not (q == kept.me)
 
 -- a pair that a peer could carry in a slot
 abbrev pub may_carry : Kept → ℕ → ℕ → ℕ → Bool
-may_carry kept slot sender number = is_peer kept sender && (nat_lt number kept.config.item_limit && nat_lt slot (kept.config.nodes * kept.config.item_limit))
+may_carry kept slot sender number =
+    is_peer kept sender
+    && (nat_lt number kept.config.item_limit
+    && nat_lt slot (kept.config.nodes * kept.config.item_limit))
+
+abbrev pub carry_slot : ℕ → ℕ → ℕ → Item → FrameBody
+carry_slot slot sender number item =
+    Carry slot (record { sender = sender; number = number; item = item })
 
 abbrev pub carried_frame : ℕ → ℕ → ℕ → ℕ → ℕ → ℕ → Item → Frame
-carried_frame me from seq slot sender number item = record { from = from; seq = seq; to = me; body = Carry slot (record { sender = sender; number = number; item = item }) }
+carried_frame me from seq slot sender number item =
+    record { from = from; seq = seq; to = me; body = carry_slot slot sender number item }
 
 abbrev pub took_frame : ℕ → ℕ → ℕ → ℕ → Frame
 took_frame me from seq slot = record { from = from; seq = seq; to = me; body = Took slot }

@@ -6,6 +6,7 @@
 --     told_in ds s i members         both: the second where they are enough
 --     outcome_in ds s i members      what is delivered and decided then
 --     waiting_in ds message          a message is kept back
+--     told_with, outcome_with ds message members     the message is kept back, and these are known to hold it
 --     forgotten_in ds s i            what waits at a pair is taken back
 use Rattle.std.specs.Prelude.{◌≡◌, ℕ, true, ◌-◌, List, [], replicate, slice_index_or, slice_set, ◌++◌, if◌then◌else◌}
 use Rattle.std.specs.Ordering.{nat_cmp}
@@ -18,7 +19,8 @@ use Rattle.cast_message.specs.declared.message.Item.{Item}
 use Rattle.cast_message.specs.declared.message.Message.{Message}
 use Rattle.cast_model.specs.History.{numbered}
 use Rattle.cast_model.specs.OwnSteps.{nothing}
-use Rattle.cast_fifo.specs.Held.{Held as HeldBack, nothing_held, held_of, with_item, without_item, known_items, known_after}
+use Rattle.cast_fifo.specs.Held.{Held as HeldBack, nothing_held, held_of, without_item, known_items, known_after}
+use Rattle.cast_fifo.specs.Calls.{Hold, held_after}
 use Rattle.cast_agree.specs.Counted.{Counted}
 use Rattle.cast_agree.specs.Journal.{counted_all, decisions_all}
 use Rattle.cast_node.specs.Kept.{is_enough_in}
@@ -43,7 +45,8 @@ nothing_delivered config = record {
 }
 
 abbrev pub noted : Delivering → ℕ → ℕ → set.FinSet nat_cmp → Delivering
-noted ds s i members = record ds { knowers = slice_set ds.knowers s (known_row (slice_index_or ds.knowers s []) i members) }
+noted ds s i members =
+    record ds { knowers = slice_set ds.knowers s (known_row (slice_index_or ds.knowers s []) i members) }
 
 abbrev pub news_in : Delivering → ℕ → ℕ → List Message
 news_in ds s i = numbered s (held_of ds.hold_back s).next (known_items (held_of ds.hold_back s) i)
@@ -51,16 +54,22 @@ news_in ds s i = numbered s (held_of ds.hold_back s).next (known_items (held_of 
 abbrev pub let_go : Delivering → ℕ → ℕ → Delivering
 let_go ds s i = record ds {
   hold_back = slice_set ds.hold_back s (known_after (held_of ds.hold_back s) i);
-  delivered = slice_set ds.delivered s (slice_index_or ds.delivered s [] ++ known_items (held_of ds.hold_back s) i);
+  delivered = slice_set ds.delivered s
+      (slice_index_or ds.delivered s [] ++ known_items (held_of ds.hold_back s) i);
   agree = counted_all ds.agree (news_in ds s i);
 }
 
 -- where these nodes are enough, a mark of the pair changes nothing of what is held of its sender
 abbrev pub BringsNothing : Mode → ℕ → HeldBack → ℕ → set.FinSet nat_cmp → Type 0
-BringsNothing mode faults held i members = is_enough_in mode faults members ≡ true → (known_items held i ≡ []) × (known_after held i ≡ held)
+BringsNothing mode faults held i members =
+    is_enough_in mode faults members ≡ true →
+    (known_items held i ≡ []) × (known_after held i ≡ held)
 
 abbrev pub told_in : Delivering → ℕ → ℕ → set.FinSet nat_cmp → Delivering
-told_in ds s i members = if is_enough_in ds.mode ds.faults members then let_go (noted ds s i members) s i else noted ds s i members
+told_in ds s i members =
+    if is_enough_in ds.mode ds.faults members
+    then let_go (noted ds s i members) s i
+    else noted ds s i members
 
 abbrev pub outcome_in : Delivering → ℕ → ℕ → set.FinSet nat_cmp → Outcome
 outcome_in ds s i members =
@@ -69,7 +78,16 @@ outcome_in ds s i members =
     else nothing
 
 abbrev pub waiting_in : Delivering → Message → Delivering
-waiting_in ds message = record ds { hold_back = slice_set ds.hold_back message.sender (with_item (held_of ds.hold_back message.sender) message.number message.item) }
+waiting_in ds message = record ds { hold_back = held_after ds.hold_back (Hold message) }
 
 abbrev pub forgotten_in : Delivering → ℕ → ℕ → Delivering
-forgotten_in ds s i = record ds { hold_back = slice_set ds.hold_back s (without_item (held_of ds.hold_back s) i) }
+forgotten_in ds s i =
+    record ds { hold_back = slice_set ds.hold_back s (without_item (held_of ds.hold_back s) i) }
+
+-- the message is kept back, and these are known to hold it
+abbrev pub told_with : Delivering → Message → set.FinSet nat_cmp → Delivering
+told_with ds message members = told_in (waiting_in ds message) message.sender message.number members
+
+abbrev pub outcome_with : Delivering → Message → set.FinSet nat_cmp → Outcome
+outcome_with ds message members =
+    outcome_in (waiting_in ds message) message.sender message.number members

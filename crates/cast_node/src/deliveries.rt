@@ -5,13 +5,13 @@ ghost use Rattle.std.specs.List.{All};
 ghost use Rattle.std.specs.Map.{keys_of};
 ghost use Rattle.std.specs.FinSet as set;
 ghost use Rattle.cast_model.specs.OwnSteps.{nothing};
-ghost use Rattle.cast_model.specs.History.{numbered};
-ghost use Rattle.cast_fifo.specs.Held.{held_of, came, known_items, known_after};
+ghost use Rattle.cast_fifo.specs.Held.{held_of, came, known_items};
+ghost use Rattle.cast_fifo.specs.Calls.{Known, held_after, answer};
 ghost use Rattle.cast_agree.specs.Journal.{counted_all, decisions_all, restored};
 ghost use Rattle.cast_agree.specs.Counted.{decision};
 ghost use Rattle.cast_node.specs.Kept.{knowers_in, is_enough_in};
 ghost use Rattle.cast_node.specs.Turns.{known_row};
-ghost use Rattle.cast_node.specs.Delivering.{BringsNothing, nothing_delivered, told_in, outcome_in, waiting_in, forgotten_in};
+ghost use Rattle.cast_node.specs.Delivering.{BringsNothing, nothing_delivered, told_in, told_with, outcome_in, outcome_with, waiting_in, forgotten_in};
 
 use cast_agree::{Agree, Counting};
 use cast_fifo::HoldBack;
@@ -47,9 +47,17 @@ impl Model for Deliveries {
 
     ghost coded = { delivering_code modes.the_row.coded items.the_row.coded waits.the_row.coded };
 
-    ghost view = { λ d. record { mode = d.mode; faults = d.faults; knowers = map (λ row. row.items) d.knowers.items; hold_back = d.hold_back; delivered = map (λ items. items.items) d.delivered.items; agree = d.agree } };
+    ghost view = { λ d. record {
+      mode = d.mode;
+      faults = d.faults;
+      knowers = map (λ row. row.items) d.knowers.items;
+      hold_back = d.hold_back;
+      delivered = map (λ items. items.items) d.delivered.items;
+      agree = d.agree;
+    } };
 
-    ghost invariant = { λ d. IsSound (map (λ row. row.items) d.knowers.items) d.hold_back (map (λ items. items.items) d.delivered.items) };
+    ghost invariant = { λ d. IsSound (map (λ row. row.items) d.knowers.items) d.hold_back
+        (map (λ items. items.items) d.delivered.items) };
 }
 
 /// The messages whose turn has come, and what counting them decides.
@@ -115,7 +123,8 @@ impl Deliveries {
     ) -> Result<Outcome, AllocError>
         requires sender { sender < length self.old.hold_back }
         requires number { number < 4096 }
-        ensures outcome { IfOk result (λ outcome. outcome ≡ outcome_in self.old sender number members) }
+        ensures outcome { IfOk result (λ outcome.
+            outcome ≡ outcome_in self.old sender number members) }
         ensures ok { OnOk result (self.new ≡ told_in self.old sender number members) }
         ensures err { OnErr result (self.new ≡ self.old) }
     {
@@ -161,7 +170,8 @@ impl Deliveries {
     ) -> Result<Outcome, AllocError>
         requires sender { sender < length self.old.hold_back }
         requires number { number < 4096 }
-        ensures outcome { IfOk result (λ outcome. outcome ≡ outcome_in self.old sender number members) }
+        ensures outcome { IfOk result (λ outcome.
+            outcome ≡ outcome_in self.old sender number members) }
         ensures ok { OnOk result (self.new ≡ told_in self.old sender number members) }
         ensures taken { OnOk result (link.new ≡ set.insert link.old slot) }
         ensures err { OnErr result (self.new ≡ self.old) }
@@ -207,8 +217,8 @@ impl Deliveries {
     pub fn take_up(&mut self, message: Message, members: NodeSet) -> Result<Outcome, AllocError>
         requires sender { message.sender < length self.old.hold_back }
         requires number { message.number < 4096 }
-        ensures outcome { IfOk result (λ outcome. outcome ≡ outcome_in (waiting_in self.old message) message.sender message.number members) }
-        ensures ok { OnOk result (self.new ≡ told_in (waiting_in self.old message) message.sender message.number members) }
+        ensures outcome { IfOk result (λ outcome. outcome ≡ outcome_with self.old message members) }
+        ensures ok { OnOk result (self.new ≡ told_with self.old message members) }
         ensures err { OnErr result (self.new ≡ self.old) }
     {
         let sender = message.sender;
@@ -231,8 +241,8 @@ impl Deliveries {
     ) -> Result<Outcome, AllocError>
         requires sender { message.sender < length self.old.hold_back }
         requires number { message.number < 4096 }
-        ensures outcome { IfOk result (λ outcome. outcome ≡ outcome_in (waiting_in self.old message) message.sender message.number members) }
-        ensures ok { OnOk result (self.new ≡ told_in (waiting_in self.old message) message.sender message.number members) }
+        ensures outcome { IfOk result (λ outcome. outcome ≡ outcome_with self.old message members) }
+        ensures ok { OnOk result (self.new ≡ told_with self.old message members) }
         ensures taken { OnOk result (link.new ≡ set.insert link.old slot) }
         ensures err { OnErr result (self.new ≡ self.old) }
         ensures as_before { OnErr result (link.new ≡ link.old) }
@@ -251,7 +261,8 @@ impl Deliveries {
     fn hold(&mut self, message: Message) -> Result<bool, AllocError>
         requires sender { message.sender < length self.old.hold_back }
         requires number { message.number < 4096 }
-        ensures came { IfOk result (λ before. before ≡ came (held_of self.old.hold_back message.sender) message.number) }
+        ensures came { IfOk result (λ before.
+            before ≡ came (held_of self.old.hold_back message.sender) message.number) }
         ensures ok { OnOk result (self.new ≡ waiting_in self.old message) }
         ensures err { OnErr result (self.new ≡ self.old) }
     {
@@ -289,7 +300,8 @@ fn brings_nothing(
     members: &NodeSet,
 ) -> bool
     requires { sender < length hold_back.now }
-    ensures nothing { IsTrue result → BringsNothing mode faults (held_of hold_back.now sender) number members.now }
+    ensures nothing { IsTrue result →
+        BringsNothing mode faults (held_of hold_back.now sender) number members.now }
     ensures enough { IsFalse result → is_enough_in mode faults members.now ≡ true }
 {
     !is_enough(mode, faults, members) || hold_back.had_turn(sender, number)
@@ -309,7 +321,8 @@ pub fn no_news(alloc: Global) -> Outcome
 fn make_place(row: &mut Vec<NodeSet>, number: u64) -> Result<(), AllocError>
     requires { number < 4096 }
     ensures same { row.new.items ≡ row.old.items }
-    ensures ok { OnOk result (vec_len row.new + (suc number - vec_len row.new) ≤ vec_capacity row.new) }
+    ensures ok { OnOk result
+        (vec_len row.new + (suc number - vec_len row.new) ≤ vec_capacity row.new) }
 {
     row.reserve((number as usize + 1).saturating_sub(row.len()))
 }
@@ -336,11 +349,16 @@ fn prepare(
     number: u64,
 ) -> Result<Ready, AllocError>
     requires { sender < length hold_back.now }
-    ensures messages { IfOk result (λ ready. ready.messages.items ≡ numbered sender (held_of hold_back.now sender).next (known_items (held_of hold_back.now sender) number)) }
-    ensures decisions { IfOk result (λ ready. ready.counting.decisions.items ≡ decisions_all agree.old (numbered sender (held_of hold_back.now sender).next (known_items (held_of hold_back.now sender) number))) }
-    ensures back { IfOk result (λ ready. restored agree.new ready.counting.before.items ≡ agree.old) }
-    ensures agree { OnOk result (agree.new ≡ counted_all agree.old (numbered sender (held_of hold_back.now sender).next (known_items (held_of hold_back.now sender) number))) }
-    ensures room { OnOk result (vec_len items.new + length (known_items (held_of hold_back.now sender) number) ≤ vec_capacity items.new) }
+    ensures messages { IfOk result (λ ready.
+        ready.messages.items ≡ answer hold_back.now (Known sender number)) }
+    ensures decisions { IfOk result (λ ready. ready.counting.decisions.items
+        ≡ decisions_all agree.old (answer hold_back.now (Known sender number))) }
+    ensures back { IfOk result (λ ready.
+        restored agree.new ready.counting.before.items ≡ agree.old) }
+    ensures agree { OnOk result (agree.new
+        ≡ counted_all agree.old (answer hold_back.now (Known sender number))) }
+    ensures room { OnOk result (vec_len items.new
+        + length (known_items (held_of hold_back.now sender) number) ≤ vec_capacity items.new) }
     ensures same { items.new.items ≡ items.old.items }
     ensures err { OnErr result (agree.new ≡ agree.old) }
 {
@@ -360,10 +378,15 @@ fn release(
 ) -> Outcome
     requires sender { sender < length hold_back.old }
     requires near { All (λ other. other < 4096) (keys_of (held_of hold_back.old sender).waiting) }
-    requires room { vec_len items.old + length (known_items (held_of hold_back.old sender) number) ≤ vec_capacity items.old }
-    ensures hold_back { hold_back.new ≡ slice_set hold_back.old sender (known_after (held_of hold_back.old sender) number) }
-    ensures items { items.new.items ≡ items.old.items ++ known_items (held_of hold_back.old sender) number }
-    ensures outcome { result ≡ record { deliveries = ready.messages.items; decisions = ready.counting.decisions.items } }
+    requires room { vec_len items.old
+        + length (known_items (held_of hold_back.old sender) number) ≤ vec_capacity items.old }
+    ensures hold_back { hold_back.new ≡ held_after hold_back.old (Known sender number) }
+    ensures items { items.new.items
+        ≡ items.old.items ++ known_items (held_of hold_back.old sender) number }
+    ensures outcome { result ≡ record {
+      deliveries = ready.messages.items;
+      decisions = ready.counting.decisions.items;
+    } }
 {
     hold_back.release(sender, number, items);
     let Ready { messages, counting } = ready;

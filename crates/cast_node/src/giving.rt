@@ -20,7 +20,8 @@ pub fn give_all(
 ) -> Result<(), AllocError>
     requires { first + length links.old ≤ 256 }
     ensures ok { OnOk result (links.new ≡ given_from first relay.now source message.now links.old) }
-    ensures back { OnOk result (taken_back_from first relay.now source message.now.sender links.new ≡ links.old) }
+    ensures back { OnOk result
+        (taken_back_from first relay.now source message.now.sender links.new ≡ links.old) }
     ensures err { OnErr result (links.new ≡ links.old) }
 {
     let Some((link, rest)) = links.split_first_mut() else {
@@ -55,7 +56,8 @@ pub fn take_back_all(
 
 // Gives a message to a peer, where it goes there.
 fn give(link: &mut LinkOut, goes: bool, message: &Message) -> Result<(), AllocError>
-    ensures ok { OnOk result (link.new ≡ (if goes then with_given link.old message.now else link.old)) }
+    ensures ok { OnOk result (link.new
+        ≡ (if goes then with_given link.old message.now else link.old)) }
     ensures back { OnOk result ((if goes then without_last link.new else link.new) ≡ link.old) }
     ensures err { OnErr result (link.new ≡ link.old) }
 {

@@ -5,16 +5,17 @@ ghost use Rattle.std.specs.FinSet as set;
 ghost use Rattle.cast_model.specs.Steps.{Ordered, Sent, Acknowledged, Arrived, Stopped};
 ghost use Rattle.cast_message.specs.declared.event.StepFault.TheVariants.{NoNode, Memory};
 ghost use Rattle.cast_message.specs.declared.message.Frame.{Frame as Arriving};
+ghost use Rattle.cast_message.specs.declared.message.FrameBody.TheVariants.{Carry, Took};
 ghost use Rattle.cast_message.specs.declared.message.Item.{Item as Carried};
 ghost use Rattle.cast_agree.specs.Counted.{decision};
 ghost use Rattle.cast_link.specs.Links.{IsLeastFrom};
 ghost use Rattle.cast_relay.specs.Held.{holds};
 ghost use Rattle.cast_node.specs.Kept.{nothing_kept, link_to, knowers_of};
-ghost use Rattle.cast_node.specs.Turns.{Gives, kept_fault, carry_of, took_of, message_owed, ordered, carried, acknowledged, with_taken, may_arrive};
+ghost use Rattle.cast_node.specs.Turns.{Gives, kept_fault, carry_of, took_of, message_owed, ordered, arrived_body, may_arrive};
 ghost use Rattle.cast_model.specs.Replies.{is_close, is_too_long, is_second_proposal};
 ghost use Rattle.cast_node.specs.Sound.{OwesNothing};
 ghost use Rattle.cast_node.specs.Taking.{with_proposal, without_proposal};
-ghost use Rattle.cast_node.specs.Calls.{is_peer, may_carry, carried_frame, took_frame, ordered_reply, sent_reply, number_reply, numbered_reply, arrived_reply, crashed_reply};
+ghost use Rattle.cast_node.specs.Calls.{is_peer, may_carry, carry_slot, carried_frame, took_frame, ordered_reply, sent_reply, number_reply, numbered_reply, arrived_reply, crashed_reply};
 
 use crate::deliveries::{Deliveries, no_news};
 use crate::taking::{Fresh, first_members, take_up_carried, take_up_own};
@@ -78,18 +79,34 @@ impl Model for Node {
 
     ghost Value = { Kept };
 
-    ghost coded = { kept_code configs.the_row.coded items.the_row.coded messages.the_row.coded waits.the_row.coded };
+    ghost coded = { kept_code
+        configs.the_row.coded items.the_row.coded messages.the_row.coded waits.the_row.coded };
 
-    ghost view = { λ n. record { config = n.config; me = n.me; live = n.live; frames = n.frames; stream = n.stream.items; relay = n.relay; outgoing = n.outgoing.items; incoming = n.incoming.items; hold_back = n.deliveries.hold_back; knowers = n.deliveries.knowers; delivered = n.deliveries.delivered; agree = n.deliveries.agree } };
+    ghost view = { λ n. record {
+      config = n.config;
+      me = n.me;
+      live = n.live;
+      frames = n.frames;
+      stream = n.stream.items;
+      relay = n.relay;
+      outgoing = n.outgoing.items;
+      incoming = n.incoming.items;
+      hold_back = n.deliveries.hold_back;
+      knowers = n.deliveries.knowers;
+      delivered = n.deliveries.delivered;
+      agree = n.deliveries.agree;
+    } };
 
-    ghost invariant = { λ n. IsNode n.config n.me n.stream.items n.closed n.proposed n.relay n.outgoing.items n.incoming.items n.deliveries n.quiet };
+    ghost invariant = { λ n. IsNode n.config n.me n.stream.items n.closed n.proposed n.relay
+        n.outgoing.items n.incoming.items n.deliveries n.quiet };
 }
 
 impl Node {
     /// The node of this number, which has done nothing. Refused is a number that is no node's.
     pub fn new(alloc: Global, config: &Config, id: NodeId) -> Result<Node, StepFault>
         ensures ok { IfOk result (λ node. node ≡ nothing_kept config.now id) }
-        ensures refusal { IfErr result (λ refusal. refusal ≡ (if nat_lt id config.now.nodes then Memory else NoNode)) }
+        ensures refusal { IfErr result (λ refusal.
+            refusal ≡ (if nat_lt id config.now.nodes then Memory else NoNode)) }
         ensures place { OnOk result (id < config.now.nodes) }
     {
         if u64::from(id.0) >= config.nodes() {
@@ -134,7 +151,8 @@ impl Node {
     pub fn ack(&mut self, to: NodeId, slot: u64) -> Result<Frame, StepFault>
         ensures exact { Gives self.old (Acknowledged to slot) (sent_reply result) self.new }
         ensures frame { IfOk result (λ frame. frame ≡ took_of self.old to slot) }
-        ensures refused { IfErr result (λ fault. kept_fault self.old (Acknowledged to slot) ≡ Some fault) }
+        ensures refused { IfErr result (λ fault.
+            kept_fault self.old (Acknowledged to slot) ≡ Some fault) }
     {
         if let Some(refusal) = self.ack_fault(to, slot) {
             return Err(refusal);
@@ -146,7 +164,9 @@ impl Node {
     /// of its message, are all that is answered. It takes no memory. A refusal changes nothing.
     pub fn send_numbers(&mut self, to: NodeId, slot: u64) -> Result<Numbers, StepFault>
         ensures exact { Gives self.old (Sent to slot) (numbered_reply result) self.new }
-        ensures message { IfOk result (λ sent. (sent.sender ≡ (message_owed self.old to slot).sender) × (sent.number ≡ (message_owed self.old to slot).number)) }
+        ensures message { IfOk result (λ sent.
+            (sent.sender ≡ (message_owed self.old to slot).sender)
+            × (sent.number ≡ (message_owed self.old to slot).number)) }
         ensures small { IfOk result (λ sent. sent.number < 4096) }
     {
         if let Some(refusal) = self.send_fault(to, slot) {
@@ -166,7 +186,8 @@ impl Node {
     /// Makes a frame as `ack` does, and answers its number. It takes no memory. A refusal changes nothing.
     pub fn ack_number(&mut self, to: NodeId, slot: u64) -> Result<u64, StepFault>
         ensures exact { Gives self.old (Acknowledged to slot) (number_reply result) self.new }
-        ensures refused { IfErr result (λ fault. kept_fault self.old (Acknowledged to slot) ≡ Some fault) }
+        ensures refused { IfErr result (λ fault.
+            kept_fault self.old (Acknowledged to slot) ≡ Some fault) }
     {
         if let Some(refusal) = self.ack_fault(to, slot) {
             return Err(refusal);
@@ -180,7 +201,8 @@ impl Node {
     #[tactic(auto, using(std::proofs::lemmas::Bool::Decides::nat_tests), unfolding(cast_model::specs::Replies::first_fault, crate::specs::Turns::kept_causes, crate::specs::Turns::kept_fault))]
     pub fn arrive(&mut self, frame: &Frame) -> Result<Outcome, StepFault>
         requires { frame.now.to ≡ self.old.me }
-        ensures exact { Gives self.old (Arrived frame.now) (arrived_reply self.old.me result) self.new }
+        ensures exact { Gives self.old (Arrived frame.now)
+            (arrived_reply self.old.me result) self.new }
     {
         if !self.live {
             return Err(StepFault::Crashed);
@@ -206,7 +228,9 @@ impl Node {
         number: u64,
     ) -> Result<Outcome, StepFault>
         requires { holds self.old.relay sender number ≡ true }
-        ensures exact { (seq : ℕ) (item : Carried) → Gives self.old (Arrived (carried_frame self.old.me from seq slot sender number item)) (arrived_reply self.old.me result) self.new }
+        ensures exact { (seq : ℕ) (item : Carried) → Gives self.old
+            (Arrived (carried_frame self.old.me from seq slot sender number item))
+            (arrived_reply self.old.me result) self.new }
     {
         if !self.live {
             return Err(StepFault::Crashed);
@@ -220,7 +244,9 @@ impl Node {
     /// Takes a frame that arrives from a peer with its word that it took a slot, as `arrive` does.
     #[tactic(auto, using(std::proofs::lemmas::Bool::Decides::nat_tests), unfolding(cast_model::specs::Replies::first_fault, crate::specs::Turns::kept_causes, crate::specs::Turns::kept_fault))]
     pub fn arrive_took(&mut self, from: NodeId, slot: u64) -> Result<Outcome, StepFault>
-        ensures exact { (seq : ℕ) → Gives self.old (Arrived (took_frame self.old.me from seq slot)) (arrived_reply self.old.me result) self.new }
+        ensures exact { (seq : ℕ) → Gives self.old
+            (Arrived (took_frame self.old.me from seq slot))
+            (arrived_reply self.old.me result) self.new }
     {
         if !self.live {
             return Err(StepFault::Crashed);
@@ -288,7 +314,8 @@ impl Node {
 
     /// How many slots of what it gives a peer are not acknowledged, where that is another node.
     pub fn owed(&self, to: NodeId) -> Option<u64>
-        ensures { result ≡ (if is_peer self.now to then Some (finite.len (link_to self.now to).owed) else None) }
+        ensures { result
+            ≡ (if is_peer self.now to then Some (finite.len (link_to self.now to).owed) else None) }
     {
         if !self.is_peer(to) {
             return None;
@@ -299,7 +326,8 @@ impl Node {
     /// The least slot not below `from` of what it gives a peer that is not acknowledged, where there is one, and that is
     /// another node.
     pub fn least_owed(&self, to: NodeId, from: u64) -> Option<u64>
-        ensures peer { is_peer self.now to ≡ true → IsLeastFrom (link_to self.now to).owed from result }
+        ensures peer { is_peer self.now to ≡ true →
+            IsLeastFrom (link_to self.now to).owed from result }
         ensures none { is_peer self.now to ≡ false → result ≡ None }
     {
         if !self.is_peer(to) {
@@ -375,8 +403,10 @@ impl Node {
         requires from { from < self.old.config.nodes }
         requires sender { is_peer self.old message.now.sender ≡ true }
         requires number { message.now.number < self.old.config.item_limit }
-        ensures outcome { IfOk result (λ outcome. outcome ≡ (carried (with_taken self.old from slot) from message.now).outcome) }
-        ensures ok { OnOk result (self.new ≡ (carried (with_taken self.old from slot) from message.now).kept) }
+        ensures outcome { IfOk result (λ outcome.
+            outcome ≡ (arrived_body self.old from (Carry slot message.now)).outcome) }
+        ensures ok { OnOk result (self.new
+            ≡ (arrived_body self.old from (Carry slot message.now)).kept) }
         ensures err { OnErr result (self.new ≡ self.old) }
     {
         let place = usize::from(from.0);
@@ -411,8 +441,10 @@ impl Node {
         requires sender { is_peer self.old sender ≡ true }
         requires number { number < self.old.config.item_limit }
         requires held { holds self.old.relay sender number ≡ true }
-        ensures outcome { (item : Carried) → IfOk result (λ outcome. outcome ≡ (carried (with_taken self.old from slot) from (record { sender = sender; number = number; item = item })).outcome) }
-        ensures ok { (item : Carried) → OnOk result (self.new ≡ (carried (with_taken self.old from slot) from (record { sender = sender; number = number; item = item })).kept) }
+        ensures outcome { (item : Carried) → IfOk result (λ outcome. outcome
+            ≡ (arrived_body self.old from (carry_slot slot sender number item)).outcome) }
+        ensures ok { (item : Carried) → OnOk result (self.new
+            ≡ (arrived_body self.old from (carry_slot slot sender number item)).kept) }
         ensures err { OnErr result (self.new ≡ self.old) }
     {
         let place = usize::from(from.0);
@@ -425,8 +457,9 @@ impl Node {
     // Takes a peer's word that it took a slot.
     fn take_acknowledged(&mut self, from: NodeId, slot: u64) -> Result<Outcome, AllocError>
         requires { from < self.old.config.nodes }
-        ensures outcome { IfOk result (λ outcome. outcome ≡ (acknowledged self.old from slot (finite.get (link_to self.old from).owed slot)).outcome) }
-        ensures ok { OnOk result (self.new ≡ (acknowledged self.old from slot (finite.get (link_to self.old from).owed slot)).kept) }
+        ensures outcome { IfOk result (λ outcome.
+            outcome ≡ (arrived_body self.old from (Took slot)).outcome) }
+        ensures ok { OnOk result (self.new ≡ (arrived_body self.old from (Took slot)).kept) }
         ensures err { OnErr result (self.new ≡ self.old) }
     {
         let place = usize::from(from.0);
@@ -485,7 +518,8 @@ impl Node {
     // Makes a frame for a peer.
     fn make_frame(&mut self, to: NodeId, body: FrameBody) -> Frame
         requires { self.old.frames < 1048576 }
-        ensures frame { result ≡ record { from = self.old.me; seq = self.old.frames; to = to; body = body } }
+        ensures frame { result
+            ≡ record { from = self.old.me; seq = self.old.frames; to = to; body = body } }
         ensures after { self.new ≡ record self.old { frames = self.old.frames + 1 } }
     {
         let seq = self.count_frame();

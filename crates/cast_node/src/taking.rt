@@ -4,7 +4,7 @@ ghost use Rattle.std.specs.Prelude.{◌≡◌, ◌≢◌, ◌≤◌, ◌<◌, �
 ghost use Rattle.std.specs.FinSet as set;
 ghost use Rattle.cast_relay.specs.Held.{with_pair, holds};
 ghost use Rattle.cast_node.specs.Turns.{given_from};
-ghost use Rattle.cast_node.specs.Delivering.{told_in, outcome_in, waiting_in};
+ghost use Rattle.cast_node.specs.Delivering.{told_in, told_with, outcome_in, outcome_with, waiting_in};
 ghost use Rattle.cast_node.specs.Taking.{with_own, message_of, first_members};
 
 use crate::deliveries::Deliveries;
@@ -47,9 +47,14 @@ pub fn take_up_own(
     requires number { relay.old.own < 4096 }
     requires sender { me < length deliveries.old.hold_back }
     ensures relay { OnOk result (relay.new ≡ with_own relay.old) }
-    ensures links { OnOk result (links.new ≡ given_from 0 (with_own relay.old) me (message_of relay.old item) links.old) }
-    ensures deliveries { OnOk result (deliveries.new ≡ told_in (waiting_in deliveries.old (message_of relay.old item)) me relay.old.own (first_members me me me)) }
-    ensures outcome { IfOk result (λ outcome. outcome ≡ outcome_in (waiting_in deliveries.old (message_of relay.old item)) me relay.old.own (first_members me me me)) }
+    ensures links { OnOk result (links.new
+        ≡ given_from 0 (with_own relay.old) me (message_of relay.old item) links.old) }
+    ensures deliveries { OnOk result (deliveries.new
+        ≡ told_in (waiting_in deliveries.old (message_of relay.old item)) me relay.old.own
+        (first_members me me me)) }
+    ensures outcome { IfOk result (λ outcome. outcome
+        ≡ outcome_in (waiting_in deliveries.old (message_of relay.old item)) me relay.old.own
+        (first_members me me me)) }
     ensures err { OnErr result (relay.new ≡ relay.old) }
     ensures same_links { OnErr result (links.new ≡ links.old) }
     ensures same_deliveries { OnErr result (deliveries.new ≡ deliveries.old) }
@@ -81,10 +86,15 @@ pub fn take_up_carried(
     requires new { holds relay.old fresh.message.sender fresh.message.number ≡ false }
     requires sender { fresh.message.sender < length deliveries.old.hold_back }
     requires number { fresh.message.number < 4096 }
-    ensures relay { OnOk result (relay.new ≡ with_pair relay.old fresh.message.sender fresh.message.number) }
-    ensures links { OnOk result (links.new ≡ given_from 0 (with_pair relay.old fresh.message.sender fresh.message.number) fresh.source fresh.message links.old) }
-    ensures deliveries { OnOk result (deliveries.new ≡ told_in (waiting_in deliveries.old fresh.message) fresh.message.sender fresh.message.number fresh.members) }
-    ensures outcome { IfOk result (λ outcome. outcome ≡ outcome_in (waiting_in deliveries.old fresh.message) fresh.message.sender fresh.message.number fresh.members) }
+    ensures relay { OnOk result (relay.new
+        ≡ with_pair relay.old fresh.message.sender fresh.message.number) }
+    ensures links { OnOk result (links.new
+        ≡ given_from 0 (with_pair relay.old fresh.message.sender fresh.message.number)
+        fresh.source fresh.message links.old) }
+    ensures deliveries { OnOk result (deliveries.new
+        ≡ told_with deliveries.old fresh.message fresh.members) }
+    ensures outcome { IfOk result (λ outcome.
+        outcome ≡ outcome_with deliveries.old fresh.message fresh.members) }
     ensures taken { OnOk result (link.new ≡ set.insert link.old slot) }
     ensures err { OnErr result (relay.new ≡ relay.old) }
     ensures same_links { OnErr result (links.new ≡ links.old) }
@@ -121,9 +131,12 @@ fn take_up(
     requires links { length links.old ≤ 256 }
     requires sender { fresh.message.sender < length deliveries.old.hold_back }
     requires number { fresh.message.number < 4096 }
-    ensures links { OnOk result (links.new ≡ given_from 0 relay.now fresh.source fresh.message links.old) }
-    ensures deliveries { OnOk result (deliveries.new ≡ told_in (waiting_in deliveries.old fresh.message) fresh.message.sender fresh.message.number fresh.members) }
-    ensures outcome { IfOk result (λ outcome. outcome ≡ outcome_in (waiting_in deliveries.old fresh.message) fresh.message.sender fresh.message.number fresh.members) }
+    ensures links { OnOk result (links.new
+        ≡ given_from 0 relay.now fresh.source fresh.message links.old) }
+    ensures deliveries { OnOk result (deliveries.new
+        ≡ told_with deliveries.old fresh.message fresh.members) }
+    ensures outcome { IfOk result (λ outcome.
+        outcome ≡ outcome_with deliveries.old fresh.message fresh.members) }
     ensures same_links { OnErr result (links.new ≡ links.old) }
     ensures same_deliveries { OnErr result (deliveries.new ≡ deliveries.old) }
 {
@@ -153,9 +166,12 @@ fn spread_carried(
     requires links { length links.old ≤ 256 }
     requires sender { fresh.message.sender < length deliveries.old.hold_back }
     requires number { fresh.message.number < 4096 }
-    ensures links { OnOk result (links.new ≡ given_from 0 relay.now fresh.source fresh.message links.old) }
-    ensures deliveries { OnOk result (deliveries.new ≡ told_in (waiting_in deliveries.old fresh.message) fresh.message.sender fresh.message.number fresh.members) }
-    ensures outcome { IfOk result (λ outcome. outcome ≡ outcome_in (waiting_in deliveries.old fresh.message) fresh.message.sender fresh.message.number fresh.members) }
+    ensures links { OnOk result (links.new
+        ≡ given_from 0 relay.now fresh.source fresh.message links.old) }
+    ensures deliveries { OnOk result (deliveries.new
+        ≡ told_with deliveries.old fresh.message fresh.members) }
+    ensures outcome { IfOk result (λ outcome.
+        outcome ≡ outcome_with deliveries.old fresh.message fresh.members) }
     ensures taken { OnOk result (link.new ≡ set.insert link.old slot) }
     ensures same_links { OnErr result (links.new ≡ links.old) }
     ensures same_deliveries { OnErr result (deliveries.new ≡ deliveries.old) }

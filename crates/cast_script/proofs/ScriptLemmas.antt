@@ -1,6 +1,8 @@
 -- A part of a script that is refused.
-use Rattle.std.proofs.Common.{◌≡◌, ℕ, ◌+◌, List, length, Result, Ok, refl}
+use Rattle.std.proofs.Common.{◌≡◌, ℕ, ◌+◌, List, length, Option, Some, None, Result, Ok, Err, refl, sym, ap, ◌∙◌, subst}
 use Rattle.serde_json.specs.Data.{Data}
+use Rattle.cast_message.specs.Limits.{config_causes, first_config_fault}
+use Rattle.cast_message.specs.declared.config.ConfigFault.{ConfigFault}
 use Rattle.cast_message.specs.declared.message.Item.{Item}
 use Rattle.cast_script.specs.declared.script.ScriptEvent.{ScriptEvent}
 use Rattle.cast_script.specs.declared.script.Settings.{Settings}
@@ -9,7 +11,7 @@ use Rattle.cast_script.specs.declared.script.ScriptFault.{ScriptFault}
 use Rattle.cast_script.specs.declared.script.ScriptFault.TheVariants.{NotJson, Shape, Config, Memory}
 use Rattle.cast_script.specs.Faults.{◌>>=◌, elements_from, Refuses}
 use Rattle.cast_script.specs.Element.{event_of, fault_of, job_of}
-use Rattle.cast_script.specs.Script.{checked, script_in}
+use Rattle.cast_script.specs.Script.{unless, checked, script_in}
 
 -- the fault of a part is that of the whole
 part_refused : {A B : Type 0} (fault : ScriptFault) (part : Result A ScriptFault) (next : A → Result B ScriptFault) → Refuses fault part → Refuses fault (part >>= next)
@@ -27,6 +29,19 @@ jobs_refused settings es fs js events faults m n fault first_fault first_job eve
     let faults_read' = rw first_fault at faults_read in
     let refused' = rw first_job at refused in
     rw (events_read, faults_read') (part_refused fault _ _ refused')
+
+-- the check of a configuration has a cause for each refusal
+config_cause : (settings : Settings) (fault : ScriptFault) → checked settings ≡ Err fault → (cause : ConfigFault) × (fault ≡ Config cause)
+config_cause s fault e = by_cause (first_config_fault (config_causes s.nodes s.faults s.choices s.item_limit s.log_limit s.box_size s.mode)) e
+  where
+    by_cause : (o : Option ConfigFault) → unless o s ≡ Err fault → (cause : ConfigFault) × (fault ≡ Config cause)
+    by_cause None e = absurd (cc)
+    by_cause (Some cause) e = (cause, cc)
+
+pub checked_refused : (settings : Settings) (fault : ScriptFault) → checked settings ≡ Err fault → Refuses fault (checked settings)
+checked_refused settings fault e =
+    let cause = config_cause settings fault e in
+    subst (λ f. Refuses f (checked settings)) (sym cause.1) (e ∙ ap Err cause.1)
 
 pub config_refused : (settings : Settings) (es fs js : List Data) (events : List ScriptEvent) (faults : List Fault) (jobs : List (ℕ × List Item)) (m n : ℕ) (fault : ScriptFault)
     → m ≡ 1 + length es → n ≡ 1 + length es + length fs

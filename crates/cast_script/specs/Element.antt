@@ -124,7 +124,9 @@ event_of d = option_and_then event_at (places_of d)
 -- ---- faults
 
 abbrev pub kind_named : List ℕ → Option FrameKind
-kind_named name = if bytes_eq name (codes "carry") then Some Carry else (if bytes_eq name (codes "took") then Some Took else None)
+kind_named name =
+    if bytes_eq name (codes "carry") then Some Carry
+    else (if bytes_eq name (codes "took") then Some Took else None)
 
 abbrev pub kind_of : Data → Option FrameKind
 kind_of d = option_and_then kind_named (as_str d)

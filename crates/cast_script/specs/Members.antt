@@ -13,10 +13,12 @@ use Rattle.cast_script.specs.Element.{◌>>=◌, number_of, places_of}
 
 abbrev pub is_member : List ℕ → Bool
 is_member name =
-    bytes_eq name (codes "nodes") || bytes_eq name (codes "faults") || bytes_eq name (codes "choices")
-    || bytes_eq name (codes "item_limit") || bytes_eq name (codes "log_limit") || bytes_eq name (codes "box_size")
-    || bytes_eq name (codes "first_stamp") || bytes_eq name (codes "turns") || bytes_eq name (codes "mode")
-    || bytes_eq name (codes "events") || bytes_eq name (codes "plan") || bytes_eq name (codes "jobs")
+    bytes_eq name (codes "nodes") || bytes_eq name (codes "faults")
+    || bytes_eq name (codes "choices") || bytes_eq name (codes "item_limit")
+    || bytes_eq name (codes "log_limit") || bytes_eq name (codes "box_size")
+    || bytes_eq name (codes "first_stamp") || bytes_eq name (codes "turns")
+    || bytes_eq name (codes "mode") || bytes_eq name (codes "events")
+    || bytes_eq name (codes "plan") || bytes_eq name (codes "jobs")
 
 abbrev pub all_known : Members → Bool
 all_known no_members = true
@@ -42,7 +44,9 @@ abbrev pub number_else : List ℕ → ℕ → Data → Option ℕ
 number_else name absent d = or_number absent (get name d)
 
 abbrev pub mode_named : List ℕ → Option Mode
-mode_named name = if bytes_eq name (codes "basic") then Some Basic else (if bytes_eq name (codes "uniform") then Some Uniform else None)
+mode_named name =
+    if bytes_eq name (codes "basic") then Some Basic
+    else (if bytes_eq name (codes "uniform") then Some Uniform else None)
 
 abbrev pub or_basic : Option Data → Option Mode
 or_basic None = Some Basic
@@ -69,4 +73,14 @@ settings_of d = do
   first_stamp ← number_else (codes "first_stamp") 0 d
   turns ← number_else (codes "turns") 4000000 d
   mode ← mode_of d
-  Some (record { nodes = nodes; faults = faults; choices = choices; item_limit = item_limit; log_limit = log_limit; box_size = box_size; first_stamp = first_stamp; turns = turns; mode = mode })
+  Some (record {
+    nodes = nodes;
+    faults = faults;
+    choices = choices;
+    item_limit = item_limit;
+    log_limit = log_limit;
+    box_size = box_size;
+    first_stamp = first_stamp;
+    turns = turns;
+    mode = mode;
+  })

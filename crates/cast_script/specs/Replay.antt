@@ -79,13 +79,20 @@ abbrev pub members_text : List (List ℕ × Atom) → List ℕ
 members_text list = flat_map member_text list
 
 abbrev pub script_text : Checked → List Event → List ℕ
-script_text config events = 123 ∷ members_text (members config) ++ (codes "\"events\":[" ++ (events_text events ++ codes "\n]}"))
+script_text config events =
+    123 ∷ members_text (members config)
+    ++ (codes "\"events\":[" ++ (events_text events ++ codes "\n]}"))
 
 -- ---- what the text says
 
 -- the configuration and the events, and what stands for the members that are absent
 abbrev pub replay : Checked → List Event → Said
-replay config events = record { settings = settings_in config 4000000; events = map Core events; plan = []; jobs = [] }
+replay config events = record {
+  settings = settings_in config 4000000;
+  events = map Core events;
+  plan = [];
+  jobs = [];
+}
 
 -- the text is JSON of a value that says so
 pub record SaysReplay (text : List ℕ) (config : Checked) (events : List Event) : Type 0 where
@@ -100,4 +107,5 @@ IsReplay config events (Err fault) = fault ≡ Memory
 
 -- whatever reading the text answers is that, and an answer there may be
 abbrev pub IsReplayIn : List ℕ → Checked → List Event → Type 0
-IsReplayIn text config events = (result : Result Script ScriptFault) → Reads result text → IsReplay config events result
+IsReplayIn text config events =
+    (result : Result Script ScriptFault) → Reads result text → IsReplay config events result

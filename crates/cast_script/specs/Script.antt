@@ -28,10 +28,25 @@ pub record Said : Type 0 where
 
 -- the settings of a configuration, and the turns
 abbrev pub settings_in : Checked → ℕ → Settings
-settings_in config turns = record { nodes = config.nodes; faults = config.faults; choices = config.choices; item_limit = config.item_limit; log_limit = config.log_limit; box_size = config.box_size; first_stamp = config.first_stamp; turns = turns; mode = config.mode }
+settings_in config turns = record {
+  nodes = config.nodes;
+  faults = config.faults;
+  choices = config.choices;
+  item_limit = config.item_limit;
+  log_limit = config.log_limit;
+  box_size = config.box_size;
+  first_stamp = config.first_stamp;
+  turns = turns;
+  mode = config.mode;
+}
 
 abbrev pub said : Script → Said
-said script = record { settings = settings_in script.config script.turns; events = script.events; plan = script.plan.faults; jobs = script.jobs }
+said script = record {
+  settings = settings_in script.config script.turns;
+  events = script.events;
+  plan = script.plan.faults;
+  jobs = script.jobs;
+}
 
 -- no fault, or the fault
 abbrev pub unless : Option ConfigFault → Settings → Result Settings ScriptFault
@@ -40,7 +55,10 @@ unless (Some fault) settings = Err (Config fault)
 
 -- the settings, where they are within the limits of a configuration
 abbrev pub checked : Settings → Result Settings ScriptFault
-checked s = unless (first_config_fault (config_causes s.nodes s.faults s.choices s.item_limit s.log_limit s.box_size s.mode)) s
+checked s =
+    let causes =
+    config_causes s.nodes s.faults s.choices s.item_limit s.log_limit s.box_size s.mode in
+    unless (first_config_fault causes) s
 
 -- a member that is of the wrong kind, or absent where it is needed
 abbrev pub or_whole : {A : Type 0} → Option A → Result A ScriptFault

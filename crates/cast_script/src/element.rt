@@ -1,5 +1,5 @@
 //! Elements of a script's lists: how one is read, and how a list of them is.
-ghost use Rattle.std.specs.Prelude.{◌≡◌, ℕ, ◌+◌, ◌<◌, ◌^◌, length, map, option_map, Option};
+ghost use Rattle.std.specs.Prelude.{◌≡◌, ℕ, ◌+◌, ◌<◌, ◌^◌, length, map, option_map, Option, OnErr};
 ghost use Rattle.serde_json.specs.Data.{Data};
 ghost use Rattle.serde_json.specs.View.{view};
 ghost use Rattle.cast_script.specs.declared.element.Unread.TheVariants.{Memory};
@@ -52,7 +52,8 @@ pub fn read_elements<E: Element + Drop>(
     values: &[Value],
 ) -> Result<List<E>, ScriptFault>
     requires { first + length values.now < 2 ^ 64 }
-    ensures { Answers result (elements_from E.element first (map view values.now)) }
+    ensures elements { Answers result (elements_from E.element first (map view values.now)) }
+    ensures err { OnErr result (0 < length values.now) }
 {
     let mut elements = List::new(alloc);
     for (i, value) in values.iter().enumerate() {

@@ -1,7 +1,7 @@
 //! From the bytes of a text to its script.
-ghost use Rattle.std.specs.Prelude.{◌≡◌, map};
+ghost use Rattle.std.specs.Prelude.{◌≡◌, ◌<◌, ◌+◌, length, map, IsErrOf};
 ghost use Rattle.serde_json.specs.View.{view};
-ghost use Rattle.cast_script.specs.Faults.{AnswersBy};
+ghost use Rattle.cast_script.specs.Faults.{AnswersBy, TellsBy};
 ghost use Rattle.cast_script.specs.Script.{Reads, said, settings_in, checked, script_in, script_of};
 
 use crate::element::read_elements;
@@ -53,7 +53,12 @@ fn script_in(
     fault_values: &[Value],
     job_values: &[Value],
 ) -> Result<Script, ScriptFault>
-    ensures { AnswersBy said result (script_in settings.now (map view event_values.now) (map view fault_values.now) (map view job_values.now)) }
+    ensures script { AnswersBy said result (script_in settings.now
+        (map view event_values.now) (map view fault_values.now) (map view job_values.now)) }
+
+    // Only elements can want memory.
+    ensures memory { IsErrOf result ScriptFault.Memory →
+        0 < length event_values.now + length fault_values.now + length job_values.now }
 {
     let first_fault = 1 + event_values.len() as u64;
     let first_job = first_fault + fault_values.len() as u64;
@@ -71,7 +76,8 @@ fn script_in(
 }
 
 fn check(settings: &Settings) -> Result<Config, ScriptFault>
-    ensures { AnswersBy (λ config. settings_in config settings.now.turns) result (checked settings.now) }
+    ensures { TellsBy (λ config. settings_in config settings.now.turns) result
+        (checked settings.now) }
 {
     match Config::check(
         settings.nodes,

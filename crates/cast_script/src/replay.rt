@@ -3,7 +3,7 @@ ghost use Rattle.std.specs.Prelude.{◌≡◌, ◌++◌, ◌∷◌, [], false, m
 ghost use Rattle.std.specs.List.{join_with_byte};
 ghost use Rattle.cast_message.specs.declared.event.Event.TheVariants.{Order};
 ghost use Rattle.cast_words.specs.Hex.{hex};
-ghost use Rattle.cast_words.specs.Written.{Writes};
+ghost use Rattle.cast_words.specs.Written.{Puts};
 ghost use Rattle.cast_script.specs.Replay.{word_text, event_text, events_text, others_text, members, member_text, members_text, script_text};
 ghost use Rattle.cast_script.specs.Cells.{cell_text, member_in};
 
@@ -34,7 +34,7 @@ pub fn write_script<W: Write>(
     writer: &mut Meter<W>,
 ) -> Result<(), WriteFault>
     requires { writer.old.failed ≡ false }
-    ensures { Writes (W.contents writer.old.inner) (W.contents writer.new.inner) writer.new.failed result (script_text config.now events.now) }
+    ensures { Puts W.contents writer.old writer.new result (script_text config.now events.now) }
 {
     write_bytes(b"{", writer)?;
     write_settings(config, writer)?;
@@ -46,7 +46,7 @@ pub fn write_script<W: Write>(
 // Writes the members of the configuration, each with a comma.
 fn write_settings<W: Write>(config: &Config, writer: &mut Meter<W>) -> Result<(), WriteFault>
     requires { writer.old.failed ≡ false }
-    ensures { Writes (W.contents writer.old.inner) (W.contents writer.new.inner) writer.new.failed result (members_text (members config.now)) }
+    ensures { Puts W.contents writer.old writer.new result (members_text (members config.now)) }
 {
     write_members(
         &[
@@ -90,7 +90,8 @@ fn write_settings<W: Write>(config: &Config, writer: &mut Meter<W>) -> Result<()
 // Writes the members, each with a comma.
 fn write_members<W: Write>(members: &[Member<'_>], writer: &mut Meter<W>) -> Result<(), WriteFault>
     requires { writer.old.failed ≡ false }
-    ensures { Writes (W.contents writer.old.inner) (W.contents writer.new.inner) writer.new.failed result (members_text (map member_in members.now)) }
+    ensures { Puts W.contents writer.old writer.new result
+        (members_text (map member_in members.now)) }
 {
     for member in members {
         write_member(member, writer)?;
@@ -100,7 +101,7 @@ fn write_members<W: Write>(members: &[Member<'_>], writer: &mut Meter<W>) -> Res
 
 fn write_member<W: Write>(member: &Member<'_>, writer: &mut Meter<W>) -> Result<(), WriteFault>
     requires { writer.old.failed ≡ false }
-    ensures { Writes (W.contents writer.old.inner) (W.contents writer.new.inner) writer.new.failed result (member_text (member_in member.now)) }
+    ensures { Puts W.contents writer.old writer.new result (member_text (member_in member.now)) }
 {
     write_word(member.name, writer)?;
     write_bytes(b":", writer)?;
@@ -111,7 +112,7 @@ fn write_member<W: Write>(member: &Member<'_>, writer: &mut Meter<W>) -> Result<
 // Writes the events, each on a line of its own, parted by commas.
 fn write_events<W: Write>(events: &[Event], writer: &mut Meter<W>) -> Result<(), WriteFault>
     requires { writer.old.failed ≡ false }
-    ensures { Writes (W.contents writer.old.inner) (W.contents writer.new.inner) writer.new.failed result (events_text events.now) }
+    ensures { Puts W.contents writer.old writer.new result (events_text events.now) }
 {
     let Some((first, others)) = events.split_first() else {
         return Ok(());
@@ -124,7 +125,7 @@ fn write_events<W: Write>(events: &[Event], writer: &mut Meter<W>) -> Result<(),
 // Writes the events, each with a comma before its line.
 fn write_other_events<W: Write>(events: &[Event], writer: &mut Meter<W>) -> Result<(), WriteFault>
     requires { writer.old.failed ≡ false }
-    ensures { Writes (W.contents writer.old.inner) (W.contents writer.new.inner) writer.new.failed result (others_text events.now) }
+    ensures { Puts W.contents writer.old writer.new result (others_text events.now) }
 {
     for event in events {
         write_bytes(b",\n", writer)?;
@@ -135,7 +136,7 @@ fn write_other_events<W: Write>(events: &[Event], writer: &mut Meter<W>) -> Resu
 
 fn write_event<W: Write>(event: &Event, writer: &mut Meter<W>) -> Result<(), WriteFault>
     requires { writer.old.failed ≡ false }
-    ensures { Writes (W.contents writer.old.inner) (W.contents writer.new.inner) writer.new.failed result (event_text event.now) }
+    ensures { Puts W.contents writer.old writer.new result (event_text event.now) }
 {
     match event {
         Event::Order { node, item } => write_order(*node, item, writer),
@@ -170,7 +171,7 @@ fn write_event<W: Write>(event: &Event, writer: &mut Meter<W>) -> Result<(), Wri
 
 fn write_order<W: Write>(node: NodeId, item: &Item, writer: &mut Meter<W>) -> Result<(), WriteFault>
     requires { writer.old.failed ≡ false }
-    ensures { Writes (W.contents writer.old.inner) (W.contents writer.new.inner) writer.new.failed result (event_text (Order node item.now)) }
+    ensures { Puts W.contents writer.old writer.new result (event_text (Order node item.now)) }
 {
     match item {
         Item::Data(payload) => write_cells(
@@ -207,7 +208,7 @@ fn write_cells<W: Write>(
     writer: &mut Meter<W>,
 ) -> Result<(), WriteFault>
     requires { writer.old.failed ≡ false }
-    ensures { Writes (W.contents writer.old.inner) (W.contents writer.new.inner) writer.new.failed result
+    ensures { Puts W.contents writer.old writer.new result
         (91 ∷ join_with_byte 44 (word_text name.now ∷ map cell_text cells.now) ++ 93 ∷ []) }
 {
     write_bytes(b"[", writer)?;
@@ -221,7 +222,7 @@ fn write_cells<W: Write>(
 
 fn write_cell<W: Write>(cell: &Cell<'_>, writer: &mut Meter<W>) -> Result<(), WriteFault>
     requires { writer.old.failed ≡ false }
-    ensures { Writes (W.contents writer.old.inner) (W.contents writer.new.inner) writer.new.failed result (cell_text cell.now) }
+    ensures { Puts W.contents writer.old writer.new result (cell_text cell.now) }
 {
     match cell {
         Cell::Word(word) => write_word(word, writer),
@@ -232,7 +233,7 @@ fn write_cell<W: Write>(cell: &Cell<'_>, writer: &mut Meter<W>) -> Result<(), Wr
 
 fn write_word<W: Write>(word: &[u8], writer: &mut Meter<W>) -> Result<(), WriteFault>
     requires { writer.old.failed ≡ false }
-    ensures { Writes (W.contents writer.old.inner) (W.contents writer.new.inner) writer.new.failed result (word_text word.now) }
+    ensures { Puts W.contents writer.old writer.new result (word_text word.now) }
 {
     write_bytes(b"\"", writer)?;
     write_bytes(word, writer)?;
@@ -241,7 +242,7 @@ fn write_word<W: Write>(word: &[u8], writer: &mut Meter<W>) -> Result<(), WriteF
 
 fn write_digits<W: Write>(bytes: &[u8], writer: &mut Meter<W>) -> Result<(), WriteFault>
     requires { writer.old.failed ≡ false }
-    ensures { Writes (W.contents writer.old.inner) (W.contents writer.new.inner) writer.new.failed result (word_text (hex bytes.now)) }
+    ensures { Puts W.contents writer.old writer.new result (word_text (hex bytes.now)) }
 {
     write_bytes(b"\"", writer)?;
     write_hex(bytes, writer)?;

@@ -7,6 +7,7 @@ pub mod Owing
 pub mod Planning
 pub mod Rounding
 pub mod Resting
+mod FirstDue
 pub mod Numbering
 mod Marks
 pub mod Far

@@ -126,7 +126,7 @@ module _ (config : Config) (past : History) (world : State) (st : Stands config 
   pub is_bounded : IsBounded world
   is_bounded = record {
     few = λ p q l m e. few_given p q (subst (λ n. p < n) st.size l) (subst (λ n. q < n) st.size m) (λ z. e (sym z));
-    given = λ p q slot l m e h. not_given p q slot (subst (λ n. p < n) st.size l) (subst (λ n. q < n) st.size m) (λ z. e (sym z)) h;
+    given = λ p q l m e slot h. not_given p q slot (subst (λ n. p < n) st.size l) (subst (λ n. q < n) st.size m) (λ z. e (sym z)) h;
   }
 
   owed_are : (p q : ℕ) → p < config.nodes → q < config.nodes → q ≢ p → owed_slots (link_to (node_at world p) q) ≡ owed past p q

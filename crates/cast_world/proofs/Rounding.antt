@@ -1,12 +1,12 @@
 -- A round comes together slot by slot: its events are those of the plan.
-use Rattle.std.proofs.Common.{◌≡◌, ℕ, suc, ◌+◌, ◌*◌, ◌<◌, refl, sym, ◌∙◌, ap, subst, List, [], ◌∷◌, ◌++◌, length, take, drop, drop-cons, get_or, Some, None, Ok, Err, inl, inr, ◌⊎◌, arith, append_assoc, append-nil}
+use Rattle.std.proofs.Common.{◌≡◌, ℕ, suc, ◌+◌, ◌*◌, ◌<◌, refl, sym, ◌∙◌, ap, subst, List, [], ◌∷◌, ◌++◌, length, take, drop, drop-cons, get_or, Some, None, Result, Ok, Err, IfOk, inl, inr, ◌⊎◌, arith, append_assoc, append-nil}
 use Rattle.std.proofs.lemmas.List.{take_more}
 use Rattle.cast_message.specs.declared.config.Config.{Config}
 use Rattle.cast_message.specs.declared.event.Event.{Event}
 use Rattle.cast_message.specs.declared.event.Event.TheVariants.{Send, Ack, Arrive}
 use Rattle.cast_message.specs.declared.event.Answer.{Answer}
 use Rattle.cast_message.specs.declared.event.StepFault.{StepFault}
-use Rattle.cast_message.specs.declared.event.StepFault.TheVariants.{FramesFull, Memory}
+use Rattle.cast_message.specs.declared.event.StepFault.TheVariants.{FramesFull}
 use Rattle.cast_model.specs.History.{History}
 use Rattle.cast_model.specs.Replies.{IsAccepted, IsRefused, fault, history_from}
 use Rattle.cast_model.specs.Rounds.{Due, AreAccepted, due, events_for, plan_from, plan, after_round}
@@ -15,7 +15,7 @@ use Rattle.cast_model.proofs.RoundFaults.{Going, Going-next, Going-start, plan_f
 use Rattle.cast_model.proofs.TwoRounds.{round_frames, holds_all, holds_no_more}
 use Rattle.cast_world.specs.Group.{State, Stands, Continues}
 use Rattle.cast_world.specs.Plans.{events_from}
-use Rattle.cast_world.specs.Rounds.{Stops, TakesAll, StopsFor, StopsRound, EndsRound, Spreads}
+use Rattle.cast_world.specs.Rounds.{Stops, TakesAll, StopsFor, StopsRound, EndsRound, TakesRound, Spreads}
 use Rattle.cast_world.proofs.Stepping.{made_count}
 
 -- the rest of a list begins with the element whose turn it is
@@ -142,13 +142,8 @@ module _ (config : Config) (past : History) where
           }
         where
           stops_for : (h : History) (event : Event) (later : List Event) (refusal : StepFault) → (fault config h event ≡ None) ⊎ (fault config h event ≡ Some FramesFull) → IsRefused (fault config h event) refusal → StopsFor config h (event ∷ later) refusal
-          stops_for h event later refusal (inl none) refused = subst (StopsFor config h (event ∷ later)) (sym (subst (λ o. IsRefused o refusal) none refused)) tt
+          stops_for h event later refusal (inl none) refused = subst (StopsFor config h (event ∷ later)) (sym (subst (λ o. IsRefused o refusal) none refused)) none
           stops_for h event later refusal (inr full) refused = subst (StopsFor config h (event ∷ later)) (sym (subst (λ o. IsRefused o refusal) full refused)) full
-
-  -- the list of what is due could not be made
-  pub not_begun : (world : State) → Stands config past world → StopsRound config past Memory world
-  unfolding AreAccepted history_from
-  not_begun world st = record { front = []; rest = plan config past; split = refl; accepted = tt; cause = tt; stands = st }
 
   -- no slot is left
   pub round_ends : (ds before left : List Due) (world : State) (made : ℕ) → ds ≡ due config past → made ≡ 2 * length ds → left ≡ [] → IsUnderWay before left world → EndsRound config past made world
@@ -165,3 +160,8 @@ module _ (config : Config) (past : History) where
   -- what such a round brings
   pub round_spreads : (accepted : IsAccepted config past) → AreAccepted config past (plan config past) → Spreads config past
   round_spreads accepted all = record { all = holds_all config past accepted all; no_more = holds_no_more config past accepted all }
+
+  -- what a round brings that was taken whole
+  pub where_taken : (C : Type 0) (result : Result ℕ StepFault) (world : State) → TakesRound config past result world → (AreAccepted config past (plan config past) → C) → IfOk result (λ _. C)
+  where_taken C (Ok made) world ends brings = brings ends.accepted
+  where_taken C (Err refusal) world stops brings = tt

@@ -8,5 +8,7 @@ use Rattle.cast_world.specs.Group.{State}
 
 abbrev pub state_code : Coded Config → Coded Kept → Coded Mark → Coded State
 state_code config kept mark =
-    code_by (Config × (List Kept × List (List Mark))) (coded× config (coded× (coded_list kept) (coded_list (coded_list mark))))
-    (λ w. (w.config, (w.nodes, w.marks))) (λ p. record { config = p.0; nodes = p.1.0; marks = p.1.1 }) (λ _. refl)
+    code_by (Config × (List Kept × List (List Mark)))
+    (coded× config (coded× (coded_list kept) (coded_list (coded_list mark))))
+    (λ w. (w.config, (w.nodes, w.marks)))
+    (λ p. record { config = p.0; nodes = p.1.0; marks = p.1.1 }) (λ _. refl)

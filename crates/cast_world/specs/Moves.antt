@@ -25,10 +25,12 @@ marks_after all p [] = all
 marks_after all p (mark ∷ more) = slice_set all p (slice_index_or all p [] ++ mark ∷ more)
 
 abbrev pub moved : State → ℕ → Kept → List Mark → State
-moved world p kept made = record world { nodes = slice_set world.nodes p kept; marks = marks_after world.marks p made }
+moved world p kept made =
+    record world { nodes = slice_set world.nodes p kept; marks = marks_after world.marks p made }
 
 -- node p took the step
-pub record Takes (world new : State) (p : ℕ) (step : Step) (made : List Mark) (answer : Answer) : Type 0 where
+pub record Takes (world new : State) (p : ℕ) (step : Step) (made : List Mark) (answer : Answer)
+    : Type 0 where
   pub within : p < length world.nodes
   pub gives : Gives (node_at world p) step (Ok answer) (node_at new p)
   pub moves : new ≡ moved world p (node_at new p) made
@@ -36,7 +38,8 @@ pub record Takes (world new : State) (p : ℕ) (step : Step) (made : List Mark) 
 -- node p refused it, or there is no such node
 abbrev pub Refuses : State → ℕ → Step → StepFault → Type 0
 Refuses world p step refusal =
-    ((p < length world.nodes) × IsRefused (kept_fault (node_at world p) step) refusal) ⊎ ((length world.nodes ≤ p) × (refusal ≡ NoNode))
+    ((p < length world.nodes) × IsRefused (kept_fault (node_at world p) step) refusal)
+    ⊎ ((length world.nodes ≤ p) × (refusal ≡ NoNode))
 
 abbrev pub TakesStep : State → ℕ → Step → List Mark → Result Answer StepFault → State → Type 0
 TakesStep world p step made (Ok answer) new = Takes world new p step made answer
@@ -46,16 +49,29 @@ TakesStep world p step made (Err refusal) new = (new ≡ world) × Refuses world
 abbrev pub missing : ℕ → ℕ → StepFault
 missing nodes from = if nat_lt from nodes then NoFrame else NoNode
 
+-- the mark in this place of the maker's, or why there is none
+abbrev pub FindsMark : List (List Mark) → ℕ → ℕ → Result Mark StepFault → Type 0
+FindsMark all from seq (Ok mark) = slice_get (row_at all from) seq ≡ Some mark
+FindsMark all from seq (Err refusal) =
+    (slice_get (row_at all from) seq ≡ None) × (refusal ≡ missing (length all) from)
+
 abbrev pub ArrivesBy : State → ℕ → ℕ → Option Mark → Result Answer StepFault → State → Type 0
-ArrivesBy world from seq (Some mark) reply new = TakesStep world mark.to (Arrived (frame_by world from seq mark)) [] reply new
+ArrivesBy world from seq (Some mark) reply new =
+    TakesStep world mark.to (Arrived (frame_by world from seq mark)) [] reply new
 ArrivesBy world from seq None (Ok answer) new = ⊥
-ArrivesBy world from seq None (Err refusal) new = (new ≡ world) × (refusal ≡ missing (length world.nodes) from)
+ArrivesBy world from seq None (Err refusal) new =
+    (new ≡ world) × (refusal ≡ missing (length world.nodes) from)
 
 abbrev pub StepsTo : State → Event → Result Answer StepFault → State → Type 0
 StepsTo world (Order node item) reply new = TakesStep world node (Ordered item) [] reply new
-StepsTo world (Send from to slot) reply new = TakesStep world from (Sent to slot) (mark_of (carry_of (node_at world from) to slot) ∷ []) reply new
-StepsTo world (Ack from to slot) reply new = TakesStep world from (Acknowledged to slot) (mark_of (took_of (node_at world from) to slot) ∷ []) reply new
-StepsTo world (Arrive from seq) reply new = ArrivesBy world from seq (slice_get (marks_at world from) seq) reply new
+StepsTo world (Send from to slot) reply new =
+    let mark = mark_of (carry_of (node_at world from) to slot) in
+    TakesStep world from (Sent to slot) (mark ∷ []) reply new
+StepsTo world (Ack from to slot) reply new =
+    let mark = mark_of (took_of (node_at world from) to slot) in
+    TakesStep world from (Acknowledged to slot) (mark ∷ []) reply new
+StepsTo world (Arrive from seq) reply new =
+    ArrivesBy world from seq (slice_get (marks_at world from) seq) reply new
 StepsTo world (Crash node) reply new = TakesStep world node Stopped [] reply new
 
 pub record IsSound (world : State) : Type 0 where
@@ -63,4 +79,5 @@ pub record IsSound (world : State) : Type 0 where
   pub rows : length world.marks ≡ world.config.nodes
   pub places : (p : ℕ) → p < world.config.nodes → (node_at world p).me ≡ p
   pub configs : (p : ℕ) → p < world.config.nodes → (node_at world p).config ≡ world.config
-  pub targets : (p seq : ℕ) (mark : Mark) → slice_get (marks_at world p) seq ≡ Some mark → mark.to < world.config.nodes
+  pub targets : (p seq : ℕ) (mark : Mark) → slice_get (marks_at world p) seq ≡ Some mark →
+      mark.to < world.config.nodes

@@ -27,13 +27,20 @@ owed_below n link = filter (finite.contains_key link.owed) (range_with_len 0 n)
 abbrev pub owed_slots : Link → List ℕ
 owed_slots link = owed_below link.given link
 
+-- no slot from n on is owed
+abbrev pub OwesNoneFrom : ℕ → Link → Type 0
+OwesNoneFrom n link = (slot : ℕ) → n ≤ slot → finite.contains_key link.owed slot ≡ false
+
 -- slots are few, and nothing is owed in one that wasn't given
 pub record IsBounded (world : State) : Type 0 where
-  pub few : (p q : ℕ) → p < length world.nodes → q < length world.nodes → p ≢ q → (link_to (node_at world p) q).given < 2 ^ 64
-  pub given : (p q slot : ℕ) → p < length world.nodes → q < length world.nodes → p ≢ q → (link_to (node_at world p) q).given ≤ slot → finite.contains_key (link_to (node_at world p) q).owed slot ≡ false
+  pub few : (p q : ℕ) → p < length world.nodes → q < length world.nodes → p ≢ q →
+      (link_to (node_at world p) q).given < 2 ^ 64
+  pub given : (p q : ℕ) → p < length world.nodes → q < length world.nodes → p ≢ q →
+      OwesNoneFrom (link_to (node_at world p) q).given (link_to (node_at world p) q)
 
 abbrev pub due_between_at : State → ℕ → ℕ → List Due
-due_between_at world p q = if p == q then [] else map (due_of p q) (owed_slots (link_to (node_at world p) q))
+due_between_at world p q =
+    if p == q then [] else map (due_of p q) (owed_slots (link_to (node_at world p) q))
 
 abbrev pub due_at : State → List Due
 due_at world = flat_map (λ p. flat_map (due_between_at world p) (live_at world)) (live_at world)

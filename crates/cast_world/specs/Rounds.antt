@@ -3,9 +3,10 @@
 --     TakesRound config past result world        the same of the plan of a round
 --     Spreads config past                        after the round each live node holds what some live node held before it
 --     IsSettled past p q                         p and q are not both live, or p owes q nothing
+--     IsFirstGiver config past p                 the least live node that owes a live node a slot
 --     AgreesAtRest config past                   the live nodes have delivered the same, and decided the same instances
 --     HaveWhatAnyDelivered config past           the live nodes have delivered what any node delivered
-use Rattle.std.specs.Prelude.{◌≡◌, ◌≢◌, ℕ, IsTrue, ◌-◌, ◌+◌, ◌≤◌, true, List, [], ◌∷◌, ◌++◌, is_some, Some, slice_index_or, length, Result, Ok, Err}
+use Rattle.std.specs.Prelude.{◌≡◌, ◌≢◌, ℕ, IsTrue, ◌-◌, ◌+◌, ◌≤◌, ◌<◌, true, List, [], ◌∷◌, ◌++◌, is_some, Option, Some, None, slice_index_or, length, Result, Ok, Err}
 use Rattle.std.specs.List.{count_by}
 use Rattle.cast_message.specs.declared.config.Config.{Config}
 use Rattle.cast_message.specs.declared.event.Event.{Event}
@@ -15,11 +16,12 @@ use Rattle.cast_message.specs.declared.event.StepFault.TheVariants.{FramesFull, 
 use Rattle.cast_model.specs.History.{History, is_live, broadcast, has_pair, first}
 use Rattle.cast_model.specs.Delivery.{delivered, decision}
 use Rattle.cast_model.specs.Replies.{IsRefused, IsPrefixOf, fault, history_from}
-use Rattle.cast_model.specs.Rounds.{owed, Due, Live, AreAccepted, makes_frame, plan, after_round, proposers}
+use Rattle.cast_model.specs.Rounds.{owed, Rest, Due, Live, AreAccepted, makes_frame, plan, after_round, proposers}
 use Rattle.cast_world.specs.Group.{State, Stands, marks_at}
 
 -- these were taken, and the next one was refused
-pub record Stops (config : Config) (past : History) (events : List Event) (refusal : StepFault) (world : State) : Type 0 where
+pub record Stops (config : Config) (past : History) (events : List Event)
+    (refusal : StepFault) (world : State) : Type 0 where
   pub front : List Event
   pub event : Event
   pub rest : List Event
@@ -29,16 +31,19 @@ pub record Stops (config : Config) (past : History) (events : List Event) (refus
   pub stands : Stands config (history_from config past front) world
 
 abbrev pub TakesAll : Config → History → List Event → Result (Unit {0}) StepFault → State → Type 0
-TakesAll config past events (Ok done) world = AreAccepted config past events × Stands config (history_from config past events) world
+TakesAll config past events (Ok done) world =
+    AreAccepted config past events × Stands config (history_from config past events) world
 TakesAll config past events (Err refusal) world = Stops config past events refusal world
 
--- why a round stops after some events, with these left: the frames of the next one's node are full, or memory was wanted
+-- why a round stops after some events, with these left: the frames of the next one's node are full; or it has no fault, and
+-- memory was wanted
 abbrev pub StopsFor : Config → History → List Event → StepFault → Type 0
-StopsFor config now rest Memory = Unit {0}
 StopsFor config now (event ∷ rest) FramesFull = fault config now event ≡ Some FramesFull
+StopsFor config now (event ∷ rest) Memory = fault config now event ≡ None
 StopsFor config now rest refusal = ⊥
 
-pub record StopsRound (config : Config) (past : History) (refusal : StepFault) (world : State) : Type 0 where
+pub record StopsRound (config : Config) (past : History) (refusal : StepFault) (world : State)
+    : Type 0 where
   pub front : List Event
   pub rest : List Event
   pub split : plan config past ≡ front ++ rest
@@ -58,24 +63,43 @@ TakesRound config past (Err refusal) world = StopsRound config past refusal worl
 
 -- after the round a live node holds exactly what some live node held before it
 pub record Spreads (config : Config) (past : History) : Type 0 where
-  pub all : (p q s i : ℕ) → Live config past p → Live config past q → has_pair (first past p) s i ≡ true → has_pair (first (after_round config past) q) s i ≡ true
-  pub no_more : (q s i : ℕ) → Live config past q → has_pair (first (after_round config past) q) s i ≡ true → (p : ℕ) × Live config past p × (has_pair (first past p) s i ≡ true)
+  pub all : (p q s i : ℕ) → Live config past p → Live config past q →
+      has_pair (first past p) s i ≡ true → has_pair (first (after_round config past) q) s i ≡ true
+  pub no_more : (q s i : ℕ) → Live config past q →
+      has_pair (first (after_round config past) q) s i ≡ true →
+      (p : ℕ) × Live config past p × (has_pair (first past p) s i ≡ true)
 
 -- one of the two is not live, or the first owes the other nothing
 abbrev pub IsSettled : History → ℕ → ℕ → Type 0
 IsSettled past p q = IsTrue (is_live past p) → IsTrue (is_live past q) → p ≢ q → owed past p q ≡ []
 
+abbrev pub IsSettledWithAll : Config → History → ℕ → Type 0
+IsSettledWithAll config past p = (q : ℕ) → q < config.nodes → IsSettled past p q
+
+-- the least live node that owes a live node a slot; where there is none, the group is at rest
+abbrev pub IsFirstGiver : Config → History → Option ℕ → Type 0
+IsFirstGiver config past None = Rest config past
+IsFirstGiver config past (Some p) =
+    (p < config.nodes) × ((q : ℕ) → q < p → IsSettledWithAll config past q)
+    × (IsSettledWithAll config past p → ⊥)
+
 -- All live nodes have delivered the same list from each sender, the whole stream of a live one. An instance that one of them
 -- decided, or of which proposals of enough senders stand in what they delivered, is decided by each.
 pub record AgreesAtRest (config : Config) (past : History) : Type 0 where
-  pub same : (p q s : ℕ) → Live config past p → Live config past q → delivered config past p s ≡ delivered config past q s
-  pub whole : (p s : ℕ) → Live config past p → Live config past s → delivered config past p s ≡ broadcast past s
-  pub decided : (p q j : ℕ) → Live config past p → Live config past q → is_some (decision config past p j) ≡ is_some (decision config past q j)
-  pub proposed : (p q j : ℕ) → Live config past p → Live config past q → config.nodes - config.faults ≤ proposers config past p j → is_some (decision config past q j) ≡ true
+  pub same : (p q s : ℕ) → Live config past p → Live config past q →
+      delivered config past p s ≡ delivered config past q s
+  pub whole : (p s : ℕ) → Live config past p → Live config past s →
+      delivered config past p s ≡ broadcast past s
+  pub decided : (p q j : ℕ) → Live config past p → Live config past q →
+      is_some (decision config past p j) ≡ is_some (decision config past q j)
+  pub proposed : (p q j : ℕ) → Live config past p → Live config past q →
+      config.nodes - config.faults ≤ proposers config past p j →
+      is_some (decision config past q j) ≡ true
 
 -- what any node delivered, a crashed one too, each live node has
 abbrev pub HaveWhatAnyDelivered : Config → History → Type 0
-HaveWhatAnyDelivered config past = (p q s : ℕ) → Live config past p → IsPrefixOf (delivered config past q s) (delivered config past p s)
+HaveWhatAnyDelivered config past = (p q s : ℕ) → Live config past p →
+    IsPrefixOf (delivered config past q s) (delivered config past p s)
 
 -- the events for one slot, where the nodes made so many frames besides those of the world
 abbrev pub events_after : State → List ℕ → Due → List Event

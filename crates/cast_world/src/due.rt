@@ -7,8 +7,8 @@ ghost use Rattle.cast_node.specs.Calls.{is_peer};
 ghost use Rattle.cast_message.specs.declared.config.Config.{Config as Settings};
 ghost use Rattle.cast_model.specs.History.{History};
 ghost use Rattle.cast_model.specs.Rounds.{due};
-ghost use Rattle.cast_world.specs.Group.{Stands, node_at};
-ghost use Rattle.cast_world.specs.Plans.{live_at, due_of, due_between_at, due_at, owed_below, events_from, IsBounded};
+ghost use Rattle.cast_world.specs.Group.{StandingFor, node_at};
+ghost use Rattle.cast_world.specs.Plans.{live_at, due_of, due_between_at, due_at, owed_below, OwesNoneFrom, events_from, IsBounded};
 
 use crate::world::World;
 use cast_message::{Event, NodeId};
@@ -38,7 +38,7 @@ impl World {
     /// The slots that live nodes owe live nodes, by the giver, then the taker, ascending: what a round settles. Or want of
     /// memory.
     pub fn due(&self) -> Result<Vec<DueSlot>, AllocError>
-        ensures { (config : Settings) (past : History) → Stands config past self.now → IfOk result (λ found. found.items ≡ due config past) }
+        ensures { StandingFor self.now (λ config past. IfOk result (λ found. found.items ≡ due config past)) }
     {
         find_due(self.allocator(), self)
     }
@@ -83,7 +83,8 @@ fn find_due(alloc: Global, world: &World) -> Result<Vec<DueSlot>, AllocError>
 
 fn add_due_from(world: &World, giver: NodeId, due: &mut Vec<DueSlot>) -> Result<(), AllocError>
     requires { giver < length world.now.nodes }
-    ensures { IsBounded world.now → OnOk result (due.new.items ≡ due.old.items ++ flat_map (due_between_at world.now giver) (live_at world.now)) }
+    ensures { IsBounded world.now → OnOk result (due.new.items
+        ≡ due.old.items ++ flat_map (due_between_at world.now giver) (live_at world.now)) }
 {
     if world.node_of(giver).owes_nothing() {
         return Ok(());
@@ -104,7 +105,8 @@ fn add_due_between(
 ) -> Result<(), AllocError>
     requires giver { giver < length world.now.nodes }
     requires taker { taker < length world.now.nodes }
-    ensures { IsBounded world.now → OnOk result (due.new.items ≡ due.old.items ++ due_between_at world.now giver taker) }
+    ensures { IsBounded world.now → OnOk result (due.new.items
+        ≡ due.old.items ++ due_between_at world.now giver taker) }
 {
     if giver == taker {
         return Ok(());
@@ -120,7 +122,9 @@ fn add_owed(
     due: &mut Vec<DueSlot>,
 ) -> Result<(), AllocError>
     requires { is_peer node.now taker ≡ true }
-    ensures { (bound : ℕ) → bound < 2 ^ 64 → ((slot : ℕ) → bound ≤ slot → finite.contains_key (link_to node.now taker).owed slot ≡ false) → OnOk result (due.new.items ≡ due.old.items ++ map (due_of giver taker) (owed_below bound (link_to node.now taker))) }
+    ensures { (bound : ℕ) → bound < 2 ^ 64 → OwesNoneFrom bound (link_to node.now taker) →
+        OnOk result (due.new.items
+        ≡ due.old.items ++ map (due_of giver taker) (owed_below bound (link_to node.now taker))) }
 {
     let mut from = 0;
     while let Some(slot) = node.least_owed(taker, from) {

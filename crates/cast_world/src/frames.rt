@@ -1,15 +1,14 @@
 //! Frames on their way: a node makes one, whose mark goes to the end of those that it made, and one arrives. The room for a mark
 //! is there before its node takes the step, so that a refusal changes neither.
-ghost use Rattle.std.specs.Prelude.{◌≡◌, ℕ, ◌==◌, true, false, List, ◌++◌, ◌∷◌, [], Some, None, IfOk, OnOk, OnErr, MatchResult, length, map, slice_get, slice_index_or};
-ghost use Rattle.cast_message.specs.declared.message.Item.TheVariants.{Close};
+ghost use Rattle.std.specs.Prelude.{◌≡◌, ℕ, ◌==◌, true, false, List, ◌++◌, ◌∷◌, [], IfOk, OnOk, OnErr, map};
 ghost use Rattle.cast_message.specs.declared.config.Config.{Config as Settings};
 ghost use Rattle.cast_model.specs.Steps.{Sent, Acknowledged, Arrived};
 ghost use Rattle.cast_model.specs.Replies.{IsRefused};
 ghost use Rattle.cast_node.specs.Kept.{Kept};
 ghost use Rattle.cast_relay.specs.Held.{holds};
 ghost use Rattle.cast_node.specs.Turns.{Gives, kept_fault, carry_of, took_of};
-ghost use Rattle.cast_world.specs.Group.{mark_of, node_in, body_in, frame_in};
-ghost use Rattle.cast_world.specs.Moves.{row_at, missing};
+ghost use Rattle.cast_world.specs.Group.{mark_of, item_in, body_in, frame_in};
+ghost use Rattle.cast_world.specs.Moves.{FindsMark};
 
 use cast_message::{Answer, Frame, FrameBody, Item, Message, NodeId, Reply, StepFault};
 use cast_node::Node;
@@ -35,7 +34,8 @@ pub struct Mark {
 /// The frame that carries a slot. It is answered by its number.
 pub fn send(node: &mut Node, made: &mut Vec<Mark>, to: NodeId, slot: u64) -> Reply
     ensures gives { Gives node.old (Sent to slot) result node.new }
-    ensures made { OnOk result (made.new.items ≡ made.old.items ++ mark_of (carry_of node.old to slot) ∷ []) }
+    ensures made { OnOk result (made.new.items
+        ≡ made.old.items ++ mark_of (carry_of node.old to slot) ∷ []) }
     ensures same { OnErr result (made.new.items ≡ made.old.items) }
 {
     if slot > LAST_SLOT || made.reserve(1).is_err() {
@@ -54,7 +54,8 @@ pub fn send(node: &mut Node, made: &mut Vec<Mark>, to: NodeId, slot: u64) -> Rep
 /// The frame that acknowledges a slot. It is answered by its number.
 pub fn acknowledge(node: &mut Node, made: &mut Vec<Mark>, to: NodeId, slot: u64) -> Reply
     ensures gives { Gives node.old (Acknowledged to slot) result node.new }
-    ensures made { OnOk result (made.new.items ≡ made.old.items ++ mark_of (took_of node.old to slot) ∷ []) }
+    ensures made { OnOk result (made.new.items
+        ≡ made.old.items ++ mark_of (took_of node.old to slot) ∷ []) }
     ensures same { OnErr result (made.new.items ≡ made.old.items) }
 {
     if slot > LAST_SLOT || made.reserve(1).is_err() {
@@ -72,8 +73,7 @@ pub fn acknowledge(node: &mut Node, made: &mut Vec<Mark>, to: NodeId, slot: u64)
 
 /// The mark of the frame of this number that a node made, or why there is none.
 pub fn find(marks: &Vec<Vec<Mark>>, from: NodeId, seq: u64) -> Result<Mark, StepFault>
-    ensures { MatchResult result (λ mark. slice_get (row_at (map (λ row. row.items) marks.now.items) from) seq ≡ Some mark)
-        (λ fault. (slice_get (row_at (map (λ row. row.items) marks.now.items) from) seq ≡ None) × (fault ≡ missing (length marks.now.items) from)) }
+    ensures { FindsMark (map (λ row. row.items) marks.now.items) from seq result }
 {
     let Some(row) = marks.get(usize::from(from.0)) else {
         return Err(StepFault::NoNode);
@@ -86,7 +86,8 @@ pub fn find(marks: &Vec<Vec<Mark>>, from: NodeId, seq: u64) -> Result<Mark, Step
 
 /// The frame of a mark, from its maker and its number.
 pub fn rebuild(nodes: &Vec<Node>, from: NodeId, seq: u64, mark: Mark) -> Result<Frame, AllocError>
-    ensures frame { (config : Settings) → IfOk result (λ frame. frame ≡ frame_in config nodes.now.items from seq mark) }
+    ensures frame { (config : Settings) →
+        IfOk result (λ frame. frame ≡ frame_in config nodes.now.items from seq mark) }
 {
     let to = mark.to;
     let body = body_of(nodes, mark)?;
@@ -100,7 +101,8 @@ pub fn rebuild(nodes: &Vec<Node>, from: NodeId, seq: u64, mark: Mark) -> Result<
 
 // What a marked frame says, with the item from the stream of its message's sender.
 fn body_of(nodes: &Vec<Node>, mark: Mark) -> Result<FrameBody, AllocError>
-    ensures { (config : Settings) → IfOk result (λ body. body ≡ body_in config nodes.now.items mark) }
+    ensures { (config : Settings) →
+        IfOk result (λ body. body ≡ body_in config nodes.now.items mark) }
 {
     let slot = u64::from(mark.slot);
     if mark.sender.0 == NOBODY {
@@ -120,7 +122,8 @@ fn body_of(nodes: &Vec<Node>, mark: Mark) -> Result<FrameBody, AllocError>
 
 // The item of a number in a node's stream.
 fn item_of(nodes: &Vec<Node>, sender: NodeId, number: u64) -> Result<Item, AllocError>
-    ensures { (config : Settings) → IfOk result (λ item. item ≡ slice_index_or (node_in config nodes.now.items sender).stream number Close) }
+    ensures { (config : Settings) →
+        IfOk result (λ item. item ≡ item_in config nodes.now.items sender number) }
 {
     let Some(node) = nodes.get(usize::from(sender.0)) else {
         return Ok(Item::Close);
@@ -142,7 +145,8 @@ pub fn is_word(mark: &Mark) -> bool
 pub fn arrive_word(node: &mut Node, from: NodeId, mark: &Mark) -> Reply
     requires word { (mark.now.sender == 255) ≡ true }
     requires target { mark.now.to ≡ node.old.me }
-    ensures { (config : Settings) (nodes : List Kept) (seq : ℕ) → Gives node.old (Arrived (frame_in config nodes from seq mark.now)) result node.new }
+    ensures { (config : Settings) (nodes : List Kept) (seq : ℕ) →
+        Gives node.old (Arrived (frame_in config nodes from seq mark.now)) result node.new }
 {
     let outcome = node.arrive_took(from, u64::from(mark.slot))?;
     Ok(Answer::Arrived {
@@ -163,7 +167,8 @@ pub fn arrive_again(node: &mut Node, from: NodeId, mark: &Mark) -> Reply
     requires carries { (mark.now.sender == 255) ≡ false }
     requires held { holds node.old.relay mark.now.sender mark.now.number ≡ true }
     requires target { mark.now.to ≡ node.old.me }
-    ensures { (config : Settings) (nodes : List Kept) (seq : ℕ) → Gives node.old (Arrived (frame_in config nodes from seq mark.now)) result node.new }
+    ensures { (config : Settings) (nodes : List Kept) (seq : ℕ) →
+        Gives node.old (Arrived (frame_in config nodes from seq mark.now)) result node.new }
 {
     let outcome = node.arrive_again(
         from,

@@ -6,7 +6,7 @@ ghost use Rattle.cast_message.specs.declared.config.Mode.TheVariants.{Uniform};
 ghost use Rattle.cast_model.specs.History.{History};
 ghost use Rattle.cast_model.specs.Replies.{IsAccepted};
 ghost use Rattle.cast_model.specs.Rounds.{Rest, HoldTheSame, FewCrashedIn, AreAccepted, plan, after_round};
-ghost use Rattle.cast_world.specs.Group.{Stands};
+ghost use Rattle.cast_world.specs.Group.{Stands, StandingFor};
 ghost use Rattle.cast_world.specs.Rounds.{TakesAll, TakesRound, Spreads, AgreesAtRest, HaveWhatAnyDelivered, events_after};
 
 use crate::due::DueSlot;
@@ -17,12 +17,15 @@ use std::alloc::AllocError;
 // How many numbers a `NodeId` can have.
 const NODE_IDS: usize = 256;
 
+// How many frames a node can make.
+const FRAME_LIMIT: u64 = 1_048_576;
+
 impl World {
     /// The events of one round from here: for each slot that a live node owes another, by the giver, then the taker,
     /// ascending, the slot sent, the frame's arrival, the acknowledgement, and the arrival of that; or want of memory. The
     /// frames are numbered on as if no node's could be full.
     pub fn round_plan(&self) -> Result<List<Event>, AllocError>
-        ensures { (config : Settings) (past : History) → Stands config past self.now → IfOk result (λ events. events ≡ plan config past) }
+        ensures { StandingFor self.now (λ config past. IfOk result (λ events. events ≡ plan config past)) }
     {
         let alloc = self.allocator();
         let due = self.due()?;
@@ -37,20 +40,26 @@ impl World {
     }
 
     /// Takes the events of one round from here, slot by slot of those that are due now, and answers how many frames they
-    /// made. Refused as `FramesFull` is a round in which the next event has that fault, and as `Memory` one that wanted
-    /// memory; there is no other refusal, and the events before it stand.
+    /// made. Refused as `FramesFull` is a round in which the next event has that fault, and as `Memory` one in which it has
+    /// none and memory was wanted; there is no other refusal, and the events before it stand. Where nothing is due a round
+    /// is never refused.
     ///
     /// After a round each live node holds exactly what some live node held before it. Where all of them held the same, the
     /// group is at rest, so that two rounds bring rest.
     pub fn round(&mut self) -> Result<u64, StepFault>
-        ensures takes { (config : Settings) (past : History) → Stands config past self.old → TakesRound config past result self.new }
-        ensures spreads { (config : Settings) (past : History) → Stands config past self.old → IfOk result (λ _. Spreads config past) }
-        ensures rests { (config : Settings) (past : History) → Stands config past self.old → HoldTheSame config past → IfOk result (λ _. Rest config (after_round config past)) }
+        ensures takes { StandingFor self.old (λ config past. TakesRound config past result self.new) }
+        ensures spreads { StandingFor self.old (λ config past. IfOk result (λ _. Spreads config past)) }
+        ensures rests { StandingFor self.old (λ config past.
+            HoldTheSame config past → IfOk result (λ _. Rest config (after_round config past))) }
 
         // The second of two rounds brings rest.
-        ensures second { (config : Settings) (past : History) → IsAccepted config past → AreAccepted config past (plan config past) → Stands config (after_round config past) self.old → IfOk result (λ _. Rest config (after_round config (after_round config past))) }
+        ensures second { (config : Settings) (past : History) → IsAccepted config past →
+            AreAccepted config past (plan config past) → Stands config (after_round config past) self.old →
+            IfOk result (λ _. Rest config (after_round config (after_round config past))) }
     {
-        let due = self.due()?;
+        let Ok(due) = self.due() else {
+            return self.unlisted();
+        };
         for slot in due.as_slice() {
             let events = self.events_for(*slot);
             self.take_all(&events)?;
@@ -58,9 +67,21 @@ impl World {
         Ok(2 * due.len() as u64)
     }
 
+    // What becomes of a round whose slots find no room: the first event may have a cause of refusal all the same.
+    fn unlisted(&self) -> Result<u64, StepFault>
+        ensures { StandingFor self.now (λ config past. TakesRound config past result self.now) }
+    {
+        match self.first_giver() {
+            Some(giver) if self.frame_count(giver) >= FRAME_LIMIT => Err(StepFault::FramesFull),
+            Some(_) => Err(StepFault::Memory),
+            None => Ok(0),
+        }
+    }
+
     // Takes these events up to the first that is refused.
     fn take_all(&mut self, events: &[Event]) -> Result<(), StepFault>
-        ensures { (config : Settings) (past : History) → Stands config past self.old → TakesAll config past events.now result self.new }
+        ensures { StandingFor self.old (λ config past.
+            TakesAll config past events.now result self.new) }
     {
         for event in events {
             self.step(event)?;
@@ -78,7 +99,8 @@ impl World {
         requires size { length made.now ≡ 256 }
         requires from { slice_index_or made.now due.from 0 < 2 ^ 63 }
         requires to { slice_index_or made.now due.to 0 < 2 ^ 63 }
-        ensures { OnOk result (events.new.items ≡ events.old.items ++ events_after self.now made.now due) }
+        ensures { OnOk result (events.new.items
+            ≡ events.old.items ++ events_after self.now made.now due) }
     {
         let DueSlot { from, to, slot } = due;
         let carry = self.frame_count(from) + made[usize::from(from.0)];
@@ -104,7 +126,8 @@ fn count_frames(due: DueSlot, made: &mut [u64])
     requires from { slice_index_or made.old due.from 0 < 2 ^ 63 }
     requires to { slice_index_or made.old due.to 0 < 2 ^ 63 }
     ensures size { length made.new ≡ 256 }
-    ensures counted { (p : ℕ) → p < 256 → slice_index_or made.new p 0 ≡ slice_index_or made.old p 0 + cond (due.from == p || due.to == p) 1 0 }
+    ensures counted { (p : ℕ) → p < 256 → slice_index_or made.new p 0
+        ≡ slice_index_or made.old p 0 + cond (due.from == p || due.to == p) 1 0 }
 {
     let DueSlot { from, to, slot: _ } = due;
     made[usize::from(from.0)] += 1;

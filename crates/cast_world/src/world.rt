@@ -5,7 +5,7 @@ ghost use Rattle.cast_message.specs.declared.config.Config.{Config as Settings};
 ghost use Rattle.cast_model.specs.History.{History, is_live};
 ghost use Rattle.cast_model.specs.Delivery.{decision};
 ghost use Rattle.cast_model.specs.Shown.{ShowsDelivered, ShowsStream, ShowsOwed};
-ghost use Rattle.cast_world.specs.Group.{Stands, Continues, IsFar, IsRefusedForCause, node_at, marks_at};
+ghost use Rattle.cast_world.specs.Group.{Stands, StandingFor, Continues, FindsNode, IsFar, IsRefusedForCause, node_at, marks_at};
 ghost use Rattle.cast_world.specs.Moves.{StepsTo};
 
 use crate::frames::{self, Mark};
@@ -26,7 +26,7 @@ pub struct World {
 
 impl Model for World {
     ghost use Rattle.std.specs.Prelude.{map};
-    ghost use Rattle.cast_world.specs.Group.{State};
+    ghost use Rattle.cast_world.specs.Group.{State, state_of};
     ghost use Rattle.cast_world.specs.Moves.{IsSound};
     ghost use Rattle.cast_world.specs.Code.{state_code};
     ghost use Rattle.cast_message.specs.contracts.config.Config as settings;
@@ -37,9 +37,10 @@ impl Model for World {
 
     ghost coded = { state_code settings.the_row.coded node.the_row.coded mark.the_row.coded };
 
-    ghost view = { λ w. record { config = w.config; nodes = w.nodes.items; marks = map (λ row. row.items) w.marks.items } };
+    ghost view = { λ w. state_of w.config w.nodes.items (map (λ row. row.items) w.marks.items) };
 
-    ghost invariant = { λ w. IsSound (record { config = w.config; nodes = w.nodes.items; marks = map (λ row. row.items) w.marks.items }) };
+    ghost invariant = { λ w.
+        IsSound (state_of w.config w.nodes.items (map (λ row. row.items) w.marks.items)) };
 }
 
 impl World {
@@ -67,11 +68,13 @@ impl World {
 
     /// Takes one event. A refused event changes nothing.
     pub fn step(&mut self, event: &Event) -> Reply
-        ensures stands { (config : Settings) (past : History) → Stands config past self.old → Continues config past event.now result self.new }
+        ensures stands { StandingFor self.old (λ config past.
+            Continues config past event.now result self.new) }
         ensures err { OnErr result (self.new ≡ self.old) }
 
         // No slot is given that a mark has no room for: its event has a cause of refusal, and never wants memory.
-        ensures far { (config : Settings) (past : History) → Stands config past self.old → IsFar event.now → IsRefusedForCause config past event.now result }
+        ensures far { StandingFor self.old (λ config past.
+            IsFar event.now → IsRefusedForCause config past event.now result) }
     {
         match event {
             Event::Order { node, item } => self.order(*node, item),
@@ -151,21 +154,23 @@ impl World {
 
     /// The items that node `node` delivered from `sender`, in order, where both are nodes. It takes no memory.
     pub fn delivered(&self, node: NodeId, sender: NodeId) -> Option<&[Item]>
-        ensures { (config : Settings) (past : History) → Stands config past self.now → ShowsDelivered config past node sender (option_map (λ items. items.now) result) }
+        ensures { StandingFor self.now (λ config past.
+            ShowsDelivered config past node sender (option_map (λ items. items.now) result)) }
     {
         self.find(node)?.delivered(sender)
     }
 
     /// The items that node `node` broadcast, in order, where it is a node. It takes no memory.
     pub fn stream(&self, node: NodeId) -> Option<&[Item]>
-        ensures { (config : Settings) (past : History) → Stands config past self.now → ShowsStream config past node (option_map (λ items. items.now) result) }
+        ensures { StandingFor self.now (λ config past.
+            ShowsStream config past node (option_map (λ items. items.now) result)) }
     {
         Some(self.find(node)?.stream())
     }
 
     /// The value that node `node` decided in the instance, if it did. It takes no memory.
     pub fn decision(&self, node: NodeId, instance: u64) -> Option<u64>
-        ensures { (config : Settings) (past : History) → Stands config past self.now → result ≡ decision config past node instance }
+        ensures { StandingFor self.now (λ config past. result ≡ decision config past node instance) }
     {
         self.find(node)?.decision(instance)
     }
@@ -173,21 +178,22 @@ impl World {
     /// How many slots of what `from` gives `to` are not acknowledged, where both are nodes and not the same. It takes no
     /// memory.
     pub fn owed(&self, from: NodeId, to: NodeId) -> Option<u64>
-        ensures { (config : Settings) (past : History) → Stands config past self.now → ShowsOwed config past from to result }
+        ensures { StandingFor self.now (λ config past. ShowsOwed config past from to result) }
     {
         self.find(from)?.owed(to)
     }
 
     /// The node of this number, where it is one. It takes no memory.
     pub fn node(&self, node: NodeId) -> Option<&Node>
-        ensures { MatchOption result (length self.now.nodes ≤ node) (λ found. (node < length self.now.nodes) × (found.now ≡ node_at self.now node)) }
+        ensures { FindsNode self.now node (option_map (λ found. found.now) result) }
     {
         self.find(node)
     }
 
     /// Whether node `node` is one of the group and has not crashed. It takes no memory.
     pub fn live(&self, node: NodeId) -> bool
-        ensures { (config : Settings) (past : History) → Stands config past self.now → result ≡ (nat_lt node config.nodes && is_live past node) }
+        ensures { StandingFor self.now (λ config past.
+            result ≡ (nat_lt node config.nodes && is_live past node)) }
     {
         match self.find(node) {
             Some(found) => found.live(),
@@ -239,7 +245,7 @@ impl World {
     }
 
     fn find(&self, node: NodeId) -> Option<&Node>
-        ensures { MatchOption result (length self.now.nodes ≤ node) (λ found. (node < length self.now.nodes) × (found.now ≡ node_at self.now node)) }
+        ensures { FindsNode self.now node (option_map (λ found. found.now) result) }
     {
         self.nodes.get(usize::from(node.0))
     }

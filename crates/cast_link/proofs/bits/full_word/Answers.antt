@@ -1,13 +1,24 @@
 use Rattle.std.proofs.Common.{◌<◌, ◌/◌, length, refl, sym, ◌∙◌, arith}
 use Rattle.std.specs.VecDeque.{deque_len}
 use Rattle.std.proofs.lemmas.List.{get_or_default}
-use Rattle.cast_link.proofs.Windows.{full_bits}
+use Rattle.cast_link.proofs.Marks.{full_bits, full_by_bits}
 use Rattle.cast_link.proofs.bits.full_word.Goals as goal
 
-pub returns-in-Some : goal.returns-in-Some
-returns-in-Some c k l =
+pub returns-in-Some-clause-set : goal.returns-in-Some-clause-set
+returns-in-Some-clause-set c k l =
     let words = c.args.words.now.items in
     let place = c.args.bit / 64 in
     let inside : place < deque_len c.args.words.now = c.in-Some.ensures.variant.0 refl in
     let within : place < length words = omega (arith, inside, c.args.words.now.ok) in
-    full_bits words c.args.bit k (sym (c.in-Some.ensures.lookup ∙ get_or_default words place c.in-Some.word.now 0 within) ∙ c.if-word.true) l
+    full_bits words c.args.bit k (sym (c.in-Some.ensures.lookup ∙ get_or_default words place c.in-Some.field-0.now 0 within) ∙ c.has_all_bits.ensures.all c.if-has_all_bits.true) l
+
+pub returns-in_default-clause-full : goal.returns-in_default-clause-full
+returns-in_default-clause-full c full =
+    let words = c.args.words.now.items in
+    let place = c.args.bit / 64 in
+    let inside : place < deque_len c.args.words.now = c.in-Some.ensures.variant.0 refl in
+    let within : place < length words = omega (arith, inside, c.args.words.now.ok) in
+    let at = sym (c.in-Some.ensures.lookup ∙ get_or_default words place c.in-Some.field-0.now 0 within) in
+    let less = c.has_all_bits.ensures.not_all c.if-has_all_bits.false in
+    let most = full_by_bits words place (omega (arith, at, less)) full in
+    absurd (omega (arith, at, less, most))

@@ -1,6 +1,6 @@
 use Rattle.std.proofs.Common.{◌<◌, length, slice_index_or, refl, sym, ap, ◌∙◌, arith}
 use Rattle.cast_link.specs.Links.{owed_map}
-use Rattle.cast_link.proofs.Windows.{owed_map-next, popped, trimmed_next}
+use Rattle.cast_link.proofs.Windows.{owed_map-next, popped}
 use Rattle.cast_link.proofs.link_out.trim.Goals as goal
 
 pub loop-places-preserved : goal.loop-places-preserved
@@ -14,5 +14,4 @@ loop-places-preserved c =
       later = omega (arith, i.later);
       given = omega (arith, ap length shape, i.given);
       same = sym (owed_map-next c.loop-places.base c.pop_front.new.self.items) ∙ ap (owed_map c.loop-places.base) (sym shape) ∙ i.same;
-      trimmed = λ before marks h. trimmed_next before c.loop-places.base places c.pop_front.new.self.items marks (i.trimmed before marks h) shape;
     }

@@ -1,5 +1,5 @@
-use Rattle.std.proofs.Common.{◌≡◌, ◌+◌, ◌≤◌, ℕ, List, length}
-use Rattle.cast_link.specs.Links.{owed_map, Trimmed}
+use Rattle.std.proofs.Common.{◌≡◌, ◌+◌, ◌≤◌, length}
+use Rattle.cast_link.specs.Links.{owed_map}
 use Rattle.cast_link.proofs.link_out.trim.Given as goal
 
 abbrev pub invariant-loop-places : goal.invariant-loop-places
@@ -8,7 +8,6 @@ invariant-loop-places l =
       later : l.fn.base ≤ l.base;
       given : l.base + length l.places.items ≡ l.fn.base + length l.fn.places.items;
       same : owed_map l.base l.places.items ≡ owed_map l.fn.base l.fn.places.items;
-      trimmed : (before : ℕ) (marks : List ℕ) → Trimmed before l.fn.base l.fn.places.items marks → Trimmed before l.base l.places.items marks;
     }
 
 abbrev pub decreases-loop-places : goal.decreases-loop-places

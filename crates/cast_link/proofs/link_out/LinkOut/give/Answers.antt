@@ -1,9 +1,10 @@
-use Rattle.std.proofs.Common.{◌≡◌, ◌+◌, ◌<◌, ◌/◌, List, [], ◌∷◌, ◌++◌, length, Option, Some, sym, ap, ◌∙◌, subst, arith, length-append}
+use Rattle.std.proofs.Common.{◌≡◌, ℕ, ◌+◌, ◌≤◌, ◌<◌, ◌/◌, List, [], ◌∷◌, ◌++◌, length, Option, Some, sym, ap, ◌∙◌, subst, arith, length-append}
 use Rattle.std.specs.FinMap as map
 use Rattle.cast_message.specs.declared.message.Message.{Message}
 use Rattle.cast_link.specs.Taken.{bit_of}
-use Rattle.cast_link.specs.Links.{Link, owed_map}
-use Rattle.cast_link.proofs.Windows.{owed_map-push, len-owed_map, more_room, one_given, get-owed_map, none_past}
+use Rattle.cast_link.specs.Links.{Link, owed_map, KeepsOwed}
+use Rattle.cast_link.proofs.Windows.{owed_map-push, len-owed_map, get-owed_map, none_past}
+use Rattle.cast_link.proofs.Marks.{more_room, one_given}
 use Rattle.cast_link.proofs.link_out.LinkOut.give.Goals as goal
 
 pub overflow_add-self : goal.overflow_add-self
@@ -15,11 +16,25 @@ invariant_of-self-2 c =
     let places = c.self.inside.places.items in
     let given = ap (λ (l : Link). l.given) c.self.view_is in
     let at : c.bit_of.result ≡ bit_of base (base + length places) = c.bit_of.ensures ∙ ap (bit_of base) (c.given-slot.ensures ∙ sym given) in
-    let room = more_room base places c.self.inside.marks.items c.make_room.new.words.items c.self.inside.owed c.self.invariant c.make_room.ensures.same c.make_room.ensures.more in
+    let few = subst (λ bit. (n : ℕ) → length c.self.inside.marks.items ≤ n → bit / 64 < n → length c.make_room.new.words.items ≤ n) at c.make_room.ensures.few in
+    let room = more_room base places c.self.inside.marks.items c.make_room.new.words.items c.self.inside.owed c.self.invariant c.make_room.ensures.same c.make_room.ensures.more few in
     one_given base places c.push_back.new.self.items c.make_room.new.words.items c.self.inside.owed c.args.message room c.in_ok-push_back.ensures.items (omega (arith, given, c.requires)) (subst (λ bit. bit / 64 < length c.make_room.new.words.items) at c.in_ok-make_room.ensures.ok)
 
 pub invariant_of-self : goal.invariant_of-self
-invariant_of-self c = more_room c.self.inside.base c.self.inside.places.items c.self.inside.marks.items c.make_room.new.words.items c.self.inside.owed c.self.invariant c.make_room.ensures.same c.make_room.ensures.more
+invariant_of-self c =
+    let base = c.self.inside.base in
+    let places = c.self.inside.places.items in
+    let at : c.bit_of.result ≡ bit_of base (base + length places) = c.bit_of.ensures ∙ ap (bit_of base) (c.given-slot.ensures ∙ sym (ap (λ (l : Link). l.given) c.self.view_is)) in
+    let few = subst (λ bit. (n : ℕ) → length c.self.inside.marks.items ≤ n → bit / 64 < n → length c.make_room.new.words.items ≤ n) at c.make_room.ensures.few in
+    more_room base places c.self.inside.marks.items c.make_room.new.words.items c.self.inside.owed c.self.invariant c.make_room.ensures.same c.make_room.ensures.more few
+
+pub invariant_of-self-in_err-push_back : goal.invariant_of-self-in_err-push_back
+invariant_of-self-in_err-push_back c =
+    let base = c.self.inside.base in
+    let places = c.self.inside.places.items in
+    let at : c.bit_of.result ≡ bit_of base (base + length places) = c.bit_of.ensures ∙ ap (bit_of base) (c.given-slot.ensures ∙ sym (ap (λ (l : Link). l.given) c.self.view_is)) in
+    let few = subst (λ bit. (n : ℕ) → length c.self.inside.marks.items ≤ n → bit / 64 < n → length c.make_room.new.words.items ≤ n) at c.make_room.ensures.few in
+    subst (λ (ps : List (Option Message)). KeepsOwed base ps c.make_room.new.words.items c.self.inside.owed) (sym {A = List (Option Message)} c.in_err-push_back.ensures.items) (more_room base places c.self.inside.marks.items c.make_room.new.words.items c.self.inside.owed c.self.invariant c.make_room.ensures.same c.make_room.ensures.more few)
 
 pub returns-clause-ok : goal.returns-clause-ok
 returns-clause-ok c =

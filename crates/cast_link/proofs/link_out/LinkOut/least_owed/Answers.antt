@@ -5,7 +5,8 @@ use Rattle.std.proofs.lemmas.Bool.Decides.{leb_tells}
 use Rattle.cast_message.specs.declared.message.Message.{Message}
 use Rattle.cast_sets.specs.Bits.{is_set}
 use Rattle.cast_link.specs.Links.{Link}
-use Rattle.cast_link.proofs.Windows.{get-owed_map, none_past, none_below, none_in_word}
+use Rattle.cast_link.proofs.Windows.{get-owed_map, none_past, none_below}
+use Rattle.cast_link.proofs.Marks.{none_in_word}
 use Rattle.cast_link.proofs.link_out.LinkOut.least_owed.Goals as goal
 
 pub loop-slot-init : goal.loop-slot-init
@@ -33,7 +34,7 @@ loop-slot-preserved c =
           | inl f ↦
               sym (ap (λ (k : Link). map.get k.owed other) c.self.view_is)
               ∙ none_in_word c.self.inside.base c.self.inside.places.items c.self.inside.marks.items c.self.inside.owed slot c.full_word-acknowledged.result other c.self.invariant i.base
-              (λ k n. ap (λ bit. is_set c.self.inside.marks.items (bit + k)) (sym c.bit_of.ensures) ∙ c.full_word-acknowledged.ensures k n)
+              (λ k n. ap (λ bit. is_set c.self.inside.marks.items (bit + k)) (sym c.bit_of.ensures) ∙ c.full_word-acknowledged.ensures.set k n)
               (omega (arith, f.1))
               (omega (arith, m, f.1, c.saturating_add-slot.ensures, c.max.ensures))
           | inr f ↦ ap (map.get c.args.self.now.owed) (let e : other ≡ slot = omega (arith, h.1, f.1) in e) ∙ here

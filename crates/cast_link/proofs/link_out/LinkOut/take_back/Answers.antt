@@ -1,9 +1,11 @@
-use Rattle.std.proofs.Common.{◌≡◌, ◌+◌, ◌-◌, ◌<◌, ◌++◌, ◌∷◌, [], length, Bor, Option, Some, None, is_some, true, if◌then◌else◌, length-append, refl, sym, ap, ◌∙◌, subst, arith}
+use Rattle.std.proofs.Common.{◌≡◌, ◌+◌, ◌-◌, ◌/◌, ◌++◌, ◌∷◌, [], length, take, Bor, Option, Some, None, is_some, if◌then◌else◌, length-append, refl, sym, ap, ◌∙◌, subst, arith}
 use Rattle.std.specs.Option.{option_copied}
 use Rattle.std.specs.FinMap as map
 use Rattle.cast_message.specs.declared.message.Message.{Message}
-use Rattle.cast_link.specs.Links.{Link, owed_map, KeepsOwed}
-use Rattle.cast_link.proofs.Windows.{last_place, one_taken_back, owed_taken_back, len-some}
+use Rattle.cast_link.specs.Taken.{bit_of}
+use Rattle.cast_link.specs.Links.{Link, KeepsOwed}
+use Rattle.cast_link.proofs.Windows.{last_place, owed_taken_back, len-some}
+use Rattle.cast_link.proofs.Marks.{one_taken_back}
 use Rattle.cast_link.proofs.link_out.LinkOut.take_back.Goals as goal
 
 there : (o : Option (Bor Message)) → is_some (option_copied o) ≡ is_some o
@@ -24,7 +26,14 @@ invariant_of-self c =
     let owes = ap (map.contains_key c.args.self.now.owed) (at ∙ sym c.saturating_sub-last.ensures) ∙ ap is_some (sym c.message.ensures) ∙ there c.message.result ∙ sym c.is_some.ensures ∙ c.if-is_some.true in
     let last = last_place c.self.inside.base c.self.inside.places.items c.args.self.now c.self.view_is owes in
     let places = c.drop_last.ensures.places ∙ ap (λ p. c.drop_last.new.places.items ++ p ∷ []) last.1.1 in
-    subst (KeepsOwed c.self.inside.base c.drop_last.new.places.items c.self.inside.marks.items) (sym c.drop_last.ensures.owed) (one_taken_back c.self.inside.base c.self.inside.places.items c.drop_last.new.places.items c.self.inside.marks.items c.self.inside.owed last.1.0 c.self.invariant places)
+    let base = c.self.inside.base in
+    let after = c.drop_last.new.places.items in
+    let given = ap (λ (l : Link). l.given) c.self.view_is in
+    let long = ap length places ∙ length-append after (Some last.1.0 ∷ []) in
+    let behind : c.saturating_sub-last.result ≡ base + length after = omega (arith, c.saturating_sub-last.ensures, c.given.ensures, given, long) in
+    let marks = c.drop_back.ensures ∙ ap (λ bit. take (bit / 64 + 1) c.self.inside.marks.items) (c.bit_of.ensures ∙ ap (bit_of base) behind) in
+    let kept = one_taken_back base c.self.inside.places.items after c.self.inside.marks.items c.self.inside.owed last.1.0 c.self.invariant places in
+    subst (λ n. KeepsOwed base after c.drop_back.new.words.items n) (sym c.drop_last.ensures.owed) (subst (λ ms. KeepsOwed base after ms (c.self.inside.owed - 1)) (sym marks) kept)
 
 pub returns-then-is_some : goal.returns-then-is_some
 returns-then-is_some c =

@@ -1,24 +1,20 @@
 use Rattle.std.proofs.Common.{◌∙◌, ◌*◌, take, drop, ap, sym}
 use Rattle.std.proofs.lemmas.Result.{err_from_is_err_and}
 use Rattle.std.proofs.lemmas.List.{drop_all}
-use Rattle.cast_model.specs.Rounds.{after_round}
+use Rattle.cast_model.specs.Rounds.{Rest, after_round}
 use Rattle.cast_model.proofs.Round.{with_all}
 use Rattle.cast_model.proofs.TwoRounds.{rests, two_rounds_rest}
-use Rattle.cast_world.proofs.Rounding.{under_way, slot_next, before_next, slot_settled, slot_stops, not_begun, round_ends, round_spreads}
+use Rattle.cast_world.specs.Rounds.{Spreads}
+use Rattle.cast_world.proofs.Rounding.{under_way, slot_next, before_next, slot_settled, slot_stops, round_ends, round_spreads, where_taken}
 use Rattle.cast_world.proofs.world.World.round.Goals as goal
-
-pub returns-in_err-due-clause-takes : goal.returns-in_err-due-clause-takes
-returns-in_err-due-clause-takes c config past st =
-    let p = err_from_is_err_and c.from_residual.result c.from_residual.ensures.1 in
-    rw (p.1, p.2) (not_begun config past c.args.self.now st)
 
 pub loop-slot-init : goal.loop-slot-init
 loop-slot-init c config past st =
-    under_way config past c.as_slice-slot-items.result.now c.args.self.now (c.as_slice-slot-items.ensures.value ∙ c.in_ok-due.ensures config past st) st
+    under_way config past c.as_slice-slot-items.result.now c.args.self.now (c.as_slice-slot-items.ensures.value ∙ c.in-Ok.ensures config past st) st
 
 pub returns-in_err-take_all-clause-takes : goal.returns-in_err-take_all-clause-takes
 returns-in_err-take_all-clause-takes c config past st =
-    let p = err_from_is_err_and c.from_residual-in_err-take_all.result c.from_residual-in_err-take_all.ensures.1 in
+    let p = err_from_is_err_and c.from_residual.result c.from_residual.ensures.1 in
     let slots = c.as_slice-slot-items.result.now in
     let round = slot_next config past slots c.loop-slot.self c.loop-slot.slot-index c.slot-item.result c.loop-slot-test.true c.slot-item.is (c.loop-slot.invariant config past st) in
     rw (p.1, p.2) (slot_stops config past _ _ c.slot-item.result c.loop-slot.self round _ c.events_for-events.ensures c.take_all.new.self c.in_err-take_all.field-0.0 (c.in_err-take_all.ensures config (with_all past round.front) round.stands))
@@ -33,7 +29,7 @@ loop-slot-preserved c config past st =
 pub returns-clause-takes : goal.returns-clause-takes
 returns-clause-takes c config past st =
     let slots = c.as_slice-slot-items.result.now in
-    round_ends config past slots (take c.loop-slot.slot-index slots) (drop c.loop-slot.slot-index slots) c.loop-slot.self (2 * c.len.result) (c.as_slice-slot-items.ensures.value ∙ c.in_ok-due.ensures config past st)
+    round_ends config past slots (take c.loop-slot.slot-index slots) (drop c.loop-slot.slot-index slots) c.loop-slot.self (2 * c.len.result) (c.as_slice-slot-items.ensures.value ∙ c.in-Ok.ensures config past st)
     (ap (λ n. 2 * n) (c.len.ensures ∙ sym c.as_slice-slot-items.ensures.len)) (drop_all c.loop-slot.slot-index slots c.loop-slot-test.false) (c.loop-slot.invariant config past st)
 
 pub returns-clause-spreads : goal.returns-clause-spreads
@@ -44,3 +40,15 @@ returns-clause-rests c config past st same = rests config past st.accepted (retu
 
 pub returns-clause-second : goal.returns-clause-second
 returns-clause-second c config past accepted first st = two_rounds_rest config past accepted first (returns-clause-takes c config (after_round config past) st).accepted
+
+pub returns-in_default-clause-spreads : goal.returns-in_default-clause-spreads
+returns-in_default-clause-spreads c config past st =
+    where_taken config past (Spreads config past) c.unlisted.result c.args.self.now (c.unlisted.ensures config past st) (round_spreads config past st.accepted)
+
+pub returns-in_default-clause-rests : goal.returns-in_default-clause-rests
+returns-in_default-clause-rests c config past st same =
+    where_taken config past (Rest config (after_round config past)) c.unlisted.result c.args.self.now (c.unlisted.ensures config past st) (λ all. rests config past st.accepted all same)
+
+pub returns-in_default-clause-second : goal.returns-in_default-clause-second
+returns-in_default-clause-second c config past accepted first st =
+    where_taken config (after_round config past) (Rest config (after_round config (after_round config past))) c.unlisted.result c.args.self.now (c.unlisted.ensures config (after_round config past) st) (two_rounds_rest config past accepted first)

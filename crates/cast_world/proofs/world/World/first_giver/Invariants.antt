@@ -4,7 +4,7 @@ use Rattle.cast_message.specs.declared.config.Config.{Config}
 use Rattle.cast_model.specs.History.{History}
 use Rattle.cast_world.specs.Group.{Stands}
 use Rattle.cast_world.specs.Rounds.{IsSettled}
-use Rattle.cast_world.proofs.world.World.at_rest.Given as goal
+use Rattle.cast_world.proofs.world.World.first_giver.Given as goal
 
 abbrev pub invariant-loop-giver : goal.invariant-loop-giver
 invariant-loop-giver l = (config : Config) (past : History) → Stands config past l.self → (p q : ℕ) → p < l.giver → q < config.nodes → IsSettled past p q
