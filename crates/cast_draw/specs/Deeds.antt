@@ -2,7 +2,7 @@
 --     deeds messages decisions                in order: each decision follows the delivery of the proposal that brought it
 --     deeds_text x line index node place ..   their marks, from this place on below a node's line
 --     width_of deeds                          from the event's column to the next
-use Rattle.std.specs.Prelude.{ℕ, ◌+◌, ◌*◌, ◌/◌, ◌==◌, Bool, false, true, not, List, [], ◌∷◌, ◌++◌, length, map, take, drop, if◌then◌else◌}
+use Rattle.std.specs.Prelude.{ℕ, ◌+◌, ◌*◌, ◌/◌, ◌==◌, Bool, List, [], ◌∷◌, ◌++◌, map, take, drop, if◌then◌else◌}
 use Rattle.cast_message.specs.declared.message.Message.{Message}
 use Rattle.cast_message.specs.declared.message.Decision.{Decision}
 use Rattle.cast_message.specs.Replies.{proposes}

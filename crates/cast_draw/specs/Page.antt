@@ -2,7 +2,7 @@
 -- marks of events.
 --     picture_text sheet      its text
 --     stub_of frame           a frame that no shown event brought: lost, or it arrives by an event that is not shown
-use Rattle.std.specs.Prelude.{ℕ, ◌+◌, max, Bool, if◌then◌else◌, List, [], ◌∷◌, ◌++◌, Option, Some, None, codes, decimal, flat_map, slice_index_or}
+use Rattle.std.specs.Prelude.{ℕ, ◌+◌, max, if◌then◌else◌, List, [], ◌∷◌, ◌++◌, Option, Some, None, codes, decimal, flat_map, slice_index_or}
 use Rattle.std.specs.List.{range_with_len}
 use Rattle.cast_message.specs.declared.config.Config.{Config}
 use Rattle.cast_words.specs.Modes.{mode_word}

@@ -1,7 +1,7 @@
 -- What is drawn of a run so far, and what is kept for what is drawn later.
 --     blank config window     nothing has happened
 --     sheet_of picture        what a picture keeps
-use Rattle.std.specs.Prelude.{ℕ, ◌+◌, ◌-◌, ◌*◌, Bool, ◌&&◌, nat_le, List, [], ◌∷◌, map, replicate, Option, None}
+use Rattle.std.specs.Prelude.{ℕ, ◌+◌, ◌-◌, ◌*◌, Bool, ◌&&◌, nat_le, List, [], map, replicate, Option, None}
 use Rattle.cast_message.specs.declared.config.Config.{Config}
 use Rattle.cast_draw.specs.declared.window.Window.{Window}
 use Rattle.cast_draw.specs.declared.frames.MadeFrame.{MadeFrame}

@@ -6,4 +6,5 @@ pub mod Migrating
 pub mod Ranges
 pub mod Replayed
 pub mod Live
+pub mod Pictured
 pub mod Drawing

@@ -1,5 +1,5 @@
 -- The boxes so far were put, each with the diamond that it brought.
-use Rattle.std.proofs.Common.{ℕ, ◌<◌, ◌≤◌, ◌^◌, drop, length}
+use Rattle.std.proofs.Common.{◌<◌, ◌≤◌, ◌^◌, drop, length}
 use Rattle.cast_draw.specs.Deeds.{deeds}
 use Rattle.cast_draw.proofs.DeedLemmas.{IsGoing}
 use Rattle.cast_draw.proofs.deeds.put_deeds.Given as goal

@@ -1,7 +1,7 @@
 use Rattle.std.proofs.Common.{map, ap, arith}
 use Rattle.cast_draw.specs.Deeds.{Decides}
 use Rattle.std.proofs.lemmas.List.{drop_all}
-use Rattle.cast_draw.proofs.DeedLemmas.{going_start, going_decision, going_done}
+use Rattle.cast_draw.proofs.DeedLemmas.{going_decision, going_done}
 use Rattle.cast_draw.proofs.deeds.put_diamonds.Goals as goal
 
 pub loop-decision-preserved : goal.loop-decision-preserved

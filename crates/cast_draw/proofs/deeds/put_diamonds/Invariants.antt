@@ -1,5 +1,5 @@
 -- The diamonds so far were put.
-use Rattle.std.proofs.Common.{ℕ, ◌+◌, ◌<◌, ◌^◌, drop, map}
+use Rattle.std.proofs.Common.{◌<◌, ◌^◌, drop, map}
 use Rattle.cast_draw.specs.Deeds.{Decides}
 use Rattle.cast_draw.proofs.DeedLemmas.{IsGoing}
 use Rattle.cast_draw.proofs.deeds.put_diamonds.Given as goal

@@ -1,4 +1,4 @@
-use Rattle.std.proofs.Common.{get_or, refl}
+use Rattle.std.proofs.Common.{refl}
 use Rattle.cast_draw.specs.Page.{tip_text}
 use Rattle.cast_draw.proofs.PutLemmas.{flat_map-more}
 use Rattle.cast_draw.proofs.page.put_tips.Goals as goal

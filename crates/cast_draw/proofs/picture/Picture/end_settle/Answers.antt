@@ -1,5 +1,5 @@
-use Rattle.std.proofs.Common.{◌∙◌, sym, ap}
-use Rattle.cast_draw.specs.Sheet.{Sheet, sheet_of}
+use Rattle.std.proofs.Common.{◌∙◌, sym}
+use Rattle.cast_draw.specs.Sheet.{sheet_of}
 use Rattle.cast_draw.proofs.SheetLemmas.{settle_shown}
 use Rattle.cast_draw.proofs.picture.Picture.end_settle.Goals as goal
 
