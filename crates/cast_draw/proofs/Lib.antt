@@ -1,1 +1,5 @@
 pub mod PutLemmas
+pub mod GiftLemmas
+pub mod RowLemmas
+pub mod DeedLemmas
+pub mod SheetLemmas

@@ -3,7 +3,7 @@
 --     arrow_text frame x y to_x to_y event    an arrow from where a frame was made to where it arrives by the event
 --     lost_text frame x y side                a short dashed line with a cross: a frame that never arrives
 --     leaving_text frame x y side             a short line: a frame that arrives by an event that is not shown
-use Rattle.std.specs.Prelude.{ℕ, ◌+◌, ◌-◌, List, [], ◌∷◌, ◌++◌, codes, decimal}
+use Rattle.std.specs.Prelude.{ℕ, ◌+◌, ◌-◌, List, [], ◌∷◌, codes, decimal}
 use Rattle.cast_draw.specs.declared.frames.Cargo.{Cargo}
 use Rattle.cast_draw.specs.declared.frames.Cargo.TheVariants.{Message, Word}
 use Rattle.cast_draw.specs.declared.frames.MadeFrame.{MadeFrame}

@@ -5,3 +5,9 @@ pub mod Labels
 pub mod Pieces
 pub mod Marks
 pub mod FrameMarks
+pub mod Gifts
+pub mod MadeFrames
+pub mod Deeds
+pub mod Sheet
+pub mod Drawn
+pub mod Page

@@ -1,5 +1,5 @@
 //! Where marks stand on the sheet, in points from its left upper corner.
-ghost use Rattle.std.specs.Prelude.{◌≡◌, ◌<◌, ◌≤◌, ◌^◌, IfOk};
+ghost use Rattle.std.specs.Prelude.{◌≡◌, ◌<◌, ◌≤◌, ◌^◌, IfOk, OnOk};
 
 use crate::height::height_of;
 use cast_message::NodeId;
@@ -67,39 +67,24 @@ pub struct Cell {
 }
 
 impl Cell {
-    ghost use Rattle.cast_draw.specs.Places.{next_x, next_row};
+    ghost use Rattle.cast_draw.specs.Places.{place_x, row_of};
 
-    /// The first place below the point of a node's line.
-    pub fn below(spot: Spot) -> Cell
-        ensures { (result.x ≡ spot.x) × (result.row ≡ 0) × (result.line ≡ spot.y) }
+    /// The place of this number below the point of a node's line. A place past the last column finds no memory.
+    pub fn below(spot: Spot, place: u64) -> Result<Cell, AllocError>
+        ensures cell { IfOk result (λ cell. (cell.x ≡ place_x spot.x place) × (cell.row ≡ row_of place) × (cell.line ≡ spot.y)) }
+        ensures near { OnOk result (place < 2 ^ 41) }
     {
-        Cell {
-            x: spot.x,
-            row: 0,
-            line: spot.y,
+        if place > FARTHEST {
+            return Err(AllocError);
         }
-    }
-
-    #[tactic(auto, using(std::proofs::lemmas::Bool::Decides::nat_tests))]
-    /// The place for what comes next. A place past the last column finds no memory.
-    pub fn next(self) -> Result<Cell, AllocError>
-        ensures { IfOk result (λ cell. (cell.x ≡ next_x self.x self.row) × (cell.row ≡ next_row self.row) × (cell.line ≡ self.line)) }
-    {
-        let Cell { x, row, line } = self;
-        if row < 2 {
-            return Ok(Cell {
-                x,
-                row: row + 1,
-                line,
-            });
-        }
+        let x = spot.x + WIDE * (place / 3);
         if x > FARTHEST {
             return Err(AllocError);
         }
         Ok(Cell {
-            x: x + WIDE,
-            row: 0,
-            line,
+            x,
+            row: place % 3,
+            line: spot.y,
         })
     }
 }

@@ -3,6 +3,7 @@
 #![tactic(auto)]
 
 mod cell;
+mod deeds;
 mod fault;
 mod frames;
 mod height;
@@ -12,8 +13,9 @@ mod links;
 mod marks;
 mod page;
 mod picture;
+mod rows;
 mod side;
-mod track;
+mod style;
 mod window;
 
 pub use fault::DrawFault;

@@ -1,7 +1,11 @@
 //! What each node gives each peer, slot by slot: which message a frame carries that is made for a slot.
+ghost use Rattle.std.specs.Prelude.{◌≡◌, ◌+◌, ◌≤◌, ◌++◌, ◌∷◌, [], IfOk, OnOk, if◌then◌else◌, length, map, not, slice_get};
+ghost use Rattle.cast_draw.specs.Gifts.{holding, slot_of, nothing_given, given_on, goes_on, is_held, with_held};
+
 use cast_message::NodeId;
 use cast_sets::NumberSet;
 use std::alloc::{AllocError, Global};
+use std::marker::Model;
 
 /// A message by its numbers.
 #[derive(Clone, Copy, Debug, PartialEq, Eq)]
@@ -19,49 +23,137 @@ pub struct Links {
     // By the sender, the numbers that are held.
     held: Vec<NumberSet>,
     // By the peer, what stands in each slot.
-    given: Vec<Vec<Pair>>,
+    given: Vec<Row>,
+}
+
+impl Model for Links {
+    ghost use Rattle.std.specs.Prelude.{◌≤◌, length};
+    ghost use Rattle.cast_draw.specs.Gifts.{Gifts, gifts_code};
+    ghost use Rattle.cast_draw.specs.contracts.links.Pair as pairs;
+
+    ghost Value = { Gifts };
+
+    ghost coded = { gifts_code pairs.the_row.coded };
+
+    ghost view = { λ links. record { me = links.me; held = links.held.items; given = links.given.items } };
+
+    ghost invariant = { λ links. length links.given.items ≤ 256 };
 }
 
 impl Links {
     /// A node of a group of this many nodes, which holds nothing.
-    pub fn new(alloc: Global, me: NodeId, nodes: u64) -> Result<Links, AllocError> {
+    pub fn new(alloc: Global, me: NodeId, nodes: u64) -> Result<Links, AllocError>
+        requires { nodes ≤ 64 }
+        ensures { IfOk result (λ links. links ≡ nothing_given nodes me) }
+    {
         let mut held = Vec::new(alloc);
         let mut given = Vec::new(alloc);
         for _node in 0..nodes {
             held.push(NumberSet::new(alloc))?;
-            given.push(Vec::new(alloc))?;
+            given.push(Row::new(alloc))?;
         }
         Ok(Links { me, held, given })
     }
 
     /// What stands in this slot of what the node gives the peer.
-    pub fn given(&self, to: NodeId, slot: u64) -> Option<Pair> {
-        let row = self.given.get(usize::from(to.0))?;
-        row.get(slot as usize).copied()
+    pub fn given(&self, to: NodeId, slot: u64) -> Option<Pair>
+        ensures { result ≡ slot_of self.now to slot }
+    {
+        let place = usize::from(to.0);
+        if place >= self.given.len() {
+            return None;
+        }
+        self.given[place].get(slot)
     }
 
     /// Holds a message that came from this peer, or is the node's own. One that was not held goes on to all but its sender
     /// and that peer.
-    pub fn hold(&mut self, pair: Pair, source: NodeId) -> Result<(), AllocError> {
-        if !self.is_new(pair)? {
-            return Ok(());
-        }
-        for (peer, row) in self.given.iter_mut().enumerate() {
-            let skipped = peer == usize::from(pair.sender.0)
-                || peer == usize::from(source.0)
-                || peer == usize::from(self.me.0);
-            if !skipped {
-                row.push(pair)?;
-            }
+    pub fn hold(&mut self, pair: Pair, source: NodeId) -> Result<(), AllocError>
+        ensures { OnOk result (self.new ≡ holding self.old pair source) }
+    {
+        if add(self.held.as_mut_slice(), pair)? {
+            return give_on(self.given.as_mut_slice(), self.me, &pair, source, 0);
         }
         Ok(())
     }
+}
 
-    // Holds the message, and says whether it was not held. A sender that is no node has no message.
-    fn is_new(&mut self, pair: Pair) -> Result<bool, AllocError> {
-        match self.held.get_mut(usize::from(pair.sender.0)) {
-            Some(numbers) => numbers.insert(pair.number),
-            None => Ok(false),
+/// What stands in the slots of a peer. Contracts see it in order.
+#[derive(Debug, Drop)]
+struct Row {
+    pairs: Vec<Pair>,
+}
+
+impl Model for Row {
+    ghost use Rattle.std.specs.Prelude.{List};
+    ghost use Rattle.cast_draw.specs.declared.links.Pair.{Pair};
+
+    ghost Value = { List Pair };
+
+    ghost view = { λ row. row.pairs.items };
+}
+
+impl Row {
+    fn new(alloc: Global) -> Row
+        ensures { result ≡ [] }
+    {
+        Row {
+            pairs: Vec::new(alloc),
         }
     }
+
+    fn get(&self, slot: u64) -> Option<Pair>
+        ensures { result ≡ slice_get self.now slot }
+    {
+        self.pairs.get(slot as usize).copied()
+    }
+
+    fn push(&mut self, pair: Pair) -> Result<(), AllocError>
+        ensures { OnOk result (self.new ≡ self.old ++ pair ∷ []) }
+    {
+        self.pairs.push(pair)?;
+        Ok(())
+    }
+}
+
+// Adds the message, and says whether it is new. A sender that is no node has no set.
+fn add(held: &mut [NumberSet], pair: Pair) -> Result<bool, AllocError>
+    ensures test { IfOk result (λ is_new. is_new ≡ not (is_held held.old pair)) }
+    ensures ok { OnOk result (held.new ≡ with_held held.old pair) }
+{
+    let place = usize::from(pair.sender.0);
+    if place >= held.len() {
+        return Ok(true);
+    }
+    held[place].insert(pair.number)
+}
+
+// Gives the message to each of these peers to which it goes. The first of them has the number `peer`.
+fn give_on(
+    rows: &mut [Row],
+    me: NodeId,
+    pair: &Pair,
+    source: NodeId,
+    peer: u64,
+) -> Result<(), AllocError>
+    requires { peer + length rows.old ≤ 256 }
+    ensures { OnOk result (rows.new ≡ given_on me pair.now source peer rows.old) }
+{
+    let Some((row, rest)) = rows.split_first_mut() else {
+        return Ok(());
+    };
+    give(row, goes_on(me, pair, source, peer), pair)?;
+    give_on(rest, me, pair, source, peer + 1)
+}
+
+fn give(row: &mut Row, goes: bool, pair: &Pair) -> Result<(), AllocError>
+    ensures { OnOk result (row.new ≡ (if goes then row.old ++ pair.now ∷ [] else row.old)) }
+{
+    if goes { row.push(*pair) } else { Ok(()) }
+}
+
+fn goes_on(me: NodeId, pair: &Pair, source: NodeId, peer: u64) -> bool
+    ensures { result ≡ goes_on me pair.now source peer }
+{
+    peer != u64::from(pair.sender.0) && (peer != u64::from(source.0) && peer != u64::from(me.0))
 }

@@ -1,40 +1,24 @@
 //! The finished picture: what stands around the marks, and its text.
-ghost use Rattle.std.specs.Prelude.{◌≡◌, false};
+ghost use Rattle.std.specs.Prelude.{◌≡◌, ◌≤◌, ◌++◌, IfOk, OnOk, false, flat_map};
+ghost use Rattle.cast_draw.specs.Page.{caption, head_text, life_text, lifeline_text, lines_text, rest_text, stub_of, stubs_of, style_text, tip_style, tip_text};
 ghost use Rattle.cast_words.specs.Written.{Writes};
 
 use crate::cell::{LINES_FROM, Spot};
 use crate::fault::DrawFault;
-use crate::frames::{Fate, MadeFrame};
+use crate::frames::{Fate, MadeFrame, MadeFrames};
 use crate::height::height_of;
 use crate::ink::Ink;
 use crate::ink::Piece::{Number, Text};
 use crate::marks::{put_leaving, put_lost};
 use crate::picture::Picture;
+use crate::rows::crash_of;
 use crate::side::Side;
-use crate::track::Track;
+use crate::style::{COLOUR_STYLE, STYLE, TIPS};
 use cast_message::{Config, NodeId};
 use cast_words::{Meter, WriteFault, mode_name, write_bytes};
 use std::alloc::AllocError;
 use std::io::Write;
 use std::marker::Model;
-
-const STYLE: &[u8] =
-    b"text{font-family:sans-serif;fill:#222}.paper{fill:#fff}.g{fill:#f1f0e8}.h{font-size:12px;fill:#666}.n{font-size:13px}.p{stroke:#444;stroke-width:1.4}.z{stroke:#bbb;stroke-dasharray:1 5}.a,.o,.u{fill:none;stroke-width:1.5}.o{stroke-dasharray:4 3}.k{stroke-dasharray:2 4}.e{fill:none;stroke-width:1.5}.l{font-size:12px;stroke:#fff;stroke-width:3px;paint-order:stroke}.b{stroke:#fff}.d{font-size:10px;text-anchor:middle}.v{fill:#222}.w{font-size:10px;stroke:#fff;stroke-width:2px;paint-order:stroke}.x{fill:none;stroke:#c00;stroke-width:3}.r{fill:none;stroke:#aaa;stroke-width:1.5}.q{font-size:10px;fill:#777;text-anchor:middle}";
-
-const COLOUR_STYLE: &[u8] =
-    b".f0{fill:#0072b2}.f1{fill:#d55e00}.f2{fill:#009e73}.f3{fill:#cc79a7}.f4{fill:#e69f00}.f5{fill:#56b4e9}.f6{fill:#7a5195}.f7{fill:#6b6b00}.s0{stroke:#0072b2}.s1{stroke:#d55e00}.s2{stroke:#009e73}.s3{stroke:#cc79a7}.s4{stroke:#e69f00}.s5{stroke:#56b4e9}.s6{stroke:#7a5195}.s7{stroke:#6b6b00}.k{stroke:#888}.t0,.t1,.t2,.t6,.t7{fill:#fff}.t3,.t4,.t5{fill:#000}";
-
-const TIPS: &[(&[u8], &[u8])] = &[
-    (b"s0", b"#0072b2"),
-    (b"s1", b"#d55e00"),
-    (b"s2", b"#009e73"),
-    (b"s3", b"#cc79a7"),
-    (b"s4", b"#e69f00"),
-    (b"s5", b"#56b4e9"),
-    (b"s6", b"#7a5195"),
-    (b"s7", b"#6b6b00"),
-    (b"k", b"#888"),
-];
 
 /// A finished picture. Contracts see its text.
 #[derive(Debug, Drop)]
@@ -53,21 +37,30 @@ impl Model for Drawing {
 }
 
 impl Picture {
+    ghost use Rattle.cast_draw.specs.Sheet.{sheet_of};
+    ghost use Rattle.cast_draw.specs.Page.{picture_text};
+
     /// The picture of what was taken.
-    pub fn finish(self) -> Result<Drawing, DrawFault> {
+    pub fn finish(self) -> Result<Drawing, DrawFault>
+        ensures { IfOk result (λ drawing. drawing ≡ picture_text (sheet_of self)) }
+    {
         let mut front = Ink::new(self.alloc);
         let width = (self.next + 8).max(420);
-        let height = self.bottom() + 44;
-        put_head(&mut front, &self.config, width, height)?;
+        put_head(&mut front, &self.config, width, self.bottom() + 44)?;
         front.put_bytes(self.grounds.as_slice())?;
-        put_lines(&mut front, self.tracks.as_slice(), width)?;
+        put_lines(
+            &mut front,
+            self.crashes.as_slice(),
+            self.config.nodes(),
+            width,
+        )?;
         let Picture {
             mut arrows,
             mut marks,
-            tracks,
+            made,
             ..
         } = self;
-        put_stubs(&mut arrows, tracks.as_slice())?;
+        put_stubs(&mut arrows, made.as_slice())?;
         marks.put_bytes(b"</svg>\n")?;
         Ok(Drawing {
             front,
@@ -88,7 +81,9 @@ pub fn write_drawing<W: Write>(drawing: &Drawing, writer: &mut Meter<W>) -> Resu
     write_bytes(drawing.marks.as_slice(), writer)
 }
 
-fn put_head(ink: &mut Ink, config: &Config, width: u64, height: u64) -> Result<(), AllocError> {
+fn put_head(ink: &mut Ink, config: &Config, width: u64, height: u64) -> Result<(), AllocError>
+    ensures { OnOk result (ink.new ≡ ink.old ++ head_text config.now width height) }
+{
     ink.put(&[
         Text(b"<svg xmlns='http://www.w3.org/2000/svg' version='1.1' viewBox='0 0 "),
         Number(width),
@@ -101,8 +96,27 @@ fn put_head(ink: &mut Ink, config: &Config, width: u64, height: u64) -> Result<(
         Text(b"'>\n<title>"),
     ])?;
     put_caption(ink, config)?;
+    put_style(ink)?;
+    put_caption(ink, config)?;
+    ink.put_bytes(b"</text>\n")
+}
+
+fn put_style(ink: &mut Ink) -> Result<(), AllocError>
+    ensures { OnOk result (ink.new ≡ ink.old ++ style_text) }
+{
     ink.put(&[Text(b"</title>\n<style>"), Text(STYLE), Text(COLOUR_STYLE)])?;
-    for (class, _) in TIPS {
+    put_tip_styles(ink, TIPS)?;
+    ink.put_bytes(b"</style>\n<defs>")?;
+    put_tips(ink, TIPS)?;
+    ink.put_bytes(
+        b"</defs>\n<rect class='paper' width='100%' height='100%'/>\n<text class='h' x='12' y='20'>",
+    )
+}
+
+fn put_tip_styles<'a>(ink: &mut Ink, kinds: &[(&'a [u8], &'a [u8])]) -> Result<(), AllocError>
+    ensures { OnOk result (ink.new ≡ ink.old ++ flat_map (λ kind. tip_style kind.0.now) kinds.now) }
+{
+    for (class, _) in kinds {
         ink.put(&[
             Text(b".a."),
             Text(class),
@@ -111,26 +125,30 @@ fn put_head(ink: &mut Ink, config: &Config, width: u64, height: u64) -> Result<(
             Text(b")}"),
         ])?;
     }
-    ink.put(&[Text(b"</style>\n<defs>")])?;
-    for (class, colour) in TIPS {
+    Ok(())
+}
+
+fn put_tips<'a>(ink: &mut Ink, kinds: &[(&'a [u8], &'a [u8])]) -> Result<(), AllocError>
+    ensures { OnOk result (ink.new ≡ ink.old ++ flat_map (λ kind. tip_text kind.0.now kind.1.now) kinds.now) }
+{
+    for (class, colour) in kinds {
         ink.put(&[
             Text(b"<marker id='m"),
             Text(class),
             Text(
-                b"' viewBox='0 0 8 8' refX='8' refY='4' markerWidth='6' markerHeight='6' orient='auto'><path d='M0 1L8 4L0 7z' fill='",
+                b"' viewBox='0 0 8 8' refX='8' refY='4' markerWidth='6' markerHeight='6' orient='auto'>",
             ),
+            Text(b"<path d='M0 1L8 4L0 7z' fill='"),
             Text(colour),
             Text(b"'/></marker>"),
         ])?;
     }
-    ink.put(&[Text(
-        b"</defs>\n<rect class='paper' width='100%' height='100%'/>\n<text class='h' x='12' y='20'>",
-    )])?;
-    put_caption(ink, config)?;
-    ink.put(&[Text(b"</text>\n")])
+    Ok(())
 }
 
-fn put_caption(ink: &mut Ink, config: &Config) -> Result<(), AllocError> {
+fn put_caption(ink: &mut Ink, config: &Config) -> Result<(), AllocError>
+    ensures { OnOk result (ink.new ≡ ink.old ++ caption config.now) }
+{
     ink.put(&[
         Number(config.nodes()),
         Text(b" nodes, "),
@@ -142,16 +160,39 @@ fn put_caption(ink: &mut Ink, config: &Config) -> Result<(), AllocError> {
     ])
 }
 
-fn put_lines(ink: &mut Ink, tracks: &[Track], width: u64) -> Result<(), AllocError> {
-    for track in tracks {
-        put_line(ink, track.me, track.crash, width)?;
+fn put_lines(
+    ink: &mut Ink,
+    crashes: &[Option<u64>],
+    nodes: u64,
+    width: u64,
+) -> Result<(), AllocError>
+    requires { nodes ≤ 64 }
+    ensures { OnOk result (ink.new ≡ ink.old ++ lines_text crashes.now nodes width) }
+{
+    for node in 0..nodes as u8 {
+        let node = NodeId(node);
+        put_line(ink, node, crash_of(crashes, node), width)?;
     }
     Ok(())
 }
 
-fn put_line(ink: &mut Ink, node: NodeId, crash: Option<u64>, width: u64) -> Result<(), AllocError> {
+fn put_line(ink: &mut Ink, node: NodeId, crash: Option<u64>, width: u64) -> Result<(), AllocError>
+    ensures { OnOk result (ink.new ≡ ink.old ++ lifeline_text node crash width) }
+{
+    match crash {
+        None => put_life(ink, node, width),
+        Some(end) => {
+            put_life(ink, node, end)?;
+            put_rest(ink, node, end, width)
+        }
+    }
+}
+
+// The name of a node and its line, as far as it lives.
+fn put_life(ink: &mut Ink, node: NodeId, end: u64) -> Result<(), AllocError>
+    ensures { OnOk result (ink.new ≡ ink.old ++ life_text node end) }
+{
     let y = height_of(node);
-    let end = crash.unwrap_or(width);
     ink.put(&[
         Text(b"<text class='n' x='12' y='"),
         Number(y + 4),
@@ -164,35 +205,49 @@ fn put_line(ink: &mut Ink, node: NodeId, crash: Option<u64>, width: u64) -> Resu
         Text(b"H"),
         Number(end),
         Text(b"'/>\n"),
-    ])?;
-    if crash.is_none() {
-        return Ok(());
-    }
+    ])
+}
+
+// Its line after it crashed.
+fn put_rest(ink: &mut Ink, node: NodeId, from: u64, width: u64) -> Result<(), AllocError>
+    ensures { OnOk result (ink.new ≡ ink.old ++ rest_text node from width) }
+{
     ink.put(&[
         Text(b"<path class='z' d='M"),
-        Number(end),
+        Number(from),
         Text(b" "),
-        Number(y),
+        Number(height_of(node)),
         Text(b"H"),
         Number(width),
         Text(b"'/>\n"),
     ])
 }
 
-fn put_stubs(ink: &mut Ink, tracks: &[Track]) -> Result<(), AllocError> {
-    for track in tracks {
-        for frame in track.made.as_slice() {
-            put_stub(ink, frame)?;
-        }
+fn put_stubs(ink: &mut Ink, made: &[MadeFrames]) -> Result<(), AllocError>
+    ensures { OnOk result (ink.new ≡ ink.old ++ flat_map stubs_of made.now) }
+{
+    for frames in made {
+        put_stubs_of(ink, frames.as_slice())?;
     }
     Ok(())
 }
 
-fn put_stub(ink: &mut Ink, frame: &MadeFrame) -> Result<(), AllocError> {
+fn put_stubs_of(ink: &mut Ink, frames: &[MadeFrame]) -> Result<(), AllocError>
+    ensures { OnOk result (ink.new ≡ ink.old ++ stubs_of frames.now) }
+{
+    for frame in frames {
+        put_stub(ink, frame)?;
+    }
+    Ok(())
+}
+
+fn put_stub(ink: &mut Ink, frame: &MadeFrame) -> Result<(), AllocError>
+    ensures { OnOk result (ink.new ≡ ink.old ++ stub_of frame.now) }
+{
     if !frame.is_shown {
         return Ok(());
     }
-    let start = Spot::on_line(frame.x, frame.from);
+    let start = Spot::on_line(frame.x.x(), frame.from);
     let side = Side::of(frame.from, frame.to);
     match frame.fate {
         Fate::UnderWay => put_lost(ink, frame, start, side),

@@ -1,19 +1,18 @@
 //! The picture as it grows, event by event.
 ghost use Rattle.std.specs.Prelude.{◌≡◌, ◌<◌, ◌≤◌, ◌^◌};
 
-use crate::cell::{Cell, FARTHEST, FIRST_COLUMN, FOR_VALUES, LINES_FROM, NARROW, Spot, WIDE};
+use crate::cell::{FARTHEST, FIRST_COLUMN, LINES_FROM, NARROW, Spot};
+use crate::deeds::{put_deeds, width_of};
 use crate::fault::DrawFault;
-use crate::frames::{Cargo, Fate, MadeFrame};
+use crate::frames::{Cargo, Column, Fate, MadeFrame, MadeFrames};
 use crate::ink::Ink;
-use crate::links::Pair;
-use crate::marks::{
-    put_arrow, put_broadcast, put_crash, put_decision, put_delivery, put_ground, put_refusal,
+use crate::links::{Links, Pair};
+use crate::marks::{put_arrow, put_broadcast, put_crash, put_ground, put_refusal};
+use crate::rows::{
+    add_frame, arrive, count, end_line, given, hold, hold_cargo, new_crashes, new_links, new_made,
 };
-use crate::track::Track;
 use crate::window::Window;
-use cast_message::{
-    Answer, Config, Decision, Event, Item, Message, NodeId, Outcome, Reply, StepFault,
-};
+use cast_message::{Answer, Config, Event, Item, NodeId, Outcome, Reply, StepFault};
 use std::alloc::{AllocError, Global};
 
 /// The picture of a run. It takes the events one after another, with the replies to them; those of its window are drawn. What
@@ -30,7 +29,12 @@ pub struct Picture {
     pub(crate) grounds: Ink,
     pub(crate) arrows: Ink,
     pub(crate) marks: Ink,
-    pub(crate) tracks: Vec<Track>,
+    // By the node, what it holds, and what it gives each peer.
+    pub(crate) links: Vec<Links>,
+    // By the node, the frames that it made.
+    pub(crate) made: Vec<MadeFrames>,
+    // By the node, the column at which it crashed.
+    pub(crate) crashes: Vec<Option<u64>>,
     ghost next_left: { 92 ≤ next },
     ghost next_right: { next ≤ 2 ^ 40 },
     ghost settle_left: { 92 ≤ settle },
@@ -38,14 +42,16 @@ pub struct Picture {
 }
 
 impl Picture {
+    ghost use Rattle.std.specs.Prelude.{IfOk, OnOk, slice_get};
+    ghost use Rattle.cast_draw.specs.Gifts.{slot_of};
+    ghost use Rattle.cast_draw.specs.Sheet.{blank, bottom_of, sheet_of};
+    ghost use Rattle.cast_draw.specs.Drawn.{answered, arrived, crashed, drawn_after, gifts_at, made_at, ordered, refused, sent, sent_slot, settle_begun, settle_ended, with_outcome};
+
     /// The picture of a group in which nothing has happened.
-    pub fn new(alloc: Global, config: &Config, window: Window) -> Result<Picture, DrawFault> {
-        let mut tracks = Vec::new(alloc);
-        for node in 0..config.nodes() as u8 {
-            tracks
-                .push(Track::new(alloc, NodeId(node), config.nodes())?)
-                .map_err(AllocError::from)?;
-        }
+    pub fn new(alloc: Global, config: &Config, window: Window) -> Result<Picture, DrawFault>
+        ensures { IfOk result (λ picture. sheet_of picture ≡ blank config.now window) }
+    {
+        let nodes = config.nodes();
         Ok(Picture {
             alloc,
             config: config.copy(),
@@ -55,13 +61,17 @@ impl Picture {
             grounds: Ink::new(alloc),
             arrows: Ink::new(alloc),
             marks: Ink::new(alloc),
-            tracks,
+            links: new_links(alloc, nodes)?,
+            made: new_made(alloc, nodes)?,
+            crashes: new_crashes(alloc, nodes)?,
         })
     }
 
     /// Takes an event, which has this place in its script, and the reply to it. A reply that is not one to the event leaves
     /// nothing.
-    pub fn take(&mut self, index: u64, event: &Event, reply: &Reply) -> Result<(), DrawFault> {
+    pub fn take(&mut self, index: u64, event: &Event, reply: &Reply) -> Result<(), DrawFault>
+        ensures { OnOk result (sheet_of self.new ≡ drawn_after (sheet_of self.old) index event.now reply.now) }
+    {
         match reply {
             Ok(answer) => self.take_answer(index, event, answer)?,
             Err(fault) => self.take_refusal(index, *fault)?,
@@ -70,31 +80,31 @@ impl Picture {
     }
 
     /// A settle begins: the events from here on are its own.
-    pub fn begin_settle(&mut self) {
+    pub fn begin_settle(&mut self)
+        ensures { sheet_of self.new ≡ settle_begun (sheet_of self.old) }
+    {
         self.settle = self.next;
     }
 
     /// The settle that began last, which has this place in its script, is over.
-    pub fn end_settle(&mut self, index: u64) -> Result<(), DrawFault> {
+    pub fn end_settle(&mut self, index: u64) -> Result<(), DrawFault>
+        ensures { OnOk result (sheet_of self.new ≡ settle_ended (sheet_of self.old) index) }
+    {
         if !self.window.shows(index) {
             return Ok(());
         }
-        if self.next < self.settle + 48 {
-            self.advance(self.settle + 48)?;
-        }
+        let end = self.next.max(self.settle + 48);
         let from = self.settle - 8;
-        let width = self.next - self.settle;
+        let width = end - self.settle;
         let height = self.bottom() - 32;
         put_ground(&mut self.grounds, from, width, height, index)?;
+        self.advance(end)?;
         Ok(())
     }
 
-    fn take_answer(
-        &mut self,
-        index: u64,
-        event: &Event,
-        answer: &Answer,
-    ) -> Result<(), AllocError> {
+    fn take_answer(&mut self, index: u64, event: &Event, answer: &Answer) -> Result<(), AllocError>
+        ensures { OnOk result (sheet_of self.new ≡ answered (sheet_of self.old) index event.now answer.now) }
+    {
         match (event, answer) {
             (Event::Order { node, item }, Answer::Ordered { number, outcome }) => {
                 self.take_order(index, *node, item, *number, outcome)
@@ -120,12 +130,14 @@ impl Picture {
         item: &Item,
         number: u64,
         outcome: &Outcome,
-    ) -> Result<(), AllocError> {
+    ) -> Result<(), AllocError>
+        ensures { OnOk result (sheet_of self.new ≡ ordered (sheet_of self.old) index node item.now number outcome.now) }
+    {
         let pair = Pair {
             sender: node,
             number,
         };
-        self.hold(node, pair, node)?;
+        hold(&mut self.links, node, pair, node)?;
         if !self.window.shows(index) {
             return Ok(());
         }
@@ -141,8 +153,11 @@ impl Picture {
         from: NodeId,
         to: NodeId,
         slot: u64,
-    ) -> Result<(), AllocError> {
-        match self.given(from, to, slot) {
+    ) -> Result<(), AllocError>
+        ensures { OnOk result (sheet_of self.new ≡ sent_slot (sheet_of self.old) index from to slot
+            (slot_of (gifts_at self.old.links.items from) to slot)) }
+    {
+        match given(self.links.as_slice(), from, to, slot) {
             Some(pair) => self.take_frame(index, from, to, slot, Cargo::Message(pair)),
             None => Ok(()),
         }
@@ -155,23 +170,22 @@ impl Picture {
         to: NodeId,
         slot: u64,
         cargo: Cargo,
-    ) -> Result<(), AllocError> {
+    ) -> Result<(), AllocError>
+        ensures { OnOk result (sheet_of self.new ≡ sent (sheet_of self.old) index from to slot cargo) }
+    {
         let is_shown = self.window.shows(index);
-        let x = if is_shown { self.next } else { LINES_FROM };
-        if let Some(track) = self.tracks.get_mut(usize::from(from.0)) {
-            let seq = track.made.len() as u64;
-            track.made.push(MadeFrame {
-                from,
-                seq,
-                to,
-                slot,
-                cargo,
-                index,
-                x,
-                is_shown,
-                fate: Fate::UnderWay,
-            })?;
-        }
+        let frame = MadeFrame {
+            from,
+            seq: count(self.made.as_slice(), from),
+            to,
+            slot,
+            cargo,
+            index,
+            x: Column::at(if is_shown { self.next } else { LINES_FROM }),
+            is_shown,
+            fate: Fate::UnderWay,
+        };
+        add_frame(&mut self.made, &frame)?;
         if is_shown {
             self.advance(self.next + NARROW)?;
         }
@@ -185,37 +199,39 @@ impl Picture {
         seq: u64,
         node: NodeId,
         outcome: &Outcome,
-    ) -> Result<(), AllocError> {
+    ) -> Result<(), AllocError>
+        ensures { OnOk result (sheet_of self.new ≡ arrived (sheet_of self.old) index from seq node outcome.now
+            (slice_get (made_at self.old.made.items from) seq)) }
+    {
         let is_shown = self.window.shows(index);
-        let Some(frame) = self.find_arrived(from, seq, is_shown) else {
+        let Some(frame) = arrive(&mut self.made, from, seq, is_shown) else {
             return Ok(());
         };
-        if let Cargo::Message(pair) = frame.cargo {
-            self.hold(node, pair, from)?;
-        }
+        hold_cargo(&mut self.links, node, frame.cargo, from)?;
         if !is_shown {
             return Ok(());
         }
-        let start = Spot::on_line(frame.x, from);
+        let start = Spot::on_line(frame.x.x(), from);
         let end = Spot::on_line(self.next, node);
         put_arrow(&mut self.arrows, &frame, start, end, index)?;
         self.show_outcome(index, node, outcome)
     }
 
-    fn take_crash(&mut self, index: u64, node: NodeId) -> Result<(), AllocError> {
-        let is_shown = self.window.shows(index);
+    fn take_crash(&mut self, index: u64, node: NodeId) -> Result<(), AllocError>
+        ensures { OnOk result (sheet_of self.new ≡ crashed (sheet_of self.old) index node) }
+    {
         let x = self.next;
-        if let Some(track) = self.tracks.get_mut(usize::from(node.0)) {
-            track.crash = Some(x);
+        end_line(&mut self.crashes, node, x);
+        if !self.window.shows(index) {
+            return Ok(());
         }
-        if is_shown {
-            put_crash(&mut self.marks, Spot::on_line(x, node), index, node)?;
-            self.advance(x + NARROW)?;
-        }
-        Ok(())
+        put_crash(&mut self.marks, Spot::on_line(x, node), index, node)?;
+        self.advance(x + NARROW)
     }
 
-    fn take_refusal(&mut self, index: u64, fault: StepFault) -> Result<(), AllocError> {
+    fn take_refusal(&mut self, index: u64, fault: StepFault) -> Result<(), AllocError>
+        ensures { OnOk result (sheet_of self.new ≡ refused (sheet_of self.old) index fault) }
+    {
         if !self.window.shows(index) {
             return Ok(());
         }
@@ -233,22 +249,20 @@ impl Picture {
         index: u64,
         node: NodeId,
         outcome: &Outcome,
-    ) -> Result<(), AllocError> {
+    ) -> Result<(), AllocError>
+        ensures { OnOk result (sheet_of self.new ≡ with_outcome (sheet_of self.old) index node outcome.now) }
+    {
         let deliveries = outcome.deliveries.as_slice();
         let decisions = outcome.decisions.as_slice();
-        if deliveries.is_empty() && decisions.is_empty() {
-            return self.advance(self.next + NARROW);
-        }
-        let first = Cell::below(Spot::on_line(self.next, node));
-        let last = put_outcome(&mut self.marks, first, index, node, deliveries, decisions)?;
-        let values = if decisions.is_empty() { 0 } else { FOR_VALUES };
-        // The last place stands in this column or to its right.
-        self.advance(self.next.max(last.x) + WIDE + values)
+        let spot = Spot::on_line(self.next, node);
+        let count = put_deeds(&mut self.marks, spot, index, node, deliveries, decisions)?;
+        self.advance(self.next + width_of(count, !decisions.is_empty()))
     }
 
     // The next column stands here. A place past the last finds no memory.
     fn advance(&mut self, next: u64) -> Result<(), AllocError>
         requires { self.old.next ≤ next }
+        ensures { OnOk result (sheet_of self.new ≡ record (sheet_of self.old) { next = next }) }
     {
         if next > FARTHEST {
             return Err(AllocError);
@@ -257,72 +271,12 @@ impl Picture {
         Ok(())
     }
 
-    fn hold(&mut self, node: NodeId, pair: Pair, source: NodeId) -> Result<(), AllocError> {
-        match self.tracks.get_mut(usize::from(node.0)) {
-            Some(track) => track.links.hold(pair, source),
-            None => Ok(()),
-        }
-    }
-
-    fn given(&self, from: NodeId, to: NodeId, slot: u64) -> Option<Pair> {
-        self.tracks.get(usize::from(from.0))?.links.given(to, slot)
-    }
-
-    // The frame of this number, and that it has arrived is kept.
-    fn find_arrived(&mut self, from: NodeId, seq: u64, is_shown: bool) -> Option<MadeFrame> {
-        let track = self.tracks.get_mut(usize::from(from.0))?;
-        let frame = track.made.get_mut(seq as usize)?;
-        if is_shown {
-            frame.fate = Fate::Shown;
-        } else if frame.fate == Fate::UnderWay {
-            frame.fate = Fate::ArrivedUnseen;
-        }
-        Some(*frame)
-    }
-
     /// The height below all lines and boxes.
     pub(crate) fn bottom(&self) -> u64
+        ensures value { result ≡ bottom_of self.now.config }
         ensures lower { 76 ≤ result }
         ensures upper { result < 2 ^ 13 }
     {
         76 + 84 * self.config.nodes() - 24
     }
-}
-
-// Puts a box for each delivery, below one another, and below that which brought it a diamond for each decision. Answers the
-// place of the last.
-fn put_outcome(
-    ink: &mut Ink,
-    first: Cell,
-    index: u64,
-    node: NodeId,
-    deliveries: &[Message],
-    decisions: &[Decision],
-) -> Result<Cell, AllocError> {
-    let mut last = first;
-    let mut cell = first;
-    let mut decided = 0;
-    for message in deliveries {
-        put_delivery(ink, cell, index, node, message)?;
-        last = cell;
-        cell = cell.next()?;
-        if let Some(decision) = decisions.get(decided) {
-            if proposes(&message.item, decision.instance) {
-                put_decision(ink, cell, index, node, *decision)?;
-                decided += 1;
-                last = cell;
-                cell = cell.next()?;
-            }
-        }
-    }
-    for decision in decisions.iter().skip(decided) {
-        put_decision(ink, cell, index, node, *decision)?;
-        last = cell;
-        cell = cell.next()?;
-    }
-    Ok(last)
-}
-
-fn proposes(item: &Item, place: u64) -> bool {
-    matches!(item, Item::Propose { instance, .. } if *instance == place)
 }

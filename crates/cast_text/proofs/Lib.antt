@@ -4,6 +4,7 @@ pub mod Whole
 pub mod JudgingLemmas
 pub mod MigratingLemmas
 pub mod DrawingLemmas
+pub mod Picturing
 pub mod Sayings
 pub mod Tellings
 pub mod Goodness

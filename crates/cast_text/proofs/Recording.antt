@@ -58,7 +58,7 @@ going_breaks new g piece rest (faults.Live why) going breaks = absurd breaks
 
 -- ---- one event
 
-answered : (refusal : Option StepFault) (a : Answer) → is_ok (reply_by refusal a) ≡ not (is_some refusal)
+pub answered : (refusal : Option StepFault) (a : Answer) → is_ok (reply_by refusal a) ≡ not (is_some refusal)
 answered None a = refl
 answered (Some refusal) a = refl
 
@@ -90,11 +90,11 @@ pub record IsTrying (config : Config) (index : ℕ) (past : History) (events res
 pub trying_none : (config : Config) (index : ℕ) (past : History) (events : List Event) (world : State) {old : Option (List ℕ)} {failed : Bool} → Stands config past world → failed ≡ false → IsTrying config index past events events world old old failed
 trying_none config index past events world st sound = record { now = past; stands = st; going = going_start sound; same_past = refl; same_end = refl }
 
-none_by : (refusal : Option StepFault) (all : Bool) → all ≡ true → all ≡ not (is_some refusal) → refusal ≡ None
+pub none_by : (refusal : Option StepFault) (all : Bool) → all ≡ true → all ≡ not (is_some refusal) → refusal ≡ None
 none_by None all yea is = refl
 none_by (Some refusal) all yea is = absurd (cc)
 
-some_by : (refusal : Option StepFault) (all : Bool) → all ≡ false → all ≡ not (is_some refusal) → (r : StepFault) × (refusal ≡ Some r)
+pub some_by : (refusal : Option StepFault) (all : Bool) → all ≡ false → all ≡ not (is_some refusal) → (r : StepFault) × (refusal ≡ Some r)
 some_by None all nay is = absurd (cc)
 some_by (Some refusal) all nay is = (refusal, refl)
 
@@ -108,11 +108,11 @@ pub tried_end : (config : Config) (index : ℕ) (now : History) (event : Event) 
 unfolding tried
 tried_end config index now event rest refusal some = rw some refl
 
-after_none : (config : Config) (now : History) (event : Event) → fault config now event ≡ None → after config now event ≡ event ∷ now
+pub after_none : (config : Config) (now : History) (event : Event) → fault config now event ≡ None → after config now event ≡ event ∷ now
 unfolding after
 after_none config now event none = rw none refl
 
-after_some : (config : Config) (now : History) (event : Event) (refusal : StepFault) → fault config now event ≡ Some refusal → after config now event ≡ now
+pub after_some : (config : Config) (now : History) (event : Event) (refusal : StepFault) → fault config now event ≡ Some refusal → after config now event ≡ now
 unfolding after
 after_some config now event refusal some = rw some refl
 
@@ -185,11 +185,11 @@ pub went_no_further : (stopped all : Bool) → all ≡ false → all ≡ not sto
 went_no_further true all nay is = refl
 went_no_further false all nay is = absurd (cc)
 
-settled_twice : (config : Config) (index : ℕ) (past : History) → (round_left config index past).stopped ≡ false →
+pub settled_twice : (config : Config) (index : ℕ) (past : History) → (round_left config index past).stopped ≡ false →
     settled config index past ≡ record { lines = (round_left config index past).lines ++ (round_left config index (round_left config index past).past).lines; past = (round_left config index (round_left config index past).past).past; stopped = (round_left config index (round_left config index past).past).stopped }
 settled_twice config index past on = rw on refl
 
-settled_once : (config : Config) (index : ℕ) (past : History) → (round_left config index past).stopped ≡ true → settled config index past ≡ round_left config index past
+pub settled_once : (config : Config) (index : ℕ) (past : History) → (round_left config index past).stopped ≡ true → settled config index past ≡ round_left config index past
 settled_once config index past ended = rw ended refl
 
 pub settle_breaks : (config : Config) (index : ℕ) (past : History) (first second : State) (all : Bool) (broken : TextFault) (old mid new : Option (List ℕ)) (f g : Bool) → all ≡ true →

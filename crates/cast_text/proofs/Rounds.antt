@@ -28,7 +28,7 @@ use Rattle.cast_world.proofs.Stepping.{made_count}
 
 -- ---- events one list after another
 
-abbrev joined : Left → Left → Left
+abbrev pub joined : Left → Left → Left
 joined first rest = record { lines = first.lines ++ rest.lines; past = rest.past; stopped = rest.stopped }
 
 module _ (config : Config) (index : ℕ) where
@@ -36,7 +36,7 @@ module _ (config : Config) (index : ℕ) where
   put_first lines left = record { lines = lines ++ left.lines; past = left.past; stopped = left.stopped }
 
   -- the first list was accepted
-  tried_append : (now : History) (xs ys : List Event) → (tried config index now xs).stopped ≡ false → tried config index now (xs ++ ys) ≡ joined (tried config index now xs) (tried config index (tried config index now xs).past ys)
+  pub tried_append : (now : History) (xs ys : List Event) → (tried config index now xs).stopped ≡ false → tried config index now (xs ++ ys) ≡ joined (tried config index now xs) (tried config index (tried config index now xs).past ys)
   unfolding tried
   tried_append now [] ys e = refl
   tried_append now (x ∷ xs) ys e = by_fault (tried_append (x ∷ now) xs ys) (fault config now x) refl
@@ -56,7 +56,7 @@ module _ (config : Config) (index : ℕ) where
       by_fault ih (Some refusal) some = let clash : true ≡ false = sym (ap (λ left. left.stopped) (tried_end config index now x xs refusal some)) ∙ e in absurd (cc)
 
   -- it was refused
-  tried_stops : (now : History) (xs ys : List Event) → (tried config index now xs).stopped ≡ true → tried config index now (xs ++ ys) ≡ tried config index now xs
+  pub tried_stops : (now : History) (xs ys : List Event) → (tried config index now xs).stopped ≡ true → tried config index now (xs ++ ys) ≡ tried config index now xs
   unfolding tried
   tried_stops now [] ys e = let clash : false ≡ true = e in absurd (cc)
   tried_stops now (x ∷ xs) ys e = by_fault (tried_stops (x ∷ now) xs ys) (fault config now x) refl
@@ -68,7 +68,7 @@ module _ (config : Config) (index : ℕ) where
       by_fault ih (Some refusal) some = tried_end config index now x (xs ++ ys) refusal some ∙ sym (tried_end config index now x xs refusal some)
 
   -- what has happened once all were accepted
-  tried_past : (now : History) (xs : List Event) → (tried config index now xs).stopped ≡ false → (tried config index now xs).past ≡ with_all now xs
+  pub tried_past : (now : History) (xs : List Event) → (tried config index now xs).stopped ≡ false → (tried config index now xs).past ≡ with_all now xs
   unfolding tried
   tried_past now [] e = refl
   tried_past now (x ∷ xs) e = by_fault (tried_past (x ∷ now) xs) (fault config now x) refl
@@ -84,7 +84,7 @@ module _ (config : Config) (index : ℕ) where
     pub trying : IsTrying config index past (plan config past) (plan_from past before ds) world old new failed
     pub going : Going config past trying.now before ds
 
-  plan_is : (past : History) → plan config past ≡ plan_from past [] (due config past)
+  pub plan_is : (past : History) → plan config past ≡ plan_from past [] (due config past)
   unfolding plan
   plan_is past = refl
 
@@ -125,7 +125,7 @@ module _ (config : Config) (index : ℕ) where
       ∷ Arrive d.to ((made_count config now world st d.to ∙ going.counted d.to) k)
       ∷ []
 
-  plan_next : (past : History) (before ds : List Due) (d : Due) → plan_from past before (d ∷ ds) ≡ events_for past before d ++ plan_from past (before ++ d ∷ []) ds
+  pub plan_next : (past : History) (before ds : List Due) (d : Due) → plan_from past before (d ∷ ds) ≡ events_for past before d ++ plan_from past (before ++ d ∷ []) ds
   unfolding plan_from
   plan_next past before ds d = refl
 

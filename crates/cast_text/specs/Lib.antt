@@ -4,4 +4,5 @@ pub mod Recorded
 pub mod Judging
 pub mod Migrating
 pub mod Ranges
+pub mod Pictured
 pub mod Drawing

@@ -1,6 +1,12 @@
 //! Drawing the run of a script, as the world takes its events.
-ghost use Rattle.std.specs.Prelude.{◌≡◌, false, IfErr, OnOk};
-ghost use Rattle.cast_text.specs.Drawing.{WritesDrawing, DrawingFails};
+ghost use Rattle.std.specs.Prelude.{◌≡◌, false, IfErr, IfOk, OnOk};
+ghost use Rattle.cast_message.specs.declared.config.Config.{Config as Settings};
+ghost use Rattle.cast_model.specs.History.{History};
+ghost use Rattle.cast_world.specs.Group.{Stands};
+ghost use Rattle.cast_draw.specs.Sheet.{sheet_of};
+ghost use Rattle.cast_text.specs.Rec.{left_by, one_left, round_left, settled, tried};
+ghost use Rattle.cast_text.specs.Pictured.{drawn_with, event_drawn, round_drawn, rounds_drawn, sheet_of_script, tried_drawn};
+ghost use Rattle.cast_text.specs.Drawing.{Draws, DrawsTried, WritesDrawing, DrawingFails};
 ghost use Rattle.cast_text.specs.Text.{IsTold};
 
 use crate::fault::TextFault;
@@ -24,10 +30,10 @@ pub fn draw_text<R: Read, W: Write>(
 ) -> Result<(), TextFault>
     requires reader { reader.old.failed ≡ false }
     requires writer { writer.old.failed ≡ false }
-    // The bytes are a script's, and the writer has a text more.
-    ensures ok { OnOk result (WritesDrawing (R.remaining reader.old.inner)
+    // The writer has the picture of the script that was read, and nothing else.
+    ensures ok { OnOk result (WritesDrawing window (R.remaining reader.old.inner)
         (W.contents writer.old.inner) (W.contents writer.new.inner)) }
-    ensures err { IfErr result (DrawingFails (R.remaining reader.old.inner) reader.new.failed
+    ensures err { IfErr result (DrawingFails window (R.remaining reader.old.inner) reader.new.failed
         (W.contents writer.old.inner) (W.contents writer.new.inner) writer.new.failed) }
     // What failed is told, and nothing else is.
     ensures sound { OnOk result ((reader.new.failed ≡ false) × (writer.new.failed ≡ false)) }
@@ -55,7 +61,8 @@ impl From<DrawFault> for TextFault {
 
 // The picture of all events of the script.
 fn draw_script(alloc: Global, script: &Script, window: Window) -> Result<Picture, TextFault>
-    ensures { IfErr result (λ fault. fault ≡ TextFault.Memory) }
+    ensures ok { IfOk result (λ picture. sheet_of picture ≡ sheet_of_script script.now window) }
+    ensures err { IfErr result (λ fault. fault ≡ TextFault.Memory) }
 {
     let mut world = World::new(alloc, script.config.copy())?;
     let mut picture = Picture::new(alloc, &script.config, window)?;
@@ -71,7 +78,10 @@ fn draw_script_event(
     event: &ScriptEvent,
     picture: &mut Picture,
 ) -> Result<(), TextFault>
-    ensures { IfErr result (λ fault. fault ≡ TextFault.Memory) }
+    ensures drawn { (config : Settings) (past : History) → Stands config past world.old →
+        Draws config (left_by config index past event.now).past
+        (drawn_with config index (sheet_of picture.old) past event.now) world.new picture.new result }
+    ensures err { IfErr result (λ fault. fault ≡ TextFault.Memory) }
 {
     match event {
         ScriptEvent::Core(event) => {
@@ -80,18 +90,33 @@ fn draw_script_event(
         }
         ScriptEvent::Settle => {
             picture.begin_settle();
-            if draw_round(world, index, picture)? {
-                let _accepted = draw_round(world, index, picture)?;
-            }
+            draw_rounds(world, index, picture)?;
             picture.end_settle(index)?;
             Ok(())
         }
     }
 }
 
+// Draws two rounds, or one of which an event was refused.
+fn draw_rounds(world: &mut World, index: u64, picture: &mut Picture) -> Result<(), TextFault>
+    ensures drawn { (config : Settings) (past : History) → Stands config past world.old →
+        Draws config (settled config index past).past
+        (rounds_drawn config index (sheet_of picture.old) past) world.new picture.new result }
+    ensures err { IfErr result (λ fault. fault ≡ TextFault.Memory) }
+{
+    if !draw_round(world, index, picture)? {
+        return Ok(());
+    }
+    let _accepted = draw_round(world, index, picture)?;
+    Ok(())
+}
+
 // Draws one round, slot by slot of those that are due when it begins. Answers whether no event was refused.
 fn draw_round(world: &mut World, index: u64, picture: &mut Picture) -> Result<bool, TextFault>
-    ensures { IfErr result (λ fault. fault ≡ TextFault.Memory) }
+    ensures drawn { (config : Settings) (past : History) → Stands config past world.old →
+        DrawsTried config (round_left config index past)
+        (round_drawn config index (sheet_of picture.old) past) world.new picture.new result }
+    ensures err { IfErr result (λ fault. fault ≡ TextFault.Memory) }
 {
     let due = world.due()?;
     for slot in due.as_slice() {
@@ -110,7 +135,10 @@ fn draw_events(
     events: &[Event],
     picture: &mut Picture,
 ) -> Result<bool, TextFault>
-    ensures { IfErr result (λ fault. fault ≡ TextFault.Memory) }
+    ensures drawn { (config : Settings) (past : History) → Stands config past world.old →
+        DrawsTried config (tried config index past events.now)
+        (tried_drawn config index (sheet_of picture.old) past events.now) world.new picture.new result }
+    ensures err { IfErr result (λ fault. fault ≡ TextFault.Memory) }
 {
     for event in events {
         if !draw_event(world, index, event, picture)? {
@@ -127,7 +155,10 @@ fn draw_event(
     event: &Event,
     picture: &mut Picture,
 ) -> Result<bool, TextFault>
-    ensures { IfErr result (λ fault. fault ≡ TextFault.Memory) }
+    ensures drawn { (config : Settings) (past : History) → Stands config past world.old →
+        DrawsTried config (one_left config index past event.now)
+        (event_drawn config index (sheet_of picture.old) past event.now) world.new picture.new result }
+    ensures err { IfErr result (λ fault. fault ≡ TextFault.Memory) }
 {
     let reply = world.step(event);
     if is_want_of_memory(&reply) {

@@ -1,0 +1,11 @@
+use Rattle.std.proofs.Common.{◌∙◌, ◌++◌}
+use Rattle.cast_draw.specs.Places.{top_of}
+use Rattle.cast_draw.specs.Marks.{decision_text}
+use Rattle.cast_draw.proofs.GiftLemmas.{ok_of}
+use Rattle.cast_draw.proofs.deeds.put_diamond.Goals as goal
+
+pub returns-clause-text : goal.returns-clause-text
+returns-clause-text c =
+    let cell = c.in_ok-below.ensures.cell in
+    ok_of c.put_decision.result c.put_decision.ensures
+    (λ put. put ∙ (λ i. c.args.ink.now ++ decision_text (cell.0 i) (top_of (cell.2 i) (cell.1 i)) c.args.index c.args.node c.args.decision))
