@@ -21,7 +21,7 @@ use Rattle.cast_words.proofs.WritingLemmas.{IsGoing, going_start, going_again, g
 use Rattle.cast_text.specs.declared.fault.TextFault.{TextFault}
 use Rattle.cast_text.specs.declared.fault.TextFault.TheVariants as faults
 use Rattle.cast_text.specs.Rec.{one_left, tried, round_left, settled, left_by, lines_from}
-use Rattle.cast_text.specs.Recorded.{Writes, Tries, Leaves}
+use Rattle.cast_text.specs.Recorded.{Records, Writes, Tries, Leaves}
 use Rattle.cast_text.specs.Text.{WroteFront, BreaksOff}
 
 -- ---- texts that break off
@@ -76,6 +76,17 @@ pub event_breaks : (config : Config) (past : History) (index : ℕ) (event : Eve
 event_breaks config past index event result world {old = old} {new = new} {failed = failed} step had wrote =
     let here = settled_step config past event result world step had in
     prefix_breaks (subst (λ r. WrotePrefix old new failed (record_text (lines_for index event r))) here.0 wrote)
+
+pub recorded_reply : (config : Config) (past : History) (index : ℕ) (event : Event) (reply : Result Answer StepFault) (world : State) (result : Result Bool TextFault) {old new : Option (List ℕ)} {failed : Bool} →
+    Continues config past event reply world → Records index event reply old new failed result → Tries config (one_left config index past event) world old new failed result
+recorded_reply config past index event reply world (Ok accepted) step wrote = recorded_event config past index event reply world accepted step wrote.0 wrote.1.0 wrote.1.1
+recorded_reply config past index event reply world (Err faults.Write) step broke = event_breaks config past index event reply world step broke.0 broke.1
+recorded_reply config past index event reply world (Err faults.Memory) step wanted = wanted.1 (record_text (one_left config index past event).lines)
+recorded_reply config past index event reply world (Err faults.Read) step never = absurd never
+recorded_reply config past index event reply world (Err faults.TooLong) step never = absurd never
+recorded_reply config past index event reply world (Err (faults.Script why)) step never = absurd never
+recorded_reply config past index event reply world (Err faults.NotV1) step never = absurd never
+recorded_reply config past index event reply world (Err (faults.Live why)) step never = absurd never
 
 -- ---- events up to the first that is refused
 

@@ -7,7 +7,7 @@ ghost use Rattle.cast_world.specs.Group.{Stands};
 ghost use Rattle.cast_record.specs.Lines.{head_of, lines_for};
 ghost use Rattle.cast_record.specs.Text.{record_text, line_text};
 ghost use Rattle.cast_text.specs.Rec.{tried, one_left, round_left, settled, left_by, record_of};
-ghost use Rattle.cast_text.specs.Recorded.{Writes, Tries, Leaves};
+ghost use Rattle.cast_text.specs.Recorded.{Writes, Records, Tries, Leaves};
 
 use crate::fault::TextFault;
 use cast_message::{Config, Event, Reply, StepFault};
@@ -139,11 +139,26 @@ fn record_event<W: Write>(
         Tries config (one_left config index past event.now) world.new (W.contents writer.old.inner)
         (W.contents writer.new.inner) writer.new.failed result }
 {
-    let reply = world.step(event);
-    if is_want_of_memory(&reply) {
+    // (handed on where it lies: a reply is large, and moving it took a tenth of a long settle)
+    record_reply(index, event, &world.step(event), writer)
+}
+
+// Writes the lines of an event and its reply. Answers whether it was accepted.
+fn record_reply<W: Write>(
+    index: u64,
+    event: &Event,
+    reply: &Reply,
+    writer: &mut Meter<W>,
+) -> Result<bool, TextFault>
+    requires { writer.old.failed ≡ false }
+    ensures sound { OnOk result (writer.new.failed ≡ false) }
+    ensures lines { Records index event.now reply.now (W.contents writer.old.inner)
+        (W.contents writer.new.inner) writer.new.failed result }
+{
+    if is_want_of_memory(reply) {
         return Err(TextFault::Memory);
     }
-    write_lines_of(index, event, &reply, writer)?;
+    write_lines_of(index, event, reply, writer)?;
     Ok(reply.is_ok())
 }
 
