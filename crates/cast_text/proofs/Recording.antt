@@ -77,16 +77,16 @@ event_breaks config past index event result world {old = old} {new = new} {faile
     let here = settled_step config past event result world step had in
     prefix_breaks (subst (λ r. WrotePrefix old new failed (record_text (lines_for index event r))) here.0 wrote)
 
-pub recorded_reply : (config : Config) (past : History) (index : ℕ) (event : Event) (reply : Result Answer StepFault) (world : State) (result : Result Bool TextFault) {old new : Option (List ℕ)} {failed : Bool} →
+pub recorded_reply : (config : Config) (past : History) (index : ℕ) (event : Event) (reply : Result Answer StepFault) (world : State) (result : Result Bool TextFault) (old new : Option (List ℕ)) (failed : Bool) →
     Continues config past event reply world → Records index event reply old new failed result → Tries config (one_left config index past event) world old new failed result
-recorded_reply config past index event reply world (Ok accepted) step wrote = recorded_event config past index event reply world accepted step wrote.0 wrote.1.0 wrote.1.1
-recorded_reply config past index event reply world (Err faults.Write) step broke = event_breaks config past index event reply world step broke.0 broke.1
-recorded_reply config past index event reply world (Err faults.Memory) step wanted = wanted.1 (record_text (one_left config index past event).lines)
-recorded_reply config past index event reply world (Err faults.Read) step never = absurd never
-recorded_reply config past index event reply world (Err faults.TooLong) step never = absurd never
-recorded_reply config past index event reply world (Err (faults.Script why)) step never = absurd never
-recorded_reply config past index event reply world (Err faults.NotV1) step never = absurd never
-recorded_reply config past index event reply world (Err (faults.Live why)) step never = absurd never
+recorded_reply config past index event reply world (Ok accepted) old new failed step wrote = recorded_event config past index event reply world accepted step wrote.0 wrote.1 wrote.2
+recorded_reply config past index event reply world (Err faults.Write) old new failed step broke = event_breaks config past index event reply world step broke.0 broke.1
+recorded_reply config past index event reply world (Err faults.Memory) old new failed step wanted = wanted.1 (record_text (one_left config index past event).lines)
+recorded_reply config past index event reply world (Err faults.Read) old new failed step never = absurd never
+recorded_reply config past index event reply world (Err faults.TooLong) old new failed step never = absurd never
+recorded_reply config past index event reply world (Err (faults.Script why)) old new failed step never = absurd never
+recorded_reply config past index event reply world (Err faults.NotV1) old new failed step never = absurd never
+recorded_reply config past index event reply world (Err (faults.Live why)) old new failed step never = absurd never
 
 -- ---- events up to the first that is refused
 
