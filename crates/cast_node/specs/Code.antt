@@ -18,17 +18,32 @@ sets_code = coded_list (coded_list (set.code coded_ℕ))
 
 abbrev pub held_back_code : Coded Waiting → Coded HeldBack
 held_back_code waiting =
-    code_by (ℕ × (Bool × List (ℕ × Waiting))) (coded× coded_ℕ (coded× coded_bool (coded_list (coded× coded_ℕ waiting)))) (λ h. (h.next, (h.closed, h.waiting))) (λ p. record { next = p.0; closed = p.1.0; waiting = p.1.1 }) (λ _. refl)
+    code_by (ℕ × (Bool × List (ℕ × Waiting)))
+    (coded× coded_ℕ (coded× coded_bool (coded_list (coded× coded_ℕ waiting))))
+    (λ h. (h.next, (h.closed, h.waiting)))
+    (λ p. record { next = p.0; closed = p.1.0; waiting = p.1.1 }) (λ _. refl)
 
-pub record IsSound (knowers : List (List (set.FinSet nat_cmp))) (hold_back : List HeldBack) (delivered : List (List Item)) : Type 0 where
+pub record IsSound (knowers : List (List (set.FinSet nat_cmp))) (hold_back : List HeldBack)
+    (delivered : List (List Item)) : Type 0 where
   pub rows : length knowers ≡ length hold_back
   pub streams : length delivered ≡ length hold_back
   pub near : (s : ℕ) → All (λ number. number < 4096) (keys_of (held_of hold_back s).waiting)
 
 abbrev pub delivering_code : Coded Mode → Coded Item → Coded Waiting → Coded Delivering
 delivering_code mode item waiting =
-    code_by (Mode × (ℕ × (List (List (set.FinSet nat_cmp)) × (List HeldBack × (List (List Item) × Counted)))))
-    (coded× mode (coded× coded_ℕ (coded× sets_code (coded× (coded_list (held_back_code waiting)) (coded× (coded_list (coded_list item)) counted_code)))))
+    code_by
+    (Mode × (ℕ × (List (List (set.FinSet nat_cmp))
+    × (List HeldBack × (List (List Item) × Counted)))))
+    (coded× mode (coded× coded_ℕ (coded× sets_code
+    (coded× (coded_list (held_back_code waiting))
+    (coded× (coded_list (coded_list item)) counted_code)))))
     (λ d. (d.mode, (d.faults, (d.knowers, (d.hold_back, (d.delivered, d.agree))))))
-    (λ p. record { mode = p.0; faults = p.1.0; knowers = p.1.1.0; hold_back = p.1.1.1.0; delivered = p.1.1.1.1.0; agree = p.1.1.1.1.1 })
+    (λ p. record {
+      mode = p.0;
+      faults = p.1.0;
+      knowers = p.1.1.0;
+      hold_back = p.1.1.1.0;
+      delivered = p.1.1.1.1.0;
+      agree = p.1.1.1.1.1;
+    })
     (λ _. refl)

@@ -46,7 +46,8 @@ nothing_delivered config = record {
 
 abbrev pub noted : Delivering → ℕ → ℕ → set.FinSet nat_cmp → Delivering
 noted ds s i members =
-    record ds { knowers = slice_set ds.knowers s (known_row (slice_index_or ds.knowers s []) i members) }
+    let row = known_row (slice_index_or ds.knowers s []) i members in
+    record ds { knowers = slice_set ds.knowers s row }
 
 abbrev pub news_in : Delivering → ℕ → ℕ → List Message
 news_in ds s i = numbered s (held_of ds.hold_back s).next (known_items (held_of ds.hold_back s) i)

@@ -7,4 +7,5 @@ use Rattle.cast_relay.specs.Held.{Held, relays_to}
 unfoldable pub taken_back_from : ℕ → Held → ℕ → ℕ → List Link → List Link
 taken_back_from q relay source sender [] = []
 taken_back_from q relay source sender (link ∷ links) =
-    (if relays_to relay sender source q then without_last link else link) ∷ taken_back_from (q + 1) relay source sender links
+    (if relays_to relay sender source q then without_last link else link)
+    ∷ taken_back_from (q + 1) relay source sender links

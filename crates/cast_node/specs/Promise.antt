@@ -14,29 +14,40 @@ use Rattle.cast_node.specs.Turns.{Gives, carry_of, took_of}
 use Rattle.cast_node.specs.Stands.{Stands, Continues}
 
 abbrev pub BeginsWithNothing : Type 0
-BeginsWithNothing = (config : Config) (me : ℕ) → me < config.nodes → Stands config me [] (nothing_kept config me)
+BeginsWithNothing =
+    (config : Config) (me : ℕ) → me < config.nodes → Stands config me [] (nothing_kept config me)
 
 abbrev pub GoesOnBySteps : Type 0
-GoesOnBySteps = (config : Config) (me : ℕ) (steps : Steps) (kept : Kept) → Stands config me steps kept →
-    (step : Step) (reply : Result Answer StepFault) (new : Kept) → Gives kept step reply new → Continues config me steps step reply new
+GoesOnBySteps =
+    (config : Config) (me : ℕ) (steps : Steps) (kept : Kept) → Stands config me steps kept →
+    (step : Step) (reply : Result Answer StepFault) (new : Kept) →
+    Gives kept step reply new → Continues config me steps step reply new
 
 abbrev pub DeliversAsItsSteps : Type 0
-DeliversAsItsSteps = (config : Config) (me : ℕ) (steps : Steps) (kept : Kept) → Stands config me steps kept →
-    (s : ℕ) → s < config.nodes → slice_index_or kept.delivered s [] ≡ map item_of (own_delivered config me steps s)
+DeliversAsItsSteps =
+    (config : Config) (me : ℕ) (steps : Steps) (kept : Kept) → Stands config me steps kept →
+    (s : ℕ) → s < config.nodes →
+    slice_index_or kept.delivered s [] ≡ map item_of (own_delivered config me steps s)
 
 abbrev pub DecidesAsItsSteps : Type 0
-DecidesAsItsSteps = (config : Config) (me : ℕ) (steps : Steps) (kept : Kept) → Stands config me steps kept →
+DecidesAsItsSteps =
+    (config : Config) (me : ℕ) (steps : Steps) (kept : Kept) → Stands config me steps kept →
     (j : ℕ) → decision kept.agree j ≡ own_decision config me steps j
 
 abbrev pub OwesAsItsSteps : Type 0
-OwesAsItsSteps = (config : Config) (me : ℕ) (steps : Steps) (kept : Kept) → Stands config me steps kept →
-    (q : ℕ) → q < config.nodes → q ≢ me → finite.len (link_to kept q).owed ≡ length (own_owed me steps q)
+OwesAsItsSteps =
+    (config : Config) (me : ℕ) (steps : Steps) (kept : Kept) → Stands config me steps kept →
+    (q : ℕ) → q < config.nodes → q ≢ me →
+    finite.len (link_to kept q).owed ≡ length (own_owed me steps q)
 
 abbrev pub KnowsAsItsSteps : Type 0
-KnowsAsItsSteps = (config : Config) (me : ℕ) (steps : Steps) (kept : Kept) → Stands config me steps kept →
+KnowsAsItsSteps =
+    (config : Config) (me : ℕ) (steps : Steps) (kept : Kept) → Stands config me steps kept →
     (s i : ℕ) → s < config.nodes → set.len (knowers_of kept s i) ≡ own_known_by config me steps s i
 
 abbrev pub MakesTheFrames : Type 0
-MakesTheFrames = (config : Config) (me : ℕ) (steps : Steps) (kept : Kept) → Stands config me steps kept →
-    ((to slot : ℕ) → own_fault config me steps (Sent to slot) ≡ None → own_made me steps (Sent to slot) ≡ carry_of kept to slot ∷ [])
+MakesTheFrames =
+    (config : Config) (me : ℕ) (steps : Steps) (kept : Kept) → Stands config me steps kept →
+    ((to slot : ℕ) → own_fault config me steps (Sent to slot) ≡ None →
+    own_made me steps (Sent to slot) ≡ carry_of kept to slot ∷ [])
     × ((to slot : ℕ) → own_made me steps (Acknowledged to slot) ≡ took_of kept to slot ∷ [])

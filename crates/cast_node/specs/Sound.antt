@@ -21,14 +21,21 @@ use Rattle.cast_node.specs.Kept.{Kept}
 use Rattle.cast_node.specs.Delivering.{Delivering}
 use Rattle.cast_node.specs.Code.{sets_code, held_back_code}
 
+abbrev pub link_in : List Link → ℕ → Link
+link_in links q = slice_index_or links q (record { given = 0; owed = finite.empty })
+
 abbrev pub Owes : ℕ → ℕ → List Link → Type 0
-Owes nodes limit links = (q slot : ℕ) (message : Message) → finite.get (slice_index_or links q (record { given = 0; owed = finite.empty })).owed slot ≡ Some message → (message.sender < nodes) × (message.number < limit)
+Owes nodes limit links = (q slot : ℕ) (message : Message) →
+    finite.get (link_in links q).owed slot ≡ Some message →
+    (message.sender < nodes) × (message.number < limit)
 
 -- no slot is owed to any peer
 abbrev pub OwesNothing : List Link → Type 0
-OwesNothing links = (q : ℕ) → (slice_index_or links q (record { given = 0; owed = finite.empty })).owed ≡ finite.empty
+OwesNothing links = (q : ℕ) → (link_in links q).owed ≡ finite.empty
 
-pub record IsNode (config : Config) (me : ℕ) (stream : List Item) (closed : Bool) (proposed : set.FinSet nat_cmp) (relay : Held) (outgoing : List Link) (incoming : List (set.FinSet nat_cmp)) (deliveries : Delivering) (quiet : Bool) : Type 0 where
+pub record IsNode (config : Config) (me : ℕ) (stream : List Item) (closed : Bool)
+    (proposed : set.FinSet nat_cmp) (relay : Held) (outgoing : List Link)
+    (incoming : List (set.FinSet nat_cmp)) (deliveries : Delivering) (quiet : Bool) : Type 0 where
   pub place : me < config.nodes
   pub relay_me : relay.me ≡ me
   pub relay_own : relay.own ≡ length stream
@@ -47,8 +54,13 @@ pub record IsNode (config : Config) (me : ℕ) (stream : List Item) (closed : Bo
 abbrev pub kept_code : Coded Config → Coded Item → Coded Message → Coded Waiting → Coded Kept
 kept_code config item message waiting =
     code_by
-    (Config × (ℕ × (Bool × (ℕ × (List Item × (Held × (List Link × (List (set.FinSet nat_cmp) × (List HeldBack × (List (List (set.FinSet nat_cmp)) × (List (List Item) × Counted)))))))))))
-    (coded× config (coded× coded_ℕ (coded× coded_bool (coded× coded_ℕ (coded× (coded_list item) (coded× held_code (coded× (coded_list (link_code message)) (coded× (coded_list (set.code coded_ℕ)) (coded× (coded_list (held_back_code waiting)) (coded× sets_code (coded× (coded_list (coded_list item)) counted_code)))))))))))
+    (Config × (ℕ × (Bool × (ℕ × (List Item × (Held × (List Link × (List (set.FinSet nat_cmp)
+    × (List HeldBack × (List (List (set.FinSet nat_cmp)) × (List (List Item) × Counted)))))))))))
+    (coded× config (coded× coded_ℕ (coded× coded_bool (coded× coded_ℕ (coded× (coded_list item)
+    (coded× held_code (coded× (coded_list (link_code message))
+    (coded× (coded_list (set.code coded_ℕ))
+    (coded× (coded_list (held_back_code waiting))
+    (coded× sets_code (coded× (coded_list (coded_list item)) counted_code)))))))))))
     (λ k. (k.config, (k.me, (k.live, (k.frames, (k.stream, (k.relay, (k.outgoing, (k.incoming, (k.hold_back, (k.knowers, (k.delivered, k.agree))))))))))))
     (λ p. record {
       config = p.0;

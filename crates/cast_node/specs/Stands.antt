@@ -44,7 +44,8 @@ pub record StandsOut (me : ℕ) (steps : Steps) (q : ℕ) (link : Link) : Type 0
 -- the deliveries as agreement takes them, the newest first
 unfoldable pub newest_first : List (ℕ × Item) → List Message → List (ℕ × Item)
 newest_first before [] = before
-newest_first before (message ∷ messages) = newest_first ((message.sender, message.item) ∷ before) messages
+newest_first before (message ∷ messages) =
+    newest_first ((message.sender, message.item) ∷ before) messages
 
 pub record Stands (config : Config) (me : ℕ) (steps : Steps) (kept : Kept) : Type 0 where
   pub accepted : IsOwnAccepted config me steps
@@ -56,20 +57,32 @@ pub record Stands (config : Config) (me : ℕ) (steps : Steps) (kept : Kept) : T
   pub stream : kept.stream ≡ own_items steps
   pub relay_me : kept.relay.me ≡ me
   pub relay_size : length kept.relay.numbers ≡ 256
-  pub relay_holds : (s i : ℕ) → s < config.nodes → holds kept.relay s i ≡ has_pair (own_copies me steps) s i
+  pub relay_holds : (s i : ℕ) → s < config.nodes →
+      holds kept.relay s i ≡ has_pair (own_copies me steps) s i
   pub peers_out : length kept.outgoing ≡ config.nodes
   pub out : (q : ℕ) → q < config.nodes → q ≢ me → StandsOut me steps q (link_to kept q)
   pub peers_in : length kept.incoming ≡ config.nodes
-  pub taken : (r slot : ℕ) → r < config.nodes → set.contains (taken_from kept r) slot ≡ own_taken steps r slot
+  pub taken : (r slot : ℕ) → r < config.nodes →
+      set.contains (taken_from kept r) slot ≡ own_taken steps r slot
   pub senders_back : length kept.hold_back ≡ config.nodes
-  pub holds_back : (s : ℕ) → s < config.nodes → HoldsBack (item_at (held me steps) s) (own_is_ready config me steps s) (held_of kept.hold_back s)
+  pub holds_back : (s : ℕ) → s < config.nodes →
+      HoldsBack (item_at (held me steps) s) (own_is_ready config me steps s)
+      (held_of kept.hold_back s)
   pub senders_known : length kept.knowers ≡ config.nodes
-  pub knows : (s i r : ℕ) → s < config.nodes → set.contains (knowers_of kept s i) r ≡ (has_pair (own_copies me steps) s i && (nat_lt r config.nodes && own_knows me steps s i r))
+  pub knows : (s i r : ℕ) → s < config.nodes →
+      set.contains (knowers_of kept s i) r
+      ≡ (has_pair (own_copies me steps) s i && (nat_lt r config.nodes && own_knows me steps s i r))
   pub senders_delivered : length kept.delivered ≡ config.nodes
-  pub delivers : (s : ℕ) → s < config.nodes → slice_index_or kept.delivered s [] ≡ map item_of (filter (is_from s) (own_log config me steps))
-  pub agrees : kept.agree ≡ counted_of (config.nodes - config.faults) (newest_first [] (own_log config me steps))
+  pub delivers : (s : ℕ) → s < config.nodes →
+      slice_index_or kept.delivered s []
+      ≡ map item_of (filter (is_from s) (own_log config me steps))
+  pub agrees : kept.agree
+      ≡ counted_of (config.nodes - config.faults) (newest_first [] (own_log config me steps))
 
 -- how a node that has these steps behind it goes on by one more: as the definitions say, or it wants memory in place of an answer
 abbrev pub Continues : Config → ℕ → Steps → Step → Result Answer StepFault → Kept → Type 0
-Continues config me steps step (Ok answer) kept = (node_reply config me steps step ≡ Ok answer) × Stands config me (node_after config me steps step) kept
-Continues config me steps step (Err refusal) kept = IsRefused (own_fault config me steps step) refusal × Stands config me steps kept
+Continues config me steps step (Ok answer) kept =
+    (node_reply config me steps step ≡ Ok answer)
+    × Stands config me (node_after config me steps step) kept
+Continues config me steps step (Err refusal) kept =
+    IsRefused (own_fault config me steps step) refusal × Stands config me steps kept

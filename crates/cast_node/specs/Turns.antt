@@ -26,30 +26,36 @@ use Rattle.cast_model.specs.History.{numbered}
 use Rattle.cast_model.specs.Replies.{Cause, IsRefused, no_node, is_close, is_too_long, is_second_proposal, first_fault}
 use Rattle.cast_model.specs.Steps.{Step, Ordered, Sent, Acknowledged, Arrived, Stopped}
 use Rattle.cast_model.specs.OwnSteps.{nothing}
-use Rattle.cast_link.specs.Links.{Link}
+use Rattle.cast_link.specs.Links.{Link, with_acknowledged}
 use Rattle.cast_relay.specs.Held.{Held, holds, with_pair, relays_to}
-use Rattle.cast_fifo.specs.Held.{held_of, with_item, known_items, known_after}
+use Rattle.cast_fifo.specs.Held.{held_of, known_items, known_after}
+use Rattle.cast_fifo.specs.Calls.{Hold, held_after}
 use Rattle.cast_agree.specs.Journal.{counted_all, decisions_all}
 use Rattle.cast_node.specs.Kept.{Kept, link_to, taken_from, knowers_of, is_enough}
 
 -- a row in which the place has these members; places before it that weren't there are empty
-abbrev pub known_row : List (set.FinSet nat_cmp) → ℕ → set.FinSet nat_cmp → List (set.FinSet nat_cmp)
+abbrev pub known_row : List (set.FinSet nat_cmp) → ℕ → set.FinSet nat_cmp →
+    List (set.FinSet nat_cmp)
 known_row row i members = slice_set (row ++ replicate (suc i - length row) set.empty) i members
 
 abbrev pub with_knowers : Kept → ℕ → ℕ → set.FinSet nat_cmp → Kept
-with_knowers kept s i members = record kept { knowers = slice_set kept.knowers s (known_row (slice_index_or kept.knowers s []) i members) }
+with_knowers kept s i members =
+    let row = known_row (slice_index_or kept.knowers s []) i members in
+    record kept { knowers = slice_set kept.knowers s row }
 
 abbrev pub with_knower : Kept → ℕ → ℕ → ℕ → Kept
 with_knower kept s i r = with_knowers kept s i (set.insert (knowers_of kept s i) r)
 
 abbrev pub given_one : Link → Message → Link
-given_one link message = record { given = link.given + 1; owed = finite.insert link.owed link.given message }
+given_one link message =
+    record { given = link.given + 1; owed = finite.insert link.owed link.given message }
 
 -- given to each peer from number q on to which it goes
 unfoldable pub given_from : ℕ → Held → ℕ → Message → List Link → List Link
 given_from q relay source message [] = []
 given_from q relay source message (link ∷ links) =
-    (if relays_to relay message.sender source q then given_one link message else link) ∷ given_from (q + 1) relay source message links
+    (if relays_to relay message.sender source q then given_one link message else link)
+    ∷ given_from (q + 1) relay source message links
 
 -- a message that wasn't held is given on, kept back, and known to be held here, by its sender, and where it came from
 abbrev pub spread : Kept → Message → ℕ → Kept
@@ -57,13 +63,16 @@ spread kept message source =
     with_knowers
     (record kept {
       outgoing = given_from 0 kept.relay source message kept.outgoing;
-      hold_back = slice_set kept.hold_back message.sender (with_item (held_of kept.hold_back message.sender) message.number message.item);
+      hold_back = held_after kept.hold_back (Hold message);
     })
-    message.sender message.number (set.insert (set.insert (set.insert set.empty kept.me) message.sender) source)
+    message.sender message.number
+    (set.insert (set.insert (set.insert set.empty kept.me) message.sender) source)
 
 -- another node's message, by the peer that brought it
 abbrev pub taken_up : Kept → Message → ℕ → Kept
-taken_up kept message source = spread (record kept { relay = with_pair kept.relay message.sender message.number }) message source
+taken_up kept message source =
+    let relay = with_pair kept.relay message.sender message.number in
+    spread (record kept { relay = relay }) message source
 
 abbrev pub own_message : Kept → Item → Message
 own_message kept item = record { sender = kept.me; number = length kept.stream; item = item }
@@ -74,7 +83,8 @@ own_taken_up kept item =
     spread
     (record kept {
       stream = kept.stream ++ item ∷ [];
-      relay = record (with_pair kept.relay kept.me (length kept.stream)) { own = kept.relay.own + 1 };
+      relay =
+          record (with_pair kept.relay kept.me (length kept.stream)) { own = kept.relay.own + 1 };
     })
     (own_message kept item) kept.me
 
@@ -85,14 +95,20 @@ pub record Told : Type 0 where
 
 -- the messages whose turn has come where the pair may be delivered
 abbrev pub news_of : Kept → ℕ → ℕ → List Message
-news_of kept s i = numbered s (held_of kept.hold_back s).next (known_items (held_of kept.hold_back s) i)
+news_of kept s i =
+    numbered s (held_of kept.hold_back s).next (known_items (held_of kept.hold_back s) i)
 
 abbrev pub released : Kept → ℕ → ℕ → Told
 released kept s i = record {
-  outcome = record { deliveries = news_of kept s i; decisions = decisions_all kept.agree (news_of kept s i) };
+  outcome =
+      record {
+        deliveries = news_of kept s i;
+        decisions = decisions_all kept.agree (news_of kept s i);
+      };
   kept = record kept {
     hold_back = slice_set kept.hold_back s (known_after (held_of kept.hold_back s) i);
-    delivered = slice_set kept.delivered s (slice_index_or kept.delivered s [] ++ known_items (held_of kept.hold_back s) i);
+    delivered = slice_set kept.delivered s
+        (slice_index_or kept.delivered s [] ++ known_items (held_of kept.hold_back s) i);
     agree = counted_all kept.agree (news_of kept s i);
   };
 }
@@ -108,15 +124,19 @@ abbrev pub ordered : Kept → Item → Told
 ordered kept item = told (own_taken_up kept item) kept.me (length kept.stream)
 
 abbrev pub with_taken : Kept → ℕ → ℕ → Kept
-with_taken kept from slot = record kept { incoming = slice_set kept.incoming from (set.insert (taken_from kept from) slot) }
+with_taken kept from slot =
+    record kept { incoming = slice_set kept.incoming from (set.insert (taken_from kept from) slot) }
 
 abbrev pub with_acked : Kept → ℕ → ℕ → Kept
 with_acked kept from slot =
-    record kept { outgoing = slice_set kept.outgoing from (record { given = (link_to kept from).given; owed = finite.remove (link_to kept from).owed slot }) }
+    let link = with_acknowledged (link_to kept from) slot in
+    record kept { outgoing = slice_set kept.outgoing from link }
 
 abbrev pub acknowledged : Kept → ℕ → ℕ → Option Message → Told
 acknowledged kept from slot None = unmoved kept
-acknowledged kept from slot (Some message) = told (with_knower (with_acked kept from slot) message.sender message.number from) message.sender message.number
+acknowledged kept from slot (Some message) =
+    told (with_knower (with_acked kept from slot) message.sender message.number from)
+    message.sender message.number
 
 abbrev pub carried : Kept → ℕ → Message → Told
 carried kept from message =
@@ -126,20 +146,26 @@ carried kept from message =
 
 abbrev pub arrived_body : Kept → ℕ → FrameBody → Told
 arrived_body kept from (Carry slot message) = carried (with_taken kept from slot) from message
-arrived_body kept from (Took slot) = acknowledged kept from slot (finite.get (link_to kept from).owed slot)
+arrived_body kept from (Took slot) =
+    acknowledged kept from slot (finite.get (link_to kept from).owed slot)
 
 -- what a frame brings could stand in a frame made for this node
 abbrev pub may_bring : Kept → ℕ → FrameBody → Bool
 may_bring kept from (Carry slot message) =
-    nat_lt message.sender kept.config.nodes && not (message.sender == kept.me) && nat_lt message.number kept.config.item_limit && nat_lt slot (kept.config.nodes * kept.config.item_limit)
+    nat_lt message.sender kept.config.nodes && not (message.sender == kept.me)
+    && nat_lt message.number kept.config.item_limit
+    && nat_lt slot (kept.config.nodes * kept.config.item_limit)
 may_bring kept from (Took slot) = nat_lt slot (link_to kept from).given
 
 -- some node of a group could have made the frame for this node
 abbrev pub may_arrive : Kept → Frame → Bool
-may_arrive kept frame = nat_lt frame.from kept.config.nodes && not (frame.from == kept.me) && may_bring kept frame.from frame.body
+may_arrive kept frame =
+    nat_lt frame.from kept.config.nodes && not (frame.from == kept.me)
+    && may_bring kept frame.from frame.body
 
 abbrev pub arrived : Kept → Frame → Told
-arrived kept frame = if may_arrive kept frame then arrived_body kept frame.from frame.body else unmoved kept
+arrived kept frame =
+    if may_arrive kept frame then arrived_body kept frame.from frame.body else unmoved kept
 
 abbrev pub down : Kept → Cause
 down kept = record { holds = not kept.live; refusal = Crashed }
@@ -154,7 +180,10 @@ kept_causes kept (Ordered item) =
     ∷ record { holds = list_any is_close kept.stream; refusal = Closed }
     ∷ record { holds = is_too_long item; refusal = TooLong }
     ∷ record { holds = is_second_proposal kept.stream item; refusal = AlreadyProposed }
-    ∷ record { holds = not (is_close item) && nat_le (kept.config.item_limit - 1) (length kept.stream); refusal = StreamFull }
+    ∷ record {
+      holds = not (is_close item) && nat_le (kept.config.item_limit - 1) (length kept.stream);
+      refusal = StreamFull;
+    }
     ∷ []
 kept_causes kept (Sent to slot) =
     no_node kept.config to
@@ -195,16 +224,21 @@ kept_after kept Stopped = record kept { live = false }
 
 -- the message in a slot that is owed. The default stands where none is, and no accepted step names such a slot
 abbrev pub message_owed : Kept → ℕ → ℕ → Message
-message_owed kept to slot = unwrap_or (finite.get (link_to kept to).owed slot) (record { sender = 0; number = 0; item = Close })
+message_owed kept to slot =
+    unwrap_or (finite.get (link_to kept to).owed slot)
+    (record { sender = 0; number = 0; item = Close })
 
 -- the frame that a step makes
 abbrev pub carry_of : Kept → ℕ → ℕ → Frame
-carry_of kept to slot = record { from = kept.me; seq = kept.frames; to = to; body = Carry slot (message_owed kept to slot) }
+carry_of kept to slot =
+    let body = Carry slot (message_owed kept to slot) in
+    record { from = kept.me; seq = kept.frames; to = to; body = body }
 
 abbrev pub took_of : Kept → ℕ → ℕ → Frame
 took_of kept to slot = record { from = kept.me; seq = kept.frames; to = to; body = Took slot }
 
 -- what a step answers and leaves; a refused one leaves all as it was
 abbrev pub Gives : Kept → Step → Result Answer StepFault → Kept → Type 0
-Gives kept step (Ok answer) new = (kept_fault kept step ≡ None) × (answer ≡ kept_answer kept step) × (new ≡ kept_after kept step)
+Gives kept step (Ok answer) new =
+    (kept_fault kept step ≡ None) × (answer ≡ kept_answer kept step) × (new ≡ kept_after kept step)
 Gives kept step (Err refusal) new = IsRefused (kept_fault kept step) refusal × (new ≡ kept)

@@ -123,8 +123,7 @@ impl Deliveries {
     ) -> Result<Outcome, AllocError>
         requires sender { sender < length self.old.hold_back }
         requires number { number < 4096 }
-        ensures outcome { IfOk result (λ outcome.
-            outcome ≡ outcome_in self.old sender number members) }
+        ensures outcome { IfOk result (λ told. told ≡ outcome_in self.old sender number members) }
         ensures ok { OnOk result (self.new ≡ told_in self.old sender number members) }
         ensures err { OnErr result (self.new ≡ self.old) }
     {
@@ -170,8 +169,7 @@ impl Deliveries {
     ) -> Result<Outcome, AllocError>
         requires sender { sender < length self.old.hold_back }
         requires number { number < 4096 }
-        ensures outcome { IfOk result (λ outcome.
-            outcome ≡ outcome_in self.old sender number members) }
+        ensures outcome { IfOk result (λ told. told ≡ outcome_in self.old sender number members) }
         ensures ok { OnOk result (self.new ≡ told_in self.old sender number members) }
         ensures taken { OnOk result (link.new ≡ set.insert link.old slot) }
         ensures err { OnErr result (self.new ≡ self.old) }
