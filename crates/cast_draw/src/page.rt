@@ -129,7 +129,8 @@ fn put_tip_styles<'a>(ink: &mut Ink, kinds: &[(&'a [u8], &'a [u8])]) -> Result<(
 }
 
 fn put_tips<'a>(ink: &mut Ink, kinds: &[(&'a [u8], &'a [u8])]) -> Result<(), AllocError>
-    ensures { OnOk result (ink.new ≡ ink.old ++ flat_map (λ kind. tip_text kind.0.now kind.1.now) kinds.now) }
+    ensures { OnOk result (ink.new ≡ ink.old
+        ++ flat_map (λ kind. tip_text kind.0.now kind.1.now) kinds.now) }
 {
     for (class, colour) in kinds {
         ink.put(&[
