@@ -1,5 +1,5 @@
 -- What an event that is shown adds, put together from what each call puts.
-use Rattle.std.specs.Prelude.{◌≡◌, ℕ, ◌+◌, ◌-◌, Bool, true, false, max, if◌then◌else◌, List, [], ◌∷◌, ◌++◌, slice_set, slice_index_or, flat_map, Option, Some, None, refl}
+use Rattle.std.specs.Prelude.{◌≡◌, ℕ, ◌+◌, ◌-◌, ◌*◌, Bool, true, false, max, if◌then◌else◌, List, [], ◌∷◌, ◌++◌, slice_set, slice_index_or, flat_map, Option, Some, None, refl}
 use Rattle.std.proofs.Common.{sym, ap, ◌∙◌, append-nil, append_assoc, arith}
 use Rattle.std.specs.List.{range_with_len}
 use Rattle.std.proofs.lemmas.Grind.{flat_map-append}
@@ -16,7 +16,7 @@ use Rattle.cast_draw.specs.declared.frames.MadeFrame.{MadeFrame}
 use Rattle.cast_draw.specs.declared.side.Side.{Side}
 use Rattle.cast_draw.specs.Sides.{side_of}
 use Rattle.cast_draw.specs.FrameMarks.{lost_text, leaving_text}
-use Rattle.cast_draw.specs.Page.{stub_of, stub_by, lines_text, lifeline_text}
+use Rattle.cast_draw.specs.Page.{stub_of, stub_by, lane_text, lines_text, name_text, some_names}
 use Rattle.cast_draw.specs.Sheet.{Sheet, shows, bottom_of}
 use Rattle.cast_draw.specs.Drawn.{held_at, with_outcome, ordered, crashed, refused, settle_ended}
 
@@ -71,14 +71,22 @@ no_stub frame ink fate = sym (append-nil ink) ∙ ap (λ t. ink ++ t) (sym (noth
 
 -- ---- lines
 
--- one node's line more
-pub lines-more : (crashes : List (Option ℕ)) (n width : ℕ) (crash : Option ℕ) (old now new : List ℕ) → crash ≡ slice_index_or crashes n None → now ≡ old ++ lines_text crashes n width → new ≡ now ++ lifeline_text n crash width
-    → new ≡ old ++ lines_text crashes (n + 1) width
-lines-more crashes n width crash old now new is before put =
-    let line : ℕ → List ℕ = λ node. lifeline_text node (slice_index_or crashes node None) width in
+-- one more of a list of numbers
+range-put : (f : ℕ → List ℕ) (n : ℕ) (old now new : List ℕ) → now ≡ old ++ flat_map f (range_with_len 0 n) → new ≡ now ++ f n → new ≡ old ++ flat_map f (range_with_len 0 (n + 1))
+range-put f n old now new before put =
     let number : n ≡ 0 + n = omega arith in
     put
-    ∙ (λ i. before i ++ (ap (λ end. lifeline_text n end width) is ∙ ap line number) i)
-    ∙ append_assoc old (lines_text crashes n width) (line (0 + n))
-    ∙ ap (λ t. old ++ (lines_text crashes n width ++ t)) (sym (append-nil (line (0 + n))))
-    ∙ ap (λ t. old ++ t) (sym (ap (flat_map line) (range-more 0 n) ∙ flat_map-append line (range_with_len 0 n) ((0 + n) ∷ [])))
+    ∙ (λ i. before i ++ ap f number i)
+    ∙ append_assoc old (flat_map f (range_with_len 0 n)) (f (0 + n))
+    ∙ ap (λ t. old ++ (flat_map f (range_with_len 0 n) ++ t)) (sym (append-nil (f (0 + n))))
+    ∙ ap (λ t. old ++ t) (sym (ap (flat_map f) (range-more 0 n) ∙ flat_map-append f (range_with_len 0 n) ((0 + n) ∷ [])))
+
+-- one node's line more
+pub lines-more : (crashes : List (Option ℕ)) (n width : ℕ) (crash : Option ℕ) (old now new : List ℕ) → crash ≡ slice_index_or crashes n None → now ≡ old ++ lines_text crashes n width → new ≡ now ++ lane_text n crash width
+    → new ≡ old ++ lines_text crashes (n + 1) width
+lines-more crashes n width crash old now new is before put =
+    range-put (λ node. lane_text node (slice_index_or crashes node None) width) n old now new before (put ∙ ap (λ end. now ++ lane_text n end width) is)
+
+-- one name more
+pub names-more : (node n : ℕ) (old now new : List ℕ) → now ≡ old ++ some_names node n → new ≡ now ++ name_text node (1500 * (n + 1)) → new ≡ old ++ some_names node (n + 1)
+names-more node n old now new before put = range-put (λ place. name_text node (1500 * (place + 1))) n old now new before put

@@ -2,7 +2,7 @@
 -- marks of events.
 --     picture_text sheet      its text
 --     stub_of frame           a frame that no shown event brought: lost, or it arrives by an event that is not shown
-use Rattle.std.specs.Prelude.{ℕ, ◌+◌, max, if◌then◌else◌, List, [], ◌∷◌, ◌++◌, Option, Some, None, codes, decimal, flat_map, slice_index_or}
+use Rattle.std.specs.Prelude.{ℕ, ◌+◌, ◌-◌, ◌*◌, ◌/◌, max, if◌then◌else◌, List, [], ◌∷◌, ◌++◌, Option, Some, None, codes, decimal, flat_map, slice_index_or}
 use Rattle.std.specs.List.{range_with_len}
 use Rattle.cast_message.specs.declared.config.Config.{Config}
 use Rattle.cast_words.specs.Modes.{mode_word}
@@ -64,8 +64,22 @@ abbrev pub lifeline_text : ℕ → Option ℕ → ℕ → List ℕ
 lifeline_text node None width = life_text node width
 lifeline_text node (Some crash) width = life_text node crash ++ rest_text node crash width
 
+abbrev pub name_text : ℕ → ℕ → List ℕ
+name_text node x =
+    joined (codes "<text class='l' x='" ∷ decimal x ∷ codes "' y='" ∷ decimal (height_of node + 4) ∷ codes "'>node " ∷ decimal node ∷ codes "</text>\n" ∷ [])
+
+abbrev pub some_names : ℕ → ℕ → List ℕ
+some_names node count = flat_map (λ place. name_text node (1500 * (place + 1))) (range_with_len 0 count)
+
+-- the name again at each 1,500 points of a wide picture, where there is room for it
+abbrev pub names_text : ℕ → ℕ → List ℕ
+names_text node width = some_names node ((width - 100) / 1500)
+
+abbrev pub lane_text : ℕ → Option ℕ → ℕ → List ℕ
+lane_text node crash width = lifeline_text node crash width ++ names_text node width
+
 abbrev pub lines_text : List (Option ℕ) → ℕ → ℕ → List ℕ
-lines_text crashes nodes width = flat_map (λ node. lifeline_text node (slice_index_or crashes node None) width) (range_with_len 0 nodes)
+lines_text crashes nodes width = flat_map (λ node. lane_text node (slice_index_or crashes node None) width) (range_with_len 0 nodes)
 
 abbrev pub stub_by : MadeFrame → Fate → List ℕ
 stub_by frame UnderWay = lost_text frame frame.x (height_of frame.from) (side_of frame.from frame.to)

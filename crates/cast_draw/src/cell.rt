@@ -71,7 +71,8 @@ impl Cell {
 
     /// The place of this number below the point of a node's line. A place past the last column finds no memory.
     pub fn below(spot: Spot, place: u64) -> Result<Cell, AllocError>
-        ensures cell { IfOk result (λ cell. (cell.x ≡ place_x spot.x place) × (cell.row ≡ row_of place) × (cell.line ≡ spot.y)) }
+        ensures cell { IfOk result (λ cell. (cell.x ≡ place_x spot.x place)
+            × (cell.row ≡ row_of place) × (cell.line ≡ spot.y)) }
         ensures near { OnOk result (place < 2 ^ 41) }
     {
         if place > FARTHEST {

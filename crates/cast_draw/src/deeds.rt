@@ -18,7 +18,8 @@ pub fn put_deeds(
     deliveries: &[Message],
     decisions: &[Decision],
 ) -> Result<u64, AllocError>
-    ensures text { OnOk result (ink.new ≡ ink.old ++ deeds_text spot.x spot.y index node 0 (deeds deliveries.now decisions.now)) }
+    ensures text { OnOk result (ink.new ≡ ink.old
+        ++ deeds_text spot.x spot.y index node 0 (deeds deliveries.now decisions.now)) }
     ensures count { IfOk result (λ count. count ≡ length (deeds deliveries.now decisions.now)) }
     ensures near { IfOk result (λ count. count < 2 ^ 42) }
 {
@@ -46,7 +47,8 @@ fn put_diamonds(
     decisions: &[Decision],
 ) -> Result<u64, AllocError>
     requires { first < 2 ^ 42 }
-    ensures text { OnOk result (ink.new ≡ ink.old ++ deeds_text spot.x spot.y index node first (map Decides decisions.now)) }
+    ensures text { OnOk result (ink.new ≡ ink.old
+        ++ deeds_text spot.x spot.y index node first (map Decides decisions.now)) }
     ensures count { IfOk result (λ count. count ≡ first + length (map Decides decisions.now)) }
     ensures near { IfOk result (λ count. count < 2 ^ 42) }
 {
@@ -66,7 +68,8 @@ fn put_box(
     node: NodeId,
     message: &Message,
 ) -> Result<(), AllocError>
-    ensures text { OnOk result (ink.new ≡ ink.old ++ deed_text spot.x spot.y index node place (Delivers message.now)) }
+    ensures text { OnOk result (ink.new ≡ ink.old
+        ++ deed_text spot.x spot.y index node place (Delivers message.now)) }
     ensures near { OnOk result (place < 2 ^ 41) }
 {
     put_delivery(ink, Cell::below(spot, place)?, index, node, message)
@@ -80,7 +83,8 @@ fn put_diamond(
     node: NodeId,
     decision: Decision,
 ) -> Result<(), AllocError>
-    ensures text { OnOk result (ink.new ≡ ink.old ++ deed_text spot.x spot.y index node place (Decides decision)) }
+    ensures text { OnOk result (ink.new ≡ ink.old
+        ++ deed_text spot.x spot.y index node place (Decides decision)) }
     ensures near { OnOk result (place < 2 ^ 41) }
 {
     put_decision(ink, Cell::below(spot, place)?, index, node, decision)

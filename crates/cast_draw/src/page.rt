@@ -1,6 +1,6 @@
 //! The finished picture: what stands around the marks, and its text.
 ghost use Rattle.std.specs.Prelude.{◌≡◌, ◌≤◌, ◌++◌, IfOk, OnOk, false, flat_map};
-ghost use Rattle.cast_draw.specs.Page.{caption, head_text, life_text, lifeline_text, lines_text, rest_text, stub_of, stubs_of, style_text, tip_style, tip_text};
+ghost use Rattle.cast_draw.specs.Page.{caption, head_text, life_text, lifeline_text, lane_text, lines_text, name_text, names_text, rest_text, stub_of, stubs_of, style_text, tip_style, tip_text};
 ghost use Rattle.cast_words.specs.Written.{Writes};
 
 use crate::cell::{LINES_FROM, Spot};
@@ -19,6 +19,12 @@ use cast_words::{Meter, WriteFault, mode_name, write_bytes};
 use std::alloc::AllocError;
 use std::io::Write;
 use std::marker::Model;
+
+// From a node's name on its line to the next.
+const BETWEEN_NAMES: u64 = 1500;
+
+// What a name takes, so that none is cut at the right edge.
+const NAME_WIDTH: u64 = 100;
 
 /// A finished picture. Contracts see its text.
 #[derive(Debug, Drop)]
@@ -129,7 +135,8 @@ fn put_tip_styles<'a>(ink: &mut Ink, kinds: &[(&'a [u8], &'a [u8])]) -> Result<(
 }
 
 fn put_tips<'a>(ink: &mut Ink, kinds: &[(&'a [u8], &'a [u8])]) -> Result<(), AllocError>
-    ensures { OnOk result (ink.new ≡ ink.old ++ flat_map (λ kind. tip_text kind.0.now kind.1.now) kinds.now) }
+    ensures { OnOk result (ink.new ≡ ink.old
+        ++ flat_map (λ kind. tip_text kind.0.now kind.1.now) kinds.now) }
 {
     for (class, colour) in kinds {
         ink.put(&[
@@ -171,9 +178,41 @@ fn put_lines(
 {
     for node in 0..nodes as u8 {
         let node = NodeId(node);
-        put_line(ink, node, crash_of(crashes, node), width)?;
+        put_lane(ink, node, crash_of(crashes, node), width)?;
     }
     Ok(())
+}
+
+// The line of a node, and its name along it.
+fn put_lane(ink: &mut Ink, node: NodeId, crash: Option<u64>, width: u64) -> Result<(), AllocError>
+    ensures { OnOk result (ink.new ≡ ink.old ++ lane_text node crash width) }
+{
+    put_line(ink, node, crash, width)?;
+    put_names(ink, node, width)
+}
+
+// The name of a node again and again along its line, where the picture is wide.
+fn put_names(ink: &mut Ink, node: NodeId, width: u64) -> Result<(), AllocError>
+    ensures { OnOk result (ink.new ≡ ink.old ++ names_text node width) }
+{
+    for place in 0..width.saturating_sub(NAME_WIDTH) / BETWEEN_NAMES {
+        put_name(ink, node, BETWEEN_NAMES * (place + 1))?;
+    }
+    Ok(())
+}
+
+fn put_name(ink: &mut Ink, node: NodeId, x: u64) -> Result<(), AllocError>
+    ensures { OnOk result (ink.new ≡ ink.old ++ name_text node x) }
+{
+    ink.put(&[
+        Text(b"<text class='l' x='"),
+        Number(x),
+        Text(b"' y='"),
+        Number(height_of(node) + 4),
+        Text(b"'>node "),
+        Number(u64::from(node.0)),
+        Text(b"</text>\n"),
+    ])
 }
 
 fn put_line(ink: &mut Ink, node: NodeId, crash: Option<u64>, width: u64) -> Result<(), AllocError>

@@ -70,7 +70,8 @@ impl Picture {
     /// Takes an event, which has this place in its script, and the reply to it. A reply that is not one to the event leaves
     /// nothing.
     pub fn take(&mut self, index: u64, event: &Event, reply: &Reply) -> Result<(), DrawFault>
-        ensures { OnOk result (sheet_of self.new ≡ drawn_after (sheet_of self.old) index event.now reply.now) }
+        ensures { OnOk result (sheet_of self.new
+            ≡ drawn_after (sheet_of self.old) index event.now reply.now) }
     {
         match reply {
             Ok(answer) => self.take_answer(index, event, answer)?,
@@ -103,7 +104,8 @@ impl Picture {
     }
 
     fn take_answer(&mut self, index: u64, event: &Event, answer: &Answer) -> Result<(), AllocError>
-        ensures { OnOk result (sheet_of self.new ≡ answered (sheet_of self.old) index event.now answer.now) }
+        ensures { OnOk result (sheet_of self.new
+            ≡ answered (sheet_of self.old) index event.now answer.now) }
     {
         match (event, answer) {
             (Event::Order { node, item }, Answer::Ordered { number, outcome }) => {
@@ -131,7 +133,8 @@ impl Picture {
         number: u64,
         outcome: &Outcome,
     ) -> Result<(), AllocError>
-        ensures { OnOk result (sheet_of self.new ≡ ordered (sheet_of self.old) index node item.now number outcome.now) }
+        ensures { OnOk result (sheet_of self.new
+            ≡ ordered (sheet_of self.old) index node item.now number outcome.now) }
     {
         let pair = Pair {
             sender: node,
@@ -171,7 +174,8 @@ impl Picture {
         slot: u64,
         cargo: Cargo,
     ) -> Result<(), AllocError>
-        ensures { OnOk result (sheet_of self.new ≡ sent (sheet_of self.old) index from to slot cargo) }
+        ensures { OnOk result (sheet_of self.new
+            ≡ sent (sheet_of self.old) index from to slot cargo) }
     {
         let is_shown = self.window.shows(index);
         let frame = MadeFrame {
@@ -200,7 +204,8 @@ impl Picture {
         node: NodeId,
         outcome: &Outcome,
     ) -> Result<(), AllocError>
-        ensures { OnOk result (sheet_of self.new ≡ arrived (sheet_of self.old) index from seq node outcome.now
+        ensures { OnOk result (sheet_of self.new
+            ≡ arrived (sheet_of self.old) index from seq node outcome.now
             (slice_get (made_at self.old.made.items from) seq)) }
     {
         let is_shown = self.window.shows(index);
@@ -250,7 +255,8 @@ impl Picture {
         node: NodeId,
         outcome: &Outcome,
     ) -> Result<(), AllocError>
-        ensures { OnOk result (sheet_of self.new ≡ with_outcome (sheet_of self.old) index node outcome.now) }
+        ensures { OnOk result (sheet_of self.new
+            ≡ with_outcome (sheet_of self.old) index node outcome.now) }
     {
         let deliveries = outcome.deliveries.as_slice();
         let decisions = outcome.decisions.as_slice();

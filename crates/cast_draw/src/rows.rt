@@ -13,7 +13,8 @@ use std::alloc::{AllocError, Global};
 /// So many nodes that hold nothing.
 pub fn new_links(alloc: Global, nodes: u64) -> Result<Vec<Links>, AllocError>
     requires { nodes ≤ 64 }
-    ensures { IfOk result (λ links. links.items ≡ map (nothing_given nodes) (range_with_len 0 nodes)) }
+    ensures { IfOk result (λ links. links.items
+        ≡ map (nothing_given nodes) (range_with_len 0 nodes)) }
 {
     let mut links = Vec::new(alloc);
     for node in 0..nodes as u8 {
@@ -99,7 +100,8 @@ pub fn count(made: &[MadeFrames], node: NodeId) -> u64
 
 /// A frame more of its maker.
 pub fn add_frame(made: &mut Vec<MadeFrames>, frame: &MadeFrame) -> Result<(), AllocError>
-    ensures { OnOk result (made.new.items ≡ slice_set made.old.items frame.now.from (made_at made.old.items frame.now.from ++ frame.now ∷ [])) }
+    ensures { OnOk result (made.new.items ≡ slice_set made.old.items frame.now.from
+        (made_at made.old.items frame.now.from ++ frame.now ∷ [])) }
 {
     let place = usize::from(frame.from.0);
     if place >= made.len() {
@@ -116,7 +118,8 @@ pub fn arrive(
     is_shown: bool,
 ) -> Option<MadeFrame>
     ensures frame { result ≡ slice_get (made_at made.old.items from) seq }
-    ensures after { made.new.items ≡ slice_set made.old.items from (with_arrival (made_at made.old.items from) seq is_shown) }
+    ensures after { made.new.items ≡ slice_set made.old.items from
+        (with_arrival (made_at made.old.items from) seq is_shown) }
 {
     let place = usize::from(from.0);
     if place >= made.len() {
