@@ -94,7 +94,8 @@ pub record Stands (config : Config) (past : History) (world : State) : Type 0 wh
 
 -- the claim, of each configuration and history that the world stands for
 abbrev pub StandingFor : State → (Config → History → Type 0) → Type 0
-StandingFor world claim = (config : Config) (past : History) → Stands config past world → claim config past
+StandingFor world claim =
+    (config : Config) (past : History) → Stands config past world → claim config past
 
 -- the node of this number, or None where it is no node's
 abbrev pub FindsNode : State → ℕ → Option Kept → Type 0

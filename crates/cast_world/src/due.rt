@@ -38,7 +38,8 @@ impl World {
     /// The slots that live nodes owe live nodes, by the giver, then the taker, ascending: what a round settles. Or want of
     /// memory.
     pub fn due(&self) -> Result<Vec<DueSlot>, AllocError>
-        ensures { StandingFor self.now (λ config past. IfOk result (λ found. found.items ≡ due config past)) }
+        ensures { StandingFor self.now (λ config past.
+            IfOk result (λ found. found.items ≡ due config past)) }
     {
         find_due(self.allocator(), self)
     }

@@ -20,7 +20,8 @@ impl World {
         ensures rest { StandingFor self.now (λ config past. IsTrue result ↔ Rest config past) }
         ensures agrees { StandingFor self.now (λ config past.
             IsTrue result → FewCrashedIn config.mode config past → AgreesAtRest config past) }
-        ensures uniform { StandingFor self.now (λ config past. IsTrue result → config.mode ≡ Uniform →
+        ensures uniform { StandingFor self.now (λ config past.
+            IsTrue result → config.mode ≡ Uniform →
             HaveFewCrashed config past → HaveWhatAnyDelivered config past) }
     {
         self.first_giver().is_none()

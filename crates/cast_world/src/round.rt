@@ -25,7 +25,8 @@ impl World {
     /// ascending, the slot sent, the frame's arrival, the acknowledgement, and the arrival of that; or want of memory. The
     /// frames are numbered on as if no node's could be full.
     pub fn round_plan(&self) -> Result<List<Event>, AllocError>
-        ensures { StandingFor self.now (λ config past. IfOk result (λ events. events ≡ plan config past)) }
+        ensures { StandingFor self.now (λ config past.
+            IfOk result (λ events. events ≡ plan config past)) }
     {
         let alloc = self.allocator();
         let due = self.due()?;
@@ -47,14 +48,17 @@ impl World {
     /// After a round each live node holds exactly what some live node held before it. Where all of them held the same, the
     /// group is at rest, so that two rounds bring rest.
     pub fn round(&mut self) -> Result<u64, StepFault>
-        ensures takes { StandingFor self.old (λ config past. TakesRound config past result self.new) }
-        ensures spreads { StandingFor self.old (λ config past. IfOk result (λ _. Spreads config past)) }
+        ensures takes { StandingFor self.old (λ config past.
+            TakesRound config past result self.new) }
+        ensures spreads { StandingFor self.old (λ config past.
+            IfOk result (λ _. Spreads config past)) }
         ensures rests { StandingFor self.old (λ config past.
             HoldTheSame config past → IfOk result (λ _. Rest config (after_round config past))) }
 
         // The second of two rounds brings rest.
         ensures second { (config : Settings) (past : History) → IsAccepted config past →
-            AreAccepted config past (plan config past) → Stands config (after_round config past) self.old →
+            AreAccepted config past (plan config past) →
+            Stands config (after_round config past) self.old →
             IfOk result (λ _. Rest config (after_round config (after_round config past))) }
     {
         let Ok(due) = self.due() else {

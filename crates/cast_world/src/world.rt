@@ -170,7 +170,8 @@ impl World {
 
     /// The value that node `node` decided in the instance, if it did. It takes no memory.
     pub fn decision(&self, node: NodeId, instance: u64) -> Option<u64>
-        ensures { StandingFor self.now (λ config past. result ≡ decision config past node instance) }
+        ensures { StandingFor self.now (λ config past.
+            result ≡ decision config past node instance) }
     {
         self.find(node)?.decision(instance)
     }
