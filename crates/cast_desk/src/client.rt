@@ -39,9 +39,15 @@ impl Model for Client {
 
     ghost Value = { ClientState };
 
-    ghost view = { λ c. record { number = c.number; first_ticket = c.first_ticket; orders = c.orders; tray = c.tray } };
+    ghost view = { λ c. record {
+      number = c.number;
+      first_ticket = c.first_ticket;
+      orders = c.orders;
+      tray = c.tray;
+    } };
 
-    ghost invariant = { λ c. (c.next_ticket ≡ c.first_ticket + length c.orders.put) × AreInTurn c.number c.first_ticket c.orders.put };
+    ghost invariant = { λ c. (c.next_ticket ≡ c.first_ticket + length c.orders.put)
+        × AreInTurn c.number c.first_ticket c.orders.put };
 }
 
 impl Client {
@@ -52,7 +58,12 @@ impl Client {
         tray: Taker<Notice>,
     ) -> Client
         requires { orders.put ≡ [] }
-        ensures { result ≡ record { number = number; first_ticket = first_ticket; orders = orders; tray = tray } }
+        ensures { result ≡ record {
+          number = number;
+          first_ticket = first_ticket;
+          orders = orders;
+          tray = tray;
+        } }
     {
         Client {
             number,
@@ -70,7 +81,9 @@ impl Client {
         ensures same { IsSameClient self.old self.new }
         ensures tray { self.new.tray ≡ self.old.tray }
         ensures ticket { IfOk result (λ ticket. ticket ≡ next_ticket self.old) }
-        ensures put { IfOk result (λ ticket. self.new.orders.put ≡ self.old.orders.put ++ record { client = self.old.number; ticket = ticket; item = item } ∷ []) }
+        ensures put { IfOk result
+            (λ ticket. self.new.orders.put ≡ self.old.orders.put
+            ++ record { client = self.old.number; ticket = ticket; item = item } ∷ []) }
         ensures fault { IfErr result (IsRefusal self.old item) }
         ensures kept { OnErr result (self.new.orders.put ≡ self.old.orders.put) }
     {
@@ -99,7 +112,8 @@ impl Client {
         ensures orders { self.new.orders ≡ self.old.orders }
         ensures taken { MatchOption result
             (self.new.tray.taken ≡ self.old.tray.taken)
-            (λ notice. (from : ℕ) × (from < self.old.tray.putters) × (self.new.tray.taken ≡ self.old.tray.taken ++ (from, notice) ∷ [])) }
+            (λ notice. (from : ℕ) × (from < self.old.tray.putters)
+            × (self.new.tray.taken ≡ self.old.tray.taken ++ (from, notice) ∷ [])) }
         ensures empty { IfNone result (HasTakenOfEnded self.old.tray.ended self.old.tray.taken) }
     {
         self.tray.take(rt)

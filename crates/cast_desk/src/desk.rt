@@ -32,11 +32,14 @@ impl Desk {
     /// Takes the order at the front of the desk. It answers nothing only where the desk was empty at one moment of the
     /// call. It may spin behind a client that stalls in `submit`.
     pub fn take<R: Wait>(&mut self, rt: &R) -> Option<OrderIn>
-        ensures same { IsSameTaker self.old.orders self.new.orders × (self.new.trays ≡ self.old.trays) }
+        ensures same { IsSameTaker self.old.orders self.new.orders
+            × (self.new.trays ≡ self.old.trays) }
         ensures taken { MatchOption result
             (self.new.orders.taken ≡ self.old.orders.taken)
-            (λ order. (from : ℕ) × (from < self.old.orders.putters) × (self.new.orders.taken ≡ self.old.orders.taken ++ (from, order) ∷ [])) }
-        ensures empty { IfNone result (HasTakenOfEnded self.old.orders.ended self.old.orders.taken) }
+            (λ order. (from : ℕ) × (from < self.old.orders.putters)
+            × (self.new.orders.taken ≡ self.old.orders.taken ++ (from, order) ∷ [])) }
+        ensures empty { IfNone result
+            (HasTakenOfEnded self.old.orders.ended self.old.orders.taken) }
     {
         self.orders.take(rt)
     }

@@ -21,7 +21,9 @@ pub fn make_desk(
     clients: u64,
     first_ticket: u64,
 ) -> Result<(Vec<Client>, Desk), BoxFault>
-    ensures ends { IfOk result (λ r. IsDeskOf r.0.items r.1.orders r.1.trays.items × (length r.0.items ≡ clients) × IsNewDesk size first_ticket r.0.items r.1.orders r.1.trays.items) }
+    ensures ends { IfOk result (λ r. IsDeskOf r.0.items r.1.orders r.1.trays.items
+        × (length r.0.items ≡ clients)
+        × IsNewDesk size first_ticket r.0.items r.1.orders r.1.trays.items) }
     ensures limits { IfOk result (λ _. IsSize size × IsClients clients) }
     ensures fault { IfErr result (IsFaultOf size clients) }
 {
@@ -41,7 +43,9 @@ fn open(
     first_ticket: u64,
 ) -> Result<(Vec<Client>, Desk), AllocError>
     requires { clients ≤ 4 }
-    ensures { IfOk result (λ r. IsDeskOf r.0.items r.1.orders r.1.trays.items × (length r.0.items ≡ clients) × IsNewDesk size first_ticket r.0.items r.1.orders r.1.trays.items) }
+    ensures { IfOk result (λ r. IsDeskOf r.0.items r.1.orders r.1.trays.items
+        × (length r.0.items ≡ clients)
+        × IsNewDesk size first_ticket r.0.items r.1.orders r.1.trays.items) }
 {
     let Ok((putters, orders)) = make_box::<OrderIn>(alloc, size, clients) else {
         return Err(AllocError);
@@ -59,7 +63,8 @@ fn open(
 }
 
 fn make_tray(alloc: Global, size: u64) -> Result<(Putter<Notice>, Taker<Notice>), AllocError>
-    ensures { IfOk result (λ r. AreAllEnds (r.0 ∷ []) r.1 × AreNew (r.0 ∷ []) r.1 × (r.1.size ≡ size)) }
+    ensures { IfOk result (λ r. AreAllEnds (r.0 ∷ []) r.1 × AreNew (r.0 ∷ []) r.1
+        × (r.1.size ≡ size)) }
 {
     let Ok((putters, taker)) = make_box::<Notice>(alloc, size, 1) else {
         return Err(AllocError);
@@ -79,11 +84,14 @@ fn sole(mut all: Vec<Putter<Notice>>) -> Putter<Notice>
 /// was notified. No more is left than the desk has places. It takes no memory.
 pub fn end_desk<R: Wait>(rt: &R, clients: Vec<Client>, desk: Desk) -> Gathered<OrderIn>
     requires { IsDeskOf clients.items desk.orders desk.trays.items }
-    ensures orders { (c : ℕ) (client : ClientState) → slice_get clients.items c ≡ Some client → of c (desk.orders.taken ++ result.left) ≡ client.orders.put }
-    ensures notices { (c : ℕ) (client : ClientState) (tray : PutterEnd Notice) → slice_get clients.items c ≡ Some client → slice_get desk.trays.items c ≡ Some tray
+    ensures orders { (c : ℕ) (client : ClientState) → slice_get clients.items c ≡ Some client →
+        of c (desk.orders.taken ++ result.left) ≡ client.orders.put }
+    ensures notices { (c : ℕ) (client : ClientState) (tray : PutterEnd Notice) →
+        slice_get clients.items c ≡ Some client → slice_get desk.trays.items c ≡ Some tray
         → StartsWith tray.put (map (λ m. m.1) client.tray.taken) }
     ensures fair { IsFair (map (λ c. c.orders.put) clients.items) desk.orders.taken result.left }
-    ensures gathered { (result.taken ≡ desk.orders.taken) × (result.put ≡ map (λ c. c.orders.put) clients.items) }
+    ensures gathered { (result.taken ≡ desk.orders.taken)
+        × (result.put ≡ map (λ c. c.orders.put) clients.items) }
     ensures room { length result.left ≤ desk.orders.size }
 {
     let Desk { mut orders, trays } = desk;

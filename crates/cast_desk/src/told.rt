@@ -50,7 +50,8 @@ fn tell_reply(
     origin: &Option<Origin>,
     number: u64,
 ) -> Result<(), AllocError>
-    ensures { OnOk result (notices.new ≡ notices.old ++ reply_of client event.now origin.now number) }
+    ensures { OnOk result (notices.new ≡ notices.old
+        ++ reply_of client event.now origin.now number) }
 {
     if let (Event::Order { .. }, Some(origin)) = (event, origin) {
         if origin.client == client {
