@@ -1,13 +1,13 @@
 -- A picture comes together event by event, as the record does.
-use Rattle.std.proofs.Common.{◌≡◌, ℕ, ◌+◌, ◌<◌, List, [], ◌∷◌, ◌++◌, length, take, drop, get_or, Bool, true, false, Option, Some, None, Result, Ok, Err, refl, sym, ap, ◌∙◌, subst}
-use Rattle.std.specs.Prelude.{not, is_some, is_ok, if◌then◌else◌}
+use Rattle.std.proofs.Common.{◌≡◌, ℕ, ◌+◌, ◌<◌, List, [], ◌∷◌, ◌++◌, length, take, drop, get_or, Bool, true, false, Option, Some, None, Result, Ok, refl, sym, ap, ◌∙◌, subst}
+use Rattle.std.specs.Prelude.{not, is_ok, if◌then◌else◌}
 use Rattle.std.proofs.lemmas.List.{take_more}
 use Rattle.cast_message.specs.declared.config.Config.{Config}
 use Rattle.cast_message.specs.declared.event.Event.{Event}
 use Rattle.cast_message.specs.declared.event.Answer.{Answer}
 use Rattle.cast_message.specs.declared.event.StepFault.{StepFault}
 use Rattle.cast_model.specs.History.{History}
-use Rattle.cast_model.specs.Replies.{is_want_of_memory, fault, answer, reply, reply_by, after}
+use Rattle.cast_model.specs.Replies.{is_want_of_memory, fault, answer, reply, after}
 use Rattle.cast_model.specs.Rounds.{Due, due, events_for, plan_from, plan}
 use Rattle.cast_model.proofs.Round.{with_all}
 use Rattle.cast_model.proofs.RoundFaults.{Going, Going-next, Going-start}
@@ -16,7 +16,7 @@ use Rattle.cast_world.specs.Group.{State, Stands, Continues}
 use Rattle.cast_world.proofs.Running.{settled as settled_step}
 use Rattle.cast_draw.specs.declared.picture.Picture.{Picture}
 use Rattle.cast_draw.specs.Sheet.{Sheet, sheet_of}
-use Rattle.cast_draw.specs.Drawn.{drawn_after, settle_begun, settle_ended}
+use Rattle.cast_draw.specs.Drawn.{drawn_after}
 use Rattle.cast_script.specs.declared.script.ScriptEvent.{ScriptEvent}
 use Rattle.cast_text.specs.declared.fault.TextFault.{TextFault}
 use Rattle.cast_text.specs.Rec.{one_left, tried, round_left, settled, left_by}

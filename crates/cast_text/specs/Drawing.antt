@@ -1,5 +1,5 @@
 -- The picture of a script's run, as it is written.
-use Rattle.std.specs.Prelude.{◌≡◌, ◌<◌, ◌≤◌, ◌⊎◌, List, ℕ, length, Bool, true, not, Option, Result, Ok, Err, IfSome}
+use Rattle.std.specs.Prelude.{◌≡◌, ◌<◌, ◌≤◌, List, ℕ, length, Bool, true, not, Option, Result, Ok, Err, IfSome}
 use Rattle.std.specs.Io.KnownBytes.{Appends, Keeps}
 use Rattle.cast_message.specs.declared.config.Config.{Config}
 use Rattle.cast_model.specs.History.{History}

@@ -2,7 +2,7 @@
 --     tried_drawn config index sheet past events     after these events, up to the first that is refused
 --     settle_drawn config index sheet past           after a settle: two rounds, the second planned after the first
 --     picture_of script window                       the text of the whole
-use Rattle.std.specs.Prelude.{ℕ, ◌+◌, Bool, true, false, if◌then◌else◌, List, [], ◌∷◌, Option, Some, None}
+use Rattle.std.specs.Prelude.{ℕ, ◌+◌, if◌then◌else◌, List, [], ◌∷◌, Option, Some, None}
 use Rattle.cast_message.specs.declared.config.Config.{Config}
 use Rattle.cast_message.specs.declared.event.Event.{Event}
 use Rattle.cast_message.specs.declared.event.StepFault.{StepFault}

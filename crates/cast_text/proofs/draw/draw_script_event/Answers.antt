@@ -1,5 +1,5 @@
 use Rattle.std.proofs.Common.{◌∙◌, ap}
-use Rattle.cast_draw.specs.Sheet.{Sheet, sheet_of}
+use Rattle.cast_draw.specs.Sheet.{Sheet}
 use Rattle.cast_draw.specs.Drawn.{settle_ended}
 use Rattle.cast_text.specs.Pictured.{rounds_drawn}
 use Rattle.cast_text.proofs.draw.draw_script_event.Goals as goal
