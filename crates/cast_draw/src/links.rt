@@ -35,7 +35,11 @@ impl Model for Links {
 
     ghost coded = { gifts_code pairs.the_row.coded };
 
-    ghost view = { λ links. record { me = links.me; held = links.held.items; given = links.given.items } };
+    ghost view = { λ links. record {
+      me = links.me;
+      held = links.held.items;
+      given = links.given.items;
+    } };
 
     ghost invariant = { λ links. length links.given.items ≤ 256 };
 }

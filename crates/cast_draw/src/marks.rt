@@ -24,7 +24,8 @@ pub fn put_broadcast(
     number: u64,
     item: &Item,
 ) -> Result<(), AllocError>
-    ensures { OnOk result (ink.new ≡ ink.old ++ broadcast_text spot.x spot.y index node number item.now) }
+    ensures { OnOk result (ink.new ≡ ink.old
+        ++ broadcast_text spot.x spot.y index node number item.now) }
 {
     ink.put(&[
         Text(b"<g><title>node "),
@@ -61,7 +62,8 @@ pub fn put_delivery(
     node: NodeId,
     message: &Message,
 ) -> Result<(), AllocError>
-    ensures { OnOk result (ink.new ≡ ink.old ++ delivery_text cell.x (top_of cell.line cell.row) index node message.now) }
+    ensures { OnOk result (ink.new ≡ ink.old ++ delivery_text cell.x
+        (top_of cell.line cell.row) index node message.now) }
 {
     let sender = message.sender.0 as u64;
     let colour = (message.sender.0 % COLOURS) as u64;
@@ -105,7 +107,8 @@ pub fn put_decision(
     node: NodeId,
     decision: Decision,
 ) -> Result<(), AllocError>
-    ensures { OnOk result (ink.new ≡ ink.old ++ decision_text cell.x (top_of cell.line cell.row) index node decision) }
+    ensures { OnOk result (ink.new ≡ ink.old ++ decision_text cell.x
+        (top_of cell.line cell.row) index node decision) }
 {
     let top = cell.line + 9 + 15 * cell.row;
     ink.put(&[
@@ -221,7 +224,8 @@ pub fn put_arrow(
     end: Spot,
     index: u64,
 ) -> Result<(), AllocError>
-    ensures { OnOk result (ink.new ≡ ink.old ++ arrow_text frame.now start.x start.y end.x end.y index) }
+    ensures { OnOk result (ink.new ≡ ink.old
+        ++ arrow_text frame.now start.x start.y end.x end.y index) }
 {
     ink.put_bytes(b"<path class='a")?;
     put_class(ink, frame)?;
@@ -283,7 +287,8 @@ fn put_stub_start(
     class: &[u8],
     side: Side,
 ) -> Result<(), AllocError>
-    ensures { OnOk result (ink.new ≡ ink.old ++ stub_text frame.now start.x start.y class.now side) }
+    ensures { OnOk result (ink.new ≡ ink.old
+        ++ stub_text frame.now start.x start.y class.now side) }
 {
     ink.put_bytes(b"<path class='")?;
     ink.put_bytes(class)?;

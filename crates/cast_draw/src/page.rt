@@ -80,7 +80,8 @@ impl Picture {
 /// from then on, and a front of the text stands.
 pub fn write_drawing<W: Write>(drawing: &Drawing, writer: &mut Meter<W>) -> Result<(), WriteFault>
     requires { writer.old.failed ≡ false }
-    ensures { Writes (W.contents writer.old.inner) (W.contents writer.new.inner) writer.new.failed result drawing.now }
+    ensures { Writes (W.contents writer.old.inner)
+        (W.contents writer.new.inner) writer.new.failed result drawing.now }
 {
     write_bytes(drawing.front.as_slice(), writer)?;
     write_bytes(drawing.arrows.as_slice(), writer)?;

@@ -80,7 +80,8 @@ fn draw_script_event(
 ) -> Result<(), TextFault>
     ensures drawn { (config : Settings) (past : History) → Stands config past world.old →
         Draws config (left_by config index past event.now).past
-        (drawn_with config index (sheet_of picture.old) past event.now) world.new picture.new result }
+        (drawn_with config index (sheet_of picture.old) past event.now) world.new picture.new
+        result }
     ensures err { IfErr result (λ fault. fault ≡ TextFault.Memory) }
 {
     match event {
@@ -137,7 +138,8 @@ fn draw_events(
 ) -> Result<bool, TextFault>
     ensures drawn { (config : Settings) (past : History) → Stands config past world.old →
         DrawsTried config (tried config index past events.now)
-        (tried_drawn config index (sheet_of picture.old) past events.now) world.new picture.new result }
+        (tried_drawn config index (sheet_of picture.old) past events.now) world.new picture.new
+        result }
     ensures err { IfErr result (λ fault. fault ≡ TextFault.Memory) }
 {
     for event in events {
@@ -157,7 +159,8 @@ fn draw_event(
 ) -> Result<bool, TextFault>
     ensures drawn { (config : Settings) (past : History) → Stands config past world.old →
         DrawsTried config (one_left config index past event.now)
-        (event_drawn config index (sheet_of picture.old) past event.now) world.new picture.new result }
+        (event_drawn config index (sheet_of picture.old) past event.now) world.new picture.new
+        result }
     ensures err { IfErr result (λ fault. fault ≡ TextFault.Memory) }
 {
     let reply = world.step(event);

@@ -48,7 +48,8 @@ fn step_by_step(rt: &impl Print, alloc: Global) -> Result<()> {
     Ok(())
 }
 
-// How the threads take turns differs from run to run. What is printed doesn't: the tellers end when all is delivered.
+// How the threads take turns differs from run to run. What is printed doesn't: the tellers end when all is delivered,
+// unless memory was wanting.
 fn in_threads<R: Threads + Wait + Print + Copy + Send + 'static>(
     rt: R,
     alloc: Global,
@@ -58,7 +59,12 @@ fn in_threads<R: Threads + Wait + Print + Copy + Send + 'static>(
     let ledger = run_tellers(rt, alloc, config, &plan, story::tellers(alloc)?)?;
     println!(&rt; "in threads")?;
     for (teller, client) in ledger.tellers.iter().zip(ledger.clients.iter()) {
-        println!(&rt; "node {}:{}", client.node.0, teller.book().sheet())?;
+        let left = if teller.is_done() {
+            ""
+        } else {
+            ", not all that was to be ordered"
+        };
+        println!(&rt; "node {}{left}:{}", client.node.0, teller.book().sheet())?;
     }
     println!(&rt; "at rest: {}", ledger.assembly.world.at_rest())?;
     Ok(())

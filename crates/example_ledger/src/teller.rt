@@ -101,7 +101,9 @@ impl Teller {
         }
     }
 
-    fn is_done(&self) -> bool {
+    /// Whether all was ordered and so many messages were applied. An order that its node refused, for want of memory, is not
+    /// made again: then the teller is not done when the run ends.
+    pub fn is_done(&self) -> bool {
         self.next >= self.items.as_slice().len() && self.book.journal().len() >= self.expected
     }
 }
