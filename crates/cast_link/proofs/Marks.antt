@@ -10,7 +10,6 @@ use Rattle.std.proofs.Math.ListN.{length-set}
 use Rattle.std.proofs.lemmas.Bool.Decides.{nat_tests, eqb_tells, leb_tells}
 use Rattle.std.proofs.lemmas.List.{get_or-take, length-take}
 use Rattle.std.proofs.lemmas.Nat.Bits.{bit_at_ones, same_from_bits_below}
-use Rattle.cast_message.specs.declared.message.Message.{Message}
 use Rattle.cast_sets.specs.Bits.{is_set}
 use Rattle.cast_sets.proofs.Numbers.{no_bit}
 use Rattle.cast_link.specs.Taken.{bit_of, SetsBit, IsFullWord}
@@ -24,10 +23,11 @@ lt_true a b l = grind (arith, nat_tests)
 lt_false : (a b : ℕ) → b ≤ a → nat_lt a b ≡ false
 lt_false a b l = grind (arith, nat_tests)
 
-not_some : (b : Bool) (o : Option Message) → (b && not (is_some o)) ≡ true → o ≡ None
-not_some true None e = refl
-not_some true (Some m) e = absurd (true≢false (sym e))
-not_some false o e = absurd (true≢false (sym e))
+module _ {X : Type 0} where
+  not_some : (b : Bool) (o : Option X) → (b && not (is_some o)) ≡ true → o ≡ None
+  not_some true None e = refl
+  not_some true (Some m) e = absurd (true≢false (sym e))
+  not_some false o e = absurd (true≢false (sym e))
 
 -- ---- which slots were acknowledged
 
@@ -41,44 +41,45 @@ and_false : (b : Bool) → (b && false) ≡ false
 and_false true = refl
 and_false false = refl
 
--- a slot that was not given before is not
-none_new : (link : Link) (message : Message) (slot : ℕ) → is_acknowledged (with_given link message) slot ≡ is_acknowledged link slot
-none_new link message slot = elim (eqb_tells slot link.given) [
-  | inl e ↦
-      ap (λ o. nat_lt slot (link.given + 1) && not (is_some o)) (at ∙ ap (λ b. cond b (Some message) (map.get link.owed slot)) (here slot link.given e.1))
-      ∙ and_false (nat_lt slot (link.given + 1))
-      ∙ sym (ap (λ b. b && not (map.contains_key link.owed slot)) (lt_false slot link.given (omega (arith, e.1))))
-  | inr e ↦
-      ap (λ o. nat_lt slot (link.given + 1) && not (is_some o)) (at ∙ ap (λ b. cond b (Some message) (map.get link.owed slot)) (apart slot link.given e.1))
-      ∙ ap (λ b. b && not (map.contains_key link.owed slot)) (same_side e.1)
-]
-  where
-    at : map.get (map.insert link.owed link.given message) slot ≡ cond (eq_by_cmp nat_cmp slot link.given) (Some message) (map.get link.owed slot)
-    at = get-insert nat_cmp_total link.owed link.given message slot
+module _ {X : Type 0} where
+  -- a slot that was not given before is not
+  none_new : (link : Link X) (message : X) (slot : ℕ) → is_acknowledged (with_given link message) slot ≡ is_acknowledged link slot
+  none_new link message slot = elim (eqb_tells slot link.given) [
+    | inl e ↦
+        ap (λ o. nat_lt slot (link.given + 1) && not (is_some o)) (at ∙ ap (λ b. cond b (Some message) (map.get link.owed slot)) (here slot link.given e.1))
+        ∙ and_false (nat_lt slot (link.given + 1))
+        ∙ sym (ap (λ b. b && not (map.contains_key link.owed slot)) (lt_false slot link.given (omega (arith, e.1))))
+    | inr e ↦
+        ap (λ o. nat_lt slot (link.given + 1) && not (is_some o)) (at ∙ ap (λ b. cond b (Some message) (map.get link.owed slot)) (apart slot link.given e.1))
+        ∙ ap (λ b. b && not (map.contains_key link.owed slot)) (same_side e.1)
+  ]
+    where
+      at : map.get (map.insert link.owed link.given message) slot ≡ cond (eq_by_cmp nat_cmp slot link.given) (Some message) (map.get link.owed slot)
+      at = get-insert nat_cmp_total link.owed link.given message slot
 
-    same_side : slot ≢ link.given → nat_lt slot (link.given + 1) ≡ nat_lt slot link.given
-    same_side e = grind (arith, nat_tests)
+      same_side : slot ≢ link.given → nat_lt slot (link.given + 1) ≡ nat_lt slot link.given
+      same_side e = grind (arith, nat_tests)
 
--- one slot more, where it was given
-one_more : (link : Link) (slot q : ℕ) → slot < link.given → is_acknowledged (with_acknowledged link slot) q ≡ (nat_eq q slot || is_acknowledged link q)
-one_more link slot q l = elim (eqb_tells q slot) [
-  | inl e ↦
-      ap (λ o. nat_lt q link.given && not (is_some o)) (at ∙ ap (λ b. cond b None (map.get link.owed q)) (here q slot e.1))
-      ∙ ap (λ b. b && true) (lt_true q link.given (omega (arith, e.1, l)))
-      ∙ sym (ap (λ b. b || is_acknowledged link q) (same q slot e.1))
-  | inr e ↦
-      ap (λ o. nat_lt q link.given && not (is_some o)) (at ∙ ap (λ b. cond b None (map.get link.owed q)) (apart q slot e.1))
-      ∙ sym (ap (λ b. b || is_acknowledged link q) (other q slot e.1))
-]
-  where
-    at : map.get (map.remove link.owed slot) q ≡ cond (eq_by_cmp nat_cmp q slot) None (map.get link.owed q)
-    at = get-remove nat_cmp_total link.owed slot q
+  -- one slot more, where it was given
+  one_more : (link : Link X) (slot q : ℕ) → slot < link.given → is_acknowledged (with_acknowledged link slot) q ≡ (nat_eq q slot || is_acknowledged link q)
+  one_more link slot q l = elim (eqb_tells q slot) [
+    | inl e ↦
+        ap (λ o. nat_lt q link.given && not (is_some o)) (at ∙ ap (λ b. cond b None (map.get link.owed q)) (here q slot e.1))
+        ∙ ap (λ b. b && true) (lt_true q link.given (omega (arith, e.1, l)))
+        ∙ sym (ap (λ b. b || is_acknowledged link q) (same q slot e.1))
+    | inr e ↦
+        ap (λ o. nat_lt q link.given && not (is_some o)) (at ∙ ap (λ b. cond b None (map.get link.owed q)) (apart q slot e.1))
+        ∙ sym (ap (λ b. b || is_acknowledged link q) (other q slot e.1))
+  ]
+    where
+      at : map.get (map.remove link.owed slot) q ≡ cond (eq_by_cmp nat_cmp q slot) None (map.get link.owed q)
+      at = get-remove nat_cmp_total link.owed slot q
 
-    same : (a b : ℕ) → a ≡ b → nat_eq a b ≡ true
-    same a b e = grind (arith, nat_tests)
+      same : (a b : ℕ) → a ≡ b → nat_eq a b ≡ true
+      same a b e = grind (arith, nat_tests)
 
-    other : (a b : ℕ) → a ≢ b → nat_eq a b ≡ false
-    other a b e = grind (arith, nat_tests)
+      other : (a b : ℕ) → a ≢ b → nat_eq a b ≡ false
+      other a b e = grind (arith, nat_tests)
 
 -- ---- bits in words
 
@@ -109,132 +110,133 @@ bits_in_front words n bit l = ap (λ w. nat_eq (bit_at w (bit % 64)) 1) (get_or-
 
 -- ---- what keeps a link
 
--- none is owed where a mark is set
-none_marked : (base : ℕ) (places : List (Option Message)) (marks : List ℕ) (owed slot : ℕ) → KeepsOwed base places marks owed → base ≤ slot → is_set marks (bit_of base slot) ≡ true → map.get (owed_map base places) slot ≡ None
-none_marked base places marks owed slot h l e =
-    let at : 64 * (base / 64) + bit_of base slot ≡ slot = omega (arith, l) in
-    not_some (nat_lt slot (base + length places)) (map.get (owed_map base places) slot) (sym (ap (is_acknowledged (link_of base places)) at) ∙ sym (h.exact (bit_of base slot)) ∙ e)
+module _ {X : Type 0} where
+  -- none is owed where a mark is set
+  none_marked : (base : ℕ) (places : List (Option X)) (marks : List ℕ) (owed slot : ℕ) → KeepsOwed base places marks owed → base ≤ slot → is_set marks (bit_of base slot) ≡ true → map.get (owed_map base places) slot ≡ None
+  none_marked base places marks owed slot h l e =
+      let at : 64 * (base / 64) + bit_of base slot ≡ slot = omega (arith, l) in
+      not_some (nat_lt slot (base + length places)) (map.get (owed_map base places) slot) (sym (ap (is_acknowledged (link_of base places)) at) ∙ sym (h.exact (bit_of base slot)) ∙ e)
 
--- none is owed in a word that is marked in full
-pub none_in_word : (base : ℕ) (places : List (Option Message)) (marks : List ℕ) (owed slot n other : ℕ) → KeepsOwed base places marks owed → base ≤ slot → ((k : ℕ) → k < n → is_set marks (bit_of base slot + k) ≡ true) → slot ≤ other → other < slot + n → map.get (owed_map base places) other ≡ None
-none_in_word base places marks owed slot n other h l marked m below =
-    let same : bit_of base slot + (other - slot) ≡ bit_of base other = omega (arith, l, m) in
-    none_marked base places marks owed other h (omega (arith, l, m)) (ap (is_set marks) (sym same) ∙ marked (other - slot) (omega (arith, m, below)))
+  -- none is owed in a word that is marked in full
+  pub none_in_word : (base : ℕ) (places : List (Option X)) (marks : List ℕ) (owed slot n other : ℕ) → KeepsOwed base places marks owed → base ≤ slot → ((k : ℕ) → k < n → is_set marks (bit_of base slot + k) ≡ true) → slot ≤ other → other < slot + n → map.get (owed_map base places) other ≡ None
+  none_in_word base places marks owed slot n other h l marked m below =
+      let same : bit_of base slot + (other - slot) ≡ bit_of base other = omega (arith, l, m) in
+      none_marked base places marks owed other h (omega (arith, l, m)) (ap (is_set marks) (sym same) ∙ marked (other - slot) (omega (arith, m, below)))
 
--- more room for marks, up to the next slot's
-pub more_room : (base : ℕ) (places : List (Option Message)) (marks room : List ℕ) (owed : ℕ) → KeepsOwed base places marks owed → ((k : ℕ) → slice_index room k ≡ slice_index marks k) → length marks ≤ length room → ((n : ℕ) → length marks ≤ n → bit_of base (base + length places) / 64 < n → length room ≤ n) → KeepsOwed base places room owed
-more_room base places marks room owed h same more few = record {
-  fits = h.fits;
-  starts = h.starts;
-  count = h.count;
-  exact = λ bit. same_bits marks room same bit ∙ h.exact bit;
-  room = omega (arith, h.room, more);
-  few = let most = few (bit_of base (base + length places) / 64 + 1) (omega (arith, h.few)) (omega arith) in omega (arith, most);
-}
+  -- more room for marks, up to the next slot's
+  pub more_room : (base : ℕ) (places : List (Option X)) (marks room : List ℕ) (owed : ℕ) → KeepsOwed base places marks owed → ((k : ℕ) → slice_index room k ≡ slice_index marks k) → length marks ≤ length room → ((n : ℕ) → length marks ≤ n → bit_of base (base + length places) / 64 < n → length room ≤ n) → KeepsOwed base places room owed
+  more_room base places marks room owed h same more few = record {
+    fits = h.fits;
+    starts = h.starts;
+    count = h.count;
+    exact = λ bit. same_bits marks room same bit ∙ h.exact bit;
+    room = omega (arith, h.room, more);
+    few = let most = few (bit_of base (base + length places) / 64 + 1) (omega (arith, h.few)) (omega arith) in omega (arith, most);
+  }
 
--- the slot given last is owed, and was not acknowledged
-marks_with_last : (base : ℕ) (places : List (Option Message)) (message : Message) (bit : ℕ) → is_acknowledged (link_of base (places ++ Some message ∷ [])) (64 * (base / 64) + bit) ≡ is_acknowledged (link_of base places) (64 * (base / 64) + bit)
-marks_with_last base places message bit =
-    let long : base + length (places ++ Some message ∷ []) ≡ base + length places + 1 = omega (arith, length-append places (Some message ∷ [])) in
-    (λ i. is_acknowledged (record { given = long i; owed = owed_map-push base places message i }) (64 * (base / 64) + bit)) ∙ none_new (link_of base places) message (64 * (base / 64) + bit)
+  -- the slot given last is owed, and was not acknowledged
+  marks_with_last : (base : ℕ) (places : List (Option X)) (message : X) (bit : ℕ) → is_acknowledged (link_of base (places ++ Some message ∷ [])) (64 * (base / 64) + bit) ≡ is_acknowledged (link_of base places) (64 * (base / 64) + bit)
+  marks_with_last base places message bit =
+      let long : base + length (places ++ Some message ∷ []) ≡ base + length places + 1 = omega (arith, length-append places (Some message ∷ [])) in
+      (λ i. is_acknowledged (record { given = long i; owed = owed_map-push base places message i }) (64 * (base / 64) + bit)) ∙ none_new (link_of base places) message (64 * (base / 64) + bit)
 
--- one slot more
-pub one_given : (base : ℕ) (places after : List (Option Message)) (marks : List ℕ) (owed : ℕ) (message : Message) → KeepsOwed base places marks owed → after ≡ places ++ Some message ∷ [] → base + length places + 1 < 2 ^ 64 → bit_of base (base + length places) / 64 < length marks → KeepsOwed base after marks (owed + 1)
-one_given base places after marks owed message h e fits room =
-    subst (λ (ps : List (Option Message)). KeepsOwed base ps marks (owed + 1)) (sym e) record {
-      fits = omega (arith, fits, long);
-      starts = StartsOwed-push places message h.starts;
-      count = ap (λ n. n + 1) h.count ∙ sym (ap map.len (owed_map-push base places message) ∙ len-put_new (owed_map base places) (base + length places) message absent);
-      exact = λ bit. h.exact bit ∙ sym (marks_with_last base places message bit);
-      room = omega (arith, long, room);
-      few = omega (arith, long, h.few);
-    }
-  where
-    long : length (places ++ Some message ∷ []) ≡ length places + 1
-    long = length-append places (Some message ∷ [])
+  -- one slot more
+  pub one_given : (base : ℕ) (places after : List (Option X)) (marks : List ℕ) (owed : ℕ) (message : X) → KeepsOwed base places marks owed → after ≡ places ++ Some message ∷ [] → base + length places + 1 < 2 ^ 64 → bit_of base (base + length places) / 64 < length marks → KeepsOwed base after marks (owed + 1)
+  one_given base places after marks owed message h e fits room =
+      subst (λ (ps : List (Option X)). KeepsOwed base ps marks (owed + 1)) (sym e) record {
+        fits = omega (arith, fits, long);
+        starts = StartsOwed-push places message h.starts;
+        count = ap (λ n. n + 1) h.count ∙ sym (ap map.len (owed_map-push base places message) ∙ len-put_new (owed_map base places) (base + length places) message absent);
+        exact = λ bit. h.exact bit ∙ sym (marks_with_last base places message bit);
+        room = omega (arith, long, room);
+        few = omega (arith, long, h.few);
+      }
+    where
+      long : length (places ++ Some message ∷ []) ≡ length places + 1
+      long = length-append places (Some message ∷ [])
 
-    absent : map.get (owed_map base places) (base + length places) ≡ None
-    absent = get-owed_map base places (base + length places) ∙ none_past base places (base + length places) (omega arith)
+      absent : map.get (owed_map base places) (base + length places) ≡ None
+      absent = get-owed_map base places (base + length places) ∙ none_past base places (base + length places) (omega arith)
 
--- the last slot fewer, which is owed, and the words behind it
-pub one_taken_back : (base : ℕ) (places after : List (Option Message)) (marks : List ℕ) (owed : ℕ) (message : Message) → KeepsOwed base places marks owed → places ≡ after ++ Some message ∷ [] → KeepsOwed base after (take (bit_of base (base + length after) / 64 + 1) marks) (owed - 1)
-one_taken_back base places after marks owed message h e = record {
-  fits = omega (arith, h.fits, long);
-  starts = StartsOwed-front after (Some message) (subst StartsOwed e h.starts);
-  count = omega (arith, h.count, fewer);
-  exact = λ bit. kept bit ∙ h.exact bit ∙ same bit;
-  room = omega (arith, h.room, long, short);
-  few = omega (arith, short);
-}
-  where
-    words : ℕ
-    words = bit_of base (base + length after) / 64 + 1
+  -- the last slot fewer, which is owed, and the words behind it
+  pub one_taken_back : (base : ℕ) (places after : List (Option X)) (marks : List ℕ) (owed : ℕ) (message : X) → KeepsOwed base places marks owed → places ≡ after ++ Some message ∷ [] → KeepsOwed base after (take (bit_of base (base + length after) / 64 + 1) marks) (owed - 1)
+  one_taken_back base places after marks owed message h e = record {
+    fits = omega (arith, h.fits, long);
+    starts = StartsOwed-front after (Some message) (subst StartsOwed e h.starts);
+    count = omega (arith, h.count, fewer);
+    exact = λ bit. kept bit ∙ h.exact bit ∙ same bit;
+    room = omega (arith, h.room, long, short);
+    few = omega (arith, short);
+  }
+    where
+      words : ℕ
+      words = bit_of base (base + length after) / 64 + 1
 
-    short : length (take words marks) ≡ min words (length marks)
-    short = length-take words marks
+      short : length (take words marks) ≡ min words (length marks)
+      short = length-take words marks
 
-    long : length places ≡ length after + 1
-    long = ap length e ∙ length-append after (Some message ∷ [])
+      long : length places ≡ length after + 1
+      long = ap length e ∙ length-append after (Some message ∷ [])
 
-    absent : map.get (owed_map base after) (base + length after) ≡ None
-    absent = get-owed_map base after (base + length after) ∙ none_past base after (base + length after) (omega arith)
+      absent : map.get (owed_map base after) (base + length after) ≡ None
+      absent = get-owed_map base after (base + length after) ∙ none_past base after (base + length after) (omega arith)
 
-    fewer : map.len (owed_map base places) ≡ map.len (owed_map base after) + 1
-    fewer = ap (λ ps. map.len (owed_map base ps)) e ∙ ap map.len (owed_map-push base after message) ∙ len-put_new (owed_map base after) (base + length after) message absent
+      fewer : map.len (owed_map base places) ≡ map.len (owed_map base after) + 1
+      fewer = ap (λ ps. map.len (owed_map base ps)) e ∙ ap map.len (owed_map-push base after message) ∙ len-put_new (owed_map base after) (base + length after) message absent
 
-    same : (bit : ℕ) → is_acknowledged (link_of base places) (64 * (base / 64) + bit) ≡ is_acknowledged (link_of base after) (64 * (base / 64) + bit)
-    same bit = ap (λ (ps : List (Option Message)). is_acknowledged (link_of base ps) (64 * (base / 64) + bit)) e ∙ marks_with_last base after message bit
+      same : (bit : ℕ) → is_acknowledged (link_of base places) (64 * (base / 64) + bit) ≡ is_acknowledged (link_of base after) (64 * (base / 64) + bit)
+      same bit = ap (λ (ps : List (Option X)). is_acknowledged (link_of base ps) (64 * (base / 64) + bit)) e ∙ marks_with_last base after message bit
 
-    -- behind the words that stay no mark was set
-    kept : (bit : ℕ) → is_set (take words marks) bit ≡ is_set marks bit
-    kept bit = elim (leb_tells words (bit / 64)) [
-      | inl l ↦
-          no_bit (take words marks) bit (omega (arith, short, l.1))
-          ∙ sym (h.exact bit ∙ same bit ∙ ap (λ b. b && not (map.contains_key (owed_map base after) (64 * (base / 64) + bit))) (lt_false (64 * (base / 64) + bit) (base + length after) (omega (arith, l.1))))
-      | inr l ↦ bits_in_front marks words bit l.1
-    ]
+      -- behind the words that stay no mark was set
+      kept : (bit : ℕ) → is_set (take words marks) bit ≡ is_set marks bit
+      kept bit = elim (leb_tells words (bit / 64)) [
+        | inl l ↦
+            no_bit (take words marks) bit (omega (arith, short, l.1))
+            ∙ sym (h.exact bit ∙ same bit ∙ ap (λ b. b && not (map.contains_key (owed_map base after) (64 * (base / 64) + bit))) (lt_false (64 * (base / 64) + bit) (base + length after) (omega (arith, l.1))))
+        | inr l ↦ bits_in_front marks words bit l.1
+      ]
 
--- the marks once one more slot is acknowledged
-pub one_marked : (base : ℕ) (places : List (Option Message)) (marks after : List ℕ) (owed slot i : ℕ) → KeepsOwed base places marks owed → slot ≡ base + i → i < length places → SetsBit marks (bit_of base slot) after → (bit : ℕ) → is_set after bit ≡ is_acknowledged (link_of base (slice_set places i None)) (64 * (base / 64) + bit)
-one_marked base places marks after owed slot i h at within bits bit =
-    bits bit
-    ∙ (λ k. same_test k || h.exact bit k)
-    ∙ sym (one_more (link_of base places) slot (64 * (base / 64) + bit) (omega (arith, at, within)))
-    ∙ (λ k. is_acknowledged (record { given = long k; owed = sym (owed_map-acked base places slot i at within) k }) (64 * (base / 64) + bit))
-  where
-    long : base + length places ≡ base + length (slice_set places i None)
-    long = omega (arith, length-set places i None)
+  -- the marks once one more slot is acknowledged
+  pub one_marked : (base : ℕ) (places : List (Option X)) (marks after : List ℕ) (owed slot i : ℕ) → KeepsOwed base places marks owed → slot ≡ base + i → i < length places → SetsBit marks (bit_of base slot) after → (bit : ℕ) → is_set after bit ≡ is_acknowledged (link_of base (slice_set places i None)) (64 * (base / 64) + bit)
+  one_marked base places marks after owed slot i h at within bits bit =
+      bits bit
+      ∙ (λ k. same_test k || h.exact bit k)
+      ∙ sym (one_more (link_of base places) slot (64 * (base / 64) + bit) (omega (arith, at, within)))
+      ∙ (λ k. is_acknowledged (record { given = long k; owed = sym (owed_map-acked base places slot i at within) k }) (64 * (base / 64) + bit))
+    where
+      long : base + length places ≡ base + length (slice_set places i None)
+      long = omega (arith, length-set places i None)
 
-    same_test : nat_eq bit (bit_of base slot) ≡ nat_eq (64 * (base / 64) + bit) slot
-    same_test = grind (arith, nat_tests)
+      same_test : nat_eq bit (bit_of base slot) ≡ nat_eq (64 * (base / 64) + bit) slot
+      same_test = grind (arith, nat_tests)
 
--- a link whose base has moved on, with the words before its own dropped
-pub keeps_owed : (before base : ℕ) (places : List (Option Message)) (link : Link) (marks after : List ℕ) (owed : ℕ) → before ≤ base → link_of base places ≡ link → ((bit : ℕ) → is_set marks bit ≡ is_acknowledged link (64 * (before / 64) + bit)) → link.given - 64 * (before / 64) ≤ 64 * length marks → 64 * length marks ≤ link.given - 64 * (before / 64) + 64 → after ≡ drop (base / 64 - before / 64) marks → link.given < 2 ^ 64 → StartsOwed places → owed ≡ map.len link.owed → KeepsOwed base places after owed
-keeps_owed before base places link marks after owed later same marked room few e fits starts count =
-    subst (λ ms. KeepsOwed base places ms owed) (sym e) record {
-      fits = omega (arith, ends, fits);
-      starts = starts;
-      count = count ∙ ap (λ (l : Link). map.len l.owed) (sym same);
-      exact = λ bit.
-          is_set-drop marks moved bit (64 * moved + bit) refl
-          ∙ marked (64 * moved + bit)
-          ∙ (λ i. is_acknowledged (sym same i) ((let at : 64 * (before / 64) + (64 * moved + bit) ≡ 64 * (base / 64) + bit = omega (arith, later) in at) i));
-      room = omega (arith, room, later, ends, length-drop moved marks);
-      few = omega (arith, few, later, ends, length-drop moved marks);
-    }
-  where
-    moved : ℕ
-    moved = base / 64 - before / 64
+  -- a link whose base has moved on, with the words before its own dropped
+  pub keeps_owed : (before base : ℕ) (places : List (Option X)) (link : Link X) (marks after : List ℕ) (owed : ℕ) → before ≤ base → link_of base places ≡ link → ((bit : ℕ) → is_set marks bit ≡ is_acknowledged link (64 * (before / 64) + bit)) → link.given - 64 * (before / 64) ≤ 64 * length marks → 64 * length marks ≤ link.given - 64 * (before / 64) + 64 → after ≡ drop (base / 64 - before / 64) marks → link.given < 2 ^ 64 → StartsOwed places → owed ≡ map.len link.owed → KeepsOwed base places after owed
+  keeps_owed before base places link marks after owed later same marked room few e fits starts count =
+      subst (λ ms. KeepsOwed base places ms owed) (sym e) record {
+        fits = omega (arith, ends, fits);
+        starts = starts;
+        count = count ∙ ap (λ (l : Link X). map.len l.owed) (sym same);
+        exact = λ bit.
+            is_set-drop marks moved bit (64 * moved + bit) refl
+            ∙ marked (64 * moved + bit)
+            ∙ (λ i. is_acknowledged (sym same i) ((let at : 64 * (before / 64) + (64 * moved + bit) ≡ 64 * (base / 64) + bit = omega (arith, later) in at) i));
+        room = omega (arith, room, later, ends, length-drop moved marks);
+        few = omega (arith, few, later, ends, length-drop moved marks);
+      }
+    where
+      moved : ℕ
+      moved = base / 64 - before / 64
 
-    ends : base + length places ≡ link.given
-    ends = ap (λ (l : Link). l.given) same
+      ends : base + length places ≡ link.given
+      ends = ap (λ (l : Link X). l.given) same
 
-pub nothing_kept : KeepsOwed 0 [] [] 0
-nothing_kept = record {
-  fits = omega arith;
-  starts = tt;
-  count = sym (ap map.len (owed_map-none 0) ∙ map.len-empty nat_cmp Message);
-  exact = λ bit. no_bit [] bit (omega arith) ∙ sym (ap (λ b. b && not (map.contains_key (owed_map 0 []) (64 * (0 / 64) + bit))) (lt_false (64 * (0 / 64) + bit) 0 (omega arith)));
-  room = omega arith;
-  few = omega arith;
-}
+  pub nothing_kept : KeepsOwed {X = X} 0 [] [] 0
+  nothing_kept = record {
+    fits = omega arith;
+    starts = tt;
+    count = sym (ap map.len (owed_map-none 0) ∙ map.len-empty nat_cmp X);
+    exact = λ bit. no_bit [] bit (omega arith) ∙ sym (ap (λ b. b && not (map.contains_key (owed_map {X = X} 0 []) (64 * (0 / 64) + bit))) (lt_false (64 * (0 / 64) + bit) 0 (omega arith)));
+    room = omega arith;
+    few = omega arith;
+  }

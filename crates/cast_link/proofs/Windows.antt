@@ -6,47 +6,47 @@ use Rattle.std.specs.FinMap as map
 use Rattle.std.specs.FinMap.{find, get-from_entries, get-insert, get-remove, get-empty, len-insert, len-remove, same_map, nat_cmp-IsAntisymmetric}
 use Rattle.std.proofs.Common.{inl, inr, sym, ap, ◌∙◌, arith, true≢false, drop}
 use Rattle.std.proofs.lemmas.Bool.Decides.{nat_tests, eqb_tells, leb_tells}
-use Rattle.cast_message.specs.declared.message.Message.{Message}
 use Rattle.cast_link.specs.Links.{Link, owed_from, owed_map, StartsOwed}
 
--- the message owed at a slot
-abbrev pub owed_at : ℕ → List (Option Message) → ℕ → Option Message
-owed_at base places q = cond (nat_lt q base) None (slice_index_or places (q - base) None)
+module _ {X : Type 0} where
+  -- the message owed at a slot
+  abbrev pub owed_at : ℕ → List (Option X) → ℕ → Option X
+  owed_at base places q = cond (nat_lt q base) None (slice_index_or places (q - base) None)
 
-first_apart : (base : ℕ) (p : Option Message) (places : List (Option Message)) (q : ℕ) → q ≢ base → owed_at base (p ∷ places) q ≡ owed_at (base + 1) places q
-first_apart base p places q e = elim (leb_tells (suc q) base) [
-  | inl h ↦ below h.1
-  | inr h ↦ above h.1
-]
-  where
-    lt : (a b : ℕ) → a < b → nat_lt a b ≡ true
-    lt a b l = grind (arith, nat_tests)
+  first_apart : (base : ℕ) (p : Option X) (places : List (Option X)) (q : ℕ) → q ≢ base → owed_at base (p ∷ places) q ≡ owed_at (base + 1) places q
+  first_apart base p places q e = elim (leb_tells (suc q) base) [
+    | inl h ↦ below h.1
+    | inr h ↦ above h.1
+  ]
+    where
+      lt : (a b : ℕ) → a < b → nat_lt a b ≡ true
+      lt a b l = grind (arith, nat_tests)
 
-    ge : (a b : ℕ) → b ≤ a → nat_lt a b ≡ false
-    ge a b l = grind (arith, nat_tests)
+      ge : (a b : ℕ) → b ≤ a → nat_lt a b ≡ false
+      ge a b l = grind (arith, nat_tests)
 
-    at : (j : ℕ) → cond false None (slice_index_or (p ∷ places) (suc j) None) ≡ slice_index_or places j None
-    at j = refl
+      at : (j : ℕ) → cond false None (slice_index_or (p ∷ places) (suc j) None) ≡ slice_index_or places j None
+      at j = refl
 
-    below : q < base → owed_at base (p ∷ places) q ≡ owed_at (base + 1) places q
-    below l = ap (λ b. cond b None (slice_index_or (p ∷ places) (q - base) None)) (lt q base l) ∙ sym (ap (λ b. cond b None (slice_index_or places (q - (base + 1)) None)) (lt q (base + 1) (omega arith)))
+      below : q < base → owed_at base (p ∷ places) q ≡ owed_at (base + 1) places q
+      below l = ap (λ b. cond b None (slice_index_or (p ∷ places) (q - base) None)) (lt q base l) ∙ sym (ap (λ b. cond b None (slice_index_or places (q - (base + 1)) None)) (lt q (base + 1) (omega arith)))
 
-    above : base < suc q → owed_at base (p ∷ places) q ≡ owed_at (base + 1) places q
-    above l =
-        let past : base < q = omega (arith, e) in
-        ap (λ b. cond b None (slice_index_or (p ∷ places) (q - base) None)) (ge q base (omega arith))
-        ∙ ap (λ j. slice_index_or (p ∷ places) j None) (let e2 : q - base ≡ suc (q - (base + 1)) = omega (arith, past) in e2)
-        ∙ sym (ap (λ b. cond b None (slice_index_or places (q - (base + 1)) None)) (ge q (base + 1) (omega (arith, past))))
+      above : base < suc q → owed_at base (p ∷ places) q ≡ owed_at (base + 1) places q
+      above l =
+          let past : base < q = omega (arith, e) in
+          ap (λ b. cond b None (slice_index_or (p ∷ places) (q - base) None)) (ge q base (omega arith))
+          ∙ ap (λ j. slice_index_or (p ∷ places) j None) (let e2 : q - base ≡ suc (q - (base + 1)) = omega (arith, past) in e2)
+          ∙ sym (ap (λ b. cond b None (slice_index_or places (q - (base + 1)) None)) (ge q (base + 1) (omega (arith, past))))
 
-first_here : (base : ℕ) (p : Option Message) (places : List (Option Message)) → owed_at base (p ∷ places) base ≡ p
-first_here base p places =
-    let no : nat_lt base base ≡ false = grind (arith, nat_tests) in
-    ap (λ b. cond b None (slice_index_or (p ∷ places) (base - base) None)) no ∙ ap (λ j. slice_index_or (p ∷ places) j None) (let e : base - base ≡ 0 = omega arith in e)
+  first_here : (base : ℕ) (p : Option X) (places : List (Option X)) → owed_at base (p ∷ places) base ≡ p
+  first_here base p places =
+      let no : nat_lt base base ≡ false = grind (arith, nat_tests) in
+      ap (λ b. cond b None (slice_index_or (p ∷ places) (base - base) None)) no ∙ ap (λ j. slice_index_or (p ∷ places) j None) (let e : base - base ≡ 0 = omega arith in e)
 
-below_none : (base : ℕ) (places : List (Option Message)) (q : ℕ) → q < base → owed_at base places q ≡ None
-below_none base places q l =
-    let yes : nat_lt q base ≡ true = grind (arith, nat_tests) in
-    ap (λ b. cond b None (slice_index_or places (q - base) None)) yes
+  below_none : (base : ℕ) (places : List (Option X)) (q : ℕ) → q < base → owed_at base places q ≡ None
+  below_none base places q l =
+      let yes : nat_lt q base ≡ true = grind (arith, nat_tests) in
+      ap (λ b. cond b None (slice_index_or places (q - base) None)) yes
 
 find_apart : (q base : ℕ) → q ≢ base → eq_by_cmp nat_cmp q base ≡ false
 find_apart q base e = grind (arith, nat_tests)
@@ -54,28 +54,29 @@ find_apart q base e = grind (arith, nat_tests)
 find_here : (q base : ℕ) → q ≡ base → eq_by_cmp nat_cmp q base ≡ true
 find_here q base e = grind (arith, nat_tests)
 
-find-owed_from : (base : ℕ) (places : List (Option Message)) (q : ℕ) → find nat_cmp q (owed_from base places) ≡ owed_at base places q
-find-owed_from base [] q = empty (nat_lt q base)
-  where
-    empty : (b : Bool) → ◌≡◌ {A = Option Message} None (cond b None None)
-    empty true = refl
-    empty false = refl
-find-owed_from base (None ∷ places) q = find-owed_from (base + 1) places q ∙ elim (eqb_tells q base) [
-  | inl e ↦ below_none (base + 1) places q (omega (arith, e.1)) ∙ sym (ap (owed_at base (None ∷ places)) e.1 ∙ first_here base None places)
-  | inr e ↦ sym (first_apart base None places q e.1)
-]
-find-owed_from base (Some message ∷ places) q = elim (eqb_tells q base) [
-  | inl e ↦ ap (λ b. cond b (Some message) (find nat_cmp q (owed_from (base + 1) places))) (find_here q base e.1) ∙ sym (ap (owed_at base (Some message ∷ places)) e.1 ∙ first_here base (Some message) places)
-  | inr e ↦ ap (λ b. cond b (Some message) (find nat_cmp q (owed_from (base + 1) places))) (find_apart q base e.1) ∙ find-owed_from (base + 1) places q ∙ sym (first_apart base (Some message) places q e.1)
-]
+module _ {X : Type 0} where
+  find-owed_from : (base : ℕ) (places : List (Option X)) (q : ℕ) → find nat_cmp q (owed_from base places) ≡ owed_at base places q
+  find-owed_from base [] q = empty (nat_lt q base)
+    where
+      empty : (b : Bool) → ◌≡◌ {A = Option X} None (cond b None None)
+      empty true = refl
+      empty false = refl
+  find-owed_from base (None ∷ places) q = find-owed_from (base + 1) places q ∙ elim (eqb_tells q base) [
+    | inl e ↦ below_none (base + 1) places q (omega (arith, e.1)) ∙ sym (ap (owed_at base (None ∷ places)) e.1 ∙ first_here base None places)
+    | inr e ↦ sym (first_apart base None places q e.1)
+  ]
+  find-owed_from base (Some message ∷ places) q = elim (eqb_tells q base) [
+    | inl e ↦ ap (λ b. cond b (Some message) (find nat_cmp q (owed_from (base + 1) places))) (find_here q base e.1) ∙ sym (ap (owed_at base (Some message ∷ places)) e.1 ∙ first_here base (Some message) places)
+    | inr e ↦ ap (λ b. cond b (Some message) (find nat_cmp q (owed_from (base + 1) places))) (find_apart q base e.1) ∙ find-owed_from (base + 1) places q ∙ sym (first_apart base (Some message) places q e.1)
+  ]
 
-pub get-owed_map : (base : ℕ) (places : List (Option Message)) (q : ℕ) → map.get (owed_map base places) q ≡ owed_at base places q
-unfolding owed_map
-get-owed_map base places q = get-from_entries nat_cmp_total (owed_from base places) q ∙ find-owed_from base places q
+  pub get-owed_map : (base : ℕ) (places : List (Option X)) (q : ℕ) → map.get (owed_map base places) q ≡ owed_at base places q
+  unfolding owed_map
+  get-owed_map base places q = get-from_entries nat_cmp_total (owed_from base places) q ∙ find-owed_from base places q
 
--- two windows that owe the same
-pub same_owed : (base other : ℕ) (places after : List (Option Message)) → ((q : ℕ) → owed_at base places q ≡ owed_at other after q) → owed_map base places ≡ owed_map other after
-same_owed base other places after h = same_map nat_cmp_total nat_cmp-IsAntisymmetric _ _ (λ q. get-owed_map base places q ∙ h q ∙ sym (get-owed_map other after q))
+  -- two windows that owe the same
+  pub same_owed : (base other : ℕ) (places after : List (Option X)) → ((q : ℕ) → owed_at base places q ≡ owed_at other after q) → owed_map base places ≡ owed_map other after
+  same_owed base other places after h = same_map nat_cmp_total nat_cmp-IsAntisymmetric _ _ (λ q. get-owed_map base places q ∙ h q ∙ sym (get-owed_map other after q))
 
 suc_zero : (i : ℕ) → nat_eq (suc i) 0 ≡ false
 suc_zero i = grind (arith, nat_tests)
@@ -86,31 +87,32 @@ zero_suc i = grind (arith, nat_tests)
 suc_suc : (i j : ℕ) → nat_eq (suc i) (suc j) ≡ nat_eq i j
 suc_suc i j = grind (arith, nat_tests)
 
-at_end : (places : List (Option Message)) (p : Option Message) (i : ℕ) → slice_index_or (places ++ p ∷ []) i None ≡ cond (nat_eq i (length places)) p (slice_index_or places i None)
-at_end [] p zero = refl
-at_end [] p (suc i) = sym (ap (λ b. cond b p None) (suc_zero i))
-at_end (x ∷ places) p zero = sym (ap (λ b. cond b p x) (zero_suc (length places)))
-at_end (x ∷ places) p (suc i) = at_end places p i ∙ sym (ap (λ b. cond b p (slice_index_or places i None)) (suc_suc i (length places)))
+module _ {X : Type 0} where
+  at_end : (places : List (Option X)) (p : Option X) (i : ℕ) → slice_index_or (places ++ p ∷ []) i None ≡ cond (nat_eq i (length places)) p (slice_index_or places i None)
+  at_end [] p zero = refl
+  at_end [] p (suc i) = sym (ap (λ b. cond b p None) (suc_zero i))
+  at_end (x ∷ places) p zero = sym (ap (λ b. cond b p x) (zero_suc (length places)))
+  at_end (x ∷ places) p (suc i) = at_end places p i ∙ sym (ap (λ b. cond b p (slice_index_or places i None)) (suc_suc i (length places)))
 
-past_end : (places : List (Option Message)) (i : ℕ) → length places ≤ i → slice_index_or places i None ≡ None
-past_end [] i l = refl
-past_end (x ∷ places) zero l = absurd (omega arith)
-past_end (x ∷ places) (suc i) l = past_end places i (omega arith)
+  past_end : (places : List (Option X)) (i : ℕ) → length places ≤ i → slice_index_or places i None ≡ None
+  past_end [] i l = refl
+  past_end (x ∷ places) zero l = absurd (omega arith)
+  past_end (x ∷ places) (suc i) l = past_end places i (omega arith)
 
-pub none_past : (base : ℕ) (places : List (Option Message)) (q : ℕ) → base + length places ≤ q → owed_at base places q ≡ None
-none_past base places q l = ap (cond (nat_lt q base) None) (past_end places (q - base) (omega arith)) ∙ both (nat_lt q base)
-  where
-    both : (b : Bool) → ◌≡◌ {A = Option Message} (cond b None None) None
-    both true = refl
-    both false = refl
+  pub none_past : (base : ℕ) (places : List (Option X)) (q : ℕ) → base + length places ≤ q → owed_at base places q ≡ None
+  none_past base places q l = ap (cond (nat_lt q base) None) (past_end places (q - base) (omega arith)) ∙ both (nat_lt q base)
+    where
+      both : (b : Bool) → ◌≡◌ {A = Option X} (cond b None None) None
+      both true = refl
+      both false = refl
 
-pub none_below : (base : ℕ) (places : List (Option Message)) (q : ℕ) → q < base → owed_at base places q ≡ None
-none_below = below_none
+  pub none_below : (base : ℕ) (places : List (Option X)) (q : ℕ) → q < base → owed_at base places q ≡ None
+  none_below = below_none
 
-pub owed_inside : (base : ℕ) (places : List (Option Message)) (q i : ℕ) → q ≡ base + i → owed_at base places q ≡ slice_index_or places i None
-owed_inside base places q i e =
-    let no : nat_lt q base ≡ false = grind (arith, nat_tests) in
-    ap (λ b. cond b None (slice_index_or places (q - base) None)) no ∙ ap (λ j. slice_index_or places j None) (let f : q - base ≡ i = omega arith in f)
+  pub owed_inside : (base : ℕ) (places : List (Option X)) (q i : ℕ) → q ≡ base + i → owed_at base places q ≡ slice_index_or places i None
+  owed_inside base places q i e =
+      let no : nat_lt q base ≡ false = grind (arith, nat_tests) in
+      ap (λ b. cond b None (slice_index_or places (q - base) None)) no ∙ ap (λ j. slice_index_or places j None) (let f : q - base ≡ i = omega arith in f)
 
 end_test : (base n q : ℕ) → base ≤ q → nat_eq (q - base) n ≡ eq_by_cmp nat_cmp q (base + n)
 end_test base n q l = grind (arith, nat_tests)
@@ -118,137 +120,138 @@ end_test base n q l = grind (arith, nat_tests)
 before_end : (base n q : ℕ) → q < base → eq_by_cmp nat_cmp q (base + n) ≡ false
 before_end base n q l = grind (arith, nat_tests)
 
-pub owed_map-push : (base : ℕ) (places : List (Option Message)) (message : Message) → owed_map base (places ++ Some message ∷ []) ≡ map.insert (owed_map base places) (base + length places) message
-owed_map-push base places message = same_map nat_cmp_total nat_cmp-IsAntisymmetric _ _ (λ q. get-owed_map base _ q ∙ at q ∙ sym (get-insert nat_cmp_total (owed_map base places) (base + length places) message q ∙ ap (cond (eq_by_cmp nat_cmp q (base + length places)) (Some message)) (get-owed_map base places q)))
-  where
-    at : (q : ℕ) → owed_at base (places ++ Some message ∷ []) q ≡ cond (eq_by_cmp nat_cmp q (base + length places)) (Some message) (owed_at base places q)
-    at q = elim (leb_tells (suc q) base) [
-      | inl h ↦ below_none base _ q h.1 ∙ sym (ap (λ b. cond b (Some message) (owed_at base places q)) (before_end base (length places) q h.1) ∙ below_none base places q h.1)
-      | inr h ↦
-          let l : base ≤ q = omega (arith, h.1) in
-          let e : q ≡ base + (q - base) = omega (arith, l) in
-          owed_inside base _ q (q - base) e ∙ at_end places (Some message) (q - base) ∙ (λ i. cond (end_test base (length places) q l i) (Some message) (sym (owed_inside base places q (q - base) e) i))
+module _ {X : Type 0} where
+  pub owed_map-push : (base : ℕ) (places : List (Option X)) (message : X) → owed_map base (places ++ Some message ∷ []) ≡ map.insert (owed_map base places) (base + length places) message
+  owed_map-push base places message = same_map nat_cmp_total nat_cmp-IsAntisymmetric _ _ (λ q. get-owed_map base _ q ∙ at q ∙ sym (get-insert nat_cmp_total (owed_map base places) (base + length places) message q ∙ ap (cond (eq_by_cmp nat_cmp q (base + length places)) (Some message)) (get-owed_map base places q)))
+    where
+      at : (q : ℕ) → owed_at base (places ++ Some message ∷ []) q ≡ cond (eq_by_cmp nat_cmp q (base + length places)) (Some message) (owed_at base places q)
+      at q = elim (leb_tells (suc q) base) [
+        | inl h ↦ below_none base _ q h.1 ∙ sym (ap (λ b. cond b (Some message) (owed_at base places q)) (before_end base (length places) q h.1) ∙ below_none base places q h.1)
+        | inr h ↦
+            let l : base ≤ q = omega (arith, h.1) in
+            let e : q ≡ base + (q - base) = omega (arith, l) in
+            owed_inside base _ q (q - base) e ∙ at_end places (Some message) (q - base) ∙ (λ i. cond (end_test base (length places) q l i) (Some message) (sym (owed_inside base places q (q - base) e) i))
+      ]
+
+  set_at : (places : List (Option X)) (i j : ℕ) → i < length places → slice_index_or (slice_set places i None) j None ≡ cond (nat_eq j i) None (slice_index_or places j None)
+  set_at [] i j l = absurd (omega arith)
+  set_at (x ∷ places) zero zero l = refl
+  set_at (x ∷ places) zero (suc j) l = sym (ap (λ b. cond b None (slice_index_or places j None)) (suc_zero j))
+  set_at (x ∷ places) (suc i) zero l = sym (ap (λ b. cond b None x) (zero_suc i))
+  set_at (x ∷ places) (suc i) (suc j) l = set_at places i j (omega arith) ∙ sym (ap (λ b. cond b None (slice_index_or places j None)) (suc_suc j i))
+
+  pub owed_map-acked : (base : ℕ) (places : List (Option X)) (slot i : ℕ) → slot ≡ base + i → i < length places → owed_map base (slice_set places i None) ≡ map.remove (owed_map base places) slot
+  owed_map-acked base places slot i f l = same_map nat_cmp_total nat_cmp-IsAntisymmetric _ _ (λ q. get-owed_map base _ q ∙ at q ∙ sym (get-remove nat_cmp_total (owed_map base places) slot q ∙ ap (cond (eq_by_cmp nat_cmp q slot) None) (get-owed_map base places q)))
+    where
+      below : (q : ℕ) → q < base → eq_by_cmp nat_cmp q slot ≡ false
+      below q h = grind (arith, nat_tests)
+
+      test : (q : ℕ) → base ≤ q → nat_eq (q - base) i ≡ eq_by_cmp nat_cmp q slot
+      test q h = grind (arith, nat_tests)
+
+      at : (q : ℕ) → owed_at base (slice_set places i None) q ≡ cond (eq_by_cmp nat_cmp q slot) None (owed_at base places q)
+      at q = elim (leb_tells (suc q) base) [
+        | inl h ↦ below_none base _ q h.1 ∙ sym (ap (λ b. cond b None (owed_at base places q)) (below q h.1) ∙ below_none base places q h.1)
+        | inr h ↦
+            let m : base ≤ q = omega (arith, h.1) in
+            let e : q ≡ base + (q - base) = omega (arith, m) in
+            owed_inside base _ q (q - base) e ∙ set_at places i (q - base) l ∙ (λ k. cond (test q m k) None (sym (owed_inside base places q (q - base) e) k))
+      ]
+
+  -- a slot that isn't owed is taken out in vain
+  pub remove-absent : (m : map.FinMap nat_cmp X) (k : ℕ) → map.get m k ≡ None → map.remove m k ≡ m
+  remove-absent m k h = same_map nat_cmp_total nat_cmp-IsAntisymmetric _ _ (λ q. get-remove nat_cmp_total m k q ∙ elim (eqb_tells q k) [ inl e ↦ ap (λ b. cond b None (map.get m q)) (find_here q k e.1) ∙ sym (ap (map.get m) e.1 ∙ h) | inr e ↦ ap (λ b. cond b None (map.get m q)) (find_apart q k e.1) ])
+
+  pub len-put_new : (m : map.FinMap nat_cmp X) (k : ℕ) (v : X) → map.get m k ≡ None → map.len (map.insert m k v) ≡ map.len m + 1
+  len-put_new m k v h = len-insert nat_cmp_total m k v ∙ ap (λ o. cond (is_some o) (map.len m) (map.len m + 1)) h
+
+  -- a slot that is new, put in and taken out again
+  pub remove-inserted : (m : map.FinMap nat_cmp X) (k : ℕ) (v : X) → map.get m k ≡ None → map.remove (map.insert m k v) k ≡ m
+  remove-inserted m k v h = same_map nat_cmp_total nat_cmp-IsAntisymmetric _ _ (λ q. get-remove nat_cmp_total (map.insert m k v) k q ∙ elim (eqb_tells q k) [
+    | inl e ↦ ap (λ b. cond b None (map.get (map.insert m k v) q)) (find_here q k e.1) ∙ sym (ap (map.get m) e.1 ∙ h)
+    | inr e ↦ ap (λ b. cond b None (map.get (map.insert m k v) q)) (find_apart q k e.1) ∙ get-insert nat_cmp_total m k v q ∙ ap (λ b. cond b (Some v) (map.get m q)) (find_apart q k e.1)
+  ])
+
+  pub len-taken : (m : map.FinMap nat_cmp X) (k : ℕ) → map.contains_key m k ≡ true → map.len (map.remove m k) ≡ map.len m - 1
+  len-taken m k h = len-remove nat_cmp_total m k ∙ ap (λ b. cond b (map.len m - 1) (map.len m)) h
+
+  pub owed_map-next : (base : ℕ) (places : List (Option X)) → owed_map base (None ∷ places) ≡ owed_map (base + 1) places
+  unfolding owed_map
+  owed_map-next base places = refl
+
+  pub owed_map-none : (base : ℕ) → owed_map {X = X} base [] ≡ map.empty
+  unfolding owed_map
+  owed_map-none base = refl
+
+  len-from_entries : (es : List (ℕ × X)) → map.len (map.from_entries {R = nat_cmp} es) ≤ length es
+  len-from_entries [] = omega (arith, map.len-empty nat_cmp X)
+  len-from_entries (e ∷ es) = grind (arith, len-from_entries es, len-insert nat_cmp_total (map.from_entries {R = nat_cmp} es) e.0 e.1)
+
+  length-owed_from : (base : ℕ) (places : List (Option X)) → length (owed_from base places) ≤ length places
+  length-owed_from base [] = omega arith
+  length-owed_from base (None ∷ places) = omega (arith, length-owed_from (base + 1) places)
+  length-owed_from base (Some m ∷ places) = omega (arith, length-owed_from (base + 1) places)
+
+  pub len-owed_map : (base : ℕ) (places : List (Option X)) → map.len (owed_map base places) ≤ length places
+  unfolding owed_map
+  len-owed_map base places = omega (arith, len-from_entries (owed_from base places), length-owed_from base places)
+
+  pub StartsOwed-push : (places : List (Option X)) (message : X) → StartsOwed places → StartsOwed (places ++ Some message ∷ [])
+  StartsOwed-push [] message h = tt
+  StartsOwed-push (None ∷ places) message h = h
+  StartsOwed-push (Some m ∷ places) message h = tt
+
+  owed_some : (o : Option X) → o ≡ None → is_some o ≡ true → ⊥
+  owed_some o e h = true≢false (sym h ∙ ap is_some e)
+
+  -- a slot that is owed is a place
+  pub owed_place : (base : ℕ) (places : List (Option X)) (slot : ℕ) → map.contains_key (owed_map base places) slot ≡ true → (base ≤ slot) × (slot - base < length places)
+  owed_place base places slot h = elim (leb_tells (suc slot) base) [
+    | inl l ↦ absurd (owed_some _ (get-owed_map base places slot ∙ below_none base places slot l.1) h)
+    | inr l ↦ elim (leb_tells (base + length places) slot) [
+      | inl m ↦ absurd (owed_some _ (get-owed_map base places slot ∙ none_past base places slot m.1) h)
+      | inr m ↦ (omega (arith, l.1), omega (arith, l.1, m.1))
     ]
-
-set_at : (places : List (Option Message)) (i j : ℕ) → i < length places → slice_index_or (slice_set places i None) j None ≡ cond (nat_eq j i) None (slice_index_or places j None)
-set_at [] i j l = absurd (omega arith)
-set_at (x ∷ places) zero zero l = refl
-set_at (x ∷ places) zero (suc j) l = sym (ap (λ b. cond b None (slice_index_or places j None)) (suc_zero j))
-set_at (x ∷ places) (suc i) zero l = sym (ap (λ b. cond b None x) (zero_suc i))
-set_at (x ∷ places) (suc i) (suc j) l = set_at places i j (omega arith) ∙ sym (ap (λ b. cond b None (slice_index_or places j None)) (suc_suc j i))
-
-pub owed_map-acked : (base : ℕ) (places : List (Option Message)) (slot i : ℕ) → slot ≡ base + i → i < length places → owed_map base (slice_set places i None) ≡ map.remove (owed_map base places) slot
-owed_map-acked base places slot i f l = same_map nat_cmp_total nat_cmp-IsAntisymmetric _ _ (λ q. get-owed_map base _ q ∙ at q ∙ sym (get-remove nat_cmp_total (owed_map base places) slot q ∙ ap (cond (eq_by_cmp nat_cmp q slot) None) (get-owed_map base places q)))
-  where
-    below : (q : ℕ) → q < base → eq_by_cmp nat_cmp q slot ≡ false
-    below q h = grind (arith, nat_tests)
-
-    test : (q : ℕ) → base ≤ q → nat_eq (q - base) i ≡ eq_by_cmp nat_cmp q slot
-    test q h = grind (arith, nat_tests)
-
-    at : (q : ℕ) → owed_at base (slice_set places i None) q ≡ cond (eq_by_cmp nat_cmp q slot) None (owed_at base places q)
-    at q = elim (leb_tells (suc q) base) [
-      | inl h ↦ below_none base _ q h.1 ∙ sym (ap (λ b. cond b None (owed_at base places q)) (below q h.1) ∙ below_none base places q h.1)
-      | inr h ↦
-          let m : base ≤ q = omega (arith, h.1) in
-          let e : q ≡ base + (q - base) = omega (arith, m) in
-          owed_inside base _ q (q - base) e ∙ set_at places i (q - base) l ∙ (λ k. cond (test q m k) None (sym (owed_inside base places q (q - base) e) k))
-    ]
-
--- a slot that isn't owed is taken out in vain
-pub remove-absent : (m : map.FinMap nat_cmp Message) (k : ℕ) → map.get m k ≡ None → map.remove m k ≡ m
-remove-absent m k h = same_map nat_cmp_total nat_cmp-IsAntisymmetric _ _ (λ q. get-remove nat_cmp_total m k q ∙ elim (eqb_tells q k) [ inl e ↦ ap (λ b. cond b None (map.get m q)) (find_here q k e.1) ∙ sym (ap (map.get m) e.1 ∙ h) | inr e ↦ ap (λ b. cond b None (map.get m q)) (find_apart q k e.1) ])
-
-pub len-put_new : (m : map.FinMap nat_cmp Message) (k : ℕ) (v : Message) → map.get m k ≡ None → map.len (map.insert m k v) ≡ map.len m + 1
-len-put_new m k v h = len-insert nat_cmp_total m k v ∙ ap (λ o. cond (is_some o) (map.len m) (map.len m + 1)) h
-
--- a slot that is new, put in and taken out again
-pub remove-inserted : (m : map.FinMap nat_cmp Message) (k : ℕ) (v : Message) → map.get m k ≡ None → map.remove (map.insert m k v) k ≡ m
-remove-inserted m k v h = same_map nat_cmp_total nat_cmp-IsAntisymmetric _ _ (λ q. get-remove nat_cmp_total (map.insert m k v) k q ∙ elim (eqb_tells q k) [
-  | inl e ↦ ap (λ b. cond b None (map.get (map.insert m k v) q)) (find_here q k e.1) ∙ sym (ap (map.get m) e.1 ∙ h)
-  | inr e ↦ ap (λ b. cond b None (map.get (map.insert m k v) q)) (find_apart q k e.1) ∙ get-insert nat_cmp_total m k v q ∙ ap (λ b. cond b (Some v) (map.get m q)) (find_apart q k e.1)
-])
-
-pub len-taken : (m : map.FinMap nat_cmp Message) (k : ℕ) → map.contains_key m k ≡ true → map.len (map.remove m k) ≡ map.len m - 1
-len-taken m k h = len-remove nat_cmp_total m k ∙ ap (λ b. cond b (map.len m - 1) (map.len m)) h
-
-pub owed_map-next : (base : ℕ) (places : List (Option Message)) → owed_map base (None ∷ places) ≡ owed_map (base + 1) places
-unfolding owed_map
-owed_map-next base places = refl
-
-pub owed_map-none : (base : ℕ) → owed_map base [] ≡ map.empty
-unfolding owed_map
-owed_map-none base = refl
-
-len-from_entries : (es : List (ℕ × Message)) → map.len (map.from_entries {R = nat_cmp} es) ≤ length es
-len-from_entries [] = omega (arith, map.len-empty nat_cmp Message)
-len-from_entries (e ∷ es) = grind (arith, len-from_entries es, len-insert nat_cmp_total (map.from_entries {R = nat_cmp} es) e.0 e.1)
-
-length-owed_from : (base : ℕ) (places : List (Option Message)) → length (owed_from base places) ≤ length places
-length-owed_from base [] = omega arith
-length-owed_from base (None ∷ places) = omega (arith, length-owed_from (base + 1) places)
-length-owed_from base (Some m ∷ places) = omega (arith, length-owed_from (base + 1) places)
-
-pub len-owed_map : (base : ℕ) (places : List (Option Message)) → map.len (owed_map base places) ≤ length places
-unfolding owed_map
-len-owed_map base places = omega (arith, len-from_entries (owed_from base places), length-owed_from base places)
-
-pub StartsOwed-push : (places : List (Option Message)) (message : Message) → StartsOwed places → StartsOwed (places ++ Some message ∷ [])
-StartsOwed-push [] message h = tt
-StartsOwed-push (None ∷ places) message h = h
-StartsOwed-push (Some m ∷ places) message h = tt
-
-owed_some : (o : Option Message) → o ≡ None → is_some o ≡ true → ⊥
-owed_some o e h = true≢false (sym h ∙ ap is_some e)
-
--- a slot that is owed is a place
-pub owed_place : (base : ℕ) (places : List (Option Message)) (slot : ℕ) → map.contains_key (owed_map base places) slot ≡ true → (base ≤ slot) × (slot - base < length places)
-owed_place base places slot h = elim (leb_tells (suc slot) base) [
-  | inl l ↦ absurd (owed_some _ (get-owed_map base places slot ∙ below_none base places slot l.1) h)
-  | inr l ↦ elim (leb_tells (base + length places) slot) [
-    | inl m ↦ absurd (owed_some _ (get-owed_map base places slot ∙ none_past base places slot m.1) h)
-    | inr m ↦ (omega (arith, l.1), omega (arith, l.1, m.1))
   ]
-]
 
-pub len-some : (m : map.FinMap nat_cmp Message) (k : ℕ) → map.contains_key m k ≡ true → 1 ≤ map.len m
-len-some m k h = elim (leb_tells 1 (map.len m)) [ inl l ↦ l.1 | inr l ↦ absurd (owed_some _ (ap (λ m. map.get m k) (map.empty_of_len m (omega (arith, l.1))) ∙ get-empty nat_cmp k) h) ]
+  pub len-some : (m : map.FinMap nat_cmp X) (k : ℕ) → map.contains_key m k ≡ true → 1 ≤ map.len m
+  len-some m k h = elim (leb_tells 1 (map.len m)) [ inl l ↦ l.1 | inr l ↦ absurd (owed_some _ (ap (λ m. map.get m k) (map.empty_of_len m (omega (arith, l.1))) ∙ get-empty nat_cmp k) h) ]
 
-pub popped : (before after : List (Option Message)) → 0 < length before → slice_index_or before 0 None ≡ None → after ≡ drop 1 before → before ≡ None ∷ after
-popped [] after l h e = absurd (omega arith)
-popped (x ∷ before) after l h e = λ i. h i ∷ sym e i
+  pub popped : (before after : List (Option X)) → 0 < length before → slice_index_or before 0 None ≡ None → after ≡ drop 1 before → before ≡ None ∷ after
+  popped [] after l h e = absurd (omega arith)
+  popped (x ∷ before) after l h e = λ i. h i ∷ sym e i
 
-pub StartsOwed-front : (places : List (Option Message)) (p : Option Message) → StartsOwed (places ++ p ∷ []) → StartsOwed places
-StartsOwed-front [] p h = tt
-StartsOwed-front (None ∷ places) p h = h
-StartsOwed-front (Some m ∷ places) p h = tt
+  pub StartsOwed-front : (places : List (Option X)) (p : Option X) → StartsOwed (places ++ p ∷ []) → StartsOwed places
+  StartsOwed-front [] p h = tt
+  StartsOwed-front (None ∷ places) p h = h
+  StartsOwed-front (Some m ∷ places) p h = tt
 
--- what is owed then
-pub owed_taken_back : (base : ℕ) (places after : List (Option Message)) (message : Message) → places ≡ after ++ Some message ∷ [] → owed_map base after ≡ map.remove (owed_map base places) (base + length after)
-owed_taken_back base places after message e =
-    sym (ap (λ ps. map.remove (owed_map base ps) (base + length after)) e
-    ∙ ap (λ m. map.remove m (base + length after)) (owed_map-push base after message)
-    ∙ remove-inserted (owed_map base after) (base + length after) message (get-owed_map base after (base + length after) ∙ none_past base after (base + length after) (omega arith)))
+  -- what is owed then
+  pub owed_taken_back : (base : ℕ) (places after : List (Option X)) (message : X) → places ≡ after ++ Some message ∷ [] → owed_map base after ≡ map.remove (owed_map base places) (base + length after)
+  owed_taken_back base places after message e =
+      sym (ap (λ ps. map.remove (owed_map base ps) (base + length after)) e
+      ∙ ap (λ m. map.remove m (base + length after)) (owed_map-push base after message)
+      ∙ remove-inserted (owed_map base after) (base + length after) message (get-owed_map base after (base + length after) ∙ none_past base after (base + length after) (omega arith)))
 
--- the last place, which is owed
-pub last_place : (base : ℕ) (places : List (Option Message)) (link : Link) → (let l : Link = record { given = base + length places; owed = owed_map base places } in l) ≡ link → map.contains_key link.owed (link.given - 1) ≡ true → (0 < length places) × ((message : Message) × (slice_index_or places (length places - 1) None ≡ Some message))
-last_place base places link is h = (some_places, go (slice_index_or places (length places - 1) None) some)
-  where
-    slot : ℕ
-    slot = base + length places - 1
+  -- the last place, which is owed
+  pub last_place : (base : ℕ) (places : List (Option X)) (link : Link X) → (let l : Link X = record { given = base + length places; owed = owed_map base places } in l) ≡ link → map.contains_key link.owed (link.given - 1) ≡ true → (0 < length places) × ((message : X) × (slice_index_or places (length places - 1) None ≡ Some message))
+  last_place base places link is h = (some_places, go (slice_index_or places (length places - 1) None) some)
+    where
+      slot : ℕ
+      slot = base + length places - 1
 
-    hit : map.contains_key (owed_map base places) slot ≡ true
-    hit = ap (λ (l : Link). map.contains_key l.owed (l.given - 1)) is ∙ h
+      hit : map.contains_key (owed_map base places) slot ≡ true
+      hit = ap (λ (l : Link X). map.contains_key l.owed (l.given - 1)) is ∙ h
 
-    inside : (base ≤ slot) × (slot - base < length places)
-    inside = owed_place base places slot hit
+      inside : (base ≤ slot) × (slot - base < length places)
+      inside = owed_place base places slot hit
 
-    some_places : 0 < length places
-    some_places = omega (arith, inside.1)
+      some_places : 0 < length places
+      some_places = omega (arith, inside.1)
 
-    some : is_some (slice_index_or places (length places - 1) None) ≡ true
-    some = sym (ap is_some (get-owed_map base places slot ∙ owed_inside base places slot (length places - 1) (omega (arith, some_places)))) ∙ hit
+      some : is_some (slice_index_or places (length places - 1) None) ≡ true
+      some = sym (ap is_some (get-owed_map base places slot ∙ owed_inside base places slot (length places - 1) (omega (arith, some_places)))) ∙ hit
 
-    go : (p : Option Message) → is_some p ≡ true → (message : Message) × (p ≡ Some message)
-    go None g = absurd (true≢false (sym g))
-    go (Some m) g = (m, refl)
+      go : (p : Option X) → is_some p ≡ true → (message : X) × (p ≡ Some message)
+      go None g = absurd (true≢false (sym g))
+      go (Some m) g = (m, refl)

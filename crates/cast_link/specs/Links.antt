@@ -1,6 +1,6 @@
--- What a node gave another, as callers see it.
---     Link                       how many slots were given, and the owed ones with their messages
---     with_given link message    a slot more is given
+-- What a node gave another, as callers see it. What a slot keeps of a message is its user's affair: the message itself, or where to find it.
+--     Link X                     how many slots were given, and the owed ones with what they keep
+--     with_given link kept       a slot more is given
 --     with_acknowledged link slot      a slot is owed no more
 --     without_last link          the slot given last is taken back, where it is owed
 --     IsLeastFrom owed at slot   the least slot owed from `at` on
@@ -12,64 +12,64 @@ use Rattle.std.specs.Prelude.{◌≡◌, ℕ, ◌+◌, ◌-◌, ◌*◌, ◌/◌
 use Rattle.std.specs.Ordering.{nat_cmp}
 use Rattle.std.specs.FinMap as map
 use Rattle.std.specs.Coded.{Coded, code_by, coded×, coded_ℕ}
-use Rattle.cast_message.specs.declared.message.Message.{Message}
 use Rattle.cast_sets.specs.Bits.{is_set}
 
-pub record Link : Type 0 where
+pub record Link (X : Type 0) : Type 0 where
   pub given : ℕ
-  pub owed : map.FinMap nat_cmp Message
+  pub owed : map.FinMap nat_cmp X
 
-abbrev pub with_given : Link → Message → Link
-with_given link message =
-    record { given = link.given + 1; owed = map.insert link.owed link.given message }
+module _ {X : Type 0} where
+  abbrev pub with_given : Link X → X → Link X
+  with_given link kept =
+      record { given = link.given + 1; owed = map.insert link.owed link.given kept }
 
-abbrev pub with_acknowledged : Link → ℕ → Link
-with_acknowledged link slot = record { given = link.given; owed = map.remove link.owed slot }
+  abbrev pub with_acknowledged : Link X → ℕ → Link X
+  with_acknowledged link slot = record { given = link.given; owed = map.remove link.owed slot }
 
-abbrev pub without_last : Link → Link
-without_last link =
-    if map.contains_key link.owed (link.given - 1)
-    then record { given = link.given - 1; owed = map.remove link.owed (link.given - 1) }
-    else link
+  abbrev pub without_last : Link X → Link X
+  without_last link =
+      if map.contains_key link.owed (link.given - 1)
+      then record { given = link.given - 1; owed = map.remove link.owed (link.given - 1) }
+      else link
 
--- slot is the least one owed that isn't below `at`, or `None` where there is none
-abbrev pub IsLeastFrom : map.FinMap nat_cmp Message → ℕ → Option ℕ → Type 0
-IsLeastFrom owed from result =
-    MatchOption result
-    ((other : ℕ) → from ≤ other → map.get owed other ≡ None)
-    (λ slot. (from ≤ slot) × (map.contains_key owed slot ≡ true)
-    × ((other : ℕ) → from ≤ other → other < slot → map.get owed other ≡ None))
+  -- slot is the least one owed that isn't below `at`, or `None` where there is none
+  abbrev pub IsLeastFrom : map.FinMap nat_cmp X → ℕ → Option ℕ → Type 0
+  IsLeastFrom owed from result =
+      MatchOption result
+      ((other : ℕ) → from ≤ other → map.get owed other ≡ None)
+      (λ slot. (from ≤ slot) × (map.contains_key owed slot ≡ true)
+      × ((other : ℕ) → from ≤ other → other < slot → map.get owed other ≡ None))
 
--- the slots from base on, with the messages that are still owed
-abbrev pub owed_from : ℕ → List (Option Message) → List (ℕ × Message)
-owed_from base [] = []
-owed_from base (None ∷ places) = owed_from (base + 1) places
-owed_from base (Some message ∷ places) = (base, message) ∷ owed_from (base + 1) places
+  -- the slots from base on that are still owed, with what they keep
+  abbrev pub owed_from : ℕ → List (Option X) → List (ℕ × X)
+  owed_from base [] = []
+  owed_from base (None ∷ places) = owed_from (base + 1) places
+  owed_from base (Some kept ∷ places) = (base, kept) ∷ owed_from (base + 1) places
 
-unfoldable pub owed_map : ℕ → List (Option Message) → map.FinMap nat_cmp Message
-owed_map base places = map.from_entries (owed_from base places)
+  unfoldable pub owed_map : ℕ → List (Option X) → map.FinMap nat_cmp X
+  owed_map base places = map.from_entries (owed_from base places)
 
-abbrev pub link_of : ℕ → List (Option Message) → Link
-link_of base places = record { given = base + length places; owed = owed_map base places }
+  abbrev pub link_of : ℕ → List (Option X) → Link X
+  link_of base places = record { given = base + length places; owed = owed_map base places }
 
--- the first place, if any, is owed
-abbrev pub StartsOwed : List (Option Message) → Type 0
-StartsOwed [] = Unit {0}
-StartsOwed (None ∷ places) = ⊥
-StartsOwed (Some message ∷ places) = Unit {0}
+  -- the first place, if any, is owed
+  abbrev pub StartsOwed : List (Option X) → Type 0
+  StartsOwed [] = Unit {0}
+  StartsOwed (None ∷ places) = ⊥
+  StartsOwed (Some kept ∷ places) = Unit {0}
 
-abbrev pub link_code : Coded Message → Coded Link
-link_code message =
-    code_by (ℕ × map.FinMap nat_cmp Message) (coded× coded_ℕ (map.code coded_ℕ message))
-    (λ l. (l.given, l.owed)) (λ p. record { given = p.0; owed = p.1 }) (λ _. refl)
+  abbrev pub link_code : Coded X → Coded (Link X)
+  link_code kept =
+      code_by (ℕ × map.FinMap nat_cmp X) (coded× coded_ℕ (map.code coded_ℕ kept))
+      (λ l. (l.given, l.owed)) (λ p. record { given = p.0; owed = p.1 }) (λ _. refl)
 
--- a slot that was given and is not owed
-abbrev pub is_acknowledged : Link → ℕ → Bool
-is_acknowledged link slot = nat_lt slot link.given && not (map.contains_key link.owed slot)
+  -- a slot that was given and is not owed
+  abbrev pub is_acknowledged : Link X → ℕ → Bool
+  is_acknowledged link slot = nat_lt slot link.given && not (map.contains_key link.owed slot)
 
 -- The base is the least slot owed, or the next to be given. The marks begin with the first slot in the base's word, and those
 -- of the slots that were acknowledged are set, and no others. They have room for each place, and no more than a word beyond.
-pub record KeepsOwed (base : ℕ) (places : List (Option Message)) (marks : List ℕ) (owed : ℕ)
+pub record KeepsOwed {X : Type 0} (base : ℕ) (places : List (Option X)) (marks : List ℕ) (owed : ℕ)
     : Type 0 where
   pub fits : base + length places < 2 ^ 64
   pub starts : StartsOwed places

@@ -50,7 +50,7 @@ fn drops_what_lies_below_the_least_slot_owed(rt: HostRuntime) -> Result<(), Fail
 }
 
 // Gives a message, takes it back, and says which slot it had.
-fn give_and_take_back(link: &mut LinkOut, number: u64) -> Result<u64, AllocError>
+fn give_and_take_back(link: &mut LinkOut<Message>, number: u64) -> Result<u64, AllocError>
     requires { link.old.given + 1 < 2 ^ 64 }
     ensures { OnOk result (link.new ≡ link.old) }
 {

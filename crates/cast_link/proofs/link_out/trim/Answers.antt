@@ -4,7 +4,7 @@ use Rattle.cast_link.proofs.Windows.{owed_map-next, popped}
 use Rattle.cast_link.proofs.link_out.trim.Goals as goal
 
 pub loop-places-preserved : goal.loop-places-preserved
-loop-places-preserved c =
+loop-places-preserved g c =
     let i = c.loop-places.invariant in
     let places = c.loop-places.places.items in
     let within : 0 < length places = omega (arith, c.in-Some-None.ensures.variant.0 refl, c.loop-places.places.ok) in

@@ -3,7 +3,7 @@ use Rattle.cast_link.specs.Links.{owed_map}
 use Rattle.cast_link.proofs.link_out.trim.Given as goal
 
 abbrev pub invariant-loop-places : goal.invariant-loop-places
-invariant-loop-places l =
+invariant-loop-places g l =
     record {
       later : l.fn.base ≤ l.base;
       given : l.base + length l.places.items ≡ l.fn.base + length l.fn.places.items;
@@ -11,4 +11,4 @@ invariant-loop-places l =
     }
 
 abbrev pub decreases-loop-places : goal.decreases-loop-places
-decreases-loop-places l = length l.places.items
+decreases-loop-places g l = length l.places.items

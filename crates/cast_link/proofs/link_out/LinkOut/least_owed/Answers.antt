@@ -2,7 +2,6 @@ use Rattle.std.proofs.Common.{◌≡◌, suc, Bor, refl, false, true≢false, �
 use Rattle.std.specs.FinMap as map
 use Rattle.std.specs.Option.{option_copied}
 use Rattle.std.proofs.lemmas.Bool.Decides.{leb_tells}
-use Rattle.cast_message.specs.declared.message.Message.{Message}
 use Rattle.cast_sets.specs.Bits.{is_set}
 use Rattle.cast_link.specs.Links.{Link}
 use Rattle.cast_link.proofs.Windows.{get-owed_map, none_past, none_below}
@@ -10,21 +9,21 @@ use Rattle.cast_link.proofs.Marks.{none_in_word}
 use Rattle.cast_link.proofs.link_out.LinkOut.least_owed.Goals as goal
 
 pub loop-slot-init : goal.loop-slot-init
-loop-slot-init c = record {
+loop-slot-init g c = record {
   from = omega (arith, c.max-slot.ensures);
   base = omega (arith, c.max-slot.ensures);
-  none = λ other l m. sym (ap (λ (k : Link). map.get k.owed other) c.self.view_is) ∙ get-owed_map c.self.inside.base c.self.inside.places.items other ∙ none_below c.self.inside.base c.self.inside.places.items other (omega (arith, c.max-slot.ensures, l, m));
+  none = λ other l m. sym (ap (λ (k : Link g.row.T.Denot). map.get k.owed other) c.self.view_is) ∙ get-owed_map c.self.inside.base c.self.inside.places.items other ∙ none_below c.self.inside.base c.self.inside.places.items other (omega (arith, c.max-slot.ensures, l, m));
 }
 
-copied_none : (o : Option (Bor Message)) → is_some o ≡ false → option_copied o ≡ None
+copied_none : {X : Type 0} (o : Option (Bor X)) → is_some o ≡ false → option_copied o ≡ None
 copied_none None e = refl
 copied_none (Some x) e = absurd (true≢false e)
 
 pub loop-slot-preserved : goal.loop-slot-preserved
-loop-slot-preserved c =
+loop-slot-preserved g c =
     let i = c.loop-slot.invariant in
     let slot = c.loop-slot.slot in
-    let here : map.get c.args.self.now.owed slot ≡ None = sym c.message.ensures ∙ copied_none c.message.result (sym c.is_some.ensures ∙ c.if-is_some.false) in
+    let here : map.get c.args.self.now.owed slot ≡ None = sym c.get.ensures ∙ copied_none c.get.result (sym c.is_some.ensures ∙ c.if-is_some.false) in
     record {
       from = omega (arith, i.from, c.saturating_add-slot.ensures, c.max.ensures, c.args.from, c.ranges.from);
       base = omega (arith, i.base, c.saturating_add-slot.ensures, c.max.ensures);
@@ -32,7 +31,7 @@ loop-slot-preserved c =
         | inl h ↦ i.none other l h.1
         | inr h ↦ elim (leb_tells (suc slot) other) [
           | inl f ↦
-              sym (ap (λ (k : Link). map.get k.owed other) c.self.view_is)
+              sym (ap (λ (k : Link g.row.T.Denot). map.get k.owed other) c.self.view_is)
               ∙ none_in_word c.self.inside.base c.self.inside.places.items c.self.inside.marks.items c.self.inside.owed slot c.full_word-acknowledged.result other c.self.invariant i.base
               (λ k n. ap (λ bit. is_set c.self.inside.marks.items (bit + k)) (sym c.bit_of.ensures) ∙ c.full_word-acknowledged.ensures.set k n)
               (omega (arith, f.1))
@@ -43,7 +42,7 @@ loop-slot-preserved c =
     }
 
 pub returns : goal.returns
-returns c other l = elim (leb_tells (c.loop-slot.slot) other) [
-  | inl h ↦ sym (ap (λ (k : Link). map.get k.owed other) c.self.view_is) ∙ get-owed_map c.self.inside.base c.self.inside.places.items other ∙ none_past c.self.inside.base c.self.inside.places.items other (omega (arith, h.1, c.loop-slot-test.false, c.given.ensures, ap (λ (k : Link). k.given) c.self.view_is))
+returns g c other l = elim (leb_tells (c.loop-slot.slot) other) [
+  | inl h ↦ sym (ap (λ (k : Link g.row.T.Denot). map.get k.owed other) c.self.view_is) ∙ get-owed_map c.self.inside.base c.self.inside.places.items other ∙ none_past c.self.inside.base c.self.inside.places.items other (omega (arith, h.1, c.loop-slot-test.false, c.given.ensures, ap (λ (k : Link g.row.T.Denot). k.given) c.self.view_is))
   | inr h ↦ c.loop-slot.invariant.none other l h.1
 ]
