@@ -15,12 +15,13 @@ use Rattle.cast_model.specs.Replies.{is_from}
 use Rattle.cast_model.specs.Steps.{Step, Steps, own_items, frame_count, Held, held}
 use Rattle.cast_model.specs.OwnSteps.{own_live, own_copies, own_given, own_acked, own_knows, own_is_ready, own_taken, own_concerned, own_log, IsOwnAccepted}
 use Rattle.cast_model.proofs.OwnGrowth.{brought, held-more, own_given-more}
+use Rattle.cast_link.specs.Links.{with_given}
 use Rattle.cast_relay.specs.Held.{holds, relays_to}
 use Rattle.cast_fifo.specs.Held.{Held as HeldBack, held_of, nothing_held, with_item}
 use Rattle.cast_fifo.proofs.Stands.{Stands as HoldsBack}
 use Rattle.cast_agree.specs.Proposals.{counted_of}
 use Rattle.cast_node.specs.Kept.{Kept, link_to, taken_from, knowers_of}
-use Rattle.cast_node.specs.Turns.{with_knower, spread, given_one, given_from}
+use Rattle.cast_node.specs.Turns.{with_knower, spread, given_from}
 use Rattle.cast_model.specs.Shown.{item_of}
 use Rattle.cast_node.specs.Stands.{item_at, newest_first, StandsOut}
 use Rattle.cast_node.proofs.Places.{length-slice_set, at_set, same_number, other_number}
@@ -187,7 +188,7 @@ module _ (config : Config) (me : ℕ) (step : Step) (steps : Steps) (kept : Kept
         test_is : relays_to kept.relay h.message.sender h.source q ≡ (not (h.message.sender == q) && not (h.source == q))
         test_is = same_test h.message.sender h.source kept.relay.me (λ z. apart (sym z ∙ b.relay_me))
 
-        by_test : (c : Bool) → relays_to kept.relay h.message.sender h.source q ≡ c → StandsOut me (step ∷ steps) q (cond c (given_one (link_to kept q) h.message) (link_to kept q))
+        by_test : (c : Bool) → relays_to kept.relay h.message.sender h.source q ≡ c → StandsOut me (step ∷ steps) q (cond c (with_given (link_to kept q) h.message) (link_to kept q))
         by_test true e = out_given me steps step q config b.before (link_to kept q) h (given_is ∙ ap (λ c. own_given me steps q ++ cond c (h ∷ []) []) (sym test_is ∙ e)) (still q) (out q l apart)
         by_test false e = out_same me steps step q (link_to kept q) (given_is ∙ ap (λ c. own_given me steps q ++ cond c (h ∷ []) []) (sym test_is ∙ e) ∙ append-nil (own_given me steps q)) (still q) (out q l apart)
 

@@ -12,12 +12,14 @@ use Rattle.cast_message.specs.declared.config.Config.{Config}
 use Rattle.cast_message.specs.declared.message.Item.{Item}
 use Rattle.cast_message.specs.declared.message.Item.TheVariants.{Data, Propose, Close}
 use Rattle.cast_model.specs.Replies.{is_close, proposes, is_second_proposal}
+use Rattle.cast_message.specs.declared.message.Message.{Message}
 use Rattle.cast_link.specs.Links.{Link}
 use Rattle.cast_relay.specs.Held.{Held}
 use Rattle.cast_sets.specs.Members.{remove-inserted}
 use Rattle.cast_node.specs.Delivering.{Delivering}
 use Rattle.cast_node.specs.Taking.{with_proposal, without_proposal}
-use Rattle.cast_node.specs.Sound.{IsNode, Owes, OwesNothing}
+use Rattle.cast_node.specs.Sound.{IsNode, Owes}
+use Rattle.cast_node.specs.Giving.{OwesNothing}
 
 any_end : (f : Item → Bool) (items : List Item) (item : Item) → list_any f (items ++ item ∷ []) ≡ (list_any f items || f item)
 any_end f [] item = go (f item)
@@ -60,7 +62,7 @@ withdrawn proposed items Close h e = refl
 withdrawn proposed items (Propose j value) h e = remove-inserted proposed j (h j ∙ e)
 
 -- nothing changes, but that something may be owed
-pub keeps_all : (config : Config) (me : ℕ) (stream stream' : List Item) (closed : Bool) (proposed proposed' : set.FinSet nat_cmp) (relay relay' : Held) (outgoing outgoing' : List Link) (incoming : List (set.FinSet nat_cmp)) (ds ds' : Delivering) (quiet : Bool) →
+pub keeps_all : (config : Config) (me : ℕ) (stream stream' : List Item) (closed : Bool) (proposed proposed' : set.FinSet nat_cmp) (relay relay' : Held) (outgoing outgoing' : List (Link Message)) (incoming : List (set.FinSet nat_cmp)) (ds ds' : Delivering) (quiet : Bool) →
     IsNode config me stream closed proposed relay outgoing incoming ds quiet → stream' ≡ stream → proposed' ≡ proposed → relay' ≡ relay → outgoing' ≡ outgoing → ds' ≡ ds → IsNode config me stream' closed proposed' relay' outgoing' incoming ds' false
 keeps_all config me stream stream' closed proposed proposed' relay relay' outgoing outgoing' incoming ds ds' quiet h s p r o d =
     subst (λ x. IsNode config me x closed proposed' relay' outgoing' incoming ds' false) (sym s)
@@ -88,7 +90,7 @@ keeps_all config me stream stream' closed proposed proposed' relay relay' outgoi
     }
 
 -- lists of the same length
-pub keeps_rows : (config : Config) (me : ℕ) (stream : List Item) (closed : Bool) (proposed : set.FinSet nat_cmp) (relay relay' : Held) (outgoing outgoing' : List Link) (incoming incoming' : List (set.FinSet nat_cmp)) (ds ds' : Delivering) (quiet quiet' : Bool) →
+pub keeps_rows : (config : Config) (me : ℕ) (stream : List Item) (closed : Bool) (proposed : set.FinSet nat_cmp) (relay relay' : Held) (outgoing outgoing' : List (Link Message)) (incoming incoming' : List (set.FinSet nat_cmp)) (ds ds' : Delivering) (quiet quiet' : Bool) →
     IsNode config me stream closed proposed relay outgoing incoming ds quiet → relay'.me ≡ relay.me → relay'.own ≡ relay.own → length outgoing' ≡ length outgoing → length incoming' ≡ length incoming →
     ds'.mode ≡ ds.mode → ds'.faults ≡ ds.faults → length ds'.hold_back ≡ length ds.hold_back → length ds'.knowers ≡ length ds.knowers → Owes config.nodes config.item_limit outgoing' → (quiet' ≡ true → OwesNothing outgoing') → IsNode config me stream closed proposed relay' outgoing' incoming' ds' quiet'
 keeps_rows config me stream closed proposed relay relay' outgoing outgoing' incoming incoming' ds ds' quiet quiet' h m w o i a b c d owes silent = record {
@@ -112,7 +114,7 @@ below : (n m : ℕ) (b : Bool) → (not b && nat_le (n - 1) m) ≡ false → b �
 below n m b e f = grind (arith, nat_tests)
 
 -- an item of its own
-pub keeps_own : (config : Config) (me : ℕ) (stream stream' : List Item) (closed closed' : Bool) (proposed proposed' : set.FinSet nat_cmp) (relay relay' : Held) (outgoing outgoing' : List Link) (incoming : List (set.FinSet nat_cmp)) (ds ds' : Delivering) (quiet : Bool) (item : Item) →
+pub keeps_own : (config : Config) (me : ℕ) (stream stream' : List Item) (closed closed' : Bool) (proposed proposed' : set.FinSet nat_cmp) (relay relay' : Held) (outgoing outgoing' : List (Link Message)) (incoming : List (set.FinSet nat_cmp)) (ds ds' : Delivering) (quiet : Bool) (item : Item) →
     IsNode config me stream closed proposed relay outgoing incoming ds quiet → list_any is_close stream ≡ false → (not (is_close item) && nat_le (config.item_limit - 1) (length stream)) ≡ false →
     stream' ≡ stream ++ item ∷ [] → closed' ≡ is_close item → proposed' ≡ with_proposal proposed item → relay'.me ≡ relay.me → relay'.own ≡ relay.own + 1 → length outgoing' ≡ length outgoing →
     ds'.mode ≡ ds.mode → ds'.faults ≡ ds.faults → length ds'.hold_back ≡ length ds.hold_back → length ds'.knowers ≡ length ds.knowers → Owes config.nodes config.item_limit outgoing' → IsNode config me stream' closed' proposed' relay' outgoing' incoming ds' false

@@ -18,3 +18,4 @@ pub mod Gifts
 pub mod Wholes
 pub mod Keeping
 pub mod Owing
+pub mod Through

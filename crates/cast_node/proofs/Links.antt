@@ -20,22 +20,23 @@ use Rattle.cast_model.specs.Steps.{Step, Steps, Held, frames_in}
 use Rattle.cast_model.specs.OwnSteps.{own_given, own_acked, own_owed, message_in, IsOwnAccepted}
 use Rattle.cast_model.proofs.Members.{Member-list_any}
 use Rattle.cast_model.proofs.OwnGrowth.{frames_given, GivenTo}
-use Rattle.cast_link.specs.Links.{Link}
+use Rattle.cast_link.specs.Links.{Link, with_given}
+use Rattle.cast_node.specs.Giving.{given_on}
 use Rattle.cast_relay.specs.Held.{Held as HeldPairs, relays_to}
-use Rattle.cast_node.specs.Turns.{given_one, given_from}
+use Rattle.cast_node.specs.Turns.{given_from}
 use Rattle.cast_node.specs.Stands.{owed_in, StandsOut}
 use Rattle.cast_node.proofs.Places.{same_number, other_number}
 
-pub length-given_from : (q : ℕ) (relay : HeldPairs) (source : ℕ) (message : Message) (links : List Link) → length (given_from q relay source message links) ≡ length links
-unfolding given_from
+pub length-given_from : (q : ℕ) (relay : HeldPairs) (source : ℕ) (message : Message) (links : List (Link Message)) → length (given_from q relay source message links) ≡ length links
+unfolding given_on
 length-given_from q relay source message [] = refl
 length-given_from q relay source message (link ∷ links) = ap suc (length-given_from (q + 1) relay source message links)
 
-abbrev pub goes : HeldPairs → ℕ → Message → ℕ → Link → Link
-goes relay source message q link = cond (relays_to relay message.sender source q) (given_one link message) link
+abbrev pub goes : HeldPairs → ℕ → Message → ℕ → Link Message → Link Message
+goes relay source message q link = cond (relays_to relay message.sender source q) (with_given link message) link
 
-pub given_from-at : (q : ℕ) (relay : HeldPairs) (source : ℕ) (message : Message) (links : List Link) (i : ℕ) (d : Link) → i < length links → slice_index_or (given_from q relay source message links) i d ≡ goes relay source message (q + i) (slice_index_or links i d)
-unfolding given_from
+pub given_from-at : (q : ℕ) (relay : HeldPairs) (source : ℕ) (message : Message) (links : List (Link Message)) (i : ℕ) (d : Link Message) → i < length links → slice_index_or (given_from q relay source message links) i d ≡ goes relay source message (q + i) (slice_index_or links i d)
+unfolding given_on
 given_from-at q relay source message [] i d h = absurd (omega (arith, h))
 given_from-at q relay source message (link ∷ links) zero d h = ap (λ k. goes relay source message k link) (let z : q ≡ q + 0 = omega arith in z)
 given_from-at q relay source message (link ∷ links) (suc i) d h =
@@ -83,7 +84,7 @@ module _ (me : ℕ) (steps : Steps) (step : Step) (q : ℕ) where
   slot_after slot = not (own_acked (step ∷ steps) q slot)
 
   -- where the step gives the peer nothing and brings no acknowledgement of it
-  pub out_same : (link : Link) → own_given me (step ∷ steps) q ≡ own_given me steps q → ((slot : ℕ) → own_acked (step ∷ steps) q slot ≡ own_acked steps q slot) → StandsOut me steps q link → StandsOut me (step ∷ steps) q link
+  pub out_same : (link : Link Message) → own_given me (step ∷ steps) q ≡ own_given me steps q → ((slot : ℕ) → own_acked (step ∷ steps) q slot ≡ own_acked steps q slot) → StandsOut me steps q link → StandsOut me (step ∷ steps) q link
   unfolding own_owed
   out_same link same still h = record {
     given = h.given ∙ sym (ap length same);
@@ -101,7 +102,7 @@ module _ (me : ℕ) (steps : Steps) (step : Step) (q : ℕ) where
   message_before given h slot l = ap (λ x. x.message) (get_or_append_left given (h ∷ []) _ slot l)
 
   -- where it gives one message more
-  pub out_given : (config : Config) → IsOwnAccepted config me steps → (link : Link) (h : Held) → own_given me (step ∷ steps) q ≡ own_given me steps q ++ h ∷ [] → ((slot : ℕ) → own_acked (step ∷ steps) q slot ≡ own_acked steps q slot) → StandsOut me steps q link → StandsOut me (step ∷ steps) q (given_one link h.message)
+  pub out_given : (config : Config) → IsOwnAccepted config me steps → (link : Link Message) (h : Held) → own_given me (step ∷ steps) q ≡ own_given me steps q ++ h ∷ [] → ((slot : ℕ) → own_acked (step ∷ steps) q slot ≡ own_acked steps q slot) → StandsOut me steps q link → StandsOut me (step ∷ steps) q (with_given link h.message)
   unfolding own_owed
   out_given config accepted link h more still stands = record {
     given = ap (λ n. n + 1) stands.given ∙ sym (ap length more ∙ length-append (own_given me steps q) (h ∷ []));
@@ -168,7 +169,7 @@ module _ (me : ℕ) (steps : Steps) (step : Step) (q : ℕ) where
   -- where it takes the acknowledgement of a slot that was given
   module _ (slot : ℕ) (same : own_given me (step ∷ steps) q ≡ own_given me steps q) (told : (k : ℕ) → own_acked (step ∷ steps) q k ≡ (own_acked steps q k || (slot == k))) where
     -- it was acknowledged before
-    pub out_acked_again : (link : Link) → own_acked steps q slot ≡ true → StandsOut me steps q link → StandsOut me (step ∷ steps) q link
+    pub out_acked_again : (link : Link Message) → own_acked steps q slot ≡ true → StandsOut me steps q link → StandsOut me (step ∷ steps) q link
     out_acked_again link before h = out_same link same (λ k. told k ∙ unchanged (own_acked steps q k) (slot == k) (λ e. ap (own_acked steps q) (let z : k ≡ slot = grind (arith, nat_tests) in z) ∙ before)) h
 
     fewer : (p t : ℕ → Bool) (a n : ℕ) → a ≤ slot → slot < a + n → p slot ≡ true → ((k : ℕ) → t k ≡ (p k && not (slot == k))) → length (filter t (range_with_len a n)) + 1 ≡ length (filter p (range_with_len a n))
@@ -203,7 +204,7 @@ module _ (me : ℕ) (steps : Steps) (step : Step) (q : ℕ) where
         by_test false h = h
 
     -- it is owed
-    pub out_acked : (link : Link) → slot < length (own_given me steps q) → own_acked steps q slot ≡ false → StandsOut me steps q link → StandsOut me (step ∷ steps) q (record { given = link.given; owed = finite.remove link.owed slot })
+    pub out_acked : (link : Link Message) → slot < length (own_given me steps q) → own_acked steps q slot ≡ false → StandsOut me steps q link → StandsOut me (step ∷ steps) q (record { given = link.given; owed = finite.remove link.owed slot })
     unfolding own_owed
     out_acked link inside waiting stands = record {
       given = stands.given ∙ sym (ap length same);

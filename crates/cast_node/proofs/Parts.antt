@@ -1,9 +1,9 @@
 -- Lists by sender, and rows in them.
-use Rattle.std.specs.Prelude.{◌≡◌, ℕ, zero, suc, ◌+◌, ◌<◌, true, List, [], ◌∷◌, ◌++◌, length, map, replicate, slice_set, slice_index_or, Result, Ok, Err, OnErr, refl}
+use Rattle.std.specs.Prelude.{◌≡◌, ℕ, zero, suc, ◌+◌, ◌<◌, true, List, [], ◌∷◌, ◌++◌, length, take, map, replicate, slice_set, slice_index_or, Result, Ok, Err, OnErr, refl}
 use Rattle.std.specs.Result.{is_err}
 use Rattle.std.specs.List.{All}
 use Rattle.std.specs.Map.{keys_of}
-use Rattle.std.proofs.Common.{sym, ap, ◌∙◌, arith, true≢false}
+use Rattle.std.proofs.Common.{sym, ap, ◌∙◌, arith, drop, true≢false}
 use Rattle.cast_message.specs.declared.message.Item.{Item}
 use Rattle.cast_model.specs.History.{numbered}
 use Rattle.cast_fifo.specs.Held.{Held as HeldBack, nothing_held, held_of}
@@ -12,6 +12,10 @@ use Rattle.cast_fifo.proofs.Turns.{numbered-cons, numbered-none}
 pub length-numbered : (s n : ℕ) (xs : List Item) → length (numbered s n xs) ≡ length xs
 length-numbered s n [] = ap length (numbered-none s n)
 length-numbered s n (x ∷ xs) = ap length (numbered-cons s n x xs) ∙ ap suc (length-numbered s (n + 1) xs)
+
+pub err_of : {X E P Q : Type 0} (r : Result X E) → OnErr r P → (P → Q) → OnErr r Q
+err_of (Ok x) p f = p
+err_of (Err e) p f = f p
 
 pub on_err : {X E P : Type 0} (r : Result X E) → P → OnErr r P
 on_err (Ok x) p = tt
@@ -97,3 +101,12 @@ near_none P n s = Rattle.std.proofs.Common.subst (λ (h : HeldBack). All P (keys
 pub length-replicate : {Y : Type 0} (n : ℕ) (y : Y) → length (replicate n y) ≡ n
 length-replicate zero y = refl
 length-replicate (suc n) y = ap suc (length-replicate n y)
+
+-- a slice of a whole list, written back
+pub slice_back : {X : Type 0} (n : ℕ) (xs ys : List X) → length xs ≡ length ys → n ≡ length ys → take n (xs ++ drop (length xs) ys) ≡ xs
+slice_back n xs ys e f = ap (λ m. take m (xs ++ drop (length xs) ys)) (f ∙ sym e) ∙ front xs (drop (length xs) ys)
+  where
+    front : {X : Type 0} (xs zs : List X) → take (length xs) (xs ++ zs) ≡ xs
+    front [] [] = refl
+    front [] (z ∷ zs) = refl
+    front (x ∷ xs) zs = ap (λ ys. x ∷ ys) (front xs zs)

@@ -13,7 +13,9 @@ use Rattle.cast_message.specs.declared.message.Item.{Item}
 use Rattle.cast_message.specs.declared.message.Message.{Message}
 use Rattle.cast_model.specs.Replies.{Cause, is_close, first_fault}
 use Rattle.cast_model.specs.Steps.{Ordered, Sent, Acknowledged}
-use Rattle.cast_link.specs.Links.{Link}
+use Rattle.cast_link.specs.Links.{Link, with_acknowledged}
+use Rattle.cast_node.specs.Giving.{link_in}
+use Rattle.cast_node.proofs.Gifts.{length_given}
 use Rattle.cast_relay.specs.Held.{Held, holds, with_pair}
 use Rattle.cast_node.specs.Kept.{Kept, link_to, knowers_in, is_enough_in}
 use Rattle.cast_node.specs.Turns.{told, released, unmoved, with_knowers, with_knower, known_row, given_from, taken_up, carried, with_taken, with_acked, acknowledged, ordered, kept_causes, kept_fault}
@@ -147,24 +149,8 @@ done_or_not (Err e) P old done new a b p q = subst P (sym b) p
 
 -- ---- lists
 
-pub slice_back : {X : Type 0} (n : ℕ) (xs ys : List X) → length xs ≡ length ys → n ≡ length ys → take n (xs ++ drop (length xs) ys) ≡ xs
-slice_back n xs ys e f = ap (λ m. take m (xs ++ drop (length xs) ys)) (f ∙ sym e) ∙ front xs (drop (length xs) ys)
-  where
-    front : {X : Type 0} (xs zs : List X) → take (length xs) (xs ++ zs) ≡ xs
-    front [] [] = refl
-    front [] (z ∷ zs) = refl
-    front (x ∷ xs) zs = ap (λ ys. x ∷ ys) (front xs zs)
-
-pub length-given : (q : ℕ) (relay : Held) (source : ℕ) (message : Message) (links : List Link) → length (given_from q relay source message links) ≡ length links
-unfolding given_from
-length-given q relay source message [] = refl
-length-given q relay source message (link ∷ links) = ap suc (length-given (q + 1) relay source message links)
-
--- a slice of all links, written back
-pub given_at : (n : ℕ) (after links was : List Link) (q : ℕ) (relay : Held) (source : ℕ) (message : Message) → after ≡ given_from q relay source message was → was ≡ links → n ≡ length links → take n (after ++ drop (length after) links) ≡ given_from q relay source message links
-given_at n after links was q relay source message e f l =
-    let given = e ∙ ap (given_from q relay source message) f in
-    slice_back n after links (ap length given ∙ length-given q relay source message links) l ∙ given
+pub length-given : (q : ℕ) (relay : Held) (source : ℕ) (message : Message) (links : List (Link Message)) → length (given_from q relay source message links) ≡ length links
+length-given q relay source message links = length_given q relay source message.sender message links
 
 pub told_keeps : (ds : Delivering) (s i : ℕ) (members : set.FinSet nat_cmp) →
     ((told_in ds s i members).mode ≡ ds.mode) × ((told_in ds s i members).faults ≡ ds.faults) × (length (told_in ds s i members).hold_back ≡ length ds.hold_back) × (length (told_in ds s i members).knowers ≡ length ds.knowers)
@@ -181,12 +167,9 @@ told_keeps ds s i members = go (is_enough_in ds.mode ds.faults members)
     go true = (refl, refl, length-set ds.hold_back s _, rows)
     go false = (refl, refl, refl, rows)
 
-abbrev pub pair_of : Message → ℕ × ℕ
-pair_of message = (message.sender, message.number)
-
 -- ---- whole nodes
 
-abbrev pub whole : Config → ℕ → Bool → ℕ → List Item → Held → List Link → List (set.FinSet nat_cmp) → Delivering → Kept
+abbrev pub whole : Config → ℕ → Bool → ℕ → List Item → Held → List (Link Message) → List (set.FinSet nat_cmp) → Delivering → Kept
 whole config me live frames stream relay outgoing incoming ds = record {
   config = config;
   me = me;
@@ -202,7 +185,7 @@ whole config me live frames stream relay outgoing incoming ds = record {
   agree = ds.agree;
 }
 
-module _ (config : Config) (me : ℕ) (live : Bool) (frames : ℕ) (stream : List Item) (relay : Held) (outgoing : List Link) (incoming : List (set.FinSet nat_cmp)) (ds : Delivering) (now : Kept) (is : whole config me live frames stream relay outgoing incoming ds ≡ now) (mode : ds.mode ≡ config.mode) (faults : ds.faults ≡ config.faults) where
+module _ (config : Config) (me : ℕ) (live : Bool) (frames : ℕ) (stream : List Item) (relay : Held) (outgoing : List (Link Message)) (incoming : List (set.FinSet nat_cmp)) (ds : Delivering) (now : Kept) (is : whole config me live frames stream relay outgoing incoming ds ≡ now) (mode : ds.mode ≡ config.mode) (faults : ds.faults ≡ config.faults) where
   abbrev node : Kept
   node = whole config me live frames stream relay outgoing incoming ds
 
@@ -233,7 +216,7 @@ module _ (config : Config) (me : ℕ) (live : Bool) (frames : ℕ) (stream : Lis
       ∙ ap (λ kept. (carried (with_taken kept from slot) from message).outcome) is
 
   -- another node's message that wasn't held
-  pub fresh : (from slot : ℕ) (message : Message) (members : set.FinSet nat_cmp) (relay' : Held) (outgoing' : List Link) (incoming' : List (set.FinSet nat_cmp)) (ds' : Delivering) →
+  pub fresh : (from slot : ℕ) (message : Message) (members : set.FinSet nat_cmp) (relay' : Held) (outgoing' : List (Link Message)) (incoming' : List (set.FinSet nat_cmp)) (ds' : Delivering) →
       message.sender < length ds.knowers → holds relay message.sender message.number ≡ false → members ≡ first_members me message.sender from →
       relay' ≡ with_pair relay message.sender message.number → outgoing' ≡ given_from 0 (with_pair relay message.sender message.number) from message outgoing →
       incoming' ≡ slice_set incoming from (set.insert (slice_index_or incoming from set.empty) slot) → ds' ≡ told_in (waiting_in ds message) message.sender message.number members →
@@ -262,46 +245,29 @@ module _ (config : Config) (me : ℕ) (live : Bool) (frames : ℕ) (stream : Lis
       ∙ ap (λ kept. (carried (with_taken kept from slot) from message).outcome) is
 
   -- a peer took what it was given
-  pub taken_word : (from slot s i : ℕ) (link : Link) (members : set.FinSet nat_cmp) (outgoing' : List Link) (ds' : Delivering) →
-      s < length ds.knowers → link ≡ link_to now from → Some (s, i) ≡ option_map pair_of (finite.get link.owed slot) → members ≡ set.insert (knowers_in ds.knowers s i) from →
-      outgoing' ≡ slice_set outgoing from (record { given = link.given; owed = finite.remove link.owed slot }) → ds' ≡ told_in ds s i members →
+  pub taken_word : (from slot : ℕ) (message : Message) (members : set.FinSet nat_cmp) (outgoing' : List (Link Message)) (ds' : Delivering) →
+      message.sender < length ds.knowers → finite.get (link_in outgoing from).owed slot ≡ Some message → members ≡ set.insert (knowers_in ds.knowers message.sender message.number) from →
+      outgoing' ≡ slice_set outgoing from (with_acknowledged (link_in outgoing from) slot) → ds' ≡ told_in ds message.sender message.number members →
       (whole config me live frames stream relay outgoing' incoming ds' ≡ (acknowledged now from slot (finite.get (link_to now from).owed slot)).kept)
-      × (outcome_in ds s i members ≡ (acknowledged now from slot (finite.get (link_to now from).owed slot)).outcome)
-  taken_word from slot s i link members outgoing' ds' l at pair m out d = go (finite.get link.owed slot) refl pair
-    where
-      none_some : ◌≡◌ {A = Option (ℕ × ℕ)} (Some (s, i)) None → ⊥
-      none_some e = cc
-
-      pair_in : Option (ℕ × ℕ) → ℕ × ℕ
-      pair_in None = (s, i)
-      pair_in (Some p) = p
-
-      go : (o : Option Message) → finite.get link.owed slot ≡ o → Some (s, i) ≡ option_map pair_of o →
-          (whole config me live frames stream relay outgoing' incoming ds' ≡ (acknowledged now from slot (finite.get (link_to now from).owed slot)).kept)
-          × (outcome_in ds s i members ≡ (acknowledged now from slot (finite.get (link_to now from).owed slot)).outcome)
-      go None e p = absurd (none_some p)
-      go (Some message) e p =
-          let base = with_acked node from slot in
-          let at_node : link ≡ link_to node from = at ∙ ap (λ kept. link_to kept from) (sym is) in
-          let here : finite.get (link_to now from).owed slot ≡ Some message = ap (λ (l : Link). finite.get l.owed slot) (sym at) ∙ e in
-          let sender = ap (λ o. (pair_in o).0) p in
-          let number = ap (λ o. (pair_in o).1) p in
-          let acks : outgoing' ≡ slice_set outgoing from (record { given = (link_to node from).given; owed = finite.remove (link_to node from).owed slot }) = out ∙ ap (λ (l : Link). slice_set outgoing from (record { given = l.given; owed = finite.remove l.owed slot })) at_node in (
-            (λ k. whole config me live frames stream relay (acks k) incoming (d k))
-                ∙ (told_is base ds s i members mode faults l).0
-                ∙ ap (λ members. (told (with_knowers base s i members) s i).kept) m
-                ∙ (λ k. (told (with_knower base (sender k) (number k) from) (sender k) (number k)).kept)
-                ∙ ap (λ kept. (acknowledged kept from slot (Some message)).kept) is
-                ∙ ap (λ o. (acknowledged now from slot o).kept) (sym here),
-            (told_is base ds s i members mode faults l).1
-                ∙ ap (λ members. (told (with_knowers base s i members) s i).outcome) m
-                ∙ (λ k. (told (with_knower base (sender k) (number k) from) (sender k) (number k)).outcome)
-                ∙ ap (λ kept. (acknowledged kept from slot (Some message)).outcome) is
-                ∙ ap (λ o. (acknowledged now from slot o).outcome) (sym here),
-          )
+      × (outcome_in ds message.sender message.number members ≡ (acknowledged now from slot (finite.get (link_to now from).owed slot)).outcome)
+  taken_word from slot message members outgoing' ds' l at m out d =
+      let s = message.sender in
+      let i = message.number in
+      let base = with_acked node from slot in
+      let here : finite.get (link_to now from).owed slot ≡ Some message = sym (ap (λ kept. finite.get (link_to kept from).owed slot) is) ∙ at in (
+        (λ k. whole config me live frames stream relay (out k) incoming (d k))
+            ∙ (told_is base ds s i members mode faults l).0
+            ∙ ap (λ members. (told (with_knowers base s i members) s i).kept) m
+            ∙ ap (λ kept. (acknowledged kept from slot (Some message)).kept) is
+            ∙ ap (λ o. (acknowledged now from slot o).kept) (sym here),
+        (told_is base ds s i members mode faults l).1
+            ∙ ap (λ members. (told (with_knowers base s i members) s i).outcome) m
+            ∙ ap (λ kept. (acknowledged kept from slot (Some message)).outcome) is
+            ∙ ap (λ o. (acknowledged now from slot o).outcome) (sym here),
+      )
 
   -- an item of its own
-  pub own_item : (item : Item) (relay' : Held) (outgoing' : List Link) (ds' : Delivering) (stream' : List Item) →
+  pub own_item : (item : Item) (relay' : Held) (outgoing' : List (Link Message)) (ds' : Delivering) (stream' : List Item) →
       me < length ds.knowers → relay.me ≡ me → relay.own ≡ length stream →
       relay' ≡ with_own relay → outgoing' ≡ given_from 0 (with_own relay) me (message_of relay item) outgoing → ds' ≡ told_in (waiting_in ds (message_of relay item)) me relay.own (first_members me me me) → stream' ≡ stream ++ item ∷ [] →
       (whole config me live frames stream' relay' outgoing' incoming ds' ≡ (ordered now item).kept)

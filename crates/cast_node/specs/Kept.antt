@@ -13,6 +13,7 @@ use Rattle.cast_message.specs.declared.config.Config.{Config}
 use Rattle.cast_message.specs.declared.config.Mode.{Mode}
 use Rattle.cast_message.specs.declared.config.Mode.TheVariants.{Basic, Uniform}
 use Rattle.cast_message.specs.declared.message.Item.{Item}
+use Rattle.cast_message.specs.declared.message.Message.{Message}
 use Rattle.cast_link.specs.Links.{Link}
 use Rattle.cast_relay.specs.Held.{Held}
 use Rattle.cast_fifo.specs.Held.{Held as HeldBack, nothing_held}
@@ -25,14 +26,14 @@ pub record Kept : Type 0 where
   pub frames : ℕ  -- how many it made
   pub stream : List Item  -- the items that it ordered
   pub relay : Held
-  pub outgoing : List Link  -- by peer
+  pub outgoing : List (Link Message)  -- by peer
   pub incoming : List (set.FinSet nat_cmp)  -- by peer
   pub hold_back : List HeldBack  -- by sender
   pub knowers : List (List (set.FinSet nat_cmp))  -- by sender and number
   pub delivered : List (List Item)  -- by sender
   pub agree : Counted
 
-abbrev pub link_to : Kept → ℕ → Link
+abbrev pub link_to : Kept → ℕ → Link Message
 link_to kept q = slice_index_or kept.outgoing q (record { given = 0; owed = map.empty })
 
 abbrev pub taken_from : Kept → ℕ → set.FinSet nat_cmp

@@ -1,6 +1,5 @@
 -- What a node's fields keep, and how what it keeps is told apart.
 --     Owes          what is owed to peers has a sender and a number within the limits
---     OwesNothing   no slot is owed to any peer
 --     IsNode        the lists have a place for each node, and what is cached of the stream is so
 use Rattle.std.specs.Prelude.{◌≡◌, ℕ, ◌+◌, ◌≤◌, ◌<◌, Bool, true, false, List, length, slice_index_or, Some, refl}
 use Rattle.std.specs.List.{list_any}
@@ -17,24 +16,20 @@ use Rattle.cast_relay.specs.Held.{Held, held_code}
 use Rattle.cast_fifo.specs.declared.queue.Waiting.{Waiting}
 use Rattle.cast_fifo.specs.Held.{Held as HeldBack}
 use Rattle.cast_agree.specs.Counted.{Counted, counted_code}
+use Rattle.cast_node.specs.Giving.{OwesOnly, OwesNothing}
 use Rattle.cast_node.specs.Kept.{Kept}
 use Rattle.cast_node.specs.Delivering.{Delivering}
 use Rattle.cast_node.specs.Code.{sets_code, held_back_code}
 
-abbrev pub link_in : List Link → ℕ → Link
-link_in links q = slice_index_or links q (record { given = 0; owed = finite.empty })
+-- a message within the limits
+abbrev pub IsWithin : ℕ → ℕ → Message → Type 0
+IsWithin nodes limit message = (message.sender < nodes) × (message.number < limit)
 
-abbrev pub Owes : ℕ → ℕ → List Link → Type 0
-Owes nodes limit links = (q slot : ℕ) (message : Message) →
-    finite.get (link_in links q).owed slot ≡ Some message →
-    (message.sender < nodes) × (message.number < limit)
-
--- no slot is owed to any peer
-abbrev pub OwesNothing : List Link → Type 0
-OwesNothing links = (q : ℕ) → (link_in links q).owed ≡ finite.empty
+abbrev pub Owes : ℕ → ℕ → List (Link Message) → Type 0
+Owes nodes limit links = OwesOnly (IsWithin nodes limit) links
 
 pub record IsNode (config : Config) (me : ℕ) (stream : List Item) (closed : Bool)
-    (proposed : set.FinSet nat_cmp) (relay : Held) (outgoing : List Link)
+    (proposed : set.FinSet nat_cmp) (relay : Held) (outgoing : List (Link Message))
     (incoming : List (set.FinSet nat_cmp)) (deliveries : Delivering) (quiet : Bool) : Type 0 where
   pub place : me < config.nodes
   pub relay_me : relay.me ≡ me
@@ -54,7 +49,7 @@ pub record IsNode (config : Config) (me : ℕ) (stream : List Item) (closed : Bo
 abbrev pub kept_code : Coded Config → Coded Item → Coded Message → Coded Waiting → Coded Kept
 kept_code config item message waiting =
     code_by
-    (Config × (ℕ × (Bool × (ℕ × (List Item × (Held × (List Link × (List (set.FinSet nat_cmp)
+    (Config × (ℕ × (Bool × (ℕ × (List Item × (Held × (List (Link Message) × (List (set.FinSet nat_cmp)
     × (List HeldBack × (List (List (set.FinSet nat_cmp)) × (List (List Item) × Counted)))))))))))
     (coded× config (coded× coded_ℕ (coded× coded_bool (coded× coded_ℕ (coded× (coded_list item)
     (coded× held_code (coded× (coded_list (link_code message))

@@ -36,7 +36,7 @@ owed_in me steps q slot =
     else None
 
 -- how many slots were given to q, and the messages of those that q has not acknowledged
-pub record StandsOut (me : ℕ) (steps : Steps) (q : ℕ) (link : Link) : Type 0 where
+pub record StandsOut (me : ℕ) (steps : Steps) (q : ℕ) (link : Link Message) : Type 0 where
   pub given : link.given ≡ length (own_given me steps q)
   pub owed : (slot : ℕ) → finite.get link.owed slot ≡ owed_in me steps q slot
   pub count : finite.len link.owed ≡ length (own_owed me steps q)

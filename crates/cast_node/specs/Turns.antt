@@ -31,6 +31,7 @@ use Rattle.cast_relay.specs.Held.{Held, holds, with_pair, relays_to}
 use Rattle.cast_fifo.specs.Held.{held_of, known_items, known_after}
 use Rattle.cast_fifo.specs.Calls.{Hold, held_after}
 use Rattle.cast_agree.specs.Journal.{counted_all, decisions_all}
+use Rattle.cast_node.specs.Giving.{given_on}
 use Rattle.cast_node.specs.Kept.{Kept, link_to, taken_from, knowers_of, is_enough}
 
 -- a row in which the place has these members; places before it that weren't there are empty
@@ -46,16 +47,9 @@ with_knowers kept s i members =
 abbrev pub with_knower : Kept → ℕ → ℕ → ℕ → Kept
 with_knower kept s i r = with_knowers kept s i (set.insert (knowers_of kept s i) r)
 
-abbrev pub given_one : Link → Message → Link
-given_one link message =
-    record { given = link.given + 1; owed = finite.insert link.owed link.given message }
-
 -- given to each peer from number q on to which it goes
-unfoldable pub given_from : ℕ → Held → ℕ → Message → List Link → List Link
-given_from q relay source message [] = []
-given_from q relay source message (link ∷ links) =
-    (if relays_to relay message.sender source q then given_one link message else link)
-    ∷ given_from (q + 1) relay source message links
+abbrev pub given_from : ℕ → Held → ℕ → Message → List (Link Message) → List (Link Message)
+given_from q relay source message links = given_on q relay source message.sender message links
 
 -- a message that wasn't held is given on, kept back, and known to be held here, by its sender, and where it came from
 abbrev pub spread : Kept → Message → ℕ → Kept

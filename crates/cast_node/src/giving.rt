@@ -1,44 +1,45 @@
-//! A message goes to the peers of a node, and is taken back from them where a step can't be finished.
-ghost use Rattle.std.specs.Prelude.{◌≡◌, ◌+◌, ◌≤◌, if◌then◌else◌, length, OnOk, OnErr};
+//! A message goes to the peers of a node, and is taken back from them where a step can't be finished. A slot keeps the place
+//! of its message.
+ghost use Rattle.std.specs.Prelude.{◌≡◌, ◌+◌, ◌≤◌, IsTrue, if◌then◌else◌, length, OnOk, OnErr};
 ghost use Rattle.cast_link.specs.Links.{with_given, without_last};
-ghost use Rattle.cast_node.specs.Turns.{given_from};
-ghost use Rattle.cast_node.specs.Giving.{taken_back_from};
+ghost use Rattle.cast_node.specs.Giving.{given_on, taken_back_from, OwesNothing};
 
 use cast_link::LinkOut;
-use cast_message::{Message, NodeId};
+use cast_message::NodeId;
 use cast_relay::Relay;
 use std::alloc::AllocError;
 
-/// Gives a message to each of these peers to which it goes, or to none where memory is wanting. The first of them has the
-/// number `first`.
+/// Gives what stands at this place to each of these peers to which a message of the sender goes that came from the source,
+/// or to none where memory is wanting. The first of them has the number `first`.
 pub fn give_all(
-    links: &mut [LinkOut],
+    links: &mut [LinkOut<u32>],
     first: u64,
     relay: &Relay,
     source: NodeId,
-    message: &Message,
+    sender: NodeId,
+    place: u32,
 ) -> Result<(), AllocError>
     requires { first + length links.old ≤ 256 }
-    ensures ok { OnOk result (links.new ≡ given_from first relay.now source message.now links.old) }
+    ensures ok { OnOk result (links.new ≡ given_on first relay.now source sender place links.old) }
     ensures back { OnOk result
-        (taken_back_from first relay.now source message.now.sender links.new ≡ links.old) }
+        (taken_back_from first relay.now source sender links.new ≡ links.old) }
     ensures err { OnErr result (links.new ≡ links.old) }
 {
     let Some((link, rest)) = links.split_first_mut() else {
         return Ok(());
     };
-    let goes = relay.relays_to(message.sender, source, NodeId(first as u8));
-    give(link, goes, message)?;
-    let given = give_all(rest, first + 1, relay, source, message);
+    let goes = relay.relays_to(sender, source, NodeId(first as u8));
+    give(link, goes, place)?;
+    let given = give_all(rest, first + 1, relay, source, sender, place);
     if given.is_err() {
         take_back(link, goes);
     }
     given
 }
 
-/// Takes back the message that was given last to each of these peers to which it went.
+/// Takes back what was given last to each of these peers to which it went.
 pub fn take_back_all(
-    links: &mut [LinkOut],
+    links: &mut [LinkOut<u32>],
     first: u64,
     relay: &Relay,
     source: NodeId,
@@ -54,10 +55,20 @@ pub fn take_back_all(
     take_back_all(rest, first + 1, relay, source, sender);
 }
 
-// Gives a message to a peer, where it goes there.
-fn give(link: &mut LinkOut, goes: bool, message: &Message) -> Result<(), AllocError>
+/// Whether no slot is owed to any of these peers.
+pub fn owe_nothing(links: &[LinkOut<u32>]) -> bool
+    ensures { IsTrue result → OwesNothing links.now }
+{
+    match links.split_last() {
+        None => true,
+        Some((last, rest)) => last.owed() == 0 && owe_nothing(rest),
+    }
+}
+
+// Gives what stands at a place to a peer, where it goes there.
+fn give(link: &mut LinkOut<u32>, goes: bool, place: u32) -> Result<(), AllocError>
     ensures ok { OnOk result (link.new
-        ≡ (if goes then with_given link.old message.now else link.old)) }
+        ≡ (if goes then with_given link.old place else link.old)) }
     ensures back { OnOk result ((if goes then without_last link.new else link.new) ≡ link.old) }
     ensures err { OnErr result (link.new ≡ link.old) }
 {
@@ -68,12 +79,12 @@ fn give(link: &mut LinkOut, goes: bool, message: &Message) -> Result<(), AllocEr
     if link.given() == u64::MAX {
         return Err(AllocError);
     }
-    link.give(message.copy()?)?;
+    link.give(place)?;
     Ok(())
 }
 
-// Takes back the message that was given last to a peer, where it went there.
-fn take_back(link: &mut LinkOut, goes: bool)
+// Takes back what was given last to a peer, where it went there.
+fn take_back(link: &mut LinkOut<u32>, goes: bool)
     ensures { link.new ≡ (if goes then without_last link.old else link.old) }
 {
     if goes {

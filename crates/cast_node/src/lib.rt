@@ -7,6 +7,7 @@ mod deliveries;
 mod entry;
 mod giving;
 mod node;
+mod outgoing;
 mod taking;
 
 pub use entry::{Entry, EntryKind, Origin};

@@ -13,13 +13,13 @@ ghost use Rattle.cast_relay.specs.Held.{holds};
 ghost use Rattle.cast_node.specs.Kept.{nothing_kept, link_to, knowers_of};
 ghost use Rattle.cast_node.specs.Turns.{Gives, kept_fault, carry_of, took_of, message_owed, ordered, arrived_body, may_arrive};
 ghost use Rattle.cast_model.specs.Replies.{is_close, is_too_long, is_second_proposal};
-ghost use Rattle.cast_node.specs.Sound.{OwesNothing};
 ghost use Rattle.cast_node.specs.Taking.{with_proposal, without_proposal};
 ghost use Rattle.cast_node.specs.Calls.{is_peer, may_carry, carry_slot, carried_frame, took_frame, ordered_reply, sent_reply, number_reply, numbered_reply, arrived_reply, crashed_reply};
 
 use crate::deliveries::{Deliveries, no_news};
+use crate::outgoing::Outgoing;
 use crate::taking::{Fresh, first_members, take_up_carried, take_up_own};
-use cast_link::{LinkIn, LinkOut};
+use cast_link::LinkIn;
 use cast_message::{Config, Frame, FrameBody, Item, Message, NodeId, Outcome, StepFault};
 use cast_relay::Relay;
 use cast_sets::NumberSet;
@@ -61,7 +61,7 @@ pub struct Node {
     proposed: NumberSet,
     relay: Relay,
     // What it gives each peer.
-    outgoing: Vec<LinkOut>,
+    outgoing: Outgoing,
     // What it took of each peer.
     incoming: Vec<LinkIn>,
     deliveries: Deliveries,
@@ -71,6 +71,7 @@ pub struct Node {
 
 impl Model for Node {
     ghost use Rattle.cast_node.specs.Kept.{Kept};
+    ghost use Rattle.cast_node.specs.Outgoing.{links_of};
     ghost use Rattle.cast_node.specs.Sound.{IsNode, kept_code};
     ghost use Rattle.cast_message.specs.contracts.config.Config as configs;
     ghost use Rattle.cast_message.specs.contracts.message.Item as items;
@@ -89,7 +90,7 @@ impl Model for Node {
       frames = n.frames;
       stream = n.stream.items;
       relay = n.relay;
-      outgoing = n.outgoing.items;
+      outgoing = links_of n.outgoing;
       incoming = n.incoming.items;
       hold_back = n.deliveries.hold_back;
       knowers = n.deliveries.knowers;
@@ -98,7 +99,7 @@ impl Model for Node {
     } };
 
     ghost invariant = { λ n. IsNode n.config n.me n.stream.items n.closed n.proposed n.relay
-        n.outgoing.items n.incoming.items n.deliveries n.quiet };
+        (links_of n.outgoing) n.incoming.items n.deliveries n.quiet };
 }
 
 impl Node {
@@ -139,9 +140,10 @@ impl Node {
         if let Some(refusal) = self.send_fault(to, slot) {
             return Err(refusal);
         }
-        let Ok(message) = self.outgoing[usize::from(to.0)].carry(slot) else {
+        let Some(owed) = self.outgoing.message(to, slot) else {
             return Err(StepFault::Memory);
         };
+        let message = owed.copy()?;
         Ok(self.make_frame(to, FrameBody::Carry { slot, message }))
     }
 
@@ -172,14 +174,16 @@ impl Node {
         if let Some(refusal) = self.send_fault(to, slot) {
             return Err(refusal);
         }
-        let Some(pair) = self.outgoing[usize::from(to.0)].pair(slot) else {
+        let Some(message) = self.outgoing.message(to, slot) else {
             return Err(StepFault::Memory);
         };
+        let sender = message.sender;
+        let number = message.number;
         let seq = self.count_frame();
         Ok(Numbers {
             seq,
-            sender: pair.0,
-            number: pair.1,
+            sender,
+            number,
         })
     }
 
@@ -251,7 +255,7 @@ impl Node {
         if !self.live {
             return Err(StepFault::Crashed);
         }
-        if !self.is_peer(from) || slot >= self.outgoing[usize::from(from.0)].given() {
+        if !self.is_peer(from) || slot >= self.outgoing.given(from) {
             return Ok(no_news(self.alloc));
         }
         Ok(self.take_acknowledged(from, slot)?)
@@ -320,7 +324,7 @@ impl Node {
         if !self.is_peer(to) {
             return None;
         }
-        Some(self.outgoing[usize::from(to.0)].owed())
+        Some(self.outgoing.owed(to))
     }
 
     /// The least slot not below `from` of what it gives a peer that is not acknowledged, where there is one, and that is
@@ -333,7 +337,7 @@ impl Node {
         if !self.is_peer(to) {
             return None;
         }
-        self.outgoing[usize::from(to.0)].least_owed(from)
+        self.outgoing.least_owed(to, from)
     }
 
     /// Whether it is known to owe no peer anything: so it is once the last slot owed was acknowledged. It takes no memory.
@@ -379,7 +383,7 @@ impl Node {
             FrameBody::Carry { slot, message } => {
                 self.may_carry(*slot, message.sender, message.number)
             }
-            FrameBody::Took { slot } => *slot < self.outgoing[usize::from(frame.from.0)].given(),
+            FrameBody::Took { slot } => *slot < self.outgoing.given(frame.from),
         }
     }
 
@@ -421,7 +425,7 @@ impl Node {
         self.quiet = false;
         take_up_carried(
             &mut self.relay,
-            self.outgoing.as_mut_slice(),
+            &mut self.outgoing,
             &mut self.deliveries,
             &mut self.incoming[place],
             slot,
@@ -462,17 +466,16 @@ impl Node {
         ensures ok { OnOk result (self.new ≡ (arrived_body self.old from (Took slot)).kept) }
         ensures err { OnErr result (self.new ≡ self.old) }
     {
-        let place = usize::from(from.0);
-        let Some(pair) = self.outgoing[place].pair(slot) else {
+        let Some(message) = self.outgoing.message(from, slot) else {
             return Ok(no_news(self.alloc));
         };
-        let sender = pair.0;
-        let number = pair.1;
+        let sender = message.sender;
+        let number = message.number;
         let mut members = self.deliveries.members(sender, number);
         members.insert(from);
         let outcome = self.deliveries.tell(sender, number, members)?;
-        self.outgoing[place].acked(slot);
-        self.quiet = owe_nothing(self.outgoing.as_slice());
+        self.outgoing.acknowledge(from, slot);
+        self.quiet = self.outgoing.owes_nothing();
         Ok(outcome)
     }
 
@@ -481,10 +484,8 @@ impl Node {
         requires { id < config.now.nodes }
         ensures { IfOk result (λ node. node ≡ nothing_kept config.now id) }
     {
-        let mut outgoing = Vec::new(alloc);
         let mut incoming = Vec::new(alloc);
         for _peer in 0..config.nodes() {
-            outgoing.push(LinkOut::new(alloc))?;
             incoming.push(LinkIn::new(alloc))?;
         }
         Ok(Node {
@@ -497,7 +498,7 @@ impl Node {
             closed: false,
             proposed: NumberSet::new(alloc),
             relay: Relay::new(alloc, id, config.nodes())?,
-            outgoing,
+            outgoing: Outgoing::new(alloc, config.nodes())?,
             incoming,
             deliveries: Deliveries::new(alloc, config)?,
             quiet: true,
@@ -568,11 +569,10 @@ impl Node {
         if !self.live {
             return Some(StepFault::Crashed);
         }
-        let link = &self.outgoing[usize::from(to.0)];
-        if link.given() <= slot {
+        if self.outgoing.given(to) <= slot {
             return Some(StepFault::NoSlot);
         }
-        if link.pair(slot).is_none() {
+        if self.outgoing.message(to, slot).is_none() {
             return Some(StepFault::Acked);
         }
         if self.frames >= FRAME_LIMIT {
@@ -638,7 +638,7 @@ impl Node {
         self.quiet = false;
         match take_up_own(
             &mut self.relay,
-            self.outgoing.as_mut_slice(),
+            &mut self.outgoing,
             &mut self.deliveries,
             self.me,
             item,
@@ -653,16 +653,6 @@ impl Node {
                 Err(refused)
             }
         }
-    }
-}
-
-// Whether no slot is owed to any of these peers.
-fn owe_nothing(links: &[LinkOut]) -> bool
-    ensures { IsTrue result → OwesNothing links.now }
-{
-    match links.split_last() {
-        None => true,
-        Some((last, rest)) => last.owed() == 0 && owe_nothing(rest),
     }
 }
 

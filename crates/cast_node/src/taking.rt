@@ -4,12 +4,13 @@ ghost use Rattle.std.specs.Prelude.{◌≡◌, ◌≢◌, ◌≤◌, ◌<◌, �
 ghost use Rattle.std.specs.FinSet as set;
 ghost use Rattle.cast_relay.specs.Held.{with_pair, holds};
 ghost use Rattle.cast_node.specs.Turns.{given_from};
+ghost use Rattle.cast_node.specs.Outgoing.{links_of};
 ghost use Rattle.cast_node.specs.Delivering.{told_in, told_with, outcome_in, outcome_with, waiting_in};
 ghost use Rattle.cast_node.specs.Taking.{with_own, message_of, first_members};
 
 use crate::deliveries::Deliveries;
-use crate::giving::{give_all, take_back_all};
-use cast_link::{LinkIn, LinkOut};
+use crate::outgoing::Outgoing;
+use cast_link::LinkIn;
 use cast_message::{Item, Message, NodeId, Outcome};
 use cast_relay::Relay;
 use cast_sets::NodeSet;
@@ -37,18 +38,18 @@ pub fn first_members(me: NodeId, sender: NodeId, source: NodeId) -> NodeSet
 /// Takes up an item of the node's own.
 pub fn take_up_own(
     relay: &mut Relay,
-    links: &mut [LinkOut],
+    outgoing: &mut Outgoing,
     deliveries: &mut Deliveries,
     me: NodeId,
     item: Item,
 ) -> Result<Outcome, AllocError>
-    requires links { length links.old ≤ 256 }
+    requires peers { length (links_of outgoing.old) ≤ 256 }
     requires me { relay.old.me ≡ me }
     requires number { relay.old.own < 4096 }
     requires sender { me < length deliveries.old.hold_back }
     ensures relay { OnOk result (relay.new ≡ with_own relay.old) }
-    ensures links { OnOk result (links.new
-        ≡ given_from 0 (with_own relay.old) me (message_of relay.old item) links.old) }
+    ensures links { OnOk result (links_of outgoing.new
+        ≡ given_from 0 (with_own relay.old) me (message_of relay.old item) (links_of outgoing.old)) }
     ensures deliveries { OnOk result (deliveries.new
         ≡ told_in (waiting_in deliveries.old (message_of relay.old item)) me relay.old.own
         (first_members me me me)) }
@@ -56,7 +57,7 @@ pub fn take_up_own(
         ≡ outcome_in (waiting_in deliveries.old (message_of relay.old item)) me relay.old.own
         (first_members me me me)) }
     ensures err { OnErr result (relay.new ≡ relay.old) }
-    ensures same_links { OnErr result (links.new ≡ links.old) }
+    ensures same_outgoing { OnErr result (outgoing.new ≡ outgoing.old) }
     ensures same_deliveries { OnErr result (deliveries.new ≡ deliveries.old) }
 {
     let message = relay.own(item)?;
@@ -65,7 +66,7 @@ pub fn take_up_own(
         source: me,
         members: first_members(me, me, me),
     };
-    let told = take_up(relay, links, deliveries, fresh);
+    let told = take_up(relay, outgoing, deliveries, fresh);
     if told.is_err() {
         relay.disown();
     }
@@ -75,29 +76,29 @@ pub fn take_up_own(
 /// Takes up another node's message, as a peer's slot brings it, which is taken.
 pub fn take_up_carried(
     relay: &mut Relay,
-    links: &mut [LinkOut],
+    outgoing: &mut Outgoing,
     deliveries: &mut Deliveries,
     link: &mut LinkIn,
     slot: u64,
     fresh: Fresh,
 ) -> Result<Outcome, AllocError>
-    requires links { length links.old ≤ 256 }
+    requires peers { length (links_of outgoing.old) ≤ 256 }
     requires other { fresh.message.sender ≢ relay.old.me }
     requires new { holds relay.old fresh.message.sender fresh.message.number ≡ false }
     requires sender { fresh.message.sender < length deliveries.old.hold_back }
     requires number { fresh.message.number < 4096 }
     ensures relay { OnOk result (relay.new
         ≡ with_pair relay.old fresh.message.sender fresh.message.number) }
-    ensures links { OnOk result (links.new
+    ensures links { OnOk result (links_of outgoing.new
         ≡ given_from 0 (with_pair relay.old fresh.message.sender fresh.message.number)
-        fresh.source fresh.message links.old) }
+        fresh.source fresh.message (links_of outgoing.old)) }
     ensures deliveries { OnOk result (deliveries.new
         ≡ told_with deliveries.old fresh.message fresh.members) }
     ensures outcome { IfOk result (λ outcome.
         outcome ≡ outcome_with deliveries.old fresh.message fresh.members) }
     ensures taken { OnOk result (link.new ≡ set.insert link.old slot) }
     ensures err { OnErr result (relay.new ≡ relay.old) }
-    ensures same_links { OnErr result (links.new ≡ links.old) }
+    ensures same_outgoing { OnErr result (outgoing.new ≡ outgoing.old) }
     ensures same_deliveries { OnErr result (deliveries.new ≡ deliveries.old) }
     ensures as_before { OnErr result (link.new ≡ link.old) }
 {
@@ -114,7 +115,7 @@ pub fn take_up_carried(
         source,
         members,
     };
-    let told = spread_carried(relay, links, deliveries, link, slot, again);
+    let told = spread_carried(relay, outgoing, deliveries, link, slot, again);
     if told.is_err() {
         relay.forget(sender, number);
     }
@@ -124,20 +125,20 @@ pub fn take_up_carried(
 // Gives a message to the peers and keeps it back.
 fn take_up(
     relay: &Relay,
-    links: &mut [LinkOut],
+    outgoing: &mut Outgoing,
     deliveries: &mut Deliveries,
     fresh: Fresh,
 ) -> Result<Outcome, AllocError>
-    requires links { length links.old ≤ 256 }
+    requires peers { length (links_of outgoing.old) ≤ 256 }
     requires sender { fresh.message.sender < length deliveries.old.hold_back }
     requires number { fresh.message.number < 4096 }
-    ensures links { OnOk result (links.new
-        ≡ given_from 0 relay.now fresh.source fresh.message links.old) }
+    ensures links { OnOk result (links_of outgoing.new
+        ≡ given_from 0 relay.now fresh.source fresh.message (links_of outgoing.old)) }
     ensures deliveries { OnOk result (deliveries.new
         ≡ told_with deliveries.old fresh.message fresh.members) }
     ensures outcome { IfOk result (λ outcome.
         outcome ≡ outcome_with deliveries.old fresh.message fresh.members) }
-    ensures same_links { OnErr result (links.new ≡ links.old) }
+    ensures same_outgoing { OnErr result (outgoing.new ≡ outgoing.old) }
     ensures same_deliveries { OnErr result (deliveries.new ≡ deliveries.old) }
 {
     let Fresh {
@@ -146,10 +147,10 @@ fn take_up(
         members,
     } = fresh;
     let sender = message.sender;
-    give_all(links, 0, relay, source, &message)?;
+    outgoing.give(relay, source, &message)?;
     let told = deliveries.take_up(message, members);
     if told.is_err() {
-        take_back_all(links, 0, relay, source, sender);
+        outgoing.take_back(relay, source, sender);
     }
     told
 }
@@ -157,23 +158,23 @@ fn take_up(
 // The same, as a peer's slot brings it, which is taken.
 fn spread_carried(
     relay: &Relay,
-    links: &mut [LinkOut],
+    outgoing: &mut Outgoing,
     deliveries: &mut Deliveries,
     link: &mut LinkIn,
     slot: u64,
     fresh: Fresh,
 ) -> Result<Outcome, AllocError>
-    requires links { length links.old ≤ 256 }
+    requires peers { length (links_of outgoing.old) ≤ 256 }
     requires sender { fresh.message.sender < length deliveries.old.hold_back }
     requires number { fresh.message.number < 4096 }
-    ensures links { OnOk result (links.new
-        ≡ given_from 0 relay.now fresh.source fresh.message links.old) }
+    ensures links { OnOk result (links_of outgoing.new
+        ≡ given_from 0 relay.now fresh.source fresh.message (links_of outgoing.old)) }
     ensures deliveries { OnOk result (deliveries.new
         ≡ told_with deliveries.old fresh.message fresh.members) }
     ensures outcome { IfOk result (λ outcome.
         outcome ≡ outcome_with deliveries.old fresh.message fresh.members) }
     ensures taken { OnOk result (link.new ≡ set.insert link.old slot) }
-    ensures same_links { OnErr result (links.new ≡ links.old) }
+    ensures same_outgoing { OnErr result (outgoing.new ≡ outgoing.old) }
     ensures same_deliveries { OnErr result (deliveries.new ≡ deliveries.old) }
     ensures as_before { OnErr result (link.new ≡ link.old) }
 {
@@ -183,10 +184,10 @@ fn spread_carried(
         members,
     } = fresh;
     let sender = message.sender;
-    give_all(links, 0, relay, source, &message)?;
+    outgoing.give(relay, source, &message)?;
     let told = deliveries.take_up_carried(message, members, link, slot);
     if told.is_err() {
-        take_back_all(links, 0, relay, source, sender);
+        outgoing.take_back(relay, source, sender);
     }
     told
 }

@@ -50,7 +50,7 @@ filter_same p n m l none =
     ap (λ k. filter p (range_with_len 0 k)) (let z : m ≡ n + (m - n) = omega (arith, l) in z)
     ∙ filter_gap p n (m - n) (λ i a b. none i a (omega (arith, b, l)))
 
-module _ (link : Link) (f : ℕ → Due) where
+module _ (link : Link Message) (f : ℕ → Due) where
   -- the next slot owed
   pub owed_next : (before after old : List Due) (from slot next : ℕ) → next ≡ slot + 1 → from ≤ slot → finite.contains_key link.owed slot ≡ true → ((other : ℕ) → from ≤ other → other < slot → finite.get link.owed other ≡ None) →
       before ≡ old ++ map f (owed_below from link) → after ≡ before ++ f slot ∷ [] → after ≡ old ++ map f (owed_below next link)

@@ -49,7 +49,7 @@ none_kept (x ∷ xs) p none = ap (λ b. cond b (x ∷ filter p xs) (filter p xs)
 none_between : (world : State) (giver : ℕ) (kept : Kept) → kept ≡ node_at world giver → ((q : ℕ) → (link_to kept q).owed ≡ finite.empty) → (taker : ℕ) → due_between_at world giver taker ≡ []
 none_between world giver kept is none taker = by_test (giver == taker)
   where
-    owed : Link
+    owed : Link Message
     owed = link_to (node_at world giver) taker
 
     nothing : owed_slots owed ≡ []

@@ -21,14 +21,14 @@ abbrev pub due_of : ℕ → ℕ → ℕ → Due
 due_of p q slot = record { from = p; to = q; slot = slot }
 
 -- the slots below n that are owed
-abbrev pub owed_below : ℕ → Link → List ℕ
+abbrev pub owed_below : ℕ → Link Message → List ℕ
 owed_below n link = filter (finite.contains_key link.owed) (range_with_len 0 n)
 
-abbrev pub owed_slots : Link → List ℕ
+abbrev pub owed_slots : Link Message → List ℕ
 owed_slots link = owed_below link.given link
 
 -- no slot from n on is owed
-abbrev pub OwesNoneFrom : ℕ → Link → Type 0
+abbrev pub OwesNoneFrom : ℕ → Link Message → Type 0
 OwesNoneFrom n link = (slot : ℕ) → n ≤ slot → finite.contains_key link.owed slot ≡ false
 
 -- slots are few, and nothing is owed in one that wasn't given

@@ -7,8 +7,8 @@ use Rattle.cast_model.specs.Replies.{is_close, proposes}
 use Rattle.std.specs.List.{list_any}
 use Rattle.cast_relay.specs.Held.{Held}
 use Rattle.cast_node.specs.Delivering.{Delivering}
-use Rattle.cast_link.specs.Links.{Link}
-use Rattle.cast_node.specs.Sound.{Owes, OwesNothing}
+use Rattle.cast_node.specs.Sound.{Owes, IsWithin}
+use Rattle.cast_node.specs.Giving.{OwesNothing}
 use Rattle.cast_node.proofs.Owing.{owes_none, nothing_yet}
 use Rattle.cast_node.proofs.Parts.{length-replicate}
 use Rattle.cast_node.proofs.node.Node.make.Goals as goal
@@ -19,7 +19,8 @@ invariant_of-result c =
     let count = ap (λ (k : Config). k.nodes) same in
     let none = c.new-2.ensures.items in
     let relay = c.in_ok-new.ensures in
-    let ds = c.in_ok-new-2.ensures in
+    let ds = c.in_ok-new-3.ensures in
+    let out = c.in_ok-new-2.ensures.links in
     let peers : c.loop-peer._peer ≡ c.copy.result.nodes = omega (arith, c.loop-peer-test.false, c.loop-peer.auto._peer-end, c.nodes-peer-end.ensures, count) in
     record {
       place = omega (arith, c.requires, count);
@@ -30,10 +31,10 @@ invariant_of-result c =
       proposals = λ j. ap (λ s. set.contains s j) c.new-3.ensures ∙ contains-empty nat_cmp j ∙ sym (ap (list_any (proposes j)) none);
       mode = ap (λ (d : Delivering). d.mode) ds ∙ sym (ap (λ (k : Config). k.mode) same);
       faults = ap (λ (d : Delivering). d.faults) ds ∙ sym (ap (λ (k : Config). k.faults) same);
-      peers_out = ap length c.loop-peer.invariant.outgoing ∙ length-replicate _ _ ∙ peers;
-      peers_in = ap length c.loop-peer.invariant.incoming ∙ length-replicate _ _ ∙ peers;
+      peers_out = ap length out ∙ length-replicate _ _ ∙ c.nodes-2.ensures ∙ sym count;
+      peers_in = ap length c.loop-peer.invariant ∙ length-replicate _ _ ∙ peers;
       senders = ap (λ (d : Delivering). length d.hold_back) ds ∙ length-replicate _ _ ∙ sym count;
       rows = ap (λ (d : Delivering). length d.knowers) ds ∙ length-replicate _ _ ∙ sym count;
-      owes = subst (λ (links : List Link). Owes c.copy.result.nodes c.copy.result.item_limit links) (sym c.loop-peer.invariant.outgoing) (owes_none c.copy.result.nodes c.copy.result.item_limit c.loop-peer._peer);
-      silent = λ _. subst OwesNothing (sym c.loop-peer.invariant.outgoing) (nothing_yet c.loop-peer._peer);
+      owes = subst (Owes c.copy.result.nodes c.copy.result.item_limit) (sym out) (owes_none (IsWithin c.copy.result.nodes c.copy.result.item_limit) _);
+      silent = λ _. subst OwesNothing (sym out) (nothing_yet _);
     }

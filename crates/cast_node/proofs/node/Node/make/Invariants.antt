@@ -1,11 +1,6 @@
 use Rattle.std.proofs.Common.{◌≡◌, replicate}
-use Rattle.std.specs.FinMap as map
 use Rattle.std.specs.FinSet as set
 use Rattle.cast_node.proofs.node.Node.make.Given as goal
 
 abbrev pub invariant-loop-peer : goal.invariant-loop-peer
-invariant-loop-peer l =
-    record {
-      outgoing : l.outgoing.items ≡ replicate l._peer (record { given = 0; owed = map.empty });
-      incoming : l.incoming.items ≡ replicate l._peer set.empty;
-    }
+invariant-loop-peer l = l.incoming.items ≡ replicate l._peer set.empty

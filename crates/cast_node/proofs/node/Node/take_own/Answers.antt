@@ -2,11 +2,11 @@ use Rattle.std.proofs.Common.{◌<◌, ◌∙◌, ◌++◌, ◌∷◌, [], ap, s
 use Rattle.cast_relay.specs.Held.{Held}
 use Rattle.cast_node.specs.Delivering.{Delivering, waiting_in}
 use Rattle.cast_node.specs.Taking.{with_own, message_of, first_members, with_proposal, without_proposal}
-use Rattle.cast_node.proofs.Wholes.{OrderFine, order_fine, own_item, slice_back, length-given, told_keeps, given_at}
+use Rattle.cast_node.proofs.Wholes.{OrderFine, order_fine, own_item, length-given, told_keeps}
 use Rattle.std.proofs.Math.ListN.{length-set}
 use Rattle.cast_model.specs.Replies.{is_close}
-use Rattle.cast_link.specs.Links.{Link}
-use Rattle.cast_node.specs.Sound.{Owes}
+use Rattle.cast_node.specs.Sound.{Owes, IsWithin}
+use Rattle.cast_node.specs.Outgoing.{links_of}
 use Rattle.cast_node.proofs.Owing.{owes_given}
 use Rattle.cast_node.proofs.Keeping.{keeps_all, keeps_own, withdrawn}
 use Rattle.cast_node.proofs.node.Node.take_own.Goals as goal
@@ -24,21 +24,21 @@ invariant_of-self-in-Ok c =
     let ds = c.self.inside.deliveries in
     let relay = c.self.inside.relay in
     let told = told_keeps (waiting_in ds (message_of relay c.args.item)) c.self.inside.me relay.own (first_members c.self.inside.me c.self.inside.me c.self.inside.me) in
-    let links = given_at c.self.inside.outgoing.len c.take_up_own.new.links c.self.inside.outgoing.items c.as_mut_slice.result.now 0 (with_own relay) c.self.inside.me (message_of relay c.args.item) done.links c.as_mut_slice.ensures.value c.self.inside.outgoing.ok.0 in
+    let links = done.links in
     let room = c.self.invariant.room (c.self.invariant.closes ∙ fine.unclosed) in
     let within : (relay.me < c.self.inside.config.nodes) × (relay.own < c.self.inside.config.item_limit) = (omega (arith, c.self.invariant.place, c.self.invariant.relay_me), omega (arith, room, c.self.invariant.relay_own)) in
-    keeps_own c.self.inside.config c.self.inside.me c.self.inside.stream.items _ c.self.inside.closed _ c.self.inside.proposed _ relay _ c.self.inside.outgoing.items _ c.self.inside.incoming.items ds c.take_up_own.new.deliveries c.self.inside.quiet c.args.item c.self.invariant fine.unclosed fine.room
+    keeps_own c.self.inside.config c.self.inside.me c.self.inside.stream.items _ c.self.inside.closed _ c.self.inside.proposed _ relay _ (links_of c.self.inside.outgoing) _ c.self.inside.incoming.items ds c.take_up_own.new.deliveries c.self.inside.quiet c.args.item c.self.invariant fine.unclosed fine.room
     (c.push_reserved.ensures.items ∙ (λ k. c.reserve.ensures.items k ++ c.in_ok-kept.ensures k ∷ []))
     (c.is_close-self-inside.ensures ∙ ap is_close c.in_ok-kept.ensures)
     (c.in_ok-propose.ensures.ok ∙ ap (with_proposal c.self.inside.proposed) c.in_ok-kept.ensures)
     (ap (λ (h : Held). h.me) done.relay)
     (ap (λ (h : Held). h.own) done.relay)
-    (ap length links ∙ length-given 0 (with_own relay) c.self.inside.me (message_of relay c.args.item) c.self.inside.outgoing.items)
+    (ap length links ∙ length-given 0 (with_own relay) c.self.inside.me (message_of relay c.args.item) (links_of c.self.inside.outgoing))
     (ap (λ (d : Delivering). d.mode) done.deliveries ∙ told.0)
     (ap (λ (d : Delivering). d.faults) done.deliveries ∙ told.1)
     (ap (λ (d : Delivering). length d.hold_back) done.deliveries ∙ told.2 ∙ length-set ds.hold_back relay.me _)
     (ap (λ (d : Delivering). length d.knowers) done.deliveries ∙ told.3)
-    (subst (λ (ls : List Link). Owes c.self.inside.config.nodes c.self.inside.config.item_limit ls) (sym links) (owes_given c.self.inside.config.nodes c.self.inside.config.item_limit 0 (with_own relay) c.self.inside.me (message_of relay c.args.item) c.self.inside.outgoing.items within c.self.invariant.owes))
+    (subst (Owes c.self.inside.config.nodes c.self.inside.config.item_limit) (sym links) (owes_given (IsWithin c.self.inside.config.nodes c.self.inside.config.item_limit) 0 (with_own relay) c.self.inside.me relay.me (message_of relay c.args.item) (links_of c.self.inside.outgoing) within c.self.invariant.owes))
 
 pub returns-in-Ok-clause-outcome : goal.returns-in-Ok-clause-outcome
 returns-in-Ok-clause-outcome c =
@@ -46,8 +46,8 @@ returns-in-Ok-clause-outcome c =
     let me = c.self.inside.me in
     let relay = c.self.inside.relay in
     let place : me < length c.self.inside.deliveries.knowers = omega (arith, c.self.invariant.place, c.self.invariant.rows) in
-    let links = given_at c.self.inside.outgoing.len c.take_up_own.new.links c.self.inside.outgoing.items c.as_mut_slice.result.now 0 (with_own relay) me (message_of relay c.args.item) done.links c.as_mut_slice.ensures.value c.self.inside.outgoing.ok.0 in
-    let whole = own_item c.self.inside.config c.self.inside.me c.self.inside.live c.self.inside.frames c.self.inside.stream.items c.self.inside.relay c.self.inside.outgoing.items c.self.inside.incoming.items c.self.inside.deliveries c.args.self.now c.self.view_is c.self.invariant.mode c.self.invariant.faults c.args.item c.take_up_own.new.relay _ c.take_up_own.new.deliveries c.push_reserved.new.self.items place c.self.invariant.relay_me c.self.invariant.relay_own done.relay links done.deliveries (c.push_reserved.ensures.items ∙ (λ k. c.reserve.ensures.items k ++ c.in_ok-kept.ensures k ∷ [])) in
+    let links = done.links in
+    let whole = own_item c.self.inside.config c.self.inside.me c.self.inside.live c.self.inside.frames c.self.inside.stream.items c.self.inside.relay (links_of c.self.inside.outgoing) c.self.inside.incoming.items c.self.inside.deliveries c.args.self.now c.self.view_is c.self.invariant.mode c.self.invariant.faults c.args.item c.take_up_own.new.relay _ c.take_up_own.new.deliveries c.push_reserved.new.self.items place c.self.invariant.relay_me c.self.invariant.relay_own done.relay links done.deliveries (c.push_reserved.ensures.items ∙ (λ k. c.reserve.ensures.items k ++ c.in_ok-kept.ensures k ∷ [])) in
     done.outcome ∙ whole.1
 
 pub returns-in-Ok-clause-ok : goal.returns-in-Ok-clause-ok
@@ -56,16 +56,15 @@ returns-in-Ok-clause-ok c =
     let me = c.self.inside.me in
     let relay = c.self.inside.relay in
     let place : me < length c.self.inside.deliveries.knowers = omega (arith, c.self.invariant.place, c.self.invariant.rows) in
-    let links = given_at c.self.inside.outgoing.len c.take_up_own.new.links c.self.inside.outgoing.items c.as_mut_slice.result.now 0 (with_own relay) me (message_of relay c.args.item) done.links c.as_mut_slice.ensures.value c.self.inside.outgoing.ok.0 in
-    let whole = own_item c.self.inside.config c.self.inside.me c.self.inside.live c.self.inside.frames c.self.inside.stream.items c.self.inside.relay c.self.inside.outgoing.items c.self.inside.incoming.items c.self.inside.deliveries c.args.self.now c.self.view_is c.self.invariant.mode c.self.invariant.faults c.args.item c.take_up_own.new.relay _ c.take_up_own.new.deliveries c.push_reserved.new.self.items place c.self.invariant.relay_me c.self.invariant.relay_own done.relay links done.deliveries (c.push_reserved.ensures.items ∙ (λ k. c.reserve.ensures.items k ++ c.in_ok-kept.ensures k ∷ [])) in
+    let links = done.links in
+    let whole = own_item c.self.inside.config c.self.inside.me c.self.inside.live c.self.inside.frames c.self.inside.stream.items c.self.inside.relay (links_of c.self.inside.outgoing) c.self.inside.incoming.items c.self.inside.deliveries c.args.self.now c.self.view_is c.self.invariant.mode c.self.invariant.faults c.args.item c.take_up_own.new.relay _ c.take_up_own.new.deliveries c.push_reserved.new.self.items place c.self.invariant.relay_me c.self.invariant.relay_own done.relay links done.deliveries (c.push_reserved.ensures.items ∙ (λ k. c.reserve.ensures.items k ++ c.in_ok-kept.ensures k ∷ [])) in
     whole.0
 
 pub invariant_of-self-in-Err : goal.invariant_of-self-in-Err
 invariant_of-self-in-Err c =
     let fine = subst (λ k. OrderFine k c.args.item) (sym c.self.view_is) (order_fine c.args.self.now c.args.item c.requires) in
     let back = c.in-Err.ensures in
-    let all = c.self.inside.outgoing.items in
-    let links = back.same_links ∙ c.as_mut_slice.ensures.value in
+    let all = links_of c.self.inside.outgoing in
     keeps_all c.self.inside.config c.self.inside.me c.self.inside.stream.items _ c.self.inside.closed c.self.inside.proposed _ c.self.inside.relay _ all _ c.self.inside.incoming.items c.self.inside.deliveries _ c.self.inside.quiet c.self.invariant c.reserve.ensures.items
     (c.withdraw.ensures ∙ (λ k. without_proposal ((c.in_ok-propose.ensures.ok ∙ ap (with_proposal c.self.inside.proposed) c.in_ok-kept.ensures) k) (c.in_ok-kept.ensures k)) ∙ withdrawn c.self.inside.proposed c.self.inside.stream.items c.args.item c.self.invariant.proposals fine.first)
-    back.err (slice_back c.self.inside.outgoing.len c.take_up_own.new.links all (ap length links) c.self.inside.outgoing.ok.0 ∙ links) back.same_deliveries
+    back.err (ap links_of back.same_outgoing) back.same_deliveries

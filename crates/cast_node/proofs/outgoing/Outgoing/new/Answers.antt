@@ -1,0 +1,16 @@
+use Rattle.std.proofs.Common.{◌≡◌, ◌<◌, map, replicate, sym, ap, ◌∙◌, subst, arith}
+use Rattle.std.specs.FinMap as finite
+use Rattle.cast_node.specs.Outgoing.{link_through, OwesBelow}
+use Rattle.cast_node.proofs.Owing.{owes_none}
+use Rattle.cast_node.proofs.Through.{nothing_given_through}
+use Rattle.cast_node.proofs.outgoing.Outgoing.new.Goals as goal
+
+pub invariant_of-result : goal.invariant_of-result
+invariant_of-result c = subst (OwesBelow _) (sym c.loop-peer.invariant) (owes_none (λ place. place < _) c.loop-peer._peer)
+
+pub returns-clause-links : goal.returns-clause-links
+returns-clause-links c =
+    let all : c.loop-peer._peer ≡ c.args.peers = omega (arith, c.loop-peer-test.false, c.loop-peer.auto._peer-end) in
+    (λ i. map (link_through (c.new-2.ensures.items i)) (c.loop-peer.invariant i))
+    ∙ nothing_given_through c.loop-peer._peer
+    ∙ ap (λ n. replicate n (record { given = 0; owed = finite.empty })) all

@@ -1,0 +1,149 @@
+//! What a node gives its peers. A message goes to many of them and stands here once: the slots of a link keep its place, four
+//! bytes and a mark, and no count of its payload moves where a slot is given, acknowledged or dropped.
+ghost use Rattle.std.specs.Prelude.{◌≡◌, ◌<◌, ◌≤◌, IsTrue, length, replicate, slice_set, IfOk, OnOk, OnErr};
+ghost use Rattle.std.specs.FinMap as finite;
+ghost use Rattle.std.specs.Option.{option_copied};
+ghost use Rattle.cast_link.specs.Links.{with_acknowledged, IsLeastFrom};
+ghost use Rattle.cast_node.specs.Turns.{given_from};
+ghost use Rattle.cast_node.specs.Giving.{link_in, OwesNothing};
+ghost use Rattle.cast_node.specs.Outgoing.{links_of, nothing_given, given_to, given_back, IsLastGiven};
+
+use crate::giving::{give_all, owe_nothing, take_back_all};
+use cast_link::LinkOut;
+use cast_message::{Message, NodeId};
+use cast_relay::Relay;
+use std::alloc::{AllocError, Global};
+use std::marker::Model;
+
+/// What a node gives each peer.
+#[derive(Debug, Drop)]
+pub struct Outgoing {
+    // The messages that it gave, in the order in which it came to hold them.
+    messages: Vec<Message>,
+    // By peer. A slot keeps the place of its message.
+    links: Vec<LinkOut<u32>>,
+}
+
+impl Model for Outgoing {
+    ghost use Rattle.std.specs.Prelude.{length};
+    ghost use Rattle.cast_node.specs.Outgoing.{Outbound, outbound_code, OwesBelow};
+    ghost use Rattle.cast_message.specs.contracts.message.Message as m;
+
+    ghost Value = { Outbound };
+
+    ghost coded = { outbound_code m.the_row.coded };
+
+    ghost view = { λ o. record { messages = o.messages.items; links = o.links.items } };
+
+    ghost invariant = { λ o. OwesBelow (length o.messages.items) o.links.items };
+}
+
+impl Outgoing {
+    /// Nothing was given to any of so many peers.
+    pub fn new(alloc: Global, peers: u64) -> Result<Outgoing, AllocError>
+        ensures ok { IfOk result (λ outgoing. outgoing ≡ nothing_given peers) }
+        ensures links { IfOk result (λ outgoing. links_of outgoing
+            ≡ replicate peers (record { given = 0; owed = finite.empty })) }
+    {
+        let mut links = Vec::new(alloc);
+        for _peer in 0..peers {
+            links.push(LinkOut::new(alloc))?;
+        }
+        Ok(Outgoing {
+            messages: Vec::new(alloc),
+            links,
+        })
+    }
+
+    /// Gives a message to each peer to which it goes, where it came from the source, or to none where memory is wanting.
+    pub fn give(
+        &mut self,
+        relay: &Relay,
+        source: NodeId,
+        message: &Message,
+    ) -> Result<(), AllocError>
+        requires { length (links_of self.old) ≤ 256 }
+        ensures ok { OnOk result (self.new ≡ given_to relay.now source message.now self.old) }
+        ensures links { OnOk result (links_of self.new
+            ≡ given_from 0 relay.now source message.now (links_of self.old)) }
+        ensures last { OnOk result
+            (IsLastGiven relay.now source message.now.sender self.new) }
+        ensures back { OnOk result
+            (given_back relay.now source message.now.sender self.new ≡ self.old) }
+        ensures err { OnErr result (self.new ≡ self.old) }
+    {
+        let place = self.messages.len();
+        // As many messages as a `u32` counts are never given: each takes memory.
+        if place > u32::MAX as usize {
+            return Err(AllocError);
+        }
+        self.messages.push(message.copy()?)?;
+        let links = self.links.as_mut_slice();
+        match give_all(links, 0, relay, source, message.sender, place as u32) {
+            Ok(()) => Ok(()),
+            Err(refused) => {
+                self.messages.pop();
+                Err(refused)
+            }
+        }
+    }
+
+    /// Takes back the message that was given last, of this sender and source.
+    pub fn take_back(&mut self, relay: &Relay, source: NodeId, sender: NodeId)
+        requires peers { length (links_of self.old) ≤ 256 }
+        requires last { IsLastGiven relay.now source sender self.old }
+        ensures { self.new ≡ given_back relay.now source sender self.old }
+    {
+        take_back_all(self.links.as_mut_slice(), 0, relay, source, sender);
+        self.messages.pop();
+    }
+
+    /// The message in a slot of a peer that is owed.
+    pub fn message(&self, to: NodeId, slot: u64) -> Option<&Message>
+        requires { to < length (links_of self.now) }
+        ensures { option_copied result ≡ finite.get (link_in (links_of self.now) to).owed slot }
+    {
+        let place = self.links[usize::from(to.0)].get(slot)?;
+        Some(&self.messages[*place as usize])
+    }
+
+    /// Marks a slot of a peer as acknowledged.
+    pub fn acknowledge(&mut self, to: NodeId, slot: u64)
+        requires { to < length (links_of self.old) }
+        ensures { links_of self.new ≡ slice_set (links_of self.old) to
+            (with_acknowledged (link_in (links_of self.old) to) slot) }
+    {
+        self.links[usize::from(to.0)].acked(slot);
+    }
+
+    /// How many slots a peer was given.
+    pub fn given(&self, to: NodeId) -> u64
+        requires { to < length (links_of self.now) }
+        ensures { result ≡ (link_in (links_of self.now) to).given }
+    {
+        self.links[usize::from(to.0)].given()
+    }
+
+    /// How many slots of a peer are owed.
+    pub fn owed(&self, to: NodeId) -> u64
+        requires { to < length (links_of self.now) }
+        ensures { result ≡ finite.len (link_in (links_of self.now) to).owed }
+    {
+        self.links[usize::from(to.0)].owed()
+    }
+
+    /// The least slot of a peer that is owed and not below `from`.
+    pub fn least_owed(&self, to: NodeId, from: u64) -> Option<u64>
+        requires { to < length (links_of self.now) }
+        ensures { IsLeastFrom (link_in (links_of self.now) to).owed from result }
+    {
+        self.links[usize::from(to.0)].least_owed(from)
+    }
+
+    /// Whether no slot is owed to any peer.
+    pub fn owes_nothing(&self) -> bool
+        ensures { IsTrue result → OwesNothing (links_of self.now) }
+    {
+        owe_nothing(self.links.as_slice())
+    }
+}
