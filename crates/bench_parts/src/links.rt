@@ -13,7 +13,7 @@ pub fn links(rt: &(impl Clock + Print), alloc: Global, calls: u64) -> Result<()>
     taken(rt, alloc, calls)
 }
 
-fn give_all(link: &mut LinkOut, calls: u64) -> Result<()> {
+fn give_all(link: &mut LinkOut<Message>, calls: u64) -> Result<()> {
     for number in 0..calls {
         if link.given() == u64::MAX {
             break;

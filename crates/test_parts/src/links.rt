@@ -4,6 +4,7 @@ ghost use Rattle.std.specs.Prelude.{◌+◌, ◌<◌, ◌^◌};
 use crate::{data, refused};
 use anyhow::Result;
 use cast_link::{LinkFault, LinkIn, LinkOut};
+use cast_message::Message;
 use std::alloc::Global;
 
 pub fn link_out(rt: &impl Print, alloc: Global) -> Result<()> {
@@ -18,7 +19,7 @@ pub fn link_out(rt: &impl Print, alloc: Global) -> Result<()> {
     Ok(())
 }
 
-fn give(rt: &impl Print, alloc: Global, link: &mut LinkOut) -> Result<()>
+fn give(rt: &impl Print, alloc: Global, link: &mut LinkOut<Message>) -> Result<()>
     requires { link.old.given + 1 < 2 ^ 64 }
 {
     if let Ok(slot) = link.give(data(alloc, 0, 0)?) {
@@ -32,7 +33,7 @@ fn give(rt: &impl Print, alloc: Global, link: &mut LinkOut) -> Result<()>
     Ok(())
 }
 
-fn carry(rt: &impl Print, link: &LinkOut, slot: u64) -> Result<()> {
+fn carry(rt: &impl Print, link: &LinkOut<Message>, slot: u64) -> Result<()> {
     let mut carried = link.carry(slot);
     if let Err(LinkFault::Memory) = carried {
         refused(rt, "carry", true)?;
