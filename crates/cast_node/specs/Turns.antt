@@ -27,7 +27,7 @@ use Rattle.cast_model.specs.Replies.{Cause, IsRefused, no_node, is_close, is_too
 use Rattle.cast_model.specs.Steps.{Step, Ordered, Sent, Acknowledged, Arrived, Stopped}
 use Rattle.cast_model.specs.OwnSteps.{nothing}
 use Rattle.cast_link.specs.Links.{Link, with_acknowledged}
-use Rattle.cast_relay.specs.Held.{Held, holds, with_pair, relays_to}
+use Rattle.cast_relay.specs.Held.{Held, holds, with_pair}
 use Rattle.cast_fifo.specs.Held.{held_of, known_items, known_after}
 use Rattle.cast_fifo.specs.Calls.{Hold, held_after}
 use Rattle.cast_agree.specs.Journal.{counted_all, decisions_all}

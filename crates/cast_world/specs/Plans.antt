@@ -10,6 +10,7 @@ use Rattle.cast_message.specs.declared.event.Event.{Event}
 use Rattle.cast_message.specs.declared.event.Event.TheVariants.{Send, Ack, Arrive}
 use Rattle.cast_model.specs.Delivery.{nodes_of}
 use Rattle.cast_model.specs.Rounds.{Due}
+use Rattle.cast_message.specs.declared.message.Message.{Message}
 use Rattle.cast_link.specs.Links.{Link}
 use Rattle.cast_node.specs.Kept.{link_to}
 use Rattle.cast_world.specs.Group.{State, node_at, marks_at}

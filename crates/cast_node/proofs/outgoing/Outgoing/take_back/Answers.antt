@@ -1,4 +1,4 @@
-use Rattle.std.proofs.Common.{◌-◌, ◌++◌, length, take, drop, sym, ap, ◌∙◌, subst, arith}
+use Rattle.std.proofs.Common.{◌-◌, ◌++◌, length, take, drop, sym, ap, ◌∙◌, subst}
 use Rattle.cast_node.specs.Outgoing.{IsLastGiven, OwesBelow}
 use Rattle.cast_node.proofs.Gifts.{back_whole}
 use Rattle.cast_node.proofs.Through.{length_front}
