@@ -69,6 +69,9 @@ proposal-parts i v is_cut old first second third new cut_is a b c d =
 
 -- ---- texts that are put one after another
 
+pub puts-2 : (old s t a b : List ℕ) → s ≡ old ++ a → t ≡ s ++ b → t ≡ old ++ (a ++ (b ++ []))
+puts-2 old s t a b p q = rw (q, p, append-nil b, append_assoc old a b) refl
+
 pub puts-3 : (old s t u a b c : List ℕ) → s ≡ old ++ a → t ≡ s ++ b → u ≡ t ++ c → u ≡ old ++ (a ++ (b ++ (c ++ [])))
 puts-3 old s t u a b c p q r = rw (r, q, p, append-nil c, append_assoc (old ++ a) b c, append_assoc old a (b ++ c)) refl
 

@@ -22,22 +22,31 @@ joined (text ∷ texts) = text ++ joined texts
 abbrev pub colour_of : ℕ → List ℕ
 colour_of sender = decimal (sender % 8)
 
+-- the title of a mark of a message: the node, what it does with it, and the event
+abbrev pub title_text : ℕ → ℕ → List ℕ → ℕ → ℕ → Item → List ℕ
+title_text event node deed sender number item =
+    joined (codes "<g><title>node " ∷ decimal node ∷ deed ∷ decimal sender ∷ codes "." ∷ decimal number
+    ∷ codes " (" ∷ item_word item ∷ codes "), event " ∷ decimal event ∷ codes "</title>" ∷ [])
+
 abbrev pub broadcast_text : ℕ → ℕ → ℕ → ℕ → ℕ → Item → List ℕ
 broadcast_text x y event node number item =
-    joined (codes "<g><title>node " ∷ decimal node ∷ codes " broadcasts " ∷ decimal node ∷ codes "." ∷ decimal number
-    ∷ codes " (" ∷ item_word item ∷ codes "), event " ∷ decimal event
-    ∷ codes "</title><circle class='f" ∷ colour_of node ∷ codes "' cx='" ∷ decimal x ∷ codes "' cy='" ∷ decimal y
+    joined (title_text event node (codes " broadcasts ") node number item
+    ∷ joined (codes "<circle class='f" ∷ colour_of node ∷ codes "' cx='" ∷ decimal x ∷ codes "' cy='" ∷ decimal y
     ∷ codes "' r='5'/><text class='l' x='" ∷ decimal (x - 5) ∷ codes "' y='" ∷ decimal (y - 11) ∷ codes "'>" ∷ item_label item
+    ∷ codes "</text></g>\n" ∷ []) ∷ [])
+
+-- a box with the message's numbers
+abbrev pub box_text : ℕ → ℕ → Message → List ℕ
+box_text x top message =
+    joined (codes "<rect class='b f" ∷ colour_of message.sender ∷ codes "' x='" ∷ decimal (x + 2) ∷ codes "' y='" ∷ decimal top
+    ∷ codes "' width='44' height='13' rx='3'/><text class='d t" ∷ colour_of message.sender ∷ codes "' x='" ∷ decimal (x + 24)
+    ∷ codes "' y='" ∷ decimal (top + 10) ∷ codes "'>" ∷ decimal message.sender ∷ codes "." ∷ decimal message.number
     ∷ codes "</text></g>\n" ∷ [])
 
 abbrev pub delivery_text : ℕ → ℕ → ℕ → ℕ → Message → List ℕ
 delivery_text x top event node message =
-    joined (codes "<g><title>node " ∷ decimal node ∷ codes " delivers " ∷ decimal message.sender ∷ codes "." ∷ decimal message.number
-    ∷ codes " (" ∷ item_word message.item ∷ codes "), event " ∷ decimal event
-    ∷ codes "</title><rect class='b f" ∷ colour_of message.sender ∷ codes "' x='" ∷ decimal (x + 2) ∷ codes "' y='" ∷ decimal top
-    ∷ codes "' width='44' height='13' rx='3'/><text class='d t" ∷ colour_of message.sender ∷ codes "' x='" ∷ decimal (x + 24)
-    ∷ codes "' y='" ∷ decimal (top + 10) ∷ codes "'>" ∷ decimal message.sender ∷ codes "." ∷ decimal message.number
-    ∷ codes "</text></g>\n" ∷ [])
+    joined (title_text event node (codes " delivers ") message.sender message.number message.item
+    ∷ box_text x top message ∷ [])
 
 abbrev pub decision_text : ℕ → ℕ → ℕ → ℕ → Decision → List ℕ
 decision_text x top event node decision =

@@ -1,13 +1,14 @@
 //! The marks, each a small function that puts its text at the end of an ink.
 ghost use Rattle.std.specs.Prelude.{◌≡◌, ◌<◌, ◌≤◌, ◌^◌, ◌++◌, OnOk};
 ghost use Rattle.cast_draw.specs.Places.{top_of};
-ghost use Rattle.cast_draw.specs.Marks.{broadcast_text, delivery_text, decision_text, crash_text, refusal_text, ground_text};
+ghost use Rattle.cast_draw.specs.Marks.{title_text, box_text, broadcast_text, delivery_text, decision_text, crash_text, refusal_text, ground_text};
 ghost use Rattle.cast_draw.specs.FrameMarks.{class_of, frame_words, cargo_words, arrow_text, stub_path, stub_text, cross_top, lost_text, leaving_text};
 
 use crate::cell::{Cell, Spot};
 use crate::frames::{Cargo, MadeFrame};
 use crate::ink::Ink;
 use crate::ink::Piece::{Label, Number, Text, Value, Word};
+use crate::links::Pair;
 use crate::side::Side;
 use cast_message::{Decision, Item, Message, NodeId};
 use std::alloc::AllocError;
@@ -27,18 +28,13 @@ pub fn put_broadcast(
     ensures { OnOk result (ink.new ≡ ink.old
         ++ broadcast_text spot.x spot.y index node number item.now) }
 {
+    let pair = Pair {
+        sender: node,
+        number,
+    };
+    put_title(ink, index, node, b" broadcasts ", pair, item)?;
     ink.put(&[
-        Text(b"<g><title>node "),
-        Number(node.0 as u64),
-        Text(b" broadcasts "),
-        Number(node.0 as u64),
-        Text(b"."),
-        Number(number),
-        Text(b" ("),
-        Word(item),
-        Text(b"), event "),
-        Number(index),
-        Text(b"</title><circle class='f"),
+        Text(b"<circle class='f"),
         Number((node.0 % COLOURS) as u64),
         Text(b"' cx='"),
         Number(spot.x),
@@ -65,21 +61,51 @@ pub fn put_delivery(
     ensures { OnOk result (ink.new ≡ ink.old ++ delivery_text cell.x
         (top_of cell.line cell.row) index node message.now) }
 {
+    let pair = Pair {
+        sender: message.sender,
+        number: message.number,
+    };
+    put_title(ink, index, node, b" delivers ", pair, &message.item)?;
+    put_numbered_box(ink, cell, message)
+}
+
+// The title of a mark of a message: the node, what it does with it, and the event.
+fn put_title<'a>(
+    ink: &mut Ink,
+    index: u64,
+    node: NodeId,
+    deed: &'a [u8],
+    pair: Pair,
+    item: &'a Item,
+) -> Result<(), AllocError>
+    ensures { OnOk result (ink.new ≡ ink.old
+        ++ title_text index node deed.now pair.sender pair.number item.now) }
+{
+    ink.put(&[
+        Text(b"<g><title>node "),
+        Number(node.0 as u64),
+        Text(deed),
+        Number(pair.sender.0 as u64),
+        Text(b"."),
+        Number(pair.number),
+        Text(b" ("),
+        Word(item),
+        Text(b"), event "),
+        Number(index),
+        Text(b"</title>"),
+    ])
+}
+
+// The box of a delivery, with the message's numbers.
+fn put_numbered_box(ink: &mut Ink, cell: Cell, message: &Message) -> Result<(), AllocError>
+    ensures { OnOk result (ink.new ≡ ink.old ++ box_text cell.x
+        (top_of cell.line cell.row) message.now) }
+{
     let sender = message.sender.0 as u64;
     let colour = (message.sender.0 % COLOURS) as u64;
     let top = cell.line + 9 + 15 * cell.row;
     ink.put(&[
-        Text(b"<g><title>node "),
-        Number(node.0 as u64),
-        Text(b" delivers "),
-        Number(sender),
-        Text(b"."),
-        Number(message.number),
-        Text(b" ("),
-        Word(&message.item),
-        Text(b"), event "),
-        Number(index),
-        Text(b"</title><rect class='b f"),
+        Text(b"<rect class='b f"),
         Number(colour),
         Text(b"' x='"),
         Number(cell.x + 2),

@@ -64,27 +64,26 @@ Ascends-set n test w (e ∷ es) h = go (test e.0) (Ascends-set (e.0 + 1) test w 
     go true rest = h
     go false rest = (h.0, rest)
 
+same_at : (q k : ℕ) → is_at (nat_cmp q) k ≡ (q == k)
+same_at q k = grind (arith, nat_tests)
+
+-- two tests that don't both hold may be tried in either order
+swap : (a b : Bool) (x y : Option Waiting) (z : Option Waiting) → (a ≡ true → b ≡ false) → cond a x (cond b y z) ≡ cond b y (cond a x z)
+swap true true x y z f = absurd (true≢false (f refl))
+swap true false x y z f = refl
+swap false b x y z f = refl
+
+-- a test that failed fails where it is tried again
+twice : (a : Bool) (x y z : Option Waiting) → cond a x z ≡ cond a x (cond a y z)
+twice true x y z = refl
+twice false x y z = refl
+
 pub look_inserted : (k q : ℕ) (w : Waiting) (es : Entries) → waiting_at (insert_entry nat_cmp es k w) q ≡ cond (q == k) (Some w) (waiting_at es q)
 look_inserted k q w [] = ap (λ b. cond b (Some w) None) (same_at q k)
-  where
-    same_at : (q k : ℕ) → is_at (nat_cmp q) k ≡ (q == k)
-    same_at q k = grind (arith, nat_tests)
 look_inserted k q w (e ∷ es) = go (nat_cmp k e.0) refl (look_inserted k q w es)
   where
-    same_at : (q k : ℕ) → is_at (nat_cmp q) k ≡ (q == k)
-    same_at q k = grind (arith, nat_tests)
-
     apart : (q k m : ℕ) → m < k → is_at (nat_cmp q) m ≡ true → (q == k) ≡ false
     apart q k m l f = grind (arith, nat_tests)
-
-    swap : (a b : Bool) (x y : Option Waiting) (z : Option Waiting) → (a ≡ true → b ≡ false) → cond a x (cond b y z) ≡ cond b y (cond a x z)
-    swap true true x y z f = absurd (true≢false (f refl))
-    swap true false x y z f = refl
-    swap false b x y z f = refl
-
-    twice : (a : Bool) (x y z : Option Waiting) → cond a x z ≡ cond a x (cond a y z)
-    twice true x y z = refl
-    twice false x y z = refl
 
     go : (o : Ordering) → nat_cmp k e.0 ≡ o → waiting_at (insert_entry nat_cmp es k w) q ≡ cond (q == k) (Some w) (waiting_at es q) → waiting_at (match_ordering o ((k, w) ∷ e ∷ es) ((e.0, w) ∷ es) (e ∷ insert_entry nat_cmp es k w)) q ≡ cond (q == k) (Some w) (waiting_at (e ∷ es) q)
     go Less f rest = ap (λ b. cond b (Some w) (waiting_at (e ∷ es) q)) (same_at q k)
@@ -100,23 +99,11 @@ look_changed k q w v [] h = absurd (none_some h)
     none_some e = cc
 look_changed k q w v (e ∷ es) h = go (is_at (nat_cmp k) e.0) refl (λ f. look_changed k q w v es f)
   where
-    same_at : (q k : ℕ) → is_at (nat_cmp q) k ≡ (q == k)
-    same_at q k = grind (arith, nat_tests)
-
     tells : (k m : ℕ) → is_at (nat_cmp k) m ≡ true → m ≡ k
     tells k m e = grind (arith, nat_tests)
 
     apart : (q k m : ℕ) → is_at (nat_cmp k) m ≡ false → is_at (nat_cmp q) m ≡ true → (q == k) ≡ false
     apart q k m l f = grind (arith, nat_tests)
-
-    swap : (a b : Bool) (x y : Option Waiting) (z : Option Waiting) → (a ≡ true → b ≡ false) → cond a x (cond b y z) ≡ cond b y (cond a x z)
-    swap true true x y z f = absurd (true≢false (f refl))
-    swap true false x y z f = refl
-    swap false b x y z f = refl
-
-    twice : (a : Bool) (x y z : Option Waiting) → cond a x z ≡ cond a x (cond a y z)
-    twice true x y z = refl
-    twice false x y z = refl
 
     go : (b : Bool) → is_at (nat_cmp k) e.0 ≡ b → (waiting_at es k ≡ Some v → waiting_at (set_value (is_at (nat_cmp k)) es w) q ≡ cond (q == k) (Some w) (waiting_at es q)) → waiting_at (cond b ((e.0, w) ∷ es) (e ∷ set_value (is_at (nat_cmp k)) es w)) q ≡ cond (q == k) (Some w) (waiting_at (e ∷ es) q)
     go true f rest =

@@ -25,17 +25,27 @@ unfoldable pub first_config_fault : List ConfigCause → Option ConfigFault
 first_config_fault [] = None
 first_config_fault (cause ∷ causes) = if cause.holds then Some cause.refusal else first_config_fault causes
 
--- the causes, in the order in which they are tried
-unfoldable pub config_causes : ℕ → ℕ → ℕ → ℕ → ℕ → ℕ → Mode → List ConfigCause
-config_causes nodes faults choices item_limit log_limit box_size mode =
+-- the causes of the counts of nodes, in front of others
+abbrev pub count_causes : ℕ → ℕ → ℕ → List ConfigCause → List ConfigCause
+count_causes nodes faults choices others =
     record { holds = is_outside 1 64 nodes; refusal = Nodes }
     ∷ record { holds = nat_le nodes faults; refusal = Faults }
     ∷ record { holds = is_outside 1 nodes choices; refusal = Choices }
-    ∷ record { holds = is_outside 1 4096 item_limit; refusal = ItemLimit }
+    ∷ others
+
+-- the causes of the sizes, in front of others
+abbrev pub size_causes : ℕ → ℕ → ℕ → List ConfigCause → List ConfigCause
+size_causes item_limit log_limit box_size others =
+    record { holds = is_outside 1 4096 item_limit; refusal = ItemLimit }
     ∷ record { holds = is_outside 1 65536 log_limit; refusal = LogLimit }
     ∷ record { holds = is_outside 1 4096 box_size; refusal = BoxSize }
-    ∷ record { holds = nat_le nodes (fault_factor mode * faults); refusal = NotUniform }
-    ∷ []
+    ∷ others
+
+-- the causes, in the order in which they are tried
+unfoldable pub config_causes : ℕ → ℕ → ℕ → ℕ → ℕ → ℕ → Mode → List ConfigCause
+config_causes nodes faults choices item_limit log_limit box_size mode =
+    count_causes nodes faults choices (size_causes item_limit log_limit box_size
+    (record { holds = nat_le nodes (fault_factor mode * faults); refusal = NotUniform } ∷ []))
 
 -- the number of a refusal
 abbrev pub config_code : ConfigFault → ℕ

@@ -73,69 +73,49 @@ fn check(
 }
 
 #[test]
-fn refuses_what_is_outside_the_limits(rt: HostRuntime) -> Result<(), Fail> {
+fn takes_what_is_within_the_limits(rt: HostRuntime) {
     let least = (1, 1, 1);
     let rows = [
-        (check(1, 0, 1, least, Mode::Uniform), None),
-        (check(64, 63, 64, (4096, 65_536, 4096), Mode::Basic), None),
-        (check(64, 31, 1, least, Mode::Uniform), None),
-        (
-            check(0, 0, 0, (0, 0, 0), Mode::Basic),
-            Some(ConfigFault::Nodes),
-        ),
-        (
-            check(65, 0, 1, least, Mode::Basic),
-            Some(ConfigFault::Nodes),
-        ),
-        (
-            check(3, 3, 0, (0, 0, 0), Mode::Basic),
-            Some(ConfigFault::Faults),
-        ),
-        (
-            check(3, 2, 0, (0, 0, 0), Mode::Uniform),
-            Some(ConfigFault::Choices),
-        ),
-        (
-            check(3, 2, 4, least, Mode::Basic),
-            Some(ConfigFault::Choices),
-        ),
-        (
-            check(3, 2, 3, (0, 0, 0), Mode::Uniform),
-            Some(ConfigFault::ItemLimit),
-        ),
-        (
-            check(3, 2, 3, (4097, 1, 1), Mode::Basic),
-            Some(ConfigFault::ItemLimit),
-        ),
-        (
-            check(3, 2, 3, (1, 0, 0), Mode::Uniform),
-            Some(ConfigFault::LogLimit),
-        ),
-        (
-            check(3, 2, 3, (1, 65_537, 1), Mode::Basic),
-            Some(ConfigFault::LogLimit),
-        ),
-        (
-            check(3, 2, 3, (1, 1, 0), Mode::Uniform),
-            Some(ConfigFault::BoxSize),
-        ),
-        (
-            check(3, 2, 3, (1, 1, 4097), Mode::Basic),
-            Some(ConfigFault::BoxSize),
-        ),
-        (
-            check(64, 32, 1, least, Mode::Uniform),
-            Some(ConfigFault::Mode),
-        ),
-        (
-            check(2, 1, 1, least, Mode::Uniform),
-            Some(ConfigFault::Mode),
-        ),
+        check(1, 0, 1, least, Mode::Uniform),
+        check(64, 63, 64, (4096, 65_536, 4096), Mode::Basic),
+        check(64, 31, 1, least, Mode::Uniform),
+    ];
+    for found in rows.iter() {
+        assert_eq!(rt; *found, None);
+    }
+}
+
+#[test]
+fn refuses_counts_outside_the_limits(rt: HostRuntime) {
+    let least = (1, 1, 1);
+    let none = (0, 0, 0);
+    let rows = [
+        (check(0, 0, 0, none, Mode::Basic), ConfigFault::Nodes),
+        (check(65, 0, 1, least, Mode::Basic), ConfigFault::Nodes),
+        (check(3, 3, 0, none, Mode::Basic), ConfigFault::Faults),
+        (check(3, 2, 0, none, Mode::Uniform), ConfigFault::Choices),
+        (check(3, 2, 4, least, Mode::Basic), ConfigFault::Choices),
+        (check(64, 32, 1, least, Mode::Uniform), ConfigFault::Mode),
+        (check(2, 1, 1, least, Mode::Uniform), ConfigFault::Mode),
     ];
     for (found, fault) in rows.iter() {
-        assert_eq!(rt; found, fault);
+        assert_eq!(rt; *found, Some(*fault));
     }
-    Ok(())
+}
+
+#[test]
+fn refuses_sizes_outside_the_limits(rt: HostRuntime) {
+    let rows = [
+        ((0, 0, 0), Mode::Uniform, ConfigFault::ItemLimit),
+        ((4097, 1, 1), Mode::Basic, ConfigFault::ItemLimit),
+        ((1, 0, 0), Mode::Uniform, ConfigFault::LogLimit),
+        ((1, 65_537, 1), Mode::Basic, ConfigFault::LogLimit),
+        ((1, 1, 0), Mode::Uniform, ConfigFault::BoxSize),
+        ((1, 1, 4097), Mode::Basic, ConfigFault::BoxSize),
+    ];
+    for (limits, mode, fault) in rows.iter() {
+        assert_eq!(rt; check(3, 2, 3, *limits, *mode), Some(*fault));
+    }
 }
 
 #[test]

@@ -4,11 +4,11 @@ ghost use Rattle.std.specs.List.{join_with_byte};
 ghost use Rattle.cast_words.specs.Written.{Writes};
 ghost use Rattle.cast_record.specs.Text.{item_word, line_text, record_text};
 ghost use Rattle.cast_record.specs.Words.{word_text};
-ghost use Rattle.cast_record.specs.declared.line.Line.TheVariants.{Broadcast, Decided, Delivered};
+ghost use Rattle.cast_record.specs.declared.line.Line.TheVariants.{Broadcast, Decided, Delivered, Head, Head2};
 
 use crate::line::Line;
 use crate::words::Word::{self, Number};
-use cast_message::{Decision, Item, Message, NodeId};
+use cast_message::{Decision, Item, Message, Mode, NodeId};
 use cast_words::{Meter, WriteFault, mode_name, write_bytes, write_hex, write_number};
 use std::io::Write;
 
@@ -37,26 +37,13 @@ pub fn write_line<W: Write>(line: &Line, writer: &mut Meter<W>) -> Result<(), Wr
             nodes,
             faults,
             choices,
-        } => write_words(
-            b"cast/1",
-            &[Number(*nodes), Number(*faults), Number(*choices)],
-            writer,
-        ),
+        } => write_head(*nodes, *faults, *choices, writer),
         Line::Head2 {
             nodes,
             faults,
             choices,
             mode,
-        } => write_words(
-            b"cast/2",
-            &[
-                Number(*nodes),
-                Number(*faults),
-                Number(*choices),
-                Word::Mode(*mode),
-            ],
-            writer,
-        ),
+        } => write_head_with_mode(*nodes, *faults, *choices, *mode, writer),
         Line::Broadcast(message) => {
             write_broadcast(message.sender, message.number, &message.item, writer)
         }
@@ -70,6 +57,44 @@ pub fn write_line<W: Write>(line: &Line, writer: &mut Meter<W>) -> Result<(), Wr
     }
 }
 
+// The head of the first format.
+fn write_head<W: Write>(
+    nodes: u64,
+    faults: u64,
+    choices: u64,
+    writer: &mut Meter<W>,
+) -> Result<(), WriteFault>
+    requires { writer.old.failed ≡ false }
+    ensures { Writes (W.contents writer.old.inner)
+        (W.contents writer.new.inner) writer.new.failed result
+        (line_text (Head nodes faults choices) ++ 10 ∷ []) }
+{
+    let words = [Number(nodes), Number(faults), Number(choices)];
+    write_words(b"cast/1", &words, writer)
+}
+
+// The head of the second format, which names the mode.
+fn write_head_with_mode<W: Write>(
+    nodes: u64,
+    faults: u64,
+    choices: u64,
+    mode: Mode,
+    writer: &mut Meter<W>,
+) -> Result<(), WriteFault>
+    requires { writer.old.failed ≡ false }
+    ensures { Writes (W.contents writer.old.inner)
+        (W.contents writer.new.inner) writer.new.failed result
+        (line_text (Head2 nodes faults choices mode) ++ 10 ∷ []) }
+{
+    let words = [
+        Number(nodes),
+        Number(faults),
+        Number(choices),
+        Word::Mode(mode),
+    ];
+    write_words(b"cast/2", &words, writer)
+}
+
 /// The line of a broadcast.
 pub fn write_broadcast<W: Write>(
     sender: NodeId,
@@ -80,7 +105,8 @@ pub fn write_broadcast<W: Write>(
     requires { writer.old.failed ≡ false }
     ensures { Writes (W.contents writer.old.inner)
         (W.contents writer.new.inner) writer.new.failed result
-        (line_text (Broadcast (record { sender = sender; number = number; item = item.now })) ++ 10 ∷ []) }
+        (line_text (Broadcast
+        (record { sender = sender; number = number; item = item.now })) ++ 10 ∷ []) }
 {
     let words = [
         Number(u64::from(sender.0)),

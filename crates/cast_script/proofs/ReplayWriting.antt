@@ -1,5 +1,5 @@
 -- How the text of a script is written in parts.
-use Rattle.std.proofs.Common.{◌≡◌, ℕ, List, [], ◌++◌, ◌∷◌, ◌+◌, ◌<◌, ◌≤◌, arith, length, get_or, map, append_assoc, append-nil, ap, sym, ◌∙◌, refl, drop}
+use Rattle.std.proofs.Common.{◌≡◌, codes, ℕ, List, [], ◌++◌, ◌∷◌, ◌+◌, ◌<◌, ◌≤◌, arith, length, get_or, map, append_assoc, append-nil, ap, sym, ◌∙◌, refl, drop}
 use Rattle.std.specs.List.{join_with_byte}
 use Rattle.std.proofs.lemmas.Grind.{common_steps}
 use Rattle.std.proofs.lemmas.List.{drop_more}
@@ -9,7 +9,9 @@ use Rattle.cast_script.specs.declared.replay.Cell.{Cell}
 use Rattle.cast_script.specs.declared.replay.Cell.TheVariants.{Word}
 use Rattle.cast_script.specs.declared.replay.Member.{Member}
 use Rattle.cast_script.specs.Cells.{cell_text, member_in}
-use Rattle.cast_script.specs.Replay.{word_text, event_text, others_text, member_text, members_text}
+use Rattle.cast_message.specs.declared.config.Config.{Config as Checked}
+use Rattle.cast_words.specs.Modes.{mode_word}
+use Rattle.cast_script.specs.Replay.{Atom, word, number, word_text, event_text, others_text, members, member_text, members_text}
 
 -- the places after the first, each with its comma
 abbrev pub cells_text : List (List ℕ) → List ℕ
@@ -49,3 +51,11 @@ members-next list i other within = ap (λ ms. members_text (map member_in ms)) (
 pub others-next : (events : List Event) (i : ℕ) (event : Event) → i < length events → event ≡ get_or events i event
     → others_text (drop i events) ≡ 44 ∷ 10 ∷ (event_text event ++ others_text (drop (i + 1) events))
 others-next events i event within is = ap others_text (drop-next events i event within is)
+
+-- the members of a configuration, part by part
+pub settings-parts : (config : Checked) (a b c d e f g h : List ℕ × Atom)
+    → a ≡ (codes "nodes", number config.nodes) → b ≡ (codes "faults", number config.faults) → c ≡ (codes "choices", number config.choices)
+    → d ≡ (codes "item_limit", number config.item_limit) → e ≡ (codes "log_limit", number config.log_limit) → f ≡ (codes "box_size", number config.box_size)
+    → g ≡ (codes "first_stamp", number config.first_stamp) → h ≡ (codes "mode", word (mode_word config.mode))
+    → members_text (a ∷ b ∷ c ∷ d ∷ e ∷ f ∷ g ∷ h ∷ []) ≡ members_text (members config)
+settings-parts config a b c d e f g h p q r s t u v w = λ i. members_text (p i ∷ q i ∷ r i ∷ s i ∷ t i ∷ u i ∷ v i ∷ w i ∷ [])

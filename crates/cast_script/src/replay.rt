@@ -4,7 +4,7 @@ ghost use Rattle.std.specs.List.{join_with_byte};
 ghost use Rattle.cast_message.specs.declared.event.Event.TheVariants.{Order};
 ghost use Rattle.cast_words.specs.Hex.{hex};
 ghost use Rattle.cast_words.specs.Written.{Puts};
-ghost use Rattle.cast_script.specs.Replay.{word_text, event_text, events_text, others_text, members, member_text, members_text, script_text};
+ghost use Rattle.cast_script.specs.Replay.{number, word_text, event_text, events_text, others_text, members, member_text, members_text, script_text};
 ghost use Rattle.cast_script.specs.Cells.{cell_text, member_in};
 
 use cast_message::{Config, Event, Item, NodeId};
@@ -50,34 +50,13 @@ fn write_settings<W: Write>(config: &Config, writer: &mut Meter<W>) -> Result<()
 {
     write_members(
         &[
-            Member {
-                name: b"nodes",
-                value: Cell::Number(config.nodes()),
-            },
-            Member {
-                name: b"faults",
-                value: Cell::Number(config.faults()),
-            },
-            Member {
-                name: b"choices",
-                value: Cell::Number(config.choices()),
-            },
-            Member {
-                name: b"item_limit",
-                value: Cell::Number(config.item_limit()),
-            },
-            Member {
-                name: b"log_limit",
-                value: Cell::Number(config.log_limit()),
-            },
-            Member {
-                name: b"box_size",
-                value: Cell::Number(config.box_size()),
-            },
-            Member {
-                name: b"first_stamp",
-                value: Cell::Number(config.first_stamp()),
-            },
+            number_member(b"nodes", config.nodes()),
+            number_member(b"faults", config.faults()),
+            number_member(b"choices", config.choices()),
+            number_member(b"item_limit", config.item_limit()),
+            number_member(b"log_limit", config.log_limit()),
+            number_member(b"box_size", config.box_size()),
+            number_member(b"first_stamp", config.first_stamp()),
             Member {
                 name: b"mode",
                 value: Cell::Word(mode_name(config.mode())),
@@ -85,6 +64,16 @@ fn write_settings<W: Write>(config: &Config, writer: &mut Meter<W>) -> Result<()
         ],
         writer,
     )
+}
+
+// The member of this name whose value is the number.
+fn number_member(name: &[u8], value: u64) -> Member<'_>
+    ensures { member_in result ≡ (name.now, number value) }
+{
+    Member {
+        name,
+        value: Cell::Number(value),
+    }
 }
 
 // Writes the members, each with a comma.

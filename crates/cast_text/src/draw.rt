@@ -10,13 +10,12 @@ ghost use Rattle.cast_text.specs.Drawing.{Draws, DrawsTried, WritesDrawing, Draw
 ghost use Rattle.cast_text.specs.Text.{IsTold};
 
 use crate::fault::TextFault;
-use crate::record::is_want_of_memory;
 use crate::text::read_script_text;
 use cast_draw::{DrawFault, Picture, Window, write_drawing};
 use cast_message::Event;
 use cast_script::{Script, ScriptEvent};
 use cast_words::Meter;
-use cast_world::World;
+use cast_world::{World, is_want_of_memory};
 use std::alloc::Global;
 use std::io::{Read, Write};
 

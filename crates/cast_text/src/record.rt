@@ -2,7 +2,7 @@
 ghost use Rattle.std.specs.Prelude.{◌≡◌, ◌++◌, ◌∷◌, [], false, OnOk};
 ghost use Rattle.cast_message.specs.declared.config.Config.{Config as Settings};
 ghost use Rattle.cast_model.specs.History.{History};
-ghost use Rattle.cast_model.specs.Replies.{fault, reply, after, is_want_of_memory};
+ghost use Rattle.cast_model.specs.Replies.{fault, reply, after};
 ghost use Rattle.cast_world.specs.Group.{Stands};
 ghost use Rattle.cast_record.specs.Lines.{head_of, lines_for};
 ghost use Rattle.cast_record.specs.Text.{record_text, line_text};
@@ -10,11 +10,11 @@ ghost use Rattle.cast_text.specs.Rec.{tried, one_left, round_left, settled, left
 ghost use Rattle.cast_text.specs.Recorded.{Writes, Records, Tries, Leaves};
 
 use crate::fault::TextFault;
-use cast_message::{Config, Event, Reply, StepFault};
+use cast_message::{Config, Event, Reply};
 use cast_record::{Line, write_line, write_lines_of};
 use cast_script::{Script, ScriptEvent};
 use cast_words::Meter;
-use cast_world::World;
+use cast_world::{World, is_want_of_memory};
 use std::alloc::Global;
 use std::io::Write;
 
@@ -139,7 +139,7 @@ fn record_event<W: Write>(
         Tries config (one_left config index past event.now) world.new (W.contents writer.old.inner)
         (W.contents writer.new.inner) writer.new.failed result }
 {
-    // (handed on where it lies: a reply is large, and moving it took a tenth of a long settle)
+    // (the reply is read where it lies, since nothing here keeps it)
     record_reply(index, event, &world.step(event), writer)
 }
 
@@ -160,10 +160,4 @@ fn record_reply<W: Write>(
     }
     write_lines_of(index, event, reply, writer)?;
     Ok(reply.is_ok())
-}
-
-pub fn is_want_of_memory(reply: &Reply) -> bool
-    ensures { result ≡ is_want_of_memory reply.now }
-{
-    matches!(reply, Err(StepFault::Memory))
 }

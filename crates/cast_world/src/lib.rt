@@ -9,5 +9,5 @@ mod run;
 mod world;
 
 pub use due::DueSlot;
-pub use run::run_events;
+pub use run::{is_want_of_memory, run_events};
 pub use world::World;

@@ -37,7 +37,8 @@ pub fn run_events(
     Ok((world, replies))
 }
 
-fn is_want_of_memory(reply: &Reply) -> bool
+/// Whether a step was refused for want of memory.
+pub fn is_want_of_memory(reply: &Reply) -> bool
     ensures { result ≡ is_want_of_memory reply.now }
 {
     matches!(reply, Err(StepFault::Memory))
