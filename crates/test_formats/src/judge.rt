@@ -11,6 +11,14 @@ fn bad(line: u64, rule: u64) -> Verdict {
     Verdict::Bad { line, rule }
 }
 
+/// The verdict on a text by the line that offends and the rule that it breaks, where one does.
+fn verdict_of(offence: Option<(u64, u64)>) -> Verdict {
+    match offence {
+        Some((line, rule)) => bad(line, rule),
+        None => Verdict::Good,
+    }
+}
+
 /// The verdict on a text that is fed in pieces of so many bytes.
 fn judge_in_pieces(alloc: Global, text: &[u8], size: usize) -> Result<Verdict, AllocError> {
     let mut judging = Judging::new(alloc);
@@ -40,65 +48,86 @@ fn expect_verdict(
     Ok(())
 }
 
-#[test]
-fn tells_the_least_rule(rt: HostRuntime) -> Result<(), Fail> {
-    let rows = [
-        ("", bad(1, 0)),
-        ("cast/1 1 0 1\nb 0 0 data:61\n", bad(3, 0)),
-        (
-            "cast/1 2 0 1\nb 0 0 data:61\nb 0 1 data:62\nd 1 0 1 data:62\nend\n",
-            bad(4, 1),
-        ),
-        ("cast/1 1 0 1\nb 0 0 close\nb 0 1 data:61\nend\n", bad(3, 2)),
-        ("cast/1 1 0 1\nv 0 7 5\nend\n", bad(2, 3)),
-        (
-            "cast/1 3 1 2\nb 0 0 prop:7:1\nb 1 0 prop:7:2\nb 2 0 prop:7:3\nv 0 7 1\nv 1 7 2\nv 2 7 3\nend\n",
-            bad(7, 4),
-        ),
-        (
-            "cast/1 3 1 1\nb 0 0 prop:7:1\nb 1 0 prop:7:2\nb 2 0 prop:7:3\nv 0 7 1\nv 1 7 2\nv 2 7 3\nend\n",
-            Verdict::Good,
-        ),
-        ("cast/1 1 0 1\nx 0\nb 0 0 data:61\nend\n", bad(3, 5)),
-        ("cast/2 1 0 1 basic\nx 0\nb 0 0 data:61\nend\n", bad(3, 5)),
-        (
-            "cast/1 1 0 1\nb 0 0 prop:7:1\nb 0 1 prop:7:2\nend\n",
-            bad(3, 6),
-        ),
-        ("cast/1 2 0 1\nend\n", Verdict::Good),
-        ("cast/2 64 31 1 uniform\nr 9 12\nend\n", Verdict::Good),
-        (TWO_VALUES_RECORD, Verdict::Good),
-    ];
-    for (text, wanted) in rows {
-        expect_verdict(&rt, text, wanted)?;
+/// The verdicts on texts with this front and this end.
+fn expect_verdicts(
+    rt: &(impl Abort + AllocGlobal),
+    front: &str,
+    rows: &[(&str, Option<(u64, u64)>)],
+    end: &str,
+) -> Result<(), Fail> {
+    for (lines, offence) in rows {
+        let text = format!(in rt.alloc(); "{front}{lines}{end}")?;
+        expect_verdict(rt, text.as_str(), verdict_of(*offence))?;
     }
     Ok(())
 }
 
+/// Records, and the line that offends with the rule that it breaks; none of a good one.
+const LEAST_RULES: &[(&str, Option<(u64, u64)>)] = &[
+    ("", Some((1, 0))),
+    ("cast/1 1 0 1\nb 0 0 data:61\n", Some((3, 0))),
+    (
+        "cast/1 2 0 1\nb 0 0 data:61\nb 0 1 data:62\nd 1 0 1 data:62\nend\n",
+        Some((4, 1)),
+    ),
+    (
+        "cast/1 1 0 1\nb 0 0 close\nb 0 1 data:61\nend\n",
+        Some((3, 2)),
+    ),
+    ("cast/1 1 0 1\nv 0 7 5\nend\n", Some((2, 3))),
+    (
+        "cast/1 3 1 2\nb 0 0 prop:7:1\nb 1 0 prop:7:2\nb 2 0 prop:7:3\nv 0 7 1\nv 1 7 2\nv 2 7 3\nend\n",
+        Some((7, 4)),
+    ),
+    (
+        "cast/1 3 1 1\nb 0 0 prop:7:1\nb 1 0 prop:7:2\nb 2 0 prop:7:3\nv 0 7 1\nv 1 7 2\nv 2 7 3\nend\n",
+        None,
+    ),
+    ("cast/1 1 0 1\nx 0\nb 0 0 data:61\nend\n", Some((3, 5))),
+    (
+        "cast/2 1 0 1 basic\nx 0\nb 0 0 data:61\nend\n",
+        Some((3, 5)),
+    ),
+    (
+        "cast/1 1 0 1\nb 0 0 prop:7:1\nb 0 1 prop:7:2\nend\n",
+        Some((3, 6)),
+    ),
+    ("cast/1 2 0 1\nend\n", None),
+    ("cast/2 64 31 1 uniform\nr 9 12\nend\n", None),
+    (TWO_VALUES_RECORD, None),
+];
+
+#[test]
+fn tells_the_least_rule(rt: HostRuntime) -> Result<(), Fail> {
+    expect_verdicts(&rt, "", LEAST_RULES, "")
+}
+
+/// Texts that are no records, and the line that the grammar has not.
+const OUTSIDE_THE_GRAMMAR: &[(&str, Option<(u64, u64)>)] = &[
+    ("\n", Some((1, 0))),
+    ("end\n", Some((1, 0))),
+    ("cast/1 17 0 1\nend\n", Some((1, 0))),
+    ("cast/1 1 0 1 \nend\n", Some((1, 0))),
+    ("cast/1 01 0 1\nend\n", Some((1, 0))),
+    ("cast/2 2 1 1 uniform\nend\n", Some((1, 0))),
+    ("cast/1 1 0 1\ncast/1 1 0 1\nend\n", Some((2, 0))),
+    ("cast/1 1 0 1\nx 1\nend\n", Some((2, 0))),
+    ("cast/1 1 0 1\nr 0 13\nend\n", Some((2, 0))),
+    ("cast/1 1 0 1\nb 0 0 data:6\nend\n", Some((2, 0))),
+    ("cast/1 1 0 1\nb 0 0 data:6A\nend\n", Some((2, 0))),
+    (
+        "cast/1 1 0 1\nv 0 0 18446744073709551616\nend\n",
+        Some((2, 0)),
+    ),
+    ("cast/1 1 0 1\nend\n\n", Some((3, 0))),
+    ("cast/1 1 0 1\nend\nend\n", Some((3, 0))),
+    ("cast/1 1 0 1\nend\n ", Some((3, 0))),
+    ("cast/1 1 0 1\nend", Some((2, 0))),
+];
+
 #[test]
 fn reads_what_offends_against_the_grammar(rt: HostRuntime) -> Result<(), Fail> {
-    let rows = [
-        ("\n", bad(1, 0)),
-        ("end\n", bad(1, 0)),
-        ("cast/1 17 0 1\nend\n", bad(1, 0)),
-        ("cast/1 1 0 1 \nend\n", bad(1, 0)),
-        ("cast/1 01 0 1\nend\n", bad(1, 0)),
-        ("cast/2 2 1 1 uniform\nend\n", bad(1, 0)),
-        ("cast/1 1 0 1\ncast/1 1 0 1\nend\n", bad(2, 0)),
-        ("cast/1 1 0 1\nx 1\nend\n", bad(2, 0)),
-        ("cast/1 1 0 1\nr 0 13\nend\n", bad(2, 0)),
-        ("cast/1 1 0 1\nb 0 0 data:6\nend\n", bad(2, 0)),
-        ("cast/1 1 0 1\nb 0 0 data:6A\nend\n", bad(2, 0)),
-        ("cast/1 1 0 1\nv 0 0 18446744073709551616\nend\n", bad(2, 0)),
-        ("cast/1 1 0 1\nend\n\n", bad(3, 0)),
-        ("cast/1 1 0 1\nend\nend\n", bad(3, 0)),
-        ("cast/1 1 0 1\nend\n ", bad(3, 0)),
-        ("cast/1 1 0 1\nend", bad(2, 0)),
-    ];
-    for (text, wanted) in rows {
-        expect_verdict(&rt, text, wanted)?;
-    }
-    Ok(())
+    expect_verdicts(&rt, "", OUTSIDE_THE_GRAMMAR, "")
 }
 
 #[test]
@@ -108,15 +137,17 @@ fn nothing_fed_is_no_record(rt: HostRuntime) -> Result<(), Fail> {
     Ok(())
 }
 
+fn record_with_long_line(alloc: Global) -> Result<Vec<u8>, AllocError> {
+    let mut text = b"cast/1 1 0 1\n".to_vec(alloc)?;
+    text.resize(5_013, b'a')?;
+    text.push(b'\n')?;
+    Ok(text)
+}
+
 #[test]
 fn a_long_line_offends(rt: HostRuntime) -> Result<(), Fail> {
+    let text = record_with_long_line(rt.alloc())?;
     for size in [1, 7, 5_014] {
-        let mut text = Vec::new(rt.alloc());
-        text.extend_from_slice(b"cast/1 1 0 1\n".as_slice())?;
-        for _ in 0..5_000 {
-            text.push(b'a')?;
-        }
-        text.push(b'\n')?;
         let verdict = judge_in_pieces(rt.alloc(), text.as_slice(), size)?;
         assert_eq!(&rt; verdict, bad(2, 0), "by {size}");
     }
@@ -152,122 +183,129 @@ fn a_record_is_judged_alike_wherever_it_is_cut(rt: HostRuntime) -> Result<(), Fa
     Ok(())
 }
 
-#[test]
-fn what_follows_an_offence_is_skipped(rt: HostRuntime) -> Result<(), Fail> {
-    let mut text = String::new(rt.alloc());
+fn record_with_much_after_an_offence(alloc: Global) -> Result<String, AllocError> {
+    let mut text = String::new(alloc);
     text.push_str("cast/1 1 0 1\nx 1\nb 0 0 data:61\n")?;
     for _ in 0..1_000 {
         text.push_str("d 0 0 0 data:61")?;
     }
     text.push_str("\nend\n")?;
+    Ok(text)
+}
+
+#[test]
+fn what_follows_an_offence_is_skipped(rt: HostRuntime) -> Result<(), Fail> {
+    let text = record_with_much_after_an_offence(rt.alloc())?;
     expect_verdict(&rt, text.as_str(), bad(2, 0))
 }
 
+/// What follows a broadcast of node 0 in a group of two, and where it offends.
+const DELIVERIES: &[(&str, Option<(u64, u64)>)] = &[
+    ("d 1 0 0 data:61", None),
+    ("d 1 0 0 data:61\nd 0 0 0 data:61", None),
+    ("x 0\nd 1 0 0 data:61", None),
+    ("d 1 0 0 data:", Some((3, 1))),
+    ("d 1 0 0 data:62", Some((3, 1))),
+    ("d 1 0 0 data:6161", Some((3, 1))),
+    ("d 1 0 0 close", Some((3, 1))),
+    ("d 1 0 0 prop:6:1", Some((3, 1))),
+    ("d 1 1 0 data:61", Some((3, 1))),
+    ("d 1 0 1 data:61", Some((3, 1))),
+    ("d 1 0 18446744073709551615 data:61", Some((3, 1))),
+    ("d 1 0 0 data:61\nd 1 0 0 data:61", Some((4, 1))),
+    ("x 1\nd 1 0 0 data:61", Some((4, 5))),
+    ("d 1 0 0 data:6", Some((3, 0))),
+    ("d 1 0 0 data:6A", Some((3, 0))),
+    ("d 1 0 0 data:61 ", Some((3, 0))),
+    ("d 1 0 0 data:61\r", Some((3, 0))),
+    ("d 1 0 0 ", Some((3, 0))),
+    ("d 1 0 0", Some((3, 0))),
+    ("d 1 0 00 data:61", Some((3, 0))),
+    ("d 1 00 0 data:61", Some((3, 0))),
+    ("d 01 0 0 data:61", Some((3, 0))),
+    ("d 2 0 0 data:61", Some((3, 0))),
+    ("d 1 2 0 data:61", Some((3, 0))),
+    ("d 64 0 0 data:61", Some((3, 0))),
+    ("d 1 64 0 data:61", Some((3, 0))),
+    ("d 256 0 0 data:61", Some((3, 0))),
+    ("d 1 0 18446744073709551616 data:61", Some((3, 0))),
+];
+
 #[test]
 fn deliveries_are_of_the_words_that_were_broadcast(rt: HostRuntime) -> Result<(), Fail> {
-    let rows = [
-        ("d 1 0 0 data:61", Verdict::Good),
-        ("d 1 0 0 data:61\nd 0 0 0 data:61", Verdict::Good),
-        ("x 0\nd 1 0 0 data:61", Verdict::Good),
-        ("d 1 0 0 data:", bad(3, 1)),
-        ("d 1 0 0 data:62", bad(3, 1)),
-        ("d 1 0 0 data:6161", bad(3, 1)),
-        ("d 1 0 0 close", bad(3, 1)),
-        ("d 1 0 0 prop:6:1", bad(3, 1)),
-        ("d 1 1 0 data:61", bad(3, 1)),
-        ("d 1 0 1 data:61", bad(3, 1)),
-        ("d 1 0 18446744073709551615 data:61", bad(3, 1)),
-        ("d 1 0 0 data:61\nd 1 0 0 data:61", bad(4, 1)),
-        ("x 1\nd 1 0 0 data:61", bad(4, 5)),
-        ("d 1 0 0 data:6", bad(3, 0)),
-        ("d 1 0 0 data:6A", bad(3, 0)),
-        ("d 1 0 0 data:61 ", bad(3, 0)),
-        ("d 1 0 0 data:61\r", bad(3, 0)),
-        ("d 1 0 0 ", bad(3, 0)),
-        ("d 1 0 0", bad(3, 0)),
-        ("d 1 0 00 data:61", bad(3, 0)),
-        ("d 1 00 0 data:61", bad(3, 0)),
-        ("d 01 0 0 data:61", bad(3, 0)),
-        ("d 2 0 0 data:61", bad(3, 0)),
-        ("d 1 2 0 data:61", bad(3, 0)),
-        ("d 64 0 0 data:61", bad(3, 0)),
-        ("d 1 64 0 data:61", bad(3, 0)),
-        ("d 256 0 0 data:61", bad(3, 0)),
-        ("d 1 0 18446744073709551616 data:61", bad(3, 0)),
-    ];
-    for (lines, wanted) in rows {
-        let text = format!(in rt.alloc(); "cast/1 2 0 1\nb 0 0 data:61\n{lines}\nend\n")?;
-        expect_verdict(&rt, text.as_str(), wanted)?;
-    }
-    Ok(())
+    expect_verdicts(&rt, "cast/1 2 0 1\nb 0 0 data:61\n", DELIVERIES, "\nend\n")
 }
+
+/// What a group of three does that may have two decided values in an instance, and where it offends.
+const INSTANCES: &[(&str, Option<(u64, u64)>)] = &[
+    (
+        "b 0 0 prop:0:5\nb 0 1 prop:1:6\nb 0 2 prop:2:7\nv 0 0 5\nv 0 1 6\nv 0 2 7",
+        None,
+    ),
+    (
+        "b 0 0 prop:2:5\nb 0 1 prop:1:6\nb 0 2 prop:0:7\nv 0 2 5\nv 0 1 6\nv 0 0 7",
+        None,
+    ),
+    (
+        "b 0 0 prop:0:5\nb 1 0 prop:0:6\nv 0 0 5\nv 1 0 5\nv 2 0 6",
+        None,
+    ),
+    (
+        "b 0 0 prop:1:5\nb 0 1 prop:0:6\nb 1 0 prop:1:7\nv 0 1 5\nv 1 1 7\nb 0 2 prop:1:8",
+        Some((7, 6)),
+    ),
+    (
+        "b 0 0 prop:1:5\nv 0 1 5\nb 1 0 prop:1:6\nv 1 1 6\nb 0 1 prop:0:1\nb 2 0 prop:1:7\nv 2 1 7",
+        Some((8, 4)),
+    ),
+    (
+        "b 0 0 prop:0:5\nb 1 0 prop:0:5\nb 2 0 prop:0:6\nv 0 0 5\nv 1 0 5\nv 2 0 6\nv 0 0 6",
+        None,
+    ),
+    (
+        "b 0 0 prop:0:5\nb 1 0 prop:0:6\nb 2 0 prop:0:7\nv 0 0 7\nv 1 0 7\nv 0 0 5\nv 2 0 6",
+        Some((8, 4)),
+    ),
+    ("b 0 0 prop:0:5\nv 0 1 5", Some((3, 3))),
+    ("b 0 0 prop:1:5\nv 0 0 5", Some((3, 3))),
+    ("b 0 0 prop:0:5\nb 1 0 prop:0:6\nv 0 0 7", Some((4, 3))),
+    ("b 0 0 prop:0:5\nb 0 1 prop:0:5", Some((3, 6))),
+    (
+        "b 0 0 prop:18446744073709551615:5\nb 1 0 prop:18446744073709551615:5\nv 2 18446744073709551615 5",
+        None,
+    ),
+    (
+        "b 0 0 prop:18446744073709551615:5\nb 1 0 prop:0:5\nb 0 1 prop:18446744073709551615:5",
+        Some((4, 6)),
+    ),
+];
 
 #[test]
 fn judges_instances_in_any_order(rt: HostRuntime) -> Result<(), Fail> {
-    let rows = [
-        (
-            "b 0 0 prop:0:5\nb 0 1 prop:1:6\nb 0 2 prop:2:7\nv 0 0 5\nv 0 1 6\nv 0 2 7",
-            Verdict::Good,
-        ),
-        (
-            "b 0 0 prop:2:5\nb 0 1 prop:1:6\nb 0 2 prop:0:7\nv 0 2 5\nv 0 1 6\nv 0 0 7",
-            Verdict::Good,
-        ),
-        (
-            "b 0 0 prop:0:5\nb 1 0 prop:0:6\nv 0 0 5\nv 1 0 5\nv 2 0 6",
-            Verdict::Good,
-        ),
-        (
-            "b 0 0 prop:1:5\nb 0 1 prop:0:6\nb 1 0 prop:1:7\nv 0 1 5\nv 1 1 7\nb 0 2 prop:1:8",
-            bad(7, 6),
-        ),
-        (
-            "b 0 0 prop:1:5\nv 0 1 5\nb 1 0 prop:1:6\nv 1 1 6\nb 0 1 prop:0:1\nb 2 0 prop:1:7\nv 2 1 7",
-            bad(8, 4),
-        ),
-        (
-            "b 0 0 prop:0:5\nb 1 0 prop:0:5\nb 2 0 prop:0:6\nv 0 0 5\nv 1 0 5\nv 2 0 6\nv 0 0 6",
-            Verdict::Good,
-        ),
-        (
-            "b 0 0 prop:0:5\nb 1 0 prop:0:6\nb 2 0 prop:0:7\nv 0 0 7\nv 1 0 7\nv 0 0 5\nv 2 0 6",
-            bad(8, 4),
-        ),
-        ("b 0 0 prop:0:5\nv 0 1 5", bad(3, 3)),
-        ("b 0 0 prop:1:5\nv 0 0 5", bad(3, 3)),
-        ("b 0 0 prop:0:5\nb 1 0 prop:0:6\nv 0 0 7", bad(4, 3)),
-        ("b 0 0 prop:0:5\nb 0 1 prop:0:5", bad(3, 6)),
-        (
-            "b 0 0 prop:18446744073709551615:5\nb 1 0 prop:18446744073709551615:5\nv 2 18446744073709551615 5",
-            Verdict::Good,
-        ),
-        (
-            "b 0 0 prop:18446744073709551615:5\nb 1 0 prop:0:5\nb 0 1 prop:18446744073709551615:5",
-            bad(4, 6),
-        ),
-    ];
-    for (lines, wanted) in rows {
-        let text = format!(in rt.alloc(); "cast/1 3 1 2\n{lines}\nend\n")?;
-        expect_verdict(&rt, text.as_str(), wanted)?;
-    }
-    Ok(())
+    expect_verdicts(&rt, "cast/1 3 1 2\n", INSTANCES, "\nend\n")
 }
+
+/// A record of one item that is spelled with so many digits.
+fn record_of_long_item(alloc: Global, digits: u64) -> Result<String, AllocError> {
+    let mut word = String::new(alloc);
+    for _ in 0..digits {
+        word.push('a')?;
+    }
+    format!(in alloc; "cast/1 1 0 1\nb 0 0 data:{word}\nd 0 0 0 data:{word}\nend\n")
+}
+
+/// How many digits an item has, and where its record offends.
+const LONG_ITEMS: &[(u64, Option<(u64, u64)>)] = &[
+    (2_048, None),
+    (2_047, Some((2, 0))),
+    (2_050, Some((2, 0))),
+];
 
 #[test]
 fn judges_the_longest_items(rt: HostRuntime) -> Result<(), Fail> {
-    for (digits, wanted) in [
-        (2_048, Verdict::Good),
-        (2_047, bad(2, 0)),
-        (2_050, bad(2, 0)),
-    ] {
-        let mut word = String::new(rt.alloc());
-        for _ in 0..digits {
-            word.push('a')?;
-        }
-        let text = format!(in rt.alloc();
-            "cast/1 1 0 1\nb 0 0 data:{word}\nd 0 0 0 data:{word}\nend\n"
-        )?;
-        expect_verdict(&rt, text.as_str(), wanted)?;
+    for (digits, offence) in LONG_ITEMS {
+        let text = record_of_long_item(rt.alloc(), *digits)?;
+        expect_verdict(&rt, text.as_str(), verdict_of(*offence))?;
     }
     Ok(())
 }

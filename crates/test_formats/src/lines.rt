@@ -25,47 +25,49 @@ fn read(word: &[u8]) -> Meaning {
     }
 }
 
+/// Words, and what is read of them.
+const ITEM_WORDS: &[(&str, Meaning)] = &[
+    ("close", Meaning::Close),
+    ("data:", Meaning::Data),
+    ("data:61", Meaning::Data),
+    ("data:00099a9fff", Meaning::Data),
+    ("prop:0:0", Meaning::Proposal(0, 0)),
+    ("prop:7:3", Meaning::Proposal(7, 3)),
+    (
+        "prop:10:18446744073709551615",
+        Meaning::Proposal(10, 18_446_744_073_709_551_615),
+    ),
+    ("", Meaning::Nothing),
+    ("clos", Meaning::Nothing),
+    ("Close", Meaning::Nothing),
+    ("close ", Meaning::Nothing),
+    ("closed", Meaning::Nothing),
+    ("data", Meaning::Nothing),
+    ("data:6", Meaning::Nothing),
+    ("data:616", Meaning::Nothing),
+    ("data:6A", Meaning::Nothing),
+    ("data:6g", Meaning::Nothing),
+    ("data:6/", Meaning::Nothing),
+    ("data:6:", Meaning::Nothing),
+    ("data:6`", Meaning::Nothing),
+    ("data: 61", Meaning::Nothing),
+    ("Data:61", Meaning::Nothing),
+    ("prop:", Meaning::Nothing),
+    ("prop:7", Meaning::Nothing),
+    ("prop:7:", Meaning::Nothing),
+    ("prop::7", Meaning::Nothing),
+    ("prop:7:3:1", Meaning::Nothing),
+    ("prop:07:3", Meaning::Nothing),
+    ("prop:7:00", Meaning::Nothing),
+    ("prop:7:-3", Meaning::Nothing),
+    ("prop:7:3 ", Meaning::Nothing),
+    ("prop:18446744073709551616:3", Meaning::Nothing),
+];
+
 #[test]
 fn reads_the_words_of_items(rt: HostRuntime) -> Result<(), Fail> {
-    let rows = [
-        ("close", Meaning::Close),
-        ("data:", Meaning::Data),
-        ("data:61", Meaning::Data),
-        ("data:00099a9fff", Meaning::Data),
-        ("prop:0:0", Meaning::Proposal(0, 0)),
-        ("prop:7:3", Meaning::Proposal(7, 3)),
-        (
-            "prop:10:18446744073709551615",
-            Meaning::Proposal(10, 18_446_744_073_709_551_615),
-        ),
-        ("", Meaning::Nothing),
-        ("clos", Meaning::Nothing),
-        ("Close", Meaning::Nothing),
-        ("close ", Meaning::Nothing),
-        ("closed", Meaning::Nothing),
-        ("data", Meaning::Nothing),
-        ("data:6", Meaning::Nothing),
-        ("data:616", Meaning::Nothing),
-        ("data:6A", Meaning::Nothing),
-        ("data:6g", Meaning::Nothing),
-        ("data:6/", Meaning::Nothing),
-        ("data:6:", Meaning::Nothing),
-        ("data:6`", Meaning::Nothing),
-        ("data: 61", Meaning::Nothing),
-        ("Data:61", Meaning::Nothing),
-        ("prop:", Meaning::Nothing),
-        ("prop:7", Meaning::Nothing),
-        ("prop:7:", Meaning::Nothing),
-        ("prop::7", Meaning::Nothing),
-        ("prop:7:3:1", Meaning::Nothing),
-        ("prop:07:3", Meaning::Nothing),
-        ("prop:7:00", Meaning::Nothing),
-        ("prop:7:-3", Meaning::Nothing),
-        ("prop:7:3 ", Meaning::Nothing),
-        ("prop:18446744073709551616:3", Meaning::Nothing),
-    ];
-    for (word, wanted) in rows {
-        assert_eq!(rt; read(word.as_bytes()), wanted, "{word}");
+    for (word, wanted) in ITEM_WORDS {
+        assert_eq!(rt; read(word.as_bytes()), *wanted, "{word}");
     }
     Ok(())
 }
@@ -128,74 +130,78 @@ fn parts<'a>(line: &'a WordLine<'a>) -> (char, [u64; 3], &'a [u8]) {
     }
 }
 
+/// Lines, and what is read of them.
+const LINES: &[(&str, (char, [u64; 3], &str))] = &[
+    ("cast/1 16 0 10", ('1', [16, 0, 10], "")),
+    ("cast/2 64 31 1 uniform", ('2', [64, 31, 1], "uniform")),
+    ("cast/2 17 16 17 basic", ('2', [17, 16, 17], "basic")),
+    ("b 63 4095 close", ('b', [63, 4_095, 0], "close")),
+    ("b 1 2 data:", ('b', [1, 2, 0], "data:")),
+    ("d 255 7 10 data:0a", ('d', [255, 7, 10], "data:0a")),
+    ("d 1 0 0 prop:7:3", ('d', [1, 0, 0], "prop:7:3")),
+    (
+        "v 2 7 18446744073709551615",
+        ('v', [2, 7, 18_446_744_073_709_551_615], ""),
+    ),
+    ("x 0", ('x', [0, 0, 0], "")),
+    ("r 10 12", ('r', [10, 12, 0], "")),
+    ("end", ('e', [0, 0, 0], "")),
+];
+
 #[test]
 fn reads_each_line(rt: HostRuntime) -> Result<(), Fail> {
-    let rows = [
-        ("cast/1 16 0 10", ('1', [16, 0, 10], "")),
-        ("cast/2 64 31 1 uniform", ('2', [64, 31, 1], "uniform")),
-        ("cast/2 17 16 17 basic", ('2', [17, 16, 17], "basic")),
-        ("b 63 4095 close", ('b', [63, 4_095, 0], "close")),
-        ("b 1 2 data:", ('b', [1, 2, 0], "data:")),
-        ("d 255 7 10 data:0a", ('d', [255, 7, 10], "data:0a")),
-        ("d 1 0 0 prop:7:3", ('d', [1, 0, 0], "prop:7:3")),
-        (
-            "v 2 7 18446744073709551615",
-            ('v', [2, 7, 18_446_744_073_709_551_615], ""),
-        ),
-        ("x 0", ('x', [0, 0, 0], "")),
-        ("r 10 12", ('r', [10, 12, 0], "")),
-        ("end", ('e', [0, 0, 0], "")),
-    ];
-    for (text, (name, numbers, word)) in rows {
+    for (text, (name, numbers, word)) in LINES {
         let line = read_words(text.as_bytes()).ok_or("no line")?;
         let found = parts(&line);
-        assert_eq!(rt; found.0, name, "{text}");
-        assert_eq!(rt; found.1, numbers, "{text}");
+        assert_eq!(rt; found.0, *name, "{text}");
+        assert_eq!(rt; found.1, *numbers, "{text}");
         assert_eq!(rt; found.2, word.as_bytes(), "{text}");
     }
     Ok(())
 }
 
+/// Texts that spell no line.
+const NO_LINES: &[&str] = &[
+    " ",
+    "end ",
+    " end",
+    "b",
+    "b 0 0",
+    "b 0 0 data:6",
+    "b 0 0  data:61",
+    "b 00 0 data:61",
+    "b 0 01 data:61",
+    "b 256 0 data:61",
+    "b 0 0 data:61 ",
+    "b 0 18446744073709551616 data:61",
+    "d 0 0 data:61",
+    "d 01 0 0 data:61",
+    "d 0 00 0 data:61",
+    "d 0 0 00 data:61",
+    "d 0 0 0 prop:7:03",
+    "d 256 0 0 data:61",
+    "d 0 256 0 data:61",
+    "d 0 0 0 data:61 ",
+    "d  0 0 data:61",
+    "v 0 7",
+    "v 0 7 1 1",
+    "x",
+    "x 0 0",
+    "x 00",
+    "r 0 0",
+    "r 0 13",
+    "cast/1 17 0 1",
+    "cast/1 2 2 1",
+    "cast/1 2 0 3",
+    "cast/2 2 1 1 uniform",
+    "cast/2 2 1 1",
+    "cast/3 1 0 1",
+    "e",
+];
+
 #[test]
 fn reads_no_line_outside_the_grammar(rt: HostRuntime) -> Result<(), Fail> {
-    let rows = [
-        " ",
-        "end ",
-        " end",
-        "b",
-        "b 0 0",
-        "b 0 0 data:6",
-        "b 0 0  data:61",
-        "b 00 0 data:61",
-        "b 0 01 data:61",
-        "b 256 0 data:61",
-        "b 0 0 data:61 ",
-        "b 0 18446744073709551616 data:61",
-        "d 0 0 data:61",
-        "d 01 0 0 data:61",
-        "d 0 00 0 data:61",
-        "d 0 0 00 data:61",
-        "d 0 0 0 prop:7:03",
-        "d 256 0 0 data:61",
-        "d 0 256 0 data:61",
-        "d 0 0 0 data:61 ",
-        "d  0 0 data:61",
-        "v 0 7",
-        "v 0 7 1 1",
-        "x",
-        "x 0 0",
-        "x 00",
-        "r 0 0",
-        "r 0 13",
-        "cast/1 17 0 1",
-        "cast/1 2 2 1",
-        "cast/1 2 0 3",
-        "cast/2 2 1 1 uniform",
-        "cast/2 2 1 1",
-        "cast/3 1 0 1",
-        "e",
-    ];
-    for text in rows {
+    for text in NO_LINES {
         assert!(rt; read_words(text.as_bytes()).is_none(), "{text}");
     }
     Ok(())
@@ -213,69 +219,85 @@ fn expect_lines(rt: &impl Abort, text: &str, lengths: &[usize]) {
     }
 }
 
+/// Lines, and how many of their bytes spell a line too.
+const CUT_LINES: &[(&str, &[usize])] = &[
+    ("cast/1 16 0 10", &[13, 14]),
+    ("cast/2 64 31 1 uniform", &[22]),
+    ("b 63 4095 close", &[15]),
+    ("b 0 7 prop:3:10", &[14, 15]),
+    ("d 1 0 12 data:6162", &[14, 16, 18]),
+    ("d 255 7 10 close", &[16]),
+    ("v 2 7 100", &[7, 8, 9]),
+    ("x 12", &[3, 4]),
+    ("r 10 12", &[6, 7]),
+    ("end", &[3]),
+];
+
 #[test]
 fn a_cut_line_is_a_line_only_where_the_grammar_has_it(rt: HostRuntime) {
-    expect_lines(&rt, "cast/1 16 0 10", &[13, 14]);
-    expect_lines(&rt, "cast/2 64 31 1 uniform", &[22]);
-    expect_lines(&rt, "b 63 4095 close", &[15]);
-    expect_lines(&rt, "b 0 7 prop:3:10", &[14, 15]);
-    expect_lines(&rt, "d 1 0 12 data:6162", &[14, 16, 18]);
-    expect_lines(&rt, "d 255 7 10 close", &[16]);
-    expect_lines(&rt, "v 2 7 100", &[7, 8, 9]);
-    expect_lines(&rt, "x 12", &[3, 4]);
-    expect_lines(&rt, "r 10 12", &[6, 7]);
-    expect_lines(&rt, "end", &[3]);
+    for (text, lengths) in CUT_LINES {
+        expect_lines(&rt, text, lengths);
+    }
 }
+
+/// Deliveries, and what is read of them.
+const DELIVERIES: &[(&str, (u8, u8, u64, &str))] = &[
+    ("d 0 0 0 data:61", (0, 0, 0, "data:61")),
+    ("d 255 7 10 close", (255, 7, 10, "close")),
+    ("d 1 63 4095 ", (1, 63, 4_095, "")),
+    ("d 1 2 3 any word", (1, 2, 3, "any word")),
+    (
+        "d 1 2 18446744073709551615 data:6",
+        (1, 2, 18_446_744_073_709_551_615, "data:6"),
+    ),
+];
 
 #[test]
 fn reads_deliveries_but_for_their_words(rt: HostRuntime) -> Result<(), Fail> {
-    let rows = [
-        ("d 0 0 0 data:61", (0, 0, 0, "data:61")),
-        ("d 255 7 10 close", (255, 7, 10, "close")),
-        ("d 1 63 4095 ", (1, 63, 4_095, "")),
-        ("d 1 2 3 any word", (1, 2, 3, "any word")),
-        (
-            "d 1 2 18446744073709551615 data:6",
-            (1, 2, 18_446_744_073_709_551_615, "data:6"),
-        ),
-    ];
-    for (text, (node, sender, number, word)) in rows {
+    for (text, (node, sender, number, word)) in DELIVERIES {
         let Some(delivery) = read_delivery(text.as_bytes()) else {
             return Err(Fail::new("no delivery"));
         };
-        assert_eq!(rt; delivery.node, NodeId(node), "{text}");
-        assert_eq!(rt; delivery.sender, NodeId(sender), "{text}");
-        assert_eq!(rt; delivery.number, number, "{text}");
+        assert_eq!(rt; delivery.node, NodeId(*node), "{text}");
+        assert_eq!(rt; delivery.sender, NodeId(*sender), "{text}");
+        assert_eq!(rt; delivery.number, *number, "{text}");
         assert_eq!(rt; delivery.word, word.as_bytes(), "{text}");
     }
     Ok(())
 }
 
+/// Texts of which no delivery is read.
+const NO_DELIVERIES: &[&str] = &[
+    "",
+    "d",
+    "d ",
+    "d 0 0 0",
+    "d 0 0  data:61",
+    "d  0 0 0 data:61",
+    "b 0 0 0 data:61",
+    "D 0 0 0 data:61",
+    "d 00 0 0 data:61",
+    "d 0 01 0 data:61",
+    "d 0 0 012 data:61",
+    "d 256 0 0 data:61",
+    "d 0 256 0 data:61",
+    "d 0 0 18446744073709551616 data:61",
+    "d 0 0 99999999999999999999 data:61",
+    "d 0 0 -1 data:61",
+    "d 0 0 1a data:61",
+    "end",
+];
+
 #[test]
 fn reads_no_delivery_of_other_lines(rt: HostRuntime) -> Result<(), Fail> {
-    let rows = [
-        "",
-        "d",
-        "d ",
-        "d 0 0 0",
-        "d 0 0  data:61",
-        "d  0 0 0 data:61",
-        "b 0 0 0 data:61",
-        "D 0 0 0 data:61",
-        "d 00 0 0 data:61",
-        "d 0 01 0 data:61",
-        "d 0 0 012 data:61",
-        "d 256 0 0 data:61",
-        "d 0 256 0 data:61",
-        "d 0 0 18446744073709551616 data:61",
-        "d 0 0 99999999999999999999 data:61",
-        "d 0 0 -1 data:61",
-        "d 0 0 1a data:61",
-        "end",
-    ];
-    for text in rows {
+    for text in NO_DELIVERIES {
         assert!(rt; read_delivery(text.as_bytes()).is_none(), "{text}");
     }
+    Ok(())
+}
+
+#[test]
+fn a_cut_delivery_is_read_from_its_last_blank_on(rt: HostRuntime) -> Result<(), Fail> {
     let line = "d 1 0 12 data:61".as_bytes();
     for end in 0..line.len() + 1 {
         assert_eq!(rt;

@@ -8,6 +8,7 @@ use cast_message::{
 use cast_record::{Line, lines_of, write_line, write_lines_of, write_record};
 use cast_words::{Meter, WriteFault};
 use std::alloc::{AllocError, Global};
+use std::process::Abort;
 use std::test::Fail;
 
 fn data(alloc: Global, bytes: &[u8]) -> Result<Item, AllocError> {
@@ -38,86 +39,92 @@ fn head2(nodes: u64, faults: u64, choices: u64, mode: Mode) -> Line {
     }
 }
 
-#[test]
-fn writes_each_line(rt: HostRuntime) -> Result<(), Fail> {
-    let rows: [(Line, &str); 9] = [
-        (
-            Line::Head {
-                nodes: 16,
-                faults: 0,
-                choices: 10,
-            },
-            "cast/1 16 0 10\n",
-        ),
-        (head2(64, 31, 1, Mode::Uniform), "cast/2 64 31 1 uniform\n"),
-        (head2(17, 16, 17, Mode::Basic), "cast/2 17 16 17 basic\n"),
-        (
-            Line::Broadcast(message(63, 4095, Item::Close)),
-            "b 63 4095 close\n",
-        ),
-        (
-            Line::Delivered {
-                node: NodeId(255),
-                message: message(
-                    7,
-                    10,
-                    Item::Propose {
-                        instance: 0,
-                        value: 18_446_744_073_709_551_615,
-                    },
-                ),
-            },
-            "d 255 7 10 prop:0:18446744073709551615\n",
-        ),
-        (
-            Line::Decided {
-                node: NodeId(2),
-                decision: Decision {
-                    instance: 7,
-                    value: 100,
-                },
-            },
-            "v 2 7 100\n",
-        ),
-        (Line::Crashed { node: NodeId(0) }, "x 0\n"),
-        (Line::Refused { index: 10, code: 8 }, "r 10 8\n"),
-        (Line::End, "end\n"),
-    ];
-    for (line, wanted) in &rows {
-        let mut writer = Meter::new(Vec::new(rt.alloc()));
-        assert_eq!(rt; write_line(line, &mut writer), Ok(()));
-        assert!(rt; !writer.failed());
-        let written = writer.into_inner();
-        assert_eq!(rt; written.as_slice(), wanted.as_bytes());
-    }
-    Ok(())
+fn expect_line(rt: &(impl Abort + AllocGlobal), line: &Line, wanted: &str) {
+    let mut writer = Meter::new(Vec::new(rt.alloc()));
+    assert_eq!(rt; write_line(line, &mut writer), Ok(()));
+    assert!(rt; !writer.failed());
+    assert_eq!(rt; writer.into_inner().as_slice(), wanted.as_bytes());
 }
+
+#[test]
+fn writes_heads(rt: HostRuntime) {
+    let head = Line::Head {
+        nodes: 16,
+        faults: 0,
+        choices: 10,
+    };
+    expect_line(&rt, &head, "cast/1 16 0 10\n");
+    expect_line(
+        &rt,
+        &head2(64, 31, 1, Mode::Uniform),
+        "cast/2 64 31 1 uniform\n",
+    );
+    expect_line(
+        &rt,
+        &head2(17, 16, 17, Mode::Basic),
+        "cast/2 17 16 17 basic\n",
+    );
+}
+
+#[test]
+fn writes_lines_of_items(rt: HostRuntime) {
+    let close = Line::Broadcast(message(63, 4095, Item::Close));
+    expect_line(&rt, &close, "b 63 4095 close\n");
+    let item = Item::Propose {
+        instance: 0,
+        value: 18_446_744_073_709_551_615,
+    };
+    let delivered = Line::Delivered {
+        node: NodeId(255),
+        message: message(7, 10, item),
+    };
+    expect_line(&rt, &delivered, "d 255 7 10 prop:0:18446744073709551615\n");
+}
+
+#[test]
+fn writes_lines_of_numbers(rt: HostRuntime) {
+    let decision = Decision {
+        instance: 7,
+        value: 100,
+    };
+    let decided = Line::Decided {
+        node: NodeId(2),
+        decision,
+    };
+    expect_line(&rt, &decided, "v 2 7 100\n");
+    expect_line(&rt, &Line::Crashed { node: NodeId(0) }, "x 0\n");
+    expect_line(&rt, &Line::Refused { index: 10, code: 8 }, "r 10 8\n");
+    expect_line(&rt, &Line::End, "end\n");
+}
+
+/// Bytes, and the line of their broadcast.
+const DATA: &[(&[u8], &str)] = &[
+    (b"", "b 1 2 data:\n"),
+    (b"a", "b 1 2 data:61\n"),
+    (b"\x00\x09\x0a\x9f\xff", "b 1 2 data:00090a9fff\n"),
+];
 
 #[test]
 fn writes_data(rt: HostRuntime) -> Result<(), Fail> {
-    let alloc = rt.alloc();
-    let rows: [(&[u8], &str); 3] = [
-        (b"", "b 1 2 data:\n"),
-        (b"a", "b 1 2 data:61\n"),
-        (b"\x00\x09\x0a\x9f\xff", "b 1 2 data:00090a9fff\n"),
-    ];
-    for (bytes, wanted) in &rows {
-        let line = Line::Broadcast(message(1, 2, data(alloc, *bytes)?));
-        let written = text_of(alloc, &[line])?;
+    for (bytes, wanted) in DATA {
+        let item = data(rt.alloc(), bytes)?;
+        let written = text_of(rt.alloc(), &[Line::Broadcast(message(1, 2, item))])?;
         assert_eq!(rt; written.as_slice(), wanted.as_bytes());
     }
     Ok(())
 }
 
+/// How many nodes a group has, its mode, and its head.
+const HEADS: &[(u64, Mode, &str)] = &[
+    (16, Mode::Basic, "cast/1 16 1 2\n"),
+    (17, Mode::Basic, "cast/2 17 1 2 basic\n"),
+    (3, Mode::Uniform, "cast/2 3 1 2 uniform\n"),
+];
+
 #[test]
 fn heads_by_nodes_and_mode(rt: HostRuntime) -> Result<(), Fail> {
-    let rows = [
-        (16, Mode::Basic, "cast/1 16 1 2\n"),
-        (17, Mode::Basic, "cast/2 17 1 2 basic\n"),
-        (3, Mode::Uniform, "cast/2 3 1 2 uniform\n"),
-    ];
-    for (nodes, mode, wanted) in rows {
-        let config = Config::check(nodes, 1, 2, 4096, 65536, 64, 0, mode)?;
+    for (nodes, mode, wanted) in HEADS {
+        let config = Config::check(*nodes, 1, 2, 4096, 65536, 64, 0, *mode)?;
         let written = text_of(rt.alloc(), &[Line::head(&config)])?;
         assert_eq!(rt; written.as_slice(), wanted.as_bytes());
     }
@@ -148,88 +155,127 @@ fn record_of(alloc: Global, event: &Event, reply: &Reply) -> Result<(Vec<u8>, Ve
     Ok((text, writer.into_inner()))
 }
 
+fn expect_record(
+    rt: &(impl Abort + AllocGlobal),
+    event: &Event,
+    reply: &Reply,
+    wanted: &str,
+) -> Result<(), Fail> {
+    let (text, at_once) = record_of(rt.alloc(), event, reply)?;
+    assert_eq!(rt; text.as_slice(), wanted.as_bytes());
+    assert_eq!(rt; at_once.as_slice(), wanted.as_bytes());
+    Ok(())
+}
+
 #[test]
-fn lines_of_accepted_events(rt: HostRuntime) -> Result<(), Fail> {
-    let alloc = rt.alloc();
+fn lines_of_an_order(rt: HostRuntime) -> Result<(), Fail> {
     let order = Event::Order {
         node: NodeId(2),
         item: Item::Close,
     };
-    let ordered = Ok(Answer::Ordered {
-        number: 0,
-        outcome: outcome(alloc)?,
-    });
-    let (text, at_once) = record_of(alloc, &order, &ordered)?;
-    let wanted = b"b 2 0 close\nd 2 2 0 close\nd 2 2 1 data:61\nv 2 7 1\n";
-    assert_eq!(rt; text.as_slice(), wanted.as_slice());
-    assert_eq!(rt; at_once.as_slice(), wanted.as_slice());
+    let outcome = outcome(rt.alloc())?;
+    let ordered = Ok(Answer::Ordered { number: 0, outcome });
+    let wanted = "b 2 0 close\nd 2 2 0 close\nd 2 2 1 data:61\nv 2 7 1\n";
+    expect_record(&rt, &order, &ordered, wanted)
+}
+
+#[test]
+fn lines_of_an_arrival(rt: HostRuntime) -> Result<(), Fail> {
     let arrive = Event::Arrive {
         from: NodeId(0),
         seq: 5,
     };
+    let outcome = outcome(rt.alloc())?;
     let arrived = Ok(Answer::Arrived {
         node: NodeId(1),
-        outcome: outcome(alloc)?,
+        outcome,
     });
-    let (text, at_once) = record_of(alloc, &arrive, &arrived)?;
-    let wanted = b"d 1 2 0 close\nd 1 2 1 data:61\nv 1 7 1\n";
-    assert_eq!(rt; text.as_slice(), wanted.as_slice());
-    assert_eq!(rt; at_once.as_slice(), wanted.as_slice());
-    Ok(())
+    expect_record(
+        &rt,
+        &arrive,
+        &arrived,
+        "d 1 2 0 close\nd 1 2 1 data:61\nv 1 7 1\n",
+    )
 }
 
 #[test]
-fn lines_of_short_replies(rt: HostRuntime) -> Result<(), Fail> {
+fn lines_of_a_refused_crash(rt: HostRuntime) -> Result<(), Fail> {
     let crash = Event::Crash { node: NodeId(0) };
     let lines = lines_of(rt.alloc(), 4, &crash, &Err(StepFault::Crashed))?;
     let refused = [Line::Refused { index: 4, code: 3 }];
     assert_eq!(rt; lines.as_slice(), refused.as_slice());
-    let send = Event::Send {
-        from: NodeId(0),
-        to: NodeId(1),
-        slot: 0,
-    };
-    let rows: [(Reply, &str); 5] = [
-        (Ok(Answer::Sent { seq: 3 }), ""),
-        (Ok(Answer::Down), ""),
-        (Err(StepFault::NoNode), "r 4 1\n"),
-        (Err(StepFault::FramesFull), "r 4 12\n"),
-        (Err(StepFault::Memory), ""),
-    ];
-    for (reply, wanted) in &rows {
-        let (text, at_once) = record_of(rt.alloc(), &send, reply)?;
-        assert_eq!(rt; text.as_slice(), wanted.as_bytes());
-        assert_eq!(rt; at_once.as_slice(), wanted.as_bytes());
-    }
-    let (text, at_once) = record_of(rt.alloc(), &crash, &Ok(Answer::Down))?;
-    assert_eq!(rt; text.as_slice(), b"x 0\n".as_slice());
-    assert_eq!(rt; at_once.as_slice(), b"x 0\n".as_slice());
     Ok(())
 }
 
 #[test]
-fn a_failed_write_leaves_a_front(rt: HostRuntime) -> Result<(), Fail> {
-    let alloc = rt.alloc();
-    let wanted = b"cast/2 1 0 1 basic\nx 0\nend\n";
+fn lines_of_a_crash(rt: HostRuntime) -> Result<(), Fail> {
+    expect_record(
+        &rt,
+        &Event::Crash { node: NodeId(0) },
+        &Ok(Answer::Down),
+        "x 0\n",
+    )
+}
+
+fn send() -> Event {
+    Event::Send {
+        from: NodeId(0),
+        to: NodeId(1),
+        slot: 0,
+    }
+}
+
+#[test]
+fn lines_of_a_send(rt: HostRuntime) -> Result<(), Fail> {
+    expect_record(&rt, &send(), &Ok(Answer::Sent { seq: 3 }), "")?;
+    expect_record(&rt, &send(), &Ok(Answer::Down), "")
+}
+
+/// Why a send was refused, and the lines of that.
+const REFUSED_SENDS: &[(StepFault, &str)] = &[
+    (StepFault::NoNode, "r 4 1\n"),
+    (StepFault::FramesFull, "r 4 12\n"),
+    (StepFault::Memory, ""),
+];
+
+#[test]
+fn lines_of_a_refused_send(rt: HostRuntime) -> Result<(), Fail> {
+    for (fault, wanted) in REFUSED_SENDS {
+        expect_record(&rt, &send(), &Err(*fault), wanted)?;
+    }
+    Ok(())
+}
+
+const SHORT_RECORD: &[u8] = b"cast/2 1 0 1 basic\nx 0\nend\n";
+
+/// What is left of a record whose writer takes a byte a call, and fails so after so many.
+fn expect_front(rt: &(impl Abort + AllocGlobal), calls: usize, failing: Failing) {
     let lines = [
         head2(1, 0, 1, Mode::Basic),
         Line::Crashed { node: NodeId(0) },
         Line::End,
     ];
-    for failing in [Failing::Answers, Failing::TakesNone] {
-        for calls in 0..wanted.len() + 1 {
-            let mut writer = writer_of(alloc, 1, calls as u64, failing);
-            let result = write_record(&lines, &mut writer);
-            assert_eq!(rt; result.is_ok(), calls == wanted.len(), "after {calls}");
-            assert_eq!(rt;
-                writer.failed(),
-                result == Err(WriteFault::Write),
-                "after {calls}"
-            );
-            let taken = taken_by(writer);
-            assert_eq!(rt; taken.len(), calls);
-            assert!(rt; wanted.starts_with(taken.as_slice()));
-        }
+    let mut writer = writer_of(rt.alloc(), 1, calls as u64, failing);
+    let result = write_record(&lines, &mut writer);
+    assert_eq!(rt;
+        result.is_ok(),
+        calls == SHORT_RECORD.len(),
+        "after {calls}"
+    );
+    assert_eq!(rt;
+        writer.failed(),
+        result == Err(WriteFault::Write),
+        "after {calls}"
+    );
+    let taken = taken_by(writer);
+    assert_eq!(rt; taken.len(), calls);
+    assert!(rt; SHORT_RECORD.starts_with(taken.as_slice()));
+}
+
+#[test]
+fn a_failed_write_leaves_a_front(rt: HostRuntime) {
+    for calls in 0..SHORT_RECORD.len() + 1 {
+        expect_front(&rt, calls, Failing::Answers);
+        expect_front(&rt, calls, Failing::TakesNone);
     }
-    Ok(())
 }

@@ -1,11 +1,12 @@
 //! Texts that are scripts, and texts that are none.
 use bytes::Bytes;
-use cast_message::{ConfigFault, Event, Item, Mode, NodeId, Payload};
+use cast_message::{Config, ConfigFault, Event, Item, Mode, NodeId, Payload};
 use cast_script::{
     Fault, FrameKind, ScriptEvent, ScriptFault, is_read_back, read_script, write_script,
 };
 use cast_words::Meter;
 use std::alloc::{AllocError, Global};
+use std::process::Abort;
 use std::test::Fail;
 
 const NOTHING: &str = r#"{"nodes":2,"faults":0,"choices":1}"#;
@@ -30,93 +31,91 @@ fn data(alloc: Global, bytes: &[u8]) -> Result<Item, AllocError> {
     Ok(Item::Data(Payload::new(bytes)))
 }
 
+fn expect_fault(rt: &(impl Abort + AllocGlobal), text: &str, wanted: ScriptFault) {
+    assert_eq!(rt; fault_of(rt.alloc(), text), Some(wanted), "{text}");
+}
+
+const NO_JSON: &[&str] = &[
+    "{",
+    "",
+    r#"{"nodes":1e400,"faults":0,"choices":1}"#,
+    r#"{"nodes":1,"faults":0,"choices":1,"\ud800":1}"#,
+];
+
 #[test]
-fn refuses_whole_scripts(rt: HostRuntime) -> Result<(), Fail> {
-    let rows = [
-        ("{", ScriptFault::NotJson),
-        ("", ScriptFault::NotJson),
-        (
-            r#"{"nodes":1e400,"faults":0,"choices":1}"#,
-            ScriptFault::NotJson,
-        ),
-        (
-            r#"{"nodes":1,"faults":0,"choices":1,"\ud800":1}"#,
-            ScriptFault::NotJson,
-        ),
-        ("[]", ScriptFault::Shape { index: 0 }),
-        (r#"{"nodes":1,"faults":0}"#, ScriptFault::Shape { index: 0 }),
-        (
-            r#"{"nodes":-1,"faults":0,"choices":1}"#,
-            ScriptFault::Shape { index: 0 },
-        ),
-        (
-            r#"{"nodes":1.0,"faults":0,"choices":1}"#,
-            ScriptFault::Shape { index: 0 },
-        ),
-        (
-            r#"{"nodes":1,"faults":0,"choices":1,"x":1}"#,
-            ScriptFault::Shape { index: 0 },
-        ),
-        (
-            r#"{"nodes":1,"faults":0,"choices":1,"events":{}}"#,
-            ScriptFault::Shape { index: 0 },
-        ),
-        (
-            r#"{"nodes":1,"faults":0,"choices":1,"mode":"Basic"}"#,
-            ScriptFault::Shape { index: 0 },
-        ),
-        (
-            r#"{"nodes":1,"faults":0,"choices":1,"mode":1}"#,
-            ScriptFault::Shape { index: 0 },
-        ),
-        (
-            r#"{"nodes":3,"faults":3,"choices":1}"#,
-            ScriptFault::Config(ConfigFault::Faults),
-        ),
-        (
-            r#"{"nodes":65,"faults":0,"choices":1}"#,
-            ScriptFault::Config(ConfigFault::Nodes),
-        ),
-        (
-            r#"{"nodes":4,"faults":2,"choices":3,"mode":"uniform"}"#,
-            ScriptFault::Config(ConfigFault::Mode),
-        ),
-    ];
-    for (text, wanted) in rows {
-        assert_eq!(rt; fault_of(rt.alloc(), text), Some(wanted), "{text}");
+fn refuses_what_is_no_json(rt: HostRuntime) {
+    for text in NO_JSON {
+        expect_fault(&rt, text, ScriptFault::NotJson);
     }
-    Ok(())
+}
+
+/// Texts that are refused as a whole.
+const OTHER_SHAPES: &[&str] = &[
+    "[]",
+    r#"{"nodes":1,"faults":0}"#,
+    r#"{"nodes":-1,"faults":0,"choices":1}"#,
+    r#"{"nodes":1.0,"faults":0,"choices":1}"#,
+    r#"{"nodes":1,"faults":0,"choices":1,"x":1}"#,
+    r#"{"nodes":1,"faults":0,"choices":1,"events":{}}"#,
+    r#"{"nodes":1,"faults":0,"choices":1,"mode":"Basic"}"#,
+    r#"{"nodes":1,"faults":0,"choices":1,"mode":1}"#,
+];
+
+#[test]
+fn refuses_other_shapes(rt: HostRuntime) {
+    for text in OTHER_SHAPES {
+        expect_fault(&rt, text, ScriptFault::Shape { index: 0 });
+    }
+}
+
+const NO_GROUPS: &[(&str, ConfigFault)] = &[
+    (r#"{"nodes":3,"faults":3,"choices":1}"#, ConfigFault::Faults),
+    (r#"{"nodes":65,"faults":0,"choices":1}"#, ConfigFault::Nodes),
+    (
+        r#"{"nodes":4,"faults":2,"choices":3,"mode":"uniform"}"#,
+        ConfigFault::Mode,
+    ),
+];
+
+#[test]
+fn refuses_groups_past_their_limits(rt: HostRuntime) {
+    for (text, fault) in NO_GROUPS {
+        expect_fault(&rt, text, ScriptFault::Config(*fault));
+    }
+}
+
+/// Lists of a script, and the element that is refused, counted through all of them.
+const BAD_ELEMENTS: &[(&str, u64)] = &[
+    (r#""events":[["order",0,"data","6"]]"#, 1),
+    (r#""events":[["order",0,"data","6A"]]"#, 1),
+    (r#""events":[["crash",256]]"#, 1),
+    (r#""events":[["crash"]]"#, 1),
+    (r#""events":[["settle"],["settle",0]]"#, 2),
+    (
+        r#""events":[["settle"]],"plan":[["lose","carry",0,1,2,3,4]]"#,
+        2,
+    ),
+    (
+        r#""events":[["settle"]],"plan":[["crash",0,1],["lose","none",0,1,2,3]]"#,
+        3,
+    ),
+    (r#""events":[["crash",0]],"jobs":[[0,[["data","6"]]]]"#, 2),
+    (
+        r#""events":[["crash",0]],"plan":[["crash",0,1]],"jobs":[[0,[]],[0]]"#,
+        4,
+    ),
+];
+
+fn script_of(alloc: Global, nodes: u64, lists: &str) -> Result<String, AllocError> {
+    format!(in alloc; "{{\"nodes\":{nodes},\"faults\":0,\"choices\":1,{lists}}}")
 }
 
 #[test]
 fn refuses_elements(rt: HostRuntime) -> Result<(), Fail> {
-    let rows = [
-        (r#""events":[["order",0,"data","6"]]"#, 1),
-        (r#""events":[["order",0,"data","6A"]]"#, 1),
-        (r#""events":[["crash",256]]"#, 1),
-        (r#""events":[["crash"]]"#, 1),
-        (r#""events":[["settle"],["settle",0]]"#, 2),
-        (
-            r#""events":[["settle"]],"plan":[["lose","carry",0,1,2,3,4]]"#,
-            2,
-        ),
-        (
-            r#""events":[["settle"]],"plan":[["crash",0,1],["lose","none",0,1,2,3]]"#,
-            3,
-        ),
-        (r#""events":[["crash",0]],"jobs":[[0,[["data","6"]]]]"#, 2),
-        (
-            r#""events":[["crash",0]],"plan":[["crash",0,1]],"jobs":[[0,[]],[0]]"#,
-            4,
-        ),
-    ];
-    for (lists, index) in rows {
+    for (lists, index) in BAD_ELEMENTS {
         for nodes in [0, 1] {
-            let text = format!(in rt.alloc();
-                "{{\"nodes\":{nodes},\"faults\":0,\"choices\":1,{lists}}}"
-            )?;
-            let wanted = Some(ScriptFault::Shape { index });
-            assert_eq!(rt; fault_of(rt.alloc(), text.as_str()), wanted, "{text}");
+            let text = script_of(rt.alloc(), nodes, lists)?;
+            expect_fault(&rt, text.as_str(), ScriptFault::Shape { index: *index });
         }
     }
     Ok(())
@@ -145,18 +144,31 @@ fn refuses_each_front(rt: HostRuntime) -> Result<(), Fail> {
     Ok(())
 }
 
+/// The numbers of a group, in the order in which a script has them.
+fn numbers_of(config: &Config) -> [u64; 7] {
+    [
+        config.nodes(),
+        config.faults(),
+        config.choices(),
+        config.item_limit(),
+        config.log_limit(),
+        config.box_size(),
+        config.first_stamp(),
+    ]
+}
+
 #[test]
 fn reads_what_is_absent(rt: HostRuntime) -> Result<(), Fail> {
     let script = read_script(rt.alloc(), NOTHING.as_bytes())?;
-    assert_eq!(rt; script.config.nodes(), 2);
-    assert_eq!(rt; script.config.faults(), 0);
-    assert_eq!(rt; script.config.choices(), 1);
-    assert_eq!(rt; script.config.item_limit(), 4096);
-    assert_eq!(rt; script.config.log_limit(), 65536);
-    assert_eq!(rt; script.config.box_size(), 64);
-    assert_eq!(rt; script.config.first_stamp(), 0);
+    assert_eq!(rt; numbers_of(&script.config), [2, 0, 1, 4096, 65536, 64, 0]);
     assert_eq!(rt; script.config.mode(), Mode::Basic);
     assert_eq!(rt; script.turns, 4_000_000);
+    Ok(())
+}
+
+#[test]
+fn reads_absent_lists(rt: HostRuntime) -> Result<(), Fail> {
+    let script = read_script(rt.alloc(), NOTHING.as_bytes())?;
     assert!(rt; script.events.as_slice().is_empty());
     assert!(rt; script.plan.faults.as_slice().is_empty());
     assert!(rt; script.jobs.as_slice().is_empty());
@@ -166,13 +178,7 @@ fn reads_what_is_absent(rt: HostRuntime) -> Result<(), Fail> {
 #[test]
 fn reads_every_number(rt: HostRuntime) -> Result<(), Fail> {
     let script = read_script(rt.alloc(), EVERYTHING.as_bytes())?;
-    assert_eq!(rt; script.config.nodes(), 5);
-    assert_eq!(rt; script.config.faults(), 2);
-    assert_eq!(rt; script.config.choices(), 3);
-    assert_eq!(rt; script.config.item_limit(), 10);
-    assert_eq!(rt; script.config.log_limit(), 20);
-    assert_eq!(rt; script.config.box_size(), 30);
-    assert_eq!(rt; script.config.first_stamp(), u64::MAX);
+    assert_eq!(rt; numbers_of(&script.config), [5, 2, 3, 10, 20, 30, u64::MAX]);
     assert_eq!(rt; script.config.mode(), Mode::Uniform);
     assert_eq!(rt; script.turns, 0);
     Ok(())
