@@ -1,4 +1,4 @@
--- What a node gave another, as callers see it. What a slot keeps of a message is its user's affair: the message itself, or where to find it.
+-- What a node gave another, as callers see it. A slot keeps the message itself, or whatever its user finds it by.
 --     Link X                     how many slots were given, and the owed ones with what they keep
 --     with_given link kept       a slot more is given
 --     with_acknowledged link slot      a slot is owed no more

@@ -7,7 +7,7 @@
 --     links_of out               the links as their peers see them, with messages
 --     nothing_given peers        no message was given to any of so many peers
 --     given_to relay source message out        a message is given to each peer to which it goes
---     given_back relay source sender out       and taken back
+--     taken_back relay source sender out       and taken back
 --     OwesBelow n links          each slot that is owed keeps a place below n
 --     IsLastGiven relay source sender out      the last message has no slots but those that taking it back frees
 use Rattle.std.specs.Prelude.{ℕ, ◌+◌, ◌-◌, ◌<◌, List, [], ◌∷◌, ◌++◌, length, map, take, replicate, slice_index_or, refl}
@@ -58,8 +58,8 @@ given_to relay source message out = record {
   links = given_on 0 relay source message.sender (length out.messages) out.links;
 }
 
-abbrev pub given_back : Held → ℕ → ℕ → Outbound → Outbound
-given_back relay source sender out = record {
+abbrev pub taken_back : Held → ℕ → ℕ → Outbound → Outbound
+taken_back relay source sender out = record {
   messages = take (length out.messages - 1) out.messages;
   links = taken_back_from 0 relay source sender out.links;
 }

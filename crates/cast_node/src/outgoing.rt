@@ -1,12 +1,12 @@
-//! What a node gives its peers. A message goes to many of them and stands here once: the slots of a link keep its place, four
-//! bytes and a mark, and no count of its payload moves where a slot is given, acknowledged or dropped.
+//! What a node gives its peers. A message goes to many of them and stands here once: the slots of a link keep its place, in
+//! eight bytes, and no count of its payload moves where a slot is given, acknowledged or dropped.
 ghost use Rattle.std.specs.Prelude.{◌≡◌, ◌<◌, ◌≤◌, IsTrue, length, replicate, slice_set, IfOk, OnOk, OnErr};
 ghost use Rattle.std.specs.FinMap as finite;
 ghost use Rattle.std.specs.Option.{option_copied};
 ghost use Rattle.cast_link.specs.Links.{with_acknowledged, IsLeastFrom};
 ghost use Rattle.cast_node.specs.Turns.{given_from};
 ghost use Rattle.cast_node.specs.Giving.{link_in, OwesNothing};
-ghost use Rattle.cast_node.specs.Outgoing.{links_of, nothing_given, given_to, given_back, IsLastGiven};
+ghost use Rattle.cast_node.specs.Outgoing.{links_of, nothing_given, given_to, taken_back, IsLastGiven};
 
 use crate::giving::{give_all, owe_nothing, take_back_all};
 use cast_link::LinkOut;
@@ -69,7 +69,7 @@ impl Outgoing {
         ensures last { OnOk result
             (IsLastGiven relay.now source message.now.sender self.new) }
         ensures back { OnOk result
-            (given_back relay.now source message.now.sender self.new ≡ self.old) }
+            (taken_back relay.now source message.now.sender self.new ≡ self.old) }
         ensures err { OnErr result (self.new ≡ self.old) }
     {
         let place = self.messages.len();
@@ -92,7 +92,7 @@ impl Outgoing {
     pub fn take_back(&mut self, relay: &Relay, source: NodeId, sender: NodeId)
         requires peers { length (links_of self.old) ≤ 256 }
         requires last { IsLastGiven relay.now source sender self.old }
-        ensures { self.new ≡ given_back relay.now source sender self.old }
+        ensures { self.new ≡ taken_back relay.now source sender self.old }
     {
         take_back_all(self.links.as_mut_slice(), 0, relay, source, sender);
         self.messages.pop();
