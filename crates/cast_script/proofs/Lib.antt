@@ -3,6 +3,7 @@ pub mod MemberLemmas
 pub mod ElementLemmas
 pub mod ItemLemmas
 pub mod ScriptLemmas
+pub mod PlainLemmas
 pub mod ReplayWriting
 pub mod ReplayTokens
 pub mod ReplayReading

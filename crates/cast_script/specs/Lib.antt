@@ -4,6 +4,7 @@ pub mod Places
 pub mod Element
 pub mod Members
 pub mod Script
+pub mod Plain
 pub mod LiveFaults
 pub mod Replay
 pub mod Cells

@@ -10,6 +10,7 @@ mod job;
 mod law;
 mod live_fault;
 mod members;
+mod plain;
 mod reading;
 mod replay;
 mod script;

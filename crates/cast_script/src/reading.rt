@@ -4,8 +4,9 @@ ghost use Rattle.serde_json.specs.View.{view};
 ghost use Rattle.cast_script.specs.Faults.{AnswersBy, TellsBy};
 ghost use Rattle.cast_script.specs.Script.{Reads, said, settings_in, checked, script_in, script_of};
 
-use crate::element::read_elements;
+use crate::element::{Unread, read_elements};
 use crate::members::{has_known_members_only, list, settings};
+use crate::plain::read_plain;
 use crate::script::{FaultPlan, Script, ScriptFault, Settings};
 use cast_message::Config;
 use serde_json::Value;
@@ -15,6 +16,17 @@ use std::alloc::Global;
 /// isn't a script's, by the first place that is wrong, `Config` for the limits of a configuration, tried once all else is
 /// of its form. `Memory` is answered where a growth is refused, before what would be found later.
 pub fn read_script(alloc: Global, bytes: &[u8]) -> Result<Script, ScriptFault>
+    ensures { Reads result bytes.now }
+{
+    match read_plain(alloc, bytes) {
+        Ok(script) => Ok(script),
+        Err(Unread::Shape) => read_value(alloc, bytes),
+        Err(Unread::Memory) => Err(ScriptFault::Memory),
+    }
+}
+
+// The same by the value that the bytes say.
+fn read_value(alloc: Global, bytes: &[u8]) -> Result<Script, ScriptFault>
     ensures { Reads result bytes.now }
 {
     let value = match Value::from_slice(alloc, bytes) {
@@ -75,7 +87,8 @@ fn script_in(
     })
 }
 
-fn check(settings: &Settings) -> Result<Config, ScriptFault>
+/// The configuration of the settings, where it is within its limits.
+pub fn check(settings: &Settings) -> Result<Config, ScriptFault>
     ensures { TellsBy (λ config. settings_in config settings.now.turns) result
         (checked settings.now) }
 {

@@ -1,0 +1,8 @@
+use Rattle.std.proofs.Common.{◌∷◌, [], refl}
+use Rattle.cast_script.proofs.plain.arrive.Goals as goal
+
+pub returns : goal.returns
+returns c =
+    let a = c.in_ok-from.ensures in
+    let s = c.in_ok-seq.ensures in
+    (a.0 ∷ s.0 ∷ [], (c.node.new.reader, a.1, (c.number.new.reader, s.1, c.in_ok-end.ensures)), rw (a.2, s.2) refl)

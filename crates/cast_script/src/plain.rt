@@ -1,0 +1,322 @@
+//! The plain case of a script, read off its tokens, one event after another, so that the value of the whole text is never
+//! kept: an object of words, numbers, empty lists and one list of events, each of these an array of words and numbers.
+//! What isn't so plain is read as a value by `reading`, which also says what is wrong with it.
+ghost use Rattle.std.specs.Prelude.{◌≡◌, ◌∷◌, List as Tokens, Some, Ok, IfOk, IfSome, option_map};
+ghost use Rattle.json.specs.Json.{read_key};
+ghost use Rattle.json.specs.Token.{Token as Read, begin_array, end_array};
+ghost use Rattle.serde_json.specs.Data.{Data, Members, unsigned as unsigned_num, object};
+ghost use Rattle.serde_json.specs.Read.{number_of as number_in};
+ghost use Rattle.serde_json.specs.View.{view};
+ghost use Rattle.cast_script.specs.Element.{number_of, node_of, item_of, item_named, data_of, proposal_of, close_of, order_of, send_of, ack_of, arrive_of, crash_of, settle_of, event_named};
+ghost use Rattle.cast_script.specs.Plain.{IsCell, AreCells, IsEvent, AreEvents, IsValueOf, IsLike, SaysMembers};
+ghost use Rattle.cast_script.specs.Script.{Reads, said, script_of};
+
+use crate::element::Unread;
+use crate::members::{has_known_members_only, list, settings};
+use crate::reading::check;
+use crate::script::{FaultPlan, Script, ScriptEvent};
+use bytes::Bytes;
+use cast_message::{Event, Item, List, NodeId, Payload};
+use cast_words::bytes_of;
+use fast_float::Numeral;
+use json::{Reader, Scratch, Token};
+use serde_json::{Map, Value};
+use std::alloc::Global;
+
+// The members of a script: all but its events, in whose place an empty list stands, and the events.
+#[derive(Drop)]
+struct Parts {
+    others: Value,
+    events: List<ScriptEvent>,
+}
+
+/// The script that the bytes say, where it is plain.
+pub fn read_plain(alloc: Global, bytes: &[u8]) -> Result<Script, Unread>
+    ensures { IfOk result (λ script. Reads (Ok script) bytes.now) }
+{
+    let Ok(text) = str::from_utf8(bytes) else {
+        return Err(Unread::Shape);
+    };
+    let mut scratch = Scratch::new(alloc);
+    let mut reader = Reader::new(text, &mut scratch)?;
+    let Some(Token::BeginObject) = reader.next() else {
+        return Err(Unread::Shape);
+    };
+    let parts = members(alloc, &mut reader)?;
+    if reader.next().is_some() {
+        return Err(Unread::Shape);
+    }
+    script(alloc, parts).ok_or(Unread::Shape)
+}
+
+fn script(alloc: Global, parts: Parts) -> Option<Script>
+    ensures { IfSome result (λ script. (found : Members)
+        → IsLike found (view parts.others) parts.events
+        → script_of (object found) ≡ Ok (said script)) }
+{
+    if !has_known_members_only(&parts.others) {
+        return None;
+    }
+    let settings = settings(&parts.others)?;
+    let plan = list(&parts.others, "plan")?;
+    let jobs = list(&parts.others, "jobs")?;
+    if !plan.is_empty() || !jobs.is_empty() {
+        return None;
+    }
+    let Ok(config) = check(&settings) else {
+        return None;
+    };
+    Some(Script {
+        config,
+        turns: settings.turns,
+        events: parts.events,
+        plan: FaultPlan {
+            faults: List::new(alloc),
+        },
+        jobs: List::new(alloc),
+    })
+}
+
+fn members(alloc: Global, reader: &mut Reader<'_>) -> Result<Parts, Unread>
+    ensures { IfOk result (λ parts.
+        SaysMembers reader.old (view parts.others) parts.events reader.new) }
+{
+    let mut others = Map::new(alloc);
+    let mut events = List::new(alloc);
+    'members: while let Some(name) = next_name(reader)? {
+        let value = if name == "events" {
+            events = list_of_events(alloc, reader)?;
+            Value::Array(Vec::new(alloc))
+        } else {
+            value(alloc, reader)?
+        };
+        drop(others.insert(String::from_str(alloc, name)?, value)?);
+    }
+    Ok(Parts {
+        others: Value::Object(others),
+        events,
+    })
+}
+
+// The name of the next member, or none at the end of the object.
+fn next_name<'a>(reader: &mut Reader<'a>) -> Result<Option<&'a str>, Unread>
+    ensures { IfOk result (λ name. read_key reader.old
+        ≡ Some (option_map (λ s. s.now) name, reader.new)) }
+{
+    match reader.next_key() {
+        Ok(name) => Ok(name),
+        Err(_) => Err(Unread::Shape),
+    }
+}
+
+// A number, a word or an empty list.
+fn value(alloc: Global, reader: &mut Reader<'_>) -> Result<Value, Unread>
+    ensures { IfOk result (λ value. IsValueOf reader.old (view value) reader.new) }
+{
+    match reader.next() {
+        Some(Token::Number(text)) => Ok(Value::from(unsigned(text)?)),
+        Some(Token::String(text)) => Ok(Value::String(String::from_str(alloc, text)?)),
+        Some(Token::BeginArray) => {
+            end(reader)?;
+            Ok(Value::Array(Vec::new(alloc)))
+        }
+        _ => Err(Unread::Shape),
+    }
+}
+
+fn list_of_events(alloc: Global, reader: &mut Reader<'_>) -> Result<List<ScriptEvent>, Unread>
+    ensures { IfOk result (λ events. (next : Tokens Read)
+        × (reader.old ≡ begin_array ∷ next) × AreEvents next events reader.new) }
+{
+    let Some(Token::BeginArray) = reader.next() else {
+        return Err(Unread::Shape);
+    };
+    let mut events = List::new(alloc);
+    'events: while !reader.take_end_array() {
+        let event = event(alloc, reader)?;
+        events.push(event)?;
+    }
+    Ok(events)
+}
+
+fn event(alloc: Global, reader: &mut Reader<'_>) -> Result<ScriptEvent, Unread>
+    ensures { IfOk result (λ event. IsEvent reader.old event reader.new) }
+{
+    let Some(Token::BeginArray) = reader.next() else {
+        return Err(Unread::Shape);
+    };
+    let Some(Token::String(name)) = reader.next() else {
+        return Err(Unread::Shape);
+    };
+    event_by(alloc, name, reader)
+}
+
+// The event of this name with the cells after it.
+fn event_by(alloc: Global, name: &str, reader: &mut Reader<'_>) -> Result<ScriptEvent, Unread>
+    ensures { IfOk result (λ event. (ds : Tokens Data)
+        × AreCells reader.old ds reader.new × (event_named name.now ds ≡ Some event)) }
+{
+    match name {
+        "order" => Ok(ScriptEvent::Core(order(alloc, reader)?)),
+        "send" => send(reader),
+        "ack" => ack(reader),
+        "arrive" => arrive(reader),
+        "crash" => crash(reader),
+        "settle" => settle(reader),
+        _ => Err(Unread::Shape),
+    }
+}
+
+fn order(alloc: Global, reader: &mut Reader<'_>) -> Result<Event, Unread>
+    ensures { IfOk result (λ event. (ds : Tokens Data)
+        × AreCells reader.old ds reader.new × (order_of ds ≡ Some event)) }
+{
+    let node = node(reader)?;
+    let item = item(alloc, reader)?;
+    Ok(Event::Order { node, item })
+}
+
+fn send(reader: &mut Reader<'_>) -> Result<ScriptEvent, Unread>
+    ensures { IfOk result (λ event. (ds : Tokens Data)
+        × AreCells reader.old ds reader.new × (send_of ds ≡ Some event)) }
+{
+    let from = node(reader)?;
+    let to = node(reader)?;
+    let slot = number(reader)?;
+    end(reader)?;
+    Ok(ScriptEvent::Core(Event::Send { from, to, slot }))
+}
+
+fn ack(reader: &mut Reader<'_>) -> Result<ScriptEvent, Unread>
+    ensures { IfOk result (λ event. (ds : Tokens Data)
+        × AreCells reader.old ds reader.new × (ack_of ds ≡ Some event)) }
+{
+    let from = node(reader)?;
+    let to = node(reader)?;
+    let slot = number(reader)?;
+    end(reader)?;
+    Ok(ScriptEvent::Core(Event::Ack { from, to, slot }))
+}
+
+fn arrive(reader: &mut Reader<'_>) -> Result<ScriptEvent, Unread>
+    ensures { IfOk result (λ event. (ds : Tokens Data)
+        × AreCells reader.old ds reader.new × (arrive_of ds ≡ Some event)) }
+{
+    let from = node(reader)?;
+    let seq = number(reader)?;
+    end(reader)?;
+    Ok(ScriptEvent::Core(Event::Arrive { from, seq }))
+}
+
+fn crash(reader: &mut Reader<'_>) -> Result<ScriptEvent, Unread>
+    ensures { IfOk result (λ event. (ds : Tokens Data)
+        × AreCells reader.old ds reader.new × (crash_of ds ≡ Some event)) }
+{
+    let node = node(reader)?;
+    end(reader)?;
+    Ok(ScriptEvent::Core(Event::Crash { node }))
+}
+
+fn settle(reader: &mut Reader<'_>) -> Result<ScriptEvent, Unread>
+    ensures { IfOk result (λ event. (ds : Tokens Data)
+        × AreCells reader.old ds reader.new × (settle_of ds ≡ Some event)) }
+{
+    end(reader)?;
+    Ok(ScriptEvent::Settle)
+}
+
+fn item(alloc: Global, reader: &mut Reader<'_>) -> Result<Item, Unread>
+    ensures { IfOk result (λ item. (ds : Tokens Data)
+        × AreCells reader.old ds reader.new × (item_of ds ≡ Some item)) }
+{
+    let Some(Token::String(name)) = reader.next() else {
+        return Err(Unread::Shape);
+    };
+    item_by(alloc, name, reader)
+}
+
+// The item of this name with the cells after it.
+fn item_by(alloc: Global, name: &str, reader: &mut Reader<'_>) -> Result<Item, Unread>
+    ensures { IfOk result (λ item. (ds : Tokens Data)
+        × AreCells reader.old ds reader.new × (item_named name.now ds ≡ Some item)) }
+{
+    match name {
+        "data" => data(alloc, reader),
+        "propose" => proposal(reader),
+        "close" => close(reader),
+        _ => Err(Unread::Shape),
+    }
+}
+
+fn data(alloc: Global, reader: &mut Reader<'_>) -> Result<Item, Unread>
+    ensures { IfOk result (λ item. (ds : Tokens Data)
+        × AreCells reader.old ds reader.new × (data_of ds ≡ Some item)) }
+{
+    let Some(Token::String(digits)) = reader.next() else {
+        return Err(Unread::Shape);
+    };
+    let bytes = bytes_of(alloc, digits.as_bytes())?.ok_or(Unread::Shape)?;
+    end(reader)?;
+    Ok(Item::Data(Payload::new(Bytes::from_vec(bytes)?)))
+}
+
+fn proposal(reader: &mut Reader<'_>) -> Result<Item, Unread>
+    ensures { IfOk result (λ item. (ds : Tokens Data)
+        × AreCells reader.old ds reader.new × (proposal_of ds ≡ Some item)) }
+{
+    let instance = number(reader)?;
+    let value = number(reader)?;
+    end(reader)?;
+    Ok(Item::Propose { instance, value })
+}
+
+fn close(reader: &mut Reader<'_>) -> Result<Item, Unread>
+    ensures { IfOk result (λ item. (ds : Tokens Data)
+        × AreCells reader.old ds reader.new × (close_of ds ≡ Some item)) }
+{
+    end(reader)?;
+    Ok(Item::Close)
+}
+
+// The number of a node, 0 to 255.
+fn node(reader: &mut Reader<'_>) -> Result<NodeId, Unread>
+    ensures { IfOk result (λ node. (d : Data)
+        × IsCell reader.old d reader.new × (node_of d ≡ Some node)) }
+{
+    let number = number(reader)?;
+    if number > 255 {
+        return Err(Unread::Shape);
+    }
+    Ok(NodeId(number as u8))
+}
+
+fn number(reader: &mut Reader<'_>) -> Result<u64, Unread>
+    ensures { IfOk result (λ number. (d : Data)
+        × IsCell reader.old d reader.new × (number_of d ≡ Some number)) }
+{
+    let Some(Token::Number(text)) = reader.next() else {
+        return Err(Unread::Shape);
+    };
+    unsigned(text)
+}
+
+fn unsigned(text: &str) -> Result<u64, Unread>
+    ensures { IfOk result (λ number. number_in text.now ≡ Some (unsigned_num number)) }
+{
+    let digits = text.as_bytes();
+    if digits.is_empty() || digits[0] == b'-' {
+        return Err(Unread::Shape);
+    }
+    Numeral::scan(digits).to_u64().ok_or(Unread::Shape)
+}
+
+// The bracket that closes an array.
+fn end(reader: &mut Reader<'_>) -> Result<(), Unread>
+    ensures { IfOk result (λ _. reader.old ≡ end_array ∷ reader.new) }
+{
+    if reader.take_end_array() {
+        Ok(())
+    } else {
+        Err(Unread::Shape)
+    }
+}
