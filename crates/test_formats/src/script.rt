@@ -338,6 +338,22 @@ fn reads_what_it_wrote(rt: HostRuntime) -> Result<(), Fail> {
     Ok(())
 }
 
+/// The same events, read off the tokens, and by the value, where a plan is beside them. The last list of events counts.
+const PLAIN: &str =
+    r#"{"events":[["settle"]],"\u006eodes":3,"events":[["order",0,"data","0aFf"],["order",1,"propose",7,18446744073709551615],["order",2,"close"],["send",255,0,1],["ack",0,1,2],["arrive",1,3],["crash",2],["settle"]],"faults":1,"choices":2,"plan":[],"jobs":[]}"#;
+const NOT_SO_PLAIN: &str =
+    r#"{"events":[["settle"]],"\u006eodes":3,"events":[["order",0,"data","0aFf"],["order",1,"propose",7,18446744073709551615],["order",2,"close"],["send",255,0,1],["ack",0,1,2],["arrive",1,3],["crash",2],["settle"]],"faults":1,"choices":2,"plan":[["crash",0,9]],"jobs":[]}"#;
+
+#[test]
+fn reads_the_same_events_by_tokens_and_by_value(rt: HostRuntime) -> Result<(), Fail> {
+    let plain = read_script(rt.alloc(), PLAIN.as_bytes())?;
+    let by_value = read_script(rt.alloc(), NOT_SO_PLAIN.as_bytes())?;
+    assert!(rt; plain.events.as_slice().len() == 8);
+    assert!(rt; plain.events.as_slice() == by_value.events.as_slice());
+    assert!(rt; plain.config.nodes() == 3 && by_value.config.nodes() == 3);
+    Ok(())
+}
+
 #[test]
 fn writes_a_script_with_no_events(rt: HostRuntime) -> Result<(), Fail> {
     let script = read_script(rt.alloc(), NOTHING.as_bytes())?;
