@@ -3,7 +3,7 @@ use super::*;
 use cast_box::{BoxFault, Full};
 use cast_message::{Event, Item, List, Message, NodeId, Outcome};
 use cast_node::{Entry, EntryKind, Origin};
-use std::alloc::AllocError;
+use std::alloc::{AllocError, Global};
 use std::test::*;
 
 // The reply of row `desk-of-one`.
@@ -93,17 +93,16 @@ fn nothing_is_left(rt: HostRuntime) -> Result<(), Fail> {
     Ok(())
 }
 
-#[test]
-fn feed_of_one_order(rt: HostRuntime) -> Result<(), Fail> {
+// The log of a node whose client 0 closed the stream.
+fn log_of_one_order(alloc: Global) -> Result<Vec<Entry>, AllocError> {
     let node = NodeId(0);
-    let mut deliveries = List::new(rt.alloc());
+    let mut deliveries = List::new(alloc);
     deliveries.push(Message {
         sender: node,
         number: 0,
         item: Item::Close,
     })?;
-    let decisions = List::new(rt.alloc());
-    let mut log = Vec::new(rt.alloc());
+    let mut log = Vec::new(alloc);
     log.push(Entry {
         stamp: 1,
         kind: EntryKind::Step {
@@ -117,10 +116,16 @@ fn feed_of_one_order(rt: HostRuntime) -> Result<(), Fail> {
             }),
             outcome: Outcome {
                 deliveries,
-                decisions,
+                decisions: List::new(alloc),
             },
         },
     })?;
+    Ok(log)
+}
+
+#[test]
+fn feed_of_one_order(rt: HostRuntime) -> Result<(), Fail> {
+    let log = log_of_one_order(rt.alloc())?;
     let own = feed(rt.alloc(), &log, 0)?;
     let [
         Notice::Reply { ticket, outcome },

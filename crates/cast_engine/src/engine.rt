@@ -111,17 +111,12 @@ impl Engine {
         let journal = Journal::new(alloc, config, me, crash)?;
         let places = first_places(alloc, clients_of(&ends.desk))?;
         let resend = Resend::new(alloc, config)?;
-        let EngineEnds {
-            outbox,
-            inbox,
-            desk,
-        } = ends;
         Ok(Engine {
             journal,
-            outbox,
-            inbox,
+            outbox: ends.outbox,
+            inbox: ends.inbox,
             held: None,
-            desk,
+            desk: ends.desk,
             places,
             resend,
             turns,

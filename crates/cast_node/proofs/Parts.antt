@@ -47,27 +47,16 @@ module _ {X Y : Type 0} where
   same_rows f (y ∷ xs) (suc i) r x l e g = ap (λ ys. f y ∷ ys) (same_rows f xs i r x (omega (arith, l)) e g)
 
 module _ {X : Type 0} where
-  set_again : (xs : List X) (i : ℕ) (x y : X) → slice_set (slice_set xs i x) i y ≡ slice_set xs i y
-  set_again [] i x y = refl
-  set_again (z ∷ xs) zero x y = refl
-  set_again (z ∷ xs) (suc i) x y = ap (λ ys. z ∷ ys) (set_again xs i x y)
-
-  at_set : (xs : List X) (i : ℕ) (x d : X) → i < length xs → slice_index_or (slice_set xs i x) i d ≡ x
-  at_set [] i x d l = absurd (omega (arith, l))
-  at_set (z ∷ xs) zero x d l = refl
-  at_set (z ∷ xs) (suc i) x d l = at_set xs i x d (omega (arith, l))
-
   pub set_back : (xs : List X) (i : ℕ) (v d : X) → v ≡ slice_index_or xs i d → slice_set xs i v ≡ xs
   set_back [] i v d e = refl
   set_back (x ∷ xs) zero v d e = ap (λ y. y ∷ xs) e
   set_back (x ∷ xs) (suc i) v d e = ap (λ ys. x ∷ ys) (set_back xs i v d e)
 
 -- a row is replaced by one that shows the same, and then changed
-pub changed_rows : {X Y : Type 0} (f : X → Y) (g : Y → Y) (xs : List X) (place s : ℕ) (r x q y : X) (d : Y) → place ≡ s → place < length xs → r ≡ slice_index_or xs place r → f x ≡ f r → q ≡ slice_index_or (slice_set xs place x) place q → f y ≡ g (f q) → map f (slice_set (slice_set xs place x) place y) ≡ slice_set (map f xs) s (g (slice_index_or (map f xs) s d))
-changed_rows f g xs place s r x q y d at l e same e2 change =
-    ap (map f) (set_again xs place x y)
-    ∙ rows-set f xs place y
-    ∙ ap (slice_set (map f xs) place) (change ∙ ap g (ap f (e2 ∙ at_set xs place x q l) ∙ same ∙ ap f e ∙ sym (rows-at f xs place r d l)))
+pub changed_rows : {X Y : Type 0} (f : X → Y) (g : Y → Y) (xs : List X) (place s : ℕ) (r x y : X) (d : Y) → place ≡ s → place < length xs → r ≡ slice_index_or xs place r → f x ≡ f r → f y ≡ g (f x) → map f (slice_set xs place y) ≡ slice_set (map f xs) s (g (slice_index_or (map f xs) s d))
+changed_rows f g xs place s r x y d at l e same change =
+    rows-set f xs place y
+    ∙ ap (slice_set (map f xs) place) (change ∙ ap g (same ∙ ap f e ∙ sym (rows-at f xs place r d l)))
     ∙ ap (λ k. slice_set (map f xs) k (g (slice_index_or (map f xs) k d))) at
 
 rows-append : {X Y : Type 0} (f : X → Y) (xs : List X) (x : X) → map f (xs ++ x ∷ []) ≡ map f xs ++ f x ∷ []

@@ -1,12 +1,12 @@
 -- What is owed through the places of messages, and how it goes along with what is done to the places.
-use Rattle.std.specs.Prelude.{◌≡◌, ℕ, zero, suc, ◌+◌, ◌-◌, ◌<◌, ◌≤◌, Bool, true, false, cond, ◌&&◌, T, if◌then◌else◌, List, [], ◌∷◌, ◌++◌, map, take, length, replicate, slice_set, Option, Some, None, option_map, is_some, refl}
+use Rattle.std.specs.Prelude.{◌≡◌, ℕ, zero, suc, ◌+◌, ◌-◌, ◌<◌, ◌≤◌, Bool, true, false, cond, ◌&&◌, T, if◌then◌else◌, List, [], ◌∷◌, ◌++◌, map, take, length, replicate, slice_set, slice_index_or, Option, Some, None, option_map, is_some, refl}
 use Rattle.std.specs.Ordering.{nat_cmp, eq_by_cmp, is_lt}
 use Rattle.std.specs.Cmp.{nat_cmp_total}
 use Rattle.std.specs.FinMap as finite
 use Rattle.std.specs.FinMap.{find, is_sorted, entries_sorted, get-entries, len-entries, get-from_sorted, entries-from_sorted, get-empty, get-insert, get-remove, same_map, nat_cmp-IsAntisymmetric}
 use Rattle.std.specs.FinMap.Entries.{below_all}
 use Rattle.std.proofs.Common.{sym, ap, ◌∙◌, subst, arith, length-append}
-use Rattle.std.proofs.lemmas.List.{length-map}
+use Rattle.std.proofs.lemmas.List.{get_or_default, length-map}
 use Rattle.cast_message.specs.declared.message.Message.{Message}
 use Rattle.cast_link.specs.Links.{Link, with_given, with_acknowledged, IsLeastFrom}
 use Rattle.cast_relay.specs.Held.{Held, relays_to}
@@ -156,6 +156,12 @@ pub link_at : (messages : List Message) (links : List (Link ℕ)) (q : ℕ) → 
 link_at messages [] q = sym (λ i. record { given = 0; owed = through_empty messages i })
 link_at messages (link ∷ links) zero = refl
 link_at messages (link ∷ links) (suc q) = link_at messages links q
+
+-- the link that is found at a peer's place
+pub link_here : (out now : Outbound) (place to : ℕ) (found none : Link ℕ) → out ≡ now → place ≡ to → to < length (links_of now) → found ≡ slice_index_or out.links place none → found ≡ link_in out.links to
+link_here out now place to found none is at l e =
+    let within : place < length out.links = omega (arith, at, l, ap (λ o. length (links_of o)) is, length-map out.links (link_through out.messages)) in
+    e ∙ get_or_default out.links place _ _ within ∙ ap (link_in out.links) at
 
 set_through : (messages : List Message) (links : List (Link ℕ)) (q : ℕ) (link : Link ℕ) → map (link_through messages) (slice_set links q link) ≡ slice_set (map (link_through messages) links) q (link_through messages link)
 set_through messages [] q link = refl

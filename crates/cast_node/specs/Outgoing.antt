@@ -10,7 +10,7 @@
 --     taken_back relay source sender out       and taken back
 --     OwesBelow n links          each slot that is owed keeps a place below n
 --     IsLastGiven relay source sender out      the last message has no slots but those that taking it back frees
-use Rattle.std.specs.Prelude.{ℕ, ◌+◌, ◌-◌, ◌<◌, List, [], ◌∷◌, ◌++◌, length, map, take, replicate, slice_index_or, refl}
+use Rattle.std.specs.Prelude.{ℕ, ◌-◌, ◌<◌, List, [], ◌∷◌, ◌++◌, length, map, take, replicate, slice_index_or, refl}
 use Rattle.std.specs.Ordering.{nat_cmp}
 use Rattle.std.specs.FinMap as finite
 use Rattle.std.specs.Coded.{Coded, code_by, coded×, coded_ℕ, coded_list}

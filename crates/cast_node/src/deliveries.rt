@@ -128,34 +128,17 @@ impl Deliveries {
         ensures err { OnErr result (self.new ≡ self.old) }
     {
         let place = usize::from(sender.0);
-        make_place(&mut self.knowers[place], number)?;
-        let nothing = brings_nothing(
-            self.mode,
-            self.faults,
-            &self.hold_back,
-            sender,
-            number,
-            &members,
-        );
+        let nothing = self.brings_nothing(sender, number, &members);
+        let row = &mut self.knowers[place];
+        make_place(row, number)?;
         if nothing {
-            note(&mut self.knowers[place], number, members);
+            note(row, number, members);
             return Ok(no_news(self.alloc));
         }
-        let ready = prepare(
-            &self.hold_back,
-            &mut self.delivered[place],
-            &mut self.agree,
-            sender,
-            number,
-        )?;
-        note(&mut self.knowers[place], number, members);
-        Ok(release(
-            &mut self.hold_back,
-            &mut self.delivered[place],
-            sender,
-            number,
-            ready,
-        ))
+        let items = &mut self.delivered[place];
+        let ready = prepare(&self.hold_back, items, &mut self.agree, sender, number)?;
+        note(row, number, members);
+        Ok(release(&mut self.hold_back, items, sender, number, ready))
     }
 
     /// The same, as a peer's slot brings it, which is taken.
@@ -176,39 +159,22 @@ impl Deliveries {
         ensures as_before { OnErr result (link.new ≡ link.old) }
     {
         let place = usize::from(sender.0);
-        make_place(&mut self.knowers[place], number)?;
-        let nothing = brings_nothing(
-            self.mode,
-            self.faults,
-            &self.hold_back,
-            sender,
-            number,
-            &members,
-        );
+        let nothing = self.brings_nothing(sender, number, &members);
+        let row = &mut self.knowers[place];
+        make_place(row, number)?;
         if nothing {
             link.take(slot)?;
-            note(&mut self.knowers[place], number, members);
+            note(row, number, members);
             return Ok(no_news(self.alloc));
         }
-        let ready = prepare(
-            &self.hold_back,
-            &mut self.delivered[place],
-            &mut self.agree,
-            sender,
-            number,
-        )?;
+        let items = &mut self.delivered[place];
+        let ready = prepare(&self.hold_back, items, &mut self.agree, sender, number)?;
         if let Err(refused) = link.take(slot) {
             self.agree.take_back(ready.counting);
             return Err(refused);
         }
-        note(&mut self.knowers[place], number, members);
-        Ok(release(
-            &mut self.hold_back,
-            &mut self.delivered[place],
-            sender,
-            number,
-            ready,
-        ))
+        note(row, number, members);
+        Ok(release(&mut self.hold_back, items, sender, number, ready))
     }
 
     /// Keeps a message back, and these nodes are known to hold it.
@@ -255,6 +221,17 @@ impl Deliveries {
         told
     }
 
+    // Whether nothing has its turn by a pair that these nodes hold: they are not enough, or it had its turn before.
+    fn brings_nothing(&self, sender: NodeId, number: u64, members: &NodeSet) -> bool
+        requires { sender < length self.now.hold_back }
+        ensures nothing { IsTrue result → BringsNothing self.now.mode self.now.faults
+            (held_of self.now.hold_back sender) number members.now }
+        ensures enough { IsFalse result
+            → is_enough_in self.now.mode self.now.faults members.now ≡ true }
+    {
+        !is_enough(self.mode, self.faults, members) || self.hold_back.had_turn(sender, number)
+    }
+
     // Keeps a message back, and says whether its pair came before.
     fn hold(&mut self, message: Message) -> Result<bool, AllocError>
         requires sender { message.sender < length self.old.hold_back }
@@ -286,23 +263,6 @@ fn is_enough(mode: Mode, faults: u64, members: &NodeSet) -> bool
         Mode::Basic => true,
         Mode::Uniform => members.len() > faults,
     }
-}
-
-// Whether nothing has its turn by a pair that these nodes hold: they are not enough, or it had its turn before.
-fn brings_nothing(
-    mode: Mode,
-    faults: u64,
-    hold_back: &HoldBack,
-    sender: NodeId,
-    number: u64,
-    members: &NodeSet,
-) -> bool
-    requires { sender < length hold_back.now }
-    ensures nothing { IsTrue result →
-        BringsNothing mode faults (held_of hold_back.now sender) number members.now }
-    ensures enough { IsFalse result → is_enough_in mode faults members.now ≡ true }
-{
-    !is_enough(mode, faults, members) || hold_back.had_turn(sender, number)
 }
 
 /// Nothing is delivered or decided.

@@ -102,20 +102,11 @@ pub fn take_up_carried(
     ensures same_deliveries { OnErr result (deliveries.new ≡ deliveries.old) }
     ensures as_before { OnErr result (link.new ≡ link.old) }
 {
-    let Fresh {
-        message,
-        source,
-        members,
-    } = fresh;
-    let sender = message.sender;
-    let number = message.number;
-    relay.arrive(&message, source)?;
-    let again = Fresh {
-        message,
-        source,
-        members,
-    };
-    let told = spread_carried(relay, outgoing, deliveries, link, slot, again);
+    let brought = &fresh;
+    let sender = brought.message.sender;
+    let number = brought.message.number;
+    relay.arrive(&brought.message, brought.source)?;
+    let told = spread_carried(relay, outgoing, deliveries, link, slot, fresh);
     if told.is_err() {
         relay.forget(sender, number);
     }

@@ -7,6 +7,10 @@ use Rattle.cast_run.specs.declared.fault.StartFault.{StartFault}
 use Rattle.cast_run.specs.declared.fault.StartFault.TheVariants.{Memory, Threads}
 use Rattle.cast_run.specs.Faults.{Fits, IsFaultOf, fault_by}
 
+-- what fits by a slice and a length
+pub still_fits : {J : Type 0} (nodes : ℕ) (faults : List Fault) (slice jobs : List (ℕ × J)) (many gates : ℕ) → slice ≡ jobs → many ≡ gates → Fits nodes slice many faults → Fits nodes jobs gates faults
+still_fits nodes faults slice jobs many gates e m fits = subst (λ n. Fits nodes jobs n faults) m (subst (λ l. Fits nodes l many faults) e fits)
+
 module _ {J : Type 0} (nodes : ℕ) (jobs : List (ℕ × J)) (gates : ℕ) (faults : List Fault) (fits : Fits nodes jobs gates faults) where
   by_start : (start : StartFault) → IsFaultOf nodes jobs gates faults (fault_by start)
   by_start Memory = fits

@@ -1,6 +1,6 @@
 //! The lists that a run gives back, whose room is made before the threads start: once they have ended, nothing wants memory.
 ghost use Rattle.std.specs.Prelude.{◌≡◌, IfOk};
-ghost use Rattle.cast_run.specs.Rooms.{IsRoomFor};
+ghost use Rattle.cast_run.specs.Rooms.{HasEndRoom, HasRoom};
 
 use crate::ending::EndRoom;
 use crate::reports::{ClientReport, Draft};
@@ -19,9 +19,7 @@ pub struct Room<J> {
 impl EndRoom {
     /// Room for the reports of so many nodes.
     fn new(alloc: Global, nodes: usize) -> Result<EndRoom, AllocError>
-        ensures takers { IfOk result (λ r. IsRoomFor nodes r.takers) }
-        ensures reports { IfOk result (λ r. IsRoomFor nodes r.reports) }
-        ensures desks { IfOk result (λ r. IsRoomFor nodes r.desks) }
+        ensures { IfOk result (HasEndRoom nodes) }
     {
         let takers = Vec::with_capacity(alloc, nodes)?;
         let reports = Vec::with_capacity(alloc, nodes)?;
@@ -42,13 +40,7 @@ impl EndRoom {
 impl<J: Drop> Room<J> {
     /// Room for the reports of so many nodes and clients.
     pub fn new(alloc: Global, nodes: usize, clients: usize) -> Result<Room<J>, AllocError>
-        ensures takers { IfOk result (λ r. IsRoomFor nodes r.ends.takers) }
-        ensures reports { IfOk result (λ r. IsRoomFor nodes r.ends.reports) }
-        ensures desks { IfOk result (λ r. IsRoomFor nodes r.ends.desks) }
-        ensures left { IfOk result (λ r. IsRoomFor nodes r.left) }
-        ensures jobs { IfOk result (λ r. IsRoomFor clients r.jobs) }
-        ensures drafts { IfOk result (λ r. IsRoomFor clients r.drafts) }
-        ensures clients { IfOk result (λ r. IsRoomFor clients r.clients) }
+        ensures { IfOk result (HasRoom nodes clients) }
     {
         let ends = EndRoom::new(alloc, nodes)?;
         let jobs = Vec::with_capacity(alloc, clients)?;

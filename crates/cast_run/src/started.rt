@@ -129,13 +129,8 @@ pub fn run_threads<
         threads.abandon(&rt);
         return Err(fault);
     }
-    let Running {
-        engines,
-        carriers,
-        jobs,
-    } = threads;
-    let engines = join_engines(&rt, engines, engines_back);
-    let carriers = join_carriers(&rt, carriers, carriers_back);
-    let jobs = join_jobs(&rt, jobs, jobs_back);
+    let engines = join_engines(&rt, threads.engines, engines_back);
+    let carriers = join_carriers(&rt, threads.carriers, carriers_back);
+    let jobs = join_jobs(&rt, threads.jobs, jobs_back);
     Ok(((engines, carriers), jobs))
 }
