@@ -16,6 +16,3 @@ pub use mode::mode_name;
 pub use numbers::number;
 pub use unhex::bytes_of;
 pub use writing::{WriteFault, write_bytes, write_hex, write_number};
-
-#[cfg(test)]
-mod tests;
