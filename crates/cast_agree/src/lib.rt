@@ -12,8 +12,6 @@ ghost use Rattle.cast_agree.specs.Proposals.{DecidesLeast};
 
 mod counting;
 mod tally;
-#[cfg(test)]
-mod tests;
 
 use cast_message::{Decision, Item, Message, NodeId};
 pub use counting::{Before, Counting};

@@ -8,8 +8,6 @@ ghost use Rattle.cast_fifo.specs.Held.{nothing_held, held_of, came, without_item
 ghost use Rattle.cast_fifo.specs.Calls.{Hold, Known, Offer, held_after, answer, GivesInOrder};
 
 mod queue;
-#[cfg(test)]
-mod tests;
 
 use cast_message::{Item, Message, NodeId};
 use queue::Queue;

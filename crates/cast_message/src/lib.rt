@@ -12,6 +12,3 @@ pub use event::{Answer, Event, Outcome, Reply, StepFault};
 pub use list::List;
 pub use message::{Decision, Frame, FrameBody, Item, Message, NodeId};
 pub use payload::Payload;
-
-#[cfg(test)]
-mod tests;

@@ -3,3 +3,4 @@ pub mod DigitLemmas
 pub mod HexLemmas
 pub mod UnhexLemmas
 pub mod NumberLemmas
+pub mod ShownLemmas

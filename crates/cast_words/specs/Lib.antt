@@ -3,3 +3,4 @@ pub mod Unhex
 pub mod Numbers
 pub mod Modes
 pub mod Written
+pub mod Shown

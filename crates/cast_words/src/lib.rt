@@ -1,5 +1,5 @@
 //! The words that records, scripts and pictures share: numbers as decimal digits, bytes as two digits each, and the mode;
-//! written, without memory, to a writer that may fail, and read back.
+//! written, without memory, to a writer that may fail, and read back. And bytes as they are shown where a fault is explained.
 #![tactic(auto)]
 
 mod digits;
@@ -7,6 +7,7 @@ mod hex;
 mod meter;
 mod mode;
 mod numbers;
+mod shown;
 mod unhex;
 mod writing;
 
@@ -14,8 +15,6 @@ pub use hex::hex_digit;
 pub use meter::{Failed, Meter};
 pub use mode::mode_name;
 pub use numbers::number;
+pub use shown::escaped;
 pub use unhex::bytes_of;
 pub use writing::{WriteFault, write_bytes, write_hex, write_number};
-
-#[cfg(test)]
-mod tests;

@@ -1,22 +1,11 @@
-//! How bytes of an input are shown: the first 200 of them, and what is no printing ASCII by its number.
-ghost use Rattle.std.specs.Prelude.{◌≡◌, ◌++◌, IfOk, OnOk, string_bytes, take};
-ghost use Rattle.castgroup.specs.Shown.{shown, shown_byte, by_number, is_printing};
+//! What is shown of the bytes of an input: the first 200 of them.
+ghost use Rattle.std.specs.Prelude.{◌≡◌, take};
 
+use cast_words::escaped;
 use std::alloc::{AllocError, Global};
 
 /// The most bytes that are shown.
 const SHOWN: usize = 200;
-
-/// All bytes as they are shown.
-pub fn escaped(alloc: Global, bytes: &[u8]) -> Result<String, AllocError>
-    ensures { IfOk result (λ text. string_bytes text ≡ shown bytes.now) }
-{
-    let mut text = String::new(alloc);
-    for byte in bytes {
-        put_byte(&mut text, *byte)?;
-    }
-    Ok(text)
-}
 
 /// The first bytes, and how many there are where some were cut off.
 pub fn cut(alloc: Global, bytes: &[u8]) -> Result<String, AllocError> {
@@ -43,28 +32,4 @@ fn with_count(alloc: Global, text: String, count: usize) -> Result<String, Alloc
     } else {
         Ok(text)
     }
-}
-
-fn put_byte(text: &mut String, byte: u8) -> Result<(), AllocError>
-    ensures { OnOk result (string_bytes text.new ≡ string_bytes text.old ++ shown_byte byte) }
-{
-    if is_printing(byte) {
-        text.push(char::from(byte))
-    } else {
-        put_number(text, byte)
-    }
-}
-
-// From the blank to the tilde.
-fn is_printing(byte: u8) -> bool
-    ensures { result ≡ is_printing byte }
-{
-    (byte >= b' ') & (byte <= b'~')
-}
-
-#[tactic(auto, using(std::proofs::lemmas::Fmt::hex_byte))]
-fn put_number(text: &mut String, byte: u8) -> Result<(), AllocError>
-    ensures { OnOk result (string_bytes text.new ≡ string_bytes text.old ++ by_number byte) }
-{
-    write!(text, "\\x{byte:02x}")
 }

@@ -1,6 +1,6 @@
 //! What is wrong with a stream: its name, and the system's own words.
-use crate::explain::excerpt::escaped;
 use crate::source::{Failure, StreamName};
+use cast_words::escaped;
 use std::alloc::{AllocError, Global};
 
 /// The name of a stream, as it is shown.

@@ -2,8 +2,9 @@
 ghost use Rattle.std.specs.Prelude.{◌≡◌, ◌+◌, ◌<◌, ◌^◌, length};
 ghost use Rattle.cast_message.specs.declared.message.Item.TheVariants.{Close};
 
-use super::*;
-use cast_message::Item;
+use cast_fifo::HoldBack;
+use cast_message::{Item, Message, NodeId};
+use std::alloc::AllocError;
 use std::test::Fail;
 
 // Offers a message, and counts those whose turn has come.
@@ -47,28 +48,28 @@ fn offer_backwards(held: &mut HoldBack, most: u64) -> Result<bool, AllocError>
 #[test]
 fn gives_messages_in_order_once(rt: HostRuntime) -> Result<(), Fail> {
     let mut held = HoldBack::new(rt.alloc(), 2)?;
-    assert_eq!(rt; offer(&mut held, 0, 1, Item::Close)?, 0);
+    assert!(rt; offer(&mut held, 0, 1, Item::Close)? == 0);
     assert!(rt; !held.closed(NodeId(0)));
     let propose = Item::Propose {
         instance: 7,
         value: 4,
     };
-    assert_eq!(rt; offer(&mut held, 0, 0, propose)?, 2);
+    assert!(rt; offer(&mut held, 0, 0, propose)? == 2);
     assert!(rt; held.closed(NodeId(0)));
     assert!(rt; !held.closed(NodeId(1)));
-    assert_eq!(rt; offer(&mut held, 0, 0, Item::Close)?, 0);
-    assert_eq!(rt; held.next(NodeId(0)), 2);
-    assert_eq!(rt; held.next(NodeId(1)), 0);
+    assert!(rt; offer(&mut held, 0, 0, Item::Close)? == 0);
+    assert!(rt; held.next(NodeId(0)) == 2);
+    assert!(rt; held.next(NodeId(1)) == 0);
     Ok(())
 }
 
 #[test]
 fn reaches_past_the_ring(rt: HostRuntime) -> Result<(), Fail> {
     let mut held = HoldBack::new(rt.alloc(), 1)?;
-    assert_eq!(rt; offer(&mut held, 0, 5000, Item::Close)?, 0);
+    assert!(rt; offer(&mut held, 0, 5000, Item::Close)? == 0);
     assert!(rt; offer_below(&mut held, 4999)?);
-    assert_eq!(rt; offer(&mut held, 0, 4999, Item::Close)?, 2);
-    assert_eq!(rt; held.next(NodeId(0)), 5001);
+    assert!(rt; offer(&mut held, 0, 4999, Item::Close)? == 2);
+    assert!(rt; held.next(NodeId(0)) == 5001);
     Ok(())
 }
 
@@ -76,8 +77,8 @@ fn reaches_past_the_ring(rt: HostRuntime) -> Result<(), Fail> {
 fn gives_a_run_longer_than_the_ring(rt: HostRuntime) -> Result<(), Fail> {
     let mut held = HoldBack::new(rt.alloc(), 1)?;
     assert!(rt; offer_backwards(&mut held, 6000)?);
-    assert_eq!(rt; offer(&mut held, 0, 0, Item::Close)?, 6000);
-    assert_eq!(rt; held.next(NodeId(0)), 6000);
+    assert!(rt; offer(&mut held, 0, 0, Item::Close)? == 6000);
+    assert!(rt; held.next(NodeId(0)) == 6000);
     Ok(())
 }
 
@@ -89,12 +90,12 @@ fn releases_what_it_showed_as_ready(rt: HostRuntime) -> Result<(), Fail> {
     held.take_back(NodeId(0), 0);
     assert!(rt; !held.came(NodeId(0), 0));
     held.hold(closing())?;
-    assert_eq!(rt; held.ready(NodeId(0), 0)?.len(), 1);
-    assert_eq!(rt; held.next(NodeId(0)), 0);
+    assert!(rt; held.ready(NodeId(0), 0)?.len() == 1);
+    assert!(rt; held.next(NodeId(0)) == 0);
     let mut items = Vec::with_capacity(rt.alloc(), 1)?;
     held.release(NodeId(0), 0, &mut items);
-    assert_eq!(rt; items.len(), 1);
-    assert_eq!(rt; held.next(NodeId(0)), 1);
+    assert!(rt; items.len() == 1);
+    assert!(rt; held.next(NodeId(0)) == 1);
     assert!(rt; held.closed(NodeId(0)));
     Ok(())
 }
@@ -113,7 +114,7 @@ fn closing() -> Message
 fn knows_what_had_its_turn(rt: HostRuntime) -> Result<(), Fail> {
     let mut held = HoldBack::new(rt.alloc(), 1)?;
     assert!(rt; !held.had_turn(NodeId(0), 0));
-    assert_eq!(rt; offer(&mut held, 0, 0, Item::Close)?, 1);
+    assert!(rt; offer(&mut held, 0, 0, Item::Close)? == 1);
     assert!(rt; held.had_turn(NodeId(0), 0));
     assert!(rt; !held.had_turn(NodeId(0), 1));
     Ok(())

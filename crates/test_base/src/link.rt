@@ -1,7 +1,7 @@
 //! The two ends of a link by hand: rows of the worked examples, and the edges of both windows.
 ghost use Rattle.std.specs.Prelude.{◌≡◌, ◌+◌, ◌<◌, ◌^◌, OnOk};
 
-use super::*;
+use cast_link::{LinkFault, LinkIn, LinkOut};
 use cast_message::{Item, Message, NodeId};
 use std::alloc::AllocError;
 use std::test::Fail;
@@ -19,33 +19,33 @@ fn message(number: u64) -> Message {
 #[test]
 fn owes_until_acknowledged(rt: HostRuntime) -> Result<(), Fail> {
     let mut link = LinkOut::new(rt.alloc());
-    assert_eq!(rt; link.give(message(0))?, 0);
-    assert_eq!(rt; link.carry(0), Ok(message(0)));
-    assert_eq!(rt; link.carry(1), Err(LinkFault::NoSlot));
+    assert!(rt; link.give(message(0))? == 0);
+    assert!(rt; link.carry(0) == Ok(message(0)));
+    assert!(rt; link.carry(1) == Err(LinkFault::NoSlot));
     assert!(rt; link.acked(0));
     assert!(rt; !link.acked(0));
-    assert_eq!(rt; link.carry(0), Err(LinkFault::Acked));
-    assert_eq!(rt; link.owed(), 0);
+    assert!(rt; link.carry(0) == Err(LinkFault::Acked));
+    assert!(rt; link.owed() == 0);
     Ok(())
 }
 
 #[test]
 fn drops_what_lies_below_the_least_slot_owed(rt: HostRuntime) -> Result<(), Fail> {
     let mut link = LinkOut::new(rt.alloc());
-    assert_eq!(rt; link.give(message(0))?, 0);
-    assert_eq!(rt; link.give(message(1))?, 1);
-    assert_eq!(rt; link.give(message(2))?, 2);
+    assert!(rt; link.give(message(0))? == 0);
+    assert!(rt; link.give(message(1))? == 1);
+    assert!(rt; link.give(message(2))? == 2);
     assert!(rt; link.acked(1));
-    assert_eq!(rt; link.least_owed(0), Some(0));
-    assert_eq!(rt; link.least_owed(1), Some(2));
+    assert!(rt; link.least_owed(0) == Some(0));
+    assert!(rt; link.least_owed(1) == Some(2));
     assert!(rt; link.acked(0));
-    assert_eq!(rt; link.least_owed(0), Some(2));
-    assert_eq!(rt; link.least_owed(3), None);
-    assert_eq!(rt; link.carry(1), Err(LinkFault::Acked));
-    assert_eq!(rt; link.pair(2), Some((NodeId(1), 2)));
-    assert_eq!(rt; link.pair(1), None);
-    assert_eq!(rt; link.owed(), 1);
-    assert_eq!(rt; link.given(), 3);
+    assert!(rt; link.least_owed(0) == Some(2));
+    assert!(rt; link.least_owed(3) == None);
+    assert!(rt; link.carry(1) == Err(LinkFault::Acked));
+    assert!(rt; link.pair(2) == Some((NodeId(1), 2)));
+    assert!(rt; link.pair(1) == None);
+    assert!(rt; link.owed() == 1);
+    assert!(rt; link.given() == 3);
     Ok(())
 }
 
@@ -62,12 +62,12 @@ fn give_and_take_back(link: &mut LinkOut<Message>, number: u64) -> Result<u64, A
 #[test]
 fn gives_a_slot_again_after_taking_it_back(rt: HostRuntime) -> Result<(), Fail> {
     let mut link = LinkOut::new(rt.alloc());
-    assert_eq!(rt; link.give(message(0))?, 0);
-    assert_eq!(rt; give_and_take_back(&mut link, 1)?, 1);
-    assert_eq!(rt; link.given(), 1);
-    assert_eq!(rt; link.owed(), 1);
-    assert_eq!(rt; link.give(message(2))?, 1);
-    assert_eq!(rt; link.carry(1), Ok(message(2)));
+    assert!(rt; link.give(message(0))? == 0);
+    assert!(rt; give_and_take_back(&mut link, 1)? == 1);
+    assert!(rt; link.given() == 1);
+    assert!(rt; link.owed() == 1);
+    assert!(rt; link.give(message(2))? == 1);
+    assert!(rt; link.carry(1) == Ok(message(2)));
     Ok(())
 }
 

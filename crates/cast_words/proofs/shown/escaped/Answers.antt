@@ -1,7 +1,7 @@
 use Rattle.std.proofs.Common.{get_or, refl, string_bytes}
-use Rattle.castgroup.specs.Shown.{shown_byte}
-use Rattle.castgroup.proofs.ShownLemmas.{flat_map-more}
-use Rattle.castgroup.proofs.explain.excerpt.escaped.Goals as goal
+use Rattle.cast_words.specs.Shown.{shown_byte}
+use Rattle.cast_words.proofs.ShownLemmas.{flat_map-more}
+use Rattle.cast_words.proofs.shown.escaped.Goals as goal
 
 pub loop-byte-preserved : goal.loop-byte-preserved
 loop-byte-preserved c =

@@ -1,6 +1,8 @@
 //! The words that are written, read back; a reader that fails.
-use crate::{Failed, Meter, bytes_of, mode_name, number, write_bytes, write_hex, write_number};
 use cast_message::Mode;
+use cast_words::{
+    Failed, Meter, bytes_of, mode_name, number, write_bytes, write_hex, write_number,
+};
 use std::io::{self, Error, ErrorKind, Read};
 use std::test::Fail;
 
@@ -12,31 +14,29 @@ fn writes_words(rt: HostRuntime) -> Result<(), Fail> {
     write_number(u64::MAX, &mut writer)?;
     write_bytes(b" ", &mut writer)?;
     write_hex(&[0, 159, 255], &mut writer)?;
-    assert_eq!(rt;
-        writer.into_inner().as_slice(),
-        b"uniform 18446744073709551615 009fff".as_slice()
+    assert!(rt;
+        writer.into_inner().as_slice() == b"uniform 18446744073709551615 009fff".as_slice()
     );
     Ok(())
 }
 
+/// Words that are no number.
+const NO_NUMBERS: &[&[u8]] = &[b"", b"00", b"01", b"18446744073709551616", b"1a", b"-1"];
+
+/// Words that are no bytes.
+const NO_BYTES: &[&[u8]] = &[b"0", b"9F", b"0g", b"009"];
+
 #[test]
 fn reads_words(rt: HostRuntime) -> Result<(), Fail> {
-    assert_eq!(rt; number(b"18446744073709551615"), Some(u64::MAX));
-    for word in [
-        &b""[..],
-        b"00",
-        b"01",
-        b"18446744073709551616",
-        b"1a",
-        b"-1",
-    ] {
-        assert_eq!(rt; number(word), None);
+    assert!(rt; number(b"18446744073709551615") == Some(u64::MAX));
+    for word in NO_NUMBERS {
+        assert!(rt; number(word) == None);
     }
     let Some(bytes) = bytes_of(rt.alloc(), b"009fff")? else {
         return Err(Fail::from(Failed));
     };
-    assert_eq!(rt; bytes.as_slice(), [0, 159, 255].as_slice());
-    for word in [&b"0"[..], b"9F", b"0g", b"009"] {
+    assert!(rt; bytes.as_slice() == [0, 159, 255].as_slice());
+    for word in NO_BYTES {
         assert!(rt; bytes_of(rt.alloc(), word)?.is_none());
     }
     Ok(())
@@ -68,12 +68,12 @@ impl Read for Halting {
 fn a_meter_remembers_a_failed_read(rt: HostRuntime) -> Result<(), Fail> {
     let mut reader = Meter::new(Halting { halts: false });
     let mut bytes = [0; 4];
-    assert_eq!(rt; reader.read(&mut bytes), Ok(1));
-    assert_eq!(rt; bytes, [b'a', 0, 0, 0]);
+    assert!(rt; reader.read(&mut bytes) == Ok(1));
+    assert!(rt; bytes == [b'a', 0, 0, 0]);
     assert!(rt; !reader.failed());
-    assert_eq!(rt; reader.read(&mut bytes), Err(Failed));
+    assert!(rt; reader.read(&mut bytes) == Err(Failed));
     assert!(rt; reader.failed());
-    assert_eq!(rt; reader.read(&mut bytes), Ok(1));
+    assert!(rt; reader.read(&mut bytes) == Ok(1));
     assert!(rt; reader.failed());
     Ok(())
 }
