@@ -1,5 +1,5 @@
-//! Boxes whose ends live in threads of their own, and the worked rows of boxes as tests. `exchange` is how a caller proves what
-//! came of it: what each thread did with its end is the promise of that thread.
+//! Boxes whose ends live in threads of their own, for tests. `exchange` is how a caller proves what came of it: what each thread did
+//! with its end is the promise of that thread.
 #![tactic(auto)]
 
 ghost use Rattle.std.specs.Prelude.{◌≡◌, ◌+◌, ◌*◌, ◌<◌, ◌≤◌, ◌^◌, ◌++◌, ◌∷◌, [], ℕ, List, length, map, Some, slice_get, IfOk, vec_len};
@@ -14,9 +14,6 @@ use std::snapshot::Snapshot;
 use std::sync::Wait;
 use std::thread;
 use std::thread::{Promise, PromisedHandle, Threads};
-
-#[cfg(test)]
-mod tests;
 
 /// The promise of a putter's thread: the same putter comes back, and has put its numbers.
 #[derive(Drop)]

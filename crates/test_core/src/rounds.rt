@@ -2,7 +2,7 @@
 use crate::shown::{MOST_NODES, same_shown};
 use crate::stepping::{Worlds, step_once_more};
 use anyhow::{Result, bail};
-use cast_message::{Answer, Config, Mode, NodeId, Reply, StepFault};
+use cast_message::{Answer, Config, Event, Mode, NodeId, Reply, StepFault};
 use cast_record::{Line, lines_of};
 use cast_world::World;
 use std::rt::Runtime;
@@ -24,15 +24,7 @@ impl Worlds {
         if matches!(answered, Err(StepFault::Memory)) {
             bail!("a round was refused for want of memory");
         }
-        let mut expected = Ok(0_u64);
-        for event in plan.as_slice() {
-            let reply = step_once_more(rt, &mut self.stepped, event)?;
-            lines.extend(lines_of(*lines.allocator(), index, event, &reply)?.into_vec())?;
-            expected = made_by(expected, &reply);
-            if expected.is_err() {
-                break;
-            }
-        }
+        let expected = take_plan(rt, &mut self.stepped, index, plan.as_slice(), lines)?;
         if expected != answered {
             bail!("a round: one world comes to {expected:?}, the other to {answered:?}");
         }
@@ -41,6 +33,27 @@ impl Worlds {
         }
         Ok(answered.is_ok())
     }
+}
+
+// Takes the events of a plan up to the first that is refused, and puts their lines. Answers how many frames were made, or why
+// an event was refused.
+fn take_plan(
+    rt: &impl Runtime,
+    world: &mut World,
+    index: u64,
+    plan: &[Event],
+    lines: &mut Vec<Line>,
+) -> Result<std::result::Result<u64, StepFault>> {
+    let mut made = Ok(0_u64);
+    for event in plan {
+        let reply = step_once_more(rt, world, event)?;
+        lines.extend(lines_of(*lines.allocator(), index, event, &reply)?.into_vec())?;
+        made = made_by(made, &reply);
+        if made.is_err() {
+            break;
+        }
+    }
+    Ok(made)
 }
 
 // How many frames were made, with those of one more event; or why it was refused.

@@ -335,7 +335,7 @@ fn waits_for_a_second_holder_in_uniform_mode(rt: HostRuntime) -> Result<(), Fail
 fn leaves_alone_what_no_node_could_have_made(rt: HostRuntime) -> Result<(), Fail> {
     let mut node = node(rt.alloc(), 2, 0, Mode::Basic, 0)?;
     assert!(rt; leaves_alone(&mut node));
-    assert_eq!(rt; bring_close(&mut node, 1, 1, 0, 8191)?, 1);
+    assert!(rt; bring_close(&mut node, 1, 1, 0, 8191)? == 1);
     Ok(())
 }
 

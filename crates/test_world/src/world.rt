@@ -1,10 +1,9 @@
 //! The group as one value, by worked rows: runs, what is owed and due, crashes, and every refusal.
 mod rounds;
 
-use bytes::Bytes;
-use cast_message::{Config, Event, Item, Mode, NodeId, Payload, Reply, StepFault};
+use crate::events::{ack, arrive, crash, data, order, propose, send};
+use cast_message::{Config, Event, Item, Mode, NodeId, Reply, StepFault};
 use cast_world::{DueSlot, World, run_events};
-use std::alloc::{AllocError, Global};
 use std::test::Fail;
 
 fn group(nodes: u64, faults: u64, choices: u64) -> Result<Config, StepFault> {
@@ -12,49 +11,6 @@ fn group(nodes: u64, faults: u64, choices: u64) -> Result<Config, StepFault> {
         Ok(config) => Ok(config),
         Err(_) => Err(StepFault::NoNode),
     }
-}
-
-fn data(alloc: Global, bytes: &[u8]) -> Result<Item, AllocError> {
-    let bytes = Bytes::copy_from_slice(alloc, bytes)?;
-    Ok(Item::Data(Payload::new(bytes)))
-}
-
-fn order(node: u8, item: Item) -> Event {
-    Event::Order {
-        node: NodeId(node),
-        item,
-    }
-}
-
-fn propose(node: u8, instance: u64, value: u64) -> Event {
-    order(node, Item::Propose { instance, value })
-}
-
-fn send(from: u8, to: u8, slot: u64) -> Event {
-    Event::Send {
-        from: NodeId(from),
-        to: NodeId(to),
-        slot,
-    }
-}
-
-fn ack(from: u8, to: u8, slot: u64) -> Event {
-    Event::Ack {
-        from: NodeId(from),
-        to: NodeId(to),
-        slot,
-    }
-}
-
-fn arrive(from: u8, seq: u64) -> Event {
-    Event::Arrive {
-        from: NodeId(from),
-        seq,
-    }
-}
-
-fn crash(node: u8) -> Event {
-    Event::Crash { node: NodeId(node) }
 }
 
 /// Takes events that are all accepted.
@@ -71,7 +27,7 @@ fn answers_first_path(rt: HostRuntime) -> Result<(), Fail> {
     let events = [order(0, data(alloc, b"a")?), send(0, 1, 0), arrive(0, 0)];
     let (world, replies) = run_events(alloc, group(2, 0, 1)?, &events)?;
     let a = data(alloc, b"a")?;
-    assert_eq!(rt; replies.as_slice().len(), 3);
+    assert!(rt; replies.as_slice().len() == 3);
     assert!(rt; replies.as_slice().iter().all(|reply| reply.is_ok()));
     let a = [a];
     assert!(rt; world.stream(NodeId(0)) == Some(&a[..]));
@@ -88,11 +44,11 @@ fn answers_first_path(rt: HostRuntime) -> Result<(), Fail> {
 fn decides_at_the_quorum(rt: HostRuntime) -> Result<(), Fail> {
     let mut world = World::new(rt.alloc(), group(2, 0, 1)?)?;
     take_all(&mut world, &[propose(0, 7, 4), propose(1, 7, 9)])?;
-    assert_eq!(rt; world.decision(NodeId(0), 7), None);
+    assert!(rt; world.decision(NodeId(0), 7) == None);
     take_all(&mut world, &[send(1, 0, 0), arrive(1, 0)])?;
-    assert_eq!(rt; world.decision(NodeId(0), 7), Some(4));
-    assert_eq!(rt; world.decision(NodeId(0), 8), None);
-    assert_eq!(rt; world.decision(NodeId(2), 7), None);
+    assert!(rt; world.decision(NodeId(0), 7) == Some(4));
+    assert!(rt; world.decision(NodeId(0), 8) == None);
+    assert!(rt; world.decision(NodeId(2), 7) == None);
     Ok(())
 }
 
@@ -111,14 +67,14 @@ fn owes_until_acknowledged(rt: HostRuntime) -> Result<(), Fail> {
             ack(1, 0, 1),
         ],
     )?;
-    assert_eq!(rt; world.owed(NodeId(0), NodeId(1)), Some(2));
+    assert!(rt; world.owed(NodeId(0), NodeId(1)) == Some(2));
     for seq in 0..2 {
         world.step(&arrive(1, seq))?;
         assert_eq!(rt; world.owed(NodeId(0), NodeId(1)), Some(1), "after {seq}");
     }
-    assert_eq!(rt; world.owed(NodeId(0), NodeId(0)), None);
-    assert_eq!(rt; world.owed(NodeId(0), NodeId(3)), None);
-    assert_eq!(rt; world.owed(NodeId(3), NodeId(0)), None);
+    assert!(rt; world.owed(NodeId(0), NodeId(0)) == None);
+    assert!(rt; world.owed(NodeId(0), NodeId(3)) == None);
+    assert!(rt; world.owed(NodeId(3), NodeId(0)) == None);
     Ok(())
 }
 
@@ -150,7 +106,7 @@ fn finds_what_is_due(rt: HostRuntime) -> Result<(), Fail> {
     )?;
     let due = world.due()?;
     let two = [due_slot(0, 1, 0), due_slot(0, 1, 1)];
-    assert_eq!(rt; due.as_slice().len(), 2);
+    assert!(rt; due.as_slice().len() == 2);
     assert!(rt;
         due.as_slice()
             .iter()
@@ -230,37 +186,57 @@ fn code_of(reply: Reply) -> u64 {
     }
 }
 
+// Whether the event is answered with this code.
+fn answers(world: &mut World, event: Event, code: u64) -> bool {
+    code_of(world.step(&event)) == code
+}
+
+// What a group of two that took nothing refuses.
+fn refuses_at_first(world: &mut World) -> bool {
+    answers(world, order(2, Item::Close), 1)
+        && answers(world, send(0, 0, 0), 2)
+        && answers(world, send(0, 1, 0), 8)
+        && answers(world, send(0, 1, PAST_MARKS), 8)
+        && answers(world, arrive(0, 0), 11)
+        && answers(world, ack(1, 0, 0), 10)
+        && answers(world, ack(1, 0, PAST_MARKS), 10)
+}
+
+// Node 0 proposes once, and closes once.
+fn orders_once(world: &mut World) -> bool {
+    answers(world, propose(0, 7, 4), 0)
+        && answers(world, propose(0, 7, 5), 6)
+        && answers(world, order(0, Item::Close), 0)
+        && answers(world, order(0, Item::Close), 4)
+}
+
+// The first slot goes to node 1, and is not sent once it was acknowledged.
+fn sends_what_is_owed(world: &mut World) -> bool {
+    answers(world, send(0, 1, 0), 0)
+        && answers(world, arrive(0, 0), 0)
+        && answers(world, ack(1, 0, 0), 0)
+        && answers(world, arrive(1, 0), 0)
+        && answers(world, send(0, 1, 0), 9)
+}
+
+// Node 0 crashes. Its frames still arrive.
+fn stops_where_it_crashed(world: &mut World) -> bool {
+    answers(world, crash(0), 0)
+        && answers(world, order(0, Item::Close), 3)
+        && answers(world, crash(0), 3)
+        && answers(world, arrive(1, 0), 3)
+        && answers(world, arrive(0, 0), 0)
+}
+
 #[test]
 fn refuses_with_the_first_cause(rt: HostRuntime) -> Result<(), Fail> {
-    let alloc = rt.alloc();
-    let mut world = World::new(alloc, group(2, 1, 2)?)?;
-    let rows = [
-        (order(2, Item::Close), 1),
-        (send(0, 0, 0), 2),
-        (send(0, 1, 0), 8),
-        (send(0, 1, PAST_MARKS), 8),
-        (arrive(0, 0), 11),
-        (ack(1, 0, 0), 10),
-        (ack(1, 0, PAST_MARKS), 10),
-        (order(0, data(alloc, &[0; 1_025])?), 5),
-        (propose(0, 7, 4), 0),
-        (propose(0, 7, 5), 6),
-        (order(0, Item::Close), 0),
-        (order(0, Item::Close), 4),
-        (send(0, 1, 0), 0),
-        (arrive(0, 0), 0),
-        (ack(1, 0, 0), 0),
-        (arrive(1, 0), 0),
-        (send(0, 1, 0), 9),
-        (crash(0), 0),
-        (order(0, Item::Close), 3),
-        (crash(0), 3),
-        (arrive(1, 0), 3),
-        (arrive(0, 0), 0),
-    ];
-    for (event, code) in rows.iter() {
-        assert_eq!(rt; code_of(world.step(event)), *code, "{event:?}");
-    }
+    let mut world = World::new(rt.alloc(), group(2, 1, 2)?)?;
+    assert!(rt; refuses_at_first(&mut world));
+    let long = order(0, data(rt.alloc(), &[0; 1_025])?);
+    assert!(rt; answers(&mut world, long, 5));
+    assert!(rt; orders_once(&mut world));
+    assert!(rt; sends_what_is_owed(&mut world));
+    assert!(rt; stops_where_it_crashed(&mut world));
     Ok(())
 }
 
@@ -268,8 +244,8 @@ fn refuses_with_the_first_cause(rt: HostRuntime) -> Result<(), Fail> {
 fn shows_its_nodes(rt: HostRuntime) -> Result<(), Fail> {
     let mut world = World::new(rt.alloc(), group(2, 1, 2)?)?;
     world.step(&crash(1))?;
-    assert_eq!(rt; world.node(NodeId(0)).map(|node| node.live()), Some(true));
-    assert_eq!(rt; world.node(NodeId(1)).map(|node| node.live()), Some(false));
+    assert!(rt; world.node(NodeId(0)).map(|node| node.live()) == Some(true));
+    assert!(rt; world.node(NodeId(1)).map(|node| node.live()) == Some(false));
     assert!(rt; world.node(NodeId(2)).is_none());
     Ok(())
 }

@@ -1,5 +1,6 @@
 //! Rounds and rest, by worked rows: what a plan is, how many frames its round makes, and where the group is at rest.
-use super::{ack, arrive, crash, data, group, order, send, take_all};
+use super::{group, take_all};
+use crate::events::{ack, arrive, crash, data, order, send};
 use cast_message::{Config, Event, Item, Mode, NodeId, StepFault};
 use cast_world::World;
 use std::alloc::Global;
@@ -48,7 +49,7 @@ fn settle_spreads(rt: HostRuntime) -> Result<(), Fail> {
     world.step(&order(0, data(alloc, b"a")?))?;
     assert!(rt; !world.at_rest());
     for (made, rest) in [(4, false), (4, true), (0, true)] {
-        assert_eq!(rt; round(&mut world)?, (made, rest));
+        assert!(rt; round(&mut world)? == (made, rest));
     }
     assert!(rt; delivered_by(&world, &[0, 1, 2], &data(alloc, b"a")?));
     Ok(())
@@ -63,12 +64,12 @@ fn settle_after_crash(rt: HostRuntime) -> Result<(), Fail> {
         &[order(0, data(alloc, b"a")?), send(0, 1, 0), crash(0)],
     )?;
     for _round in 0..2 {
-        assert_eq!(rt; round(&mut world)?, (0, true));
+        assert!(rt; round(&mut world)? == (0, true));
     }
     world.step(&arrive(0, 0))?;
     assert!(rt; !world.at_rest());
     for made in [2, 0] {
-        assert_eq!(rt; round(&mut world)?, (made, true));
+        assert!(rt; round(&mut world)? == (made, true));
     }
     assert!(rt; delivered_by(&world, &[1, 2], &data(alloc, b"a")?));
     Ok(())
@@ -110,7 +111,7 @@ fn uniform_after_crash(rt: HostRuntime) -> Result<(), Fail> {
         ],
     )?;
     assert!(rt; delivered_by(&world, &[1], &data(alloc, b"a")?));
-    assert_eq!(rt; round(&mut world)?, (2, true));
+    assert!(rt; round(&mut world)? == (2, true));
     assert!(rt; delivered_by(&world, &[1, 2], &data(alloc, b"a")?));
     Ok(())
 }
