@@ -340,9 +340,10 @@ fn reads_what_it_wrote(rt: HostRuntime) -> Result<(), Fail> {
 
 /// The same events, read off the tokens, and by the value, where a plan is beside them. The last list of events counts.
 const PLAIN: &str =
-    r#"{"events":[["settle"]],"\u006eodes":3,"events":[["order",0,"data","0aFf"],["order",1,"propose",7,18446744073709551615],["order",2,"close"],["send",255,0,1],["ack",0,1,2],["arrive",1,3],["crash",2],["settle"]],"faults":1,"choices":2,"plan":[],"jobs":[]}"#;
+    r#"{"events":[["settle"]],"\u006eodes":3,"events":[["order",0,"data","0aff"],["order",1,"propose",7,18446744073709551615],["order",2,"close"],["send",255,0,1],["ack",0,1,2],["arrive",1,3],["crash",2],["settle"]],"faults":1,"choices":2,"plan":[],"jobs":[]}"#;
+
 const NOT_SO_PLAIN: &str =
-    r#"{"events":[["settle"]],"\u006eodes":3,"events":[["order",0,"data","0aFf"],["order",1,"propose",7,18446744073709551615],["order",2,"close"],["send",255,0,1],["ack",0,1,2],["arrive",1,3],["crash",2],["settle"]],"faults":1,"choices":2,"plan":[["crash",0,9]],"jobs":[]}"#;
+    r#"{"events":[["settle"]],"\u006eodes":3,"events":[["order",0,"data","0aff"],["order",1,"propose",7,18446744073709551615],["order",2,"close"],["send",255,0,1],["ack",0,1,2],["arrive",1,3],["crash",2],["settle"]],"faults":1,"choices":2,"plan":[["crash",0,9]],"jobs":[]}"#;
 
 #[test]
 fn reads_the_same_events_by_tokens_and_by_value(rt: HostRuntime) -> Result<(), Fail> {
