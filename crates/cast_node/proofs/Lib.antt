@@ -1,11 +1,11 @@
 pub mod Places
 pub mod Links
-pub mod Tellers
-pub mod Known
+pub mod KnownHolders
+pub mod HolderSets
 pub mod Back
 pub mod Counting
-pub mod Telling
-pub mod Hearing
+pub mod StandsBeforeDelivery
+pub mod StandsAfterDelivery
 pub mod Refusals
 pub mod Stepping
 pub mod Continuing
@@ -13,7 +13,7 @@ pub mod Beginning
 pub mod Showing
 pub mod Parts
 pub mod Sound
-pub mod Tells
+pub mod DeliveryTables
 pub mod Gifts
 pub mod Wholes
 pub mod Keeping

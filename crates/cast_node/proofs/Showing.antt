@@ -17,7 +17,7 @@ use Rattle.cast_node.specs.Kept.{Kept, link_to, knowers_of}
 use Rattle.cast_node.specs.Turns.{carry_of, took_of, message_owed}
 use Rattle.cast_model.specs.Shown.{item_of}
 use Rattle.cast_node.specs.Stands.{Stands}
-use Rattle.cast_node.proofs.Known.{known_by-is}
+use Rattle.cast_node.proofs.HolderSets.{known_by-is}
 use Rattle.cast_node.proofs.Counting.{decision_is}
 
 module _ (config : Config) (me : ℕ) (steps : Steps) (kept : Kept) (st : Stands config me steps kept) where

@@ -35,11 +35,11 @@ use Rattle.cast_model.specs.Shown.{item_of}
 use Rattle.cast_node.specs.Stands.{item_at, newest_first, StandsOut, Stands}
 use Rattle.cast_node.proofs.Places.{length-slice_set, at_set, same_number, other_number}
 use Rattle.cast_node.proofs.Links.{out_same, out_acked}
-use Rattle.cast_node.proofs.Tellers.{knows_more, told_by, untold, given_held}
-use Rattle.cast_node.proofs.Known.{knows_same, ready_alike, same_pair, pair_more, pair_none}
+use Rattle.cast_node.proofs.KnownHolders.{knows_more, told_by, untold, given_held}
+use Rattle.cast_node.proofs.HolderSets.{knows_same, ready_alike, same_pair, pair_more, pair_none}
 use Rattle.cast_node.proofs.Back.{back_same}
-use Rattle.cast_node.proofs.Telling.{ToldRight, told_right}
-use Rattle.cast_node.proofs.Hearing.{Base, known_heard, new_heard}
+use Rattle.cast_node.proofs.StandsAfterDelivery.{ToldRight, told_right}
+use Rattle.cast_node.proofs.StandsBeforeDelivery.{Base, base_of, known_heard, new_heard}
 
 none : (b : Bool) → (b || false) ≡ b
 none true = refl
@@ -228,29 +228,11 @@ told_before me steps from slot before s i x e =
 
 took_base : (config : Config) (me : ℕ) (steps : Steps) (kept : Kept) → Stands config me steps kept → (from seq to slot : ℕ) → IsOwnAccepted config me (Arrived (record { from = from; seq = seq; to = to; body = Took slot }) ∷ steps) → length (with_acked kept from slot).outgoing ≡ config.nodes → Base config me (Arrived (record { from = from; seq = seq; to = to; body = Took slot })) steps (with_acked kept from slot)
 unfolding own_items own_live frame_count
-took_base config me steps kept st from seq to slot accepted peers = record {
-  accepted = accepted;
-  before = st.accepted;
-  place = st.place;
-  same_config = st.same_config;
-  same_me = st.same_me;
-  live = st.live;
-  frames = st.frames ∙ (let z : frame_count steps ≡ frame_count steps + 0 = omega arith in z);
-  stream = st.stream ∙ sym (append-nil (own_items steps));
-  relay_me = st.relay_me;
-  relay_size = st.relay_size;
-  relay_holds = λ x k l. st.relay_holds x k l ∙ sym (pair_none me (Arrived (record { from = from; seq = seq; to = to; body = Took slot })) steps refl x k);
-  peers_out = peers;
-  peers_in = st.peers_in;
-  taken = λ r k l. st.taken r k l ∙ sym (own_taken-more me (Arrived (record { from = from; seq = seq; to = to; body = Took slot })) steps r k ∙ ap (λ c. own_taken steps r k || (c || false)) (never (from == r)) ∙ none (own_taken steps r k));
-  senders_back = st.senders_back;
-  holds_back = st.holds_back;
-  senders_known = st.senders_known;
-  knows = st.knows;
-  senders_delivered = st.senders_delivered;
-  delivers = st.delivers;
-  agrees = st.agrees;
-}
+took_base config me steps kept st from seq to slot accepted peers =
+    let step : Step = Arrived (record { from = from; seq = seq; to = to; body = Took slot }) in
+    base_of config me step steps kept st accepted refl (let z : frame_count steps + 0 ≡ frame_count steps = omega arith in z) kept.stream kept.relay (with_acked kept from slot).outgoing kept.incoming (st.stream ∙ sym (append-nil (own_items steps)))
+    st.relay_me st.relay_size (λ x k l. st.relay_holds x k l ∙ sym (pair_none me step steps refl x k))
+    peers st.peers_in (λ r k l. st.taken r k l ∙ sym (own_taken-more me step steps r k ∙ ap (λ c. own_taken steps r k || (c || false)) (never (from == r)) ∙ none (own_taken steps r k)))
 
 module _ (config : Config) (me : ℕ) (steps : Steps) (kept : Kept) (st : Stands config me steps kept) where
   senders_below : (s : ℕ) → s < config.nodes → s < length kept.relay.numbers
@@ -279,32 +261,13 @@ module _ (config : Config) (me : ℕ) (steps : Steps) (kept : Kept) (st : Stands
 
     own_base : Base config me (Ordered item) steps own_kept
     unfolding own_items own_live frame_count
-    own_base = record {
-      accepted = accepted;
-      before = st.accepted;
-      place = st.place;
-      same_config = st.same_config;
-      same_me = st.same_me;
-      live = st.live;
-      frames = st.frames ∙ (let z : frame_count steps ≡ frame_count steps + 0 = omega arith in z);
-      stream = ap (λ items. items ++ item ∷ []) st.stream;
-      relay_me = st.relay_me;
-      relay_size = length-slice_set kept.relay.numbers kept.me _ ∙ st.relay_size;
-      relay_holds = λ x k l.
-          relay_more kept.relay kept.me (length kept.stream) (senders_below kept.me (subst (λ y. y < config.nodes) (sym st.same_me) st.place)) x k
-          ∙ ap (λ c. c || same_pair kept.me (length kept.stream) x k) (st.relay_holds x k l)
-          ∙ sym (pair_more me (Ordered item) steps own own_new x k);
-      peers_out = st.peers_out;
-      peers_in = st.peers_in;
-      taken = λ r slot l. st.taken r slot l ∙ sym (no_take config me steps kept st (Ordered item) refl r slot);
-      senders_back = st.senders_back;
-      holds_back = st.holds_back;
-      senders_known = st.senders_known;
-      knows = st.knows;
-      senders_delivered = st.senders_delivered;
-      delivers = st.delivers;
-      agrees = st.agrees;
-    }
+    own_base = base_of config me (Ordered item) steps kept st accepted refl (let z : frame_count steps + 0 ≡ frame_count steps = omega arith in z) own_kept.stream own_kept.relay kept.outgoing kept.incoming (ap (λ items. items ++ item ∷ []) st.stream)
+        st.relay_me (length-slice_set kept.relay.numbers kept.me _ ∙ st.relay_size)
+        (λ x k l.
+        relay_more kept.relay kept.me (length kept.stream) (senders_below kept.me (subst (λ y. y < config.nodes) (sym st.same_me) st.place)) x k
+        ∙ ap (λ c. c || same_pair kept.me (length kept.stream) x k) (st.relay_holds x k l)
+        ∙ sym (pair_more me (Ordered item) steps own own_new x k))
+        st.peers_out st.peers_in (λ r slot l. st.taken r slot l ∙ sym (no_take config me steps kept st (Ordered item) refl r slot))
 
     pub ordered_right : ToldRight config me (Ordered item) steps (ordered kept item)
     ordered_right = told_right config me (Ordered item) steps (own_taken_up kept item) kept.me (length kept.stream)
@@ -373,29 +336,9 @@ module _ (config : Config) (me : ℕ) (steps : Steps) (kept : Kept) (st : Stands
 
     carry_base : (relay : HeldPairs) → relay.me ≡ me → length relay.numbers ≡ 256 → ((x k : ℕ) → x < config.nodes → holds relay x k ≡ has_pair (own_copies me (carry ∷ steps)) x k) → Base config me carry steps (record (with_taken kept from slot) { relay = relay })
     unfolding own_items own_live frame_count
-    carry_base relay relay_me relay_size relay_holds = record {
-      accepted = accepted;
-      before = st.accepted;
-      place = st.place;
-      same_config = st.same_config;
-      same_me = st.same_me;
-      live = st.live;
-      frames = st.frames ∙ (let z : frame_count steps ≡ frame_count steps + 0 = omega arith in z);
-      stream = st.stream ∙ sym (append-nil (own_items steps));
-      relay_me = relay_me;
-      relay_size = relay_size;
-      relay_holds = relay_holds;
-      peers_out = st.peers_out;
-      peers_in = length-slice_set kept.incoming from _ ∙ st.peers_in;
-      taken = carry_taken;
-      senders_back = st.senders_back;
-      holds_back = st.holds_back;
-      senders_known = st.senders_known;
-      knows = st.knows;
-      senders_delivered = st.senders_delivered;
-      delivers = st.delivers;
-      agrees = st.agrees;
-    }
+    carry_base relay relay_me relay_size relay_holds =
+        base_of config me carry steps kept st accepted refl (let z : frame_count steps + 0 ≡ frame_count steps = omega arith in z) kept.stream relay kept.outgoing (with_taken kept from slot).incoming (st.stream ∙ sym (append-nil (own_items steps)))
+        relay_me relay_size relay_holds st.peers_out (length-slice_set kept.incoming from _ ∙ st.peers_in) carry_taken
 
     -- of a pair that is held
     carry_known : has_pair (own_copies me steps) message.sender message.number ≡ true → ToldRight config me carry steps (told (with_knower (with_taken kept from slot) message.sender message.number from) message.sender message.number)

@@ -1,5 +1,5 @@
 use Rattle.std.proofs.Common.{◌∙◌, sym}
-use Rattle.cast_node.proofs.Tells.{forgot}
+use Rattle.cast_node.proofs.DeliveryTables.{forgot}
 use Rattle.cast_node.proofs.Parts.{is_err_of, on_err}
 use Rattle.cast_node.proofs.deliveries.Deliveries.take_up_carried.Goals as goal
 

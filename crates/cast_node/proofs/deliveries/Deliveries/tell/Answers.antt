@@ -1,6 +1,6 @@
 use Rattle.std.proofs.Common.{◌∙◌}
 use Rattle.cast_node.proofs.Parts.{on_err}
-use Rattle.cast_node.proofs.Tells.{row_same, both_same, noted_is, told_is, told_sound, outcome_none}
+use Rattle.cast_node.proofs.DeliveryTables.{row_same, both_same, noted_is, told_is, told_sound, outcome_none}
 use Rattle.cast_node.proofs.deliveries.Deliveries.tell.Goals as goal
 
 pub returns-in_err-make_place-clause-err : goal.returns-in_err-make_place-clause-err

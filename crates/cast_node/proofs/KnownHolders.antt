@@ -1,10 +1,8 @@
 -- Who is known to hold a pair after each step.
-use Rattle.std.proofs.Common.{◌≡◌, ◌≢◌, ℕ, suc, ◌-◌, ◌<◌, refl, sym, ◌∙◌, ap, subst, Bool, true, false, ◌&&◌, ◌||◌, cond, List, [], ◌∷◌, ◌++◌, length, map, inl, inr, ◌⊎◌, arith, length-append, true≢false}
-use Rattle.std.specs.Prelude.{◌==◌, slice_index_or, slice_set, replicate}
+use Rattle.std.proofs.Common.{◌≡◌, ℕ, ◌<◌, refl, sym, ◌∙◌, ap, subst, Bool, true, false, ◌&&◌, ◌||◌, cond, List, [], ◌∷◌, ◌++◌, length, map, inl, inr, arith, true≢false}
+use Rattle.std.specs.Prelude.{◌==◌}
 use Rattle.std.specs.List.{list_any}
-use Rattle.std.specs.Ordering.{nat_cmp}
-use Rattle.std.specs.FinSet as set
-use Rattle.std.proofs.lemmas.Bool.{cases_eq, eqb-true, and_parts, false_from_ne_true, or_left, or_right}
+use Rattle.std.proofs.lemmas.Bool.{eqb-true, and_parts, false_from_ne_true, or_left, or_right}
 use Rattle.std.proofs.lemmas.List.Folds.{list_any-append}
 use Rattle.cast_message.specs.declared.config.Config.{Config}
 use Rattle.cast_message.specs.declared.message.Message.{Message}
@@ -21,9 +19,7 @@ use Rattle.cast_model.proofs.RoundSpreads.{Member-map}
 use Rattle.cast_model.proofs.Dues.{Member-map_in}
 use Rattle.cast_model.proofs.OwnGrowth.{own_copies-more, own_pair_kept, frames_in-more, frames_given, possible_given, GivenTo, tells_same}
 use Rattle.cast_model.proofs.OwnTurns.{length-map}
-use Rattle.cast_node.specs.Kept.{knowers_in}
-use Rattle.cast_node.specs.Turns.{known_row}
-use Rattle.cast_node.proofs.Places.{same_number, other_number, at_set, at_padded, length-replicated}
+use Rattle.cast_node.proofs.Places.{same_number}
 
 module _ {A : Type 0} where
   pub any_alike : (f g : A → Bool) (xs : List A) → ((x : A) → Member x xs → f x ≡ g x) → list_any f xs ≡ list_any g xs
@@ -116,27 +112,3 @@ module _ (config : Config) (me : ℕ) where
           let p = and_parts (c.sender == s) _ t in
           let given : GivenTo me steps r (Took slot) = subst (GivenTo me steps r) e (subst (λ z. GivenTo me steps z frame.body) from (frames_given config me steps accepted frame m)) in
           (λ k. has_pair (own_copies me steps) (sym (eqb-true c.sender s p.0) k) (sym (eqb-true c.number i p.1) k)) ∙ given_held steps r slot given
-
--- the members known of one pair are others
-pub knowers_in-set : (all : List (List (set.FinSet nat_cmp))) (s i : ℕ) (members : set.FinSet nat_cmp) → s < length all → (x k : ℕ) →
-    knowers_in (slice_set all s (known_row (slice_index_or all s []) i members)) x k ≡ cond (x == s && k == i) members (knowers_in all x k)
-knowers_in-set all s i members h x k = ap (λ row. slice_index_or row k set.empty) (at_set all s x (known_row row i members) [] h) ∙ by_sender (cases_eq x s)
-  where
-    row : List (set.FinSet nat_cmp)
-    row = slice_index_or all s []
-
-    long : i < length (row ++ replicate (suc i - length row) set.empty)
-    long = omega (arith, length-append row (replicate (suc i - length row) set.empty), length-replicated (suc i - length row) (set.empty {R = nat_cmp}))
-
-    in_row : slice_index_or (known_row row i members) k set.empty ≡ cond (k == i) members (slice_index_or row k set.empty)
-    in_row = at_set (row ++ replicate (suc i - length row) set.empty) i k members set.empty long ∙ ap (cond (k == i) members) (at_padded row (suc i - length row) k set.empty)
-
-    by_sender : (x ≡ s) ⊎ (x ≢ s) → slice_index_or (cond (x == s) (known_row row i members) (slice_index_or all x [])) k set.empty ≡ cond (x == s && k == i) members (knowers_in all x k)
-    by_sender (inl e) =
-        ap (λ b. slice_index_or (cond b (known_row row i members) (slice_index_or all x [])) k set.empty) (same_number x s e)
-        ∙ in_row
-        ∙ ap (λ y. cond (k == i) members (knowers_in all y k)) (sym e)
-        ∙ sym (ap (λ b. cond (b && k == i) members (knowers_in all x k)) (same_number x s e))
-    by_sender (inr e) =
-        ap (λ b. slice_index_or (cond b (known_row row i members) (slice_index_or all x [])) k set.empty) (other_number x s e)
-        ∙ sym (ap (λ b. cond (b && k == i) members (knowers_in all x k)) (other_number x s e))

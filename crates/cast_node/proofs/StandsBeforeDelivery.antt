@@ -1,5 +1,5 @@
--- What stands once a step was taken in: that of a new message, and that of one that tells more of a held pair.
-use Rattle.std.proofs.Common.{◌≡◌, ◌≢◌, ℕ, ◌+◌, ◌-◌, ◌<◌, refl, sym, ◌∙◌, ap, subst, Bool, true, false, not, ◌&&◌, ◌||◌, cond, [], ◌∷◌, ◌++◌, length, map, Some, inl, inr, arith}
+-- What stands once a step was taken in and before it delivers: that of a new message, and that of one that tells more of a held pair.
+use Rattle.std.proofs.Common.{◌≡◌, ◌≢◌, ℕ, ◌+◌, ◌-◌, ◌<◌, refl, sym, ◌∙◌, ap, subst, Bool, true, false, not, ◌&&◌, ◌||◌, cond, [], ◌∷◌, ◌++◌, length, map, List, Some, inl, inr, arith}
 use Rattle.std.specs.Prelude.{◌==◌, nat_lt, slice_index_or, slice_set}
 use Rattle.std.specs.List.{filter}
 use Rattle.std.specs.Ordering.{nat_cmp, eq_by_cmp}
@@ -10,43 +10,50 @@ use Rattle.std.specs.FinMap as finite
 use Rattle.std.proofs.lemmas.Bool.Decides.{nat_tests, eqb_tells}
 use Rattle.std.proofs.lemmas.List.{append-nil}
 use Rattle.cast_message.specs.declared.config.Config.{Config}
+use Rattle.cast_message.specs.declared.message.Item.{Item}
+use Rattle.cast_message.specs.declared.message.Message.{Message}
 use Rattle.cast_model.specs.History.{has_pair}
 use Rattle.cast_model.specs.Replies.{is_from}
 use Rattle.cast_model.specs.Steps.{Step, Steps, own_items, frame_count, Held, held}
 use Rattle.cast_model.specs.OwnSteps.{own_live, own_copies, own_given, own_acked, own_knows, own_is_ready, own_taken, own_concerned, own_log, IsOwnAccepted}
 use Rattle.cast_model.proofs.OwnGrowth.{brought, held-more, own_given-more}
-use Rattle.cast_link.specs.Links.{with_given}
-use Rattle.cast_relay.specs.Held.{holds, relays_to}
+use Rattle.cast_link.specs.Links.{Link, with_given}
+use Rattle.cast_relay.specs.Held.{Held as HeldPairs, holds, relays_to}
 use Rattle.cast_fifo.specs.Held.{Held as HeldBack, held_of, nothing_held, with_item}
 use Rattle.cast_fifo.proofs.Stands.{Stands as HoldsBack}
 use Rattle.cast_agree.specs.Proposals.{counted_of}
-use Rattle.cast_node.specs.Kept.{Kept, link_to, taken_from, knowers_of}
+use Rattle.cast_node.specs.Kept.{Kept, link_to, knowers_of}
 use Rattle.cast_node.specs.Turns.{with_knower, spread, given_from}
 use Rattle.cast_model.specs.Shown.{item_of}
-use Rattle.cast_node.specs.Stands.{item_at, newest_first, StandsOut}
+use Rattle.cast_node.specs.Stands.{item_at, newest_first, StandsOut, Stands}
 use Rattle.cast_node.proofs.Places.{length-slice_set, at_set, same_number, other_number}
 use Rattle.cast_node.proofs.Links.{length-given_from, given_from-at, goes, out_same, out_given}
-use Rattle.cast_node.proofs.Known.{KnowsAll, ready_alike, same_pair, pair_more, pair_none, knows_pair}
+use Rattle.cast_node.proofs.HolderSets.{KnowsAll, ready_alike, same_pair, pair_more, pair_none, knows_pair}
 use Rattle.cast_node.proofs.Back.{back_same, back_more, item_other}
-use Rattle.cast_node.proofs.Telling.{Heard}
 
--- The node's own numbers, its relay and what it took stand for one step more; what is held back, known, delivered and
--- counted stands for the steps before.
-pub record Base (config : Config) (me : ℕ) (step : Step) (steps : Steps) (kept : Kept) : Type 0 where
-  pub accepted : IsOwnAccepted config me (step ∷ steps)
-  pub before : IsOwnAccepted config me steps
+-- The node's own numbers, its relay and what it took stand for the steps.
+pub record OwnStands (config : Config) (me : ℕ) (steps : Steps) (seen : Config) (number : ℕ) (is_live : Bool) (made : ℕ) (items : List Item) (relay : HeldPairs) (incoming : List (set.FinSet nat_cmp)) : Type 0 where
+  pub accepted : IsOwnAccepted config me steps
   pub place : me < config.nodes
-  pub same_config : kept.config ≡ config
-  pub same_me : kept.me ≡ me
-  pub live : kept.live ≡ own_live (step ∷ steps)
-  pub frames : kept.frames ≡ frame_count (step ∷ steps)
-  pub stream : kept.stream ≡ own_items (step ∷ steps)
-  pub relay_me : kept.relay.me ≡ me
-  pub relay_size : length kept.relay.numbers ≡ 256
-  pub relay_holds : (x k : ℕ) → x < config.nodes → holds kept.relay x k ≡ has_pair (own_copies me (step ∷ steps)) x k
+  pub same_config : seen ≡ config
+  pub same_me : number ≡ me
+  pub live : is_live ≡ own_live steps
+  pub frames : made ≡ frame_count steps
+  pub stream : items ≡ own_items steps
+  pub relay_me : relay.me ≡ me
+  pub relay_size : length relay.numbers ≡ 256
+  pub relay_holds : (x k : ℕ) → x < config.nodes → holds relay x k ≡ has_pair (own_copies me steps) x k
+  pub peers_in : length incoming ≡ config.nodes
+  pub taken : (r slot : ℕ) → r < config.nodes → set.contains (slice_index_or incoming r set.empty) slot ≡ own_taken steps r slot
+
+abbrev pub OwnPart : Config → ℕ → Steps → Kept → Type 0
+OwnPart config me steps kept = OwnStands config me steps kept.config kept.me kept.live kept.frames kept.stream kept.relay kept.incoming
+
+-- The node's own part stands for one step more; what is held back, known, delivered and counted stands for the steps before.
+pub record Base (config : Config) (me : ℕ) (step : Step) (steps : Steps) (kept : Kept) : Type 0 where
+  pub own : OwnPart config me (step ∷ steps) kept
+  pub before : IsOwnAccepted config me steps
   pub peers_out : length kept.outgoing ≡ config.nodes
-  pub peers_in : length kept.incoming ≡ config.nodes
-  pub taken : (r slot : ℕ) → r < config.nodes → set.contains (taken_from kept r) slot ≡ own_taken (step ∷ steps) r slot
   pub senders_back : length kept.hold_back ≡ config.nodes
   pub holds_back : (s : ℕ) → s < config.nodes → HoldsBack (item_at (held me steps) s) (own_is_ready config me steps s) (held_of kept.hold_back s)
   pub senders_known : length kept.knowers ≡ config.nodes
@@ -54,6 +61,57 @@ pub record Base (config : Config) (me : ℕ) (step : Step) (steps : Steps) (kept
   pub senders_delivered : length kept.delivered ≡ config.nodes
   pub delivers : (x : ℕ) → x < config.nodes → slice_index_or kept.delivered x [] ≡ map item_of (filter (is_from x) (own_log config me steps))
   pub agrees : kept.agree ≡ counted_of (config.nodes - config.faults) (newest_first [] (own_log config me steps))
+
+-- a node that stood for the steps before, and whose own part stands for one more
+pub base_of : (config : Config) (me : ℕ) (step : Step) (steps : Steps) (kept : Kept) → Stands config me steps kept → IsOwnAccepted config me (step ∷ steps) → own_live (step ∷ steps) ≡ own_live steps → frame_count (step ∷ steps) ≡ frame_count steps →
+    (stream : List Item) (relay : HeldPairs) (outgoing : List (Link Message)) (incoming : List (set.FinSet nat_cmp)) → stream ≡ own_items (step ∷ steps) →
+    relay.me ≡ me → length relay.numbers ≡ 256 → ((x k : ℕ) → x < config.nodes → holds relay x k ≡ has_pair (own_copies me (step ∷ steps)) x k) →
+    length outgoing ≡ config.nodes → length incoming ≡ config.nodes → ((r slot : ℕ) → r < config.nodes → set.contains (slice_index_or incoming r set.empty) slot ≡ own_taken (step ∷ steps) r slot) →
+    Base config me step steps (record kept { stream = stream; relay = relay; outgoing = outgoing; incoming = incoming })
+base_of config me step steps kept st accepted live frames stream relay outgoing incoming stream_is relay_me relay_size relay_holds peers_out peers_in taken = record {
+  own = record {
+    accepted = accepted;
+    place = st.place;
+    same_config = st.same_config;
+    same_me = st.same_me;
+    live = st.live ∙ sym live;
+    frames = st.frames ∙ sym frames;
+    stream = stream_is;
+    relay_me = relay_me;
+    relay_size = relay_size;
+    relay_holds = relay_holds;
+    peers_in = peers_in;
+    taken = taken;
+  };
+  before = st.accepted;
+  peers_out = peers_out;
+  senders_back = st.senders_back;
+  holds_back = st.holds_back;
+  senders_known = st.senders_known;
+  knows = st.knows;
+  senders_delivered = st.senders_delivered;
+  delivers = st.delivers;
+  agrees = st.agrees;
+}
+
+-- What stands once a step was taken in that tells of a pair, and before what has its turn is delivered: all but the marks
+-- of the pair's sender, what was delivered, and what was counted.
+pub record Heard (config : Config) (me : ℕ) (step : Step) (steps : Steps) (kept : Kept) (s i : ℕ) : Type 0 where
+  pub own : OwnPart config me (step ∷ steps) kept
+  pub peers_out : length kept.outgoing ≡ config.nodes
+  pub out : (q : ℕ) → q < config.nodes → q ≢ me → StandsOut me (step ∷ steps) q (link_to kept q)
+  pub senders_back : length kept.hold_back ≡ config.nodes
+  pub back_here : HoldsBack (item_at (held me (step ∷ steps)) s) (own_is_ready config me steps s) (held_of kept.hold_back s)
+  pub back_other : (x : ℕ) → x < config.nodes → x ≢ s → HoldsBack (item_at (held me (step ∷ steps)) x) (own_is_ready config me (step ∷ steps) x) (held_of kept.hold_back x)
+  pub senders_known : length kept.knowers ≡ config.nodes
+  pub knows : KnowsAll config me (step ∷ steps) kept.knowers
+  pub senders_delivered : length kept.delivered ≡ config.nodes
+  pub delivers : (x : ℕ) → x < config.nodes → slice_index_or kept.delivered x [] ≡ map item_of (filter (is_from x) (own_log config me steps))
+  pub agrees : kept.agree ≡ counted_of (config.nodes - config.faults) (newest_first [] (own_log config me steps))
+  pub sender : s < config.nodes
+  pub pair : has_pair (own_copies me (step ∷ steps)) s i ≡ true
+  pub others : (k : ℕ) → k ≢ i → own_is_ready config me (step ∷ steps) s k ≡ own_is_ready config me steps s k
+  pub concerned : own_concerned me steps step ≡ Some s
 
 other_pair : (a b s i : ℕ) → s ≢ a → same_pair a b s i ≡ false
 other_pair a b s i e = ap (λ c. c && i == b) (other_number s a e)
@@ -94,20 +152,9 @@ module _ (config : Config) (me : ℕ) (step : Step) (steps : Steps) (kept : Kept
 
     pub known_heard : Heard config me step steps (with_knower kept s i r) s i
     known_heard = record {
-      accepted = b.accepted;
-      place = b.place;
-      same_config = b.same_config;
-      same_me = b.same_me;
-      live = b.live;
-      frames = b.frames;
-      stream = b.stream;
-      relay_me = b.relay_me;
-      relay_size = b.relay_size;
-      relay_holds = b.relay_holds;
+      own = b.own;
       peers_out = b.peers_out;
       out = out;
-      peers_in = b.peers_in;
-      taken = b.taken;
       senders_back = b.senders_back;
       back_here = back_items s (held_of kept.hold_back s) (b.holds_back s sender);
       back_other = λ x l e. back_same config me step steps x (held_of kept.hold_back x) (items_same x) (λ k. ready_same x k (other_pair s i x k e)) (b.holds_back x l);
@@ -157,7 +204,7 @@ module _ (config : Config) (me : ℕ) (step : Step) (steps : Steps) (kept : Kept
     members_new x =
         contains-insert nat_cmp_total (set.insert (set.insert set.empty kept.me) h.message.sender) h.source x
         ∙ ap (λ c. eq_by_cmp nat_cmp x h.source || c) (contains-insert nat_cmp_total (set.insert set.empty kept.me) h.message.sender x)
-        ∙ ap (λ c. eq_by_cmp nat_cmp x h.source || (eq_by_cmp nat_cmp x h.message.sender || c)) (contains-insert nat_cmp_total set.empty kept.me x ∙ (λ k. eq_by_cmp nat_cmp x (b.same_me k) || contains-empty nat_cmp x k))
+        ∙ ap (λ c. eq_by_cmp nat_cmp x h.source || (eq_by_cmp nat_cmp x h.message.sender || c)) (contains-insert nat_cmp_total set.empty kept.me x ∙ (λ k. eq_by_cmp nat_cmp x (b.own.same_me k) || contains-empty nat_cmp x k))
         ∙ joined h.source h.message.sender from sender
         ∙ sym (λ k. pair_here k && (nat_lt x config.nodes && here x k))
       where
@@ -167,7 +214,7 @@ module _ (config : Config) (me : ℕ) (step : Step) (steps : Steps) (kept : Kept
           | inr e ↦ (elim (eqb_tells x v) [
             | inl f ↦ (let l : x < config.nodes = omega (arith, lv, f.1) in grind (arith, nat_tests))
             | inr f ↦ (elim (eqb_tells x me) [
-              | inl g ↦ (let l : x < config.nodes = (let p = b.place in omega (arith, p, g.1)) in grind (arith, nat_tests))
+              | inl g ↦ (let l : x < config.nodes = (let p = b.own.place in omega (arith, p, g.1)) in grind (arith, nat_tests))
               | inr g ↦ grind (arith, nat_tests)
             ])
           ])
@@ -186,7 +233,7 @@ module _ (config : Config) (me : ℕ) (step : Step) (steps : Steps) (kept : Kept
         same_test u v w e = grind (arith, nat_tests)
 
         test_is : relays_to kept.relay h.message.sender h.source q ≡ (not (h.message.sender == q) && not (h.source == q))
-        test_is = same_test h.message.sender h.source kept.relay.me (λ z. apart (sym z ∙ b.relay_me))
+        test_is = same_test h.message.sender h.source kept.relay.me (λ z. apart (sym z ∙ b.own.relay_me))
 
         by_test : (c : Bool) → relays_to kept.relay h.message.sender h.source q ≡ c → StandsOut me (step ∷ steps) q (cond c (with_given (link_to kept q) h.message) (link_to kept q))
         by_test true e = out_given me steps step q config b.before (link_to kept q) h (given_is ∙ ap (λ c. own_given me steps q ++ cond c (h ∷ []) []) (sym test_is ∙ e)) (still q) (out q l apart)
@@ -194,20 +241,9 @@ module _ (config : Config) (me : ℕ) (step : Step) (steps : Steps) (kept : Kept
 
     pub new_heard : Heard config me step steps (spread kept h.message h.source) h.message.sender h.message.number
     new_heard = record {
-      accepted = b.accepted;
-      place = b.place;
-      same_config = b.same_config;
-      same_me = b.same_me;
-      live = b.live;
-      frames = b.frames;
-      stream = b.stream;
-      relay_me = b.relay_me;
-      relay_size = b.relay_size;
-      relay_holds = b.relay_holds;
+      own = b.own;
       peers_out = length-given_from 0 kept.relay h.source h.message kept.outgoing ∙ b.peers_out;
       out = out_after;
-      peers_in = b.peers_in;
-      taken = b.taken;
       senders_back = length-slice_set kept.hold_back h.message.sender _ ∙ b.senders_back;
       back_here = subst (HoldsBack (item_at (held me (step ∷ steps)) h.message.sender) (own_is_ready config me steps h.message.sender)) (sym (back_at h.message.sender ∙ ap (λ c. cond c (with_item (held_of kept.hold_back h.message.sender) h.message.number h.message.item) (held_of kept.hold_back h.message.sender)) (same_number h.message.sender h.message.sender refl)))
           (subst (λ hs. HoldsBack (item_at hs h.message.sender) (own_is_ready config me steps h.message.sender) (with_item (held_of kept.hold_back h.message.sender) h.message.number h.message.item)) (sym held_is) (back_more config me steps h (held_of kept.hold_back h.message.sender) (b.holds_back h.message.sender sender)));

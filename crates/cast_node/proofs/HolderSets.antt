@@ -1,13 +1,13 @@
 -- The members kept of a pair are the nodes known to hold it, and so as many.
-use Rattle.std.proofs.Common.{◌≡◌, ℕ, zero, suc, ◌+◌, ◌<◌, refl, sym, ◌∙◌, ap, Bool, true, false, ◌&&◌, ◌||◌, cond, List, [], ◌∷◌, ◌++◌, length, map, inl, inr, arith, length-append}
-use Rattle.std.specs.Prelude.{◌==◌, nat_lt, slice_set, slice_index_or}
+use Rattle.std.proofs.Common.{◌≡◌, ◌≢◌, ◌⊎◌, ◌-◌, ℕ, zero, suc, ◌+◌, ◌<◌, refl, sym, ◌∙◌, ap, Bool, true, false, ◌&&◌, ◌||◌, cond, List, [], ◌∷◌, ◌++◌, length, map, inl, inr, arith, length-append}
+use Rattle.std.specs.Prelude.{◌==◌, nat_lt, slice_set, slice_index_or, replicate}
 use Rattle.std.specs.List.{count_by, filter, range_with_len}
 use Rattle.std.specs.Ordering.{nat_cmp, eq_by_cmp}
 use Rattle.std.specs.Cmp.{nat_cmp_total}
 use Rattle.std.specs.FinSet as set
 use Rattle.std.specs.FinSet.{contains-insert, contains-empty, len-empty, same_set, nat_cmp-IsAntisymmetric}
 use Rattle.std.proofs.lemmas.Bool.Decides.{nat_tests, eqb_tells}
-use Rattle.std.proofs.lemmas.Bool.{and_parts, eqb-true}
+use Rattle.std.proofs.lemmas.Bool.{and_parts, cases_eq, eqb-true}
 use Rattle.std.proofs.lemmas.List.Sums.{length-filter}
 use Rattle.std.proofs.lemmas.List.Elements.{filter-append}
 use Rattle.std.proofs.lemmas.List.Folds.{list_any-append}
@@ -23,7 +23,31 @@ use Rattle.cast_model.proofs.OwnGrowth.{brought, own_copies-more}
 use Rattle.cast_node.specs.Kept.{knowers_in, is_enough_in}
 use Rattle.cast_node.specs.Turns.{known_row}
 use Rattle.cast_node.proofs.Links.{range-more}
-use Rattle.cast_node.proofs.Tellers.{knowers_in-set}
+use Rattle.cast_node.proofs.Places.{same_number, other_number, at_set, at_padded, length-replicated}
+
+-- the members known of one pair are others
+pub knowers_in-set : (all : List (List (set.FinSet nat_cmp))) (s i : ℕ) (members : set.FinSet nat_cmp) → s < length all → (x k : ℕ) →
+    knowers_in (slice_set all s (known_row (slice_index_or all s []) i members)) x k ≡ cond (x == s && k == i) members (knowers_in all x k)
+knowers_in-set all s i members h x k = ap (λ row. slice_index_or row k set.empty) (at_set all s x (known_row row i members) [] h) ∙ by_sender (cases_eq x s)
+  where
+    row : List (set.FinSet nat_cmp)
+    row = slice_index_or all s []
+
+    long : i < length (row ++ replicate (suc i - length row) set.empty)
+    long = omega (arith, length-append row (replicate (suc i - length row) set.empty), length-replicated (suc i - length row) (set.empty {R = nat_cmp}))
+
+    in_row : slice_index_or (known_row row i members) k set.empty ≡ cond (k == i) members (slice_index_or row k set.empty)
+    in_row = at_set (row ++ replicate (suc i - length row) set.empty) i k members set.empty long ∙ ap (cond (k == i) members) (at_padded row (suc i - length row) k set.empty)
+
+    by_sender : (x ≡ s) ⊎ (x ≢ s) → slice_index_or (cond (x == s) (known_row row i members) (slice_index_or all x [])) k set.empty ≡ cond (x == s && k == i) members (knowers_in all x k)
+    by_sender (inl e) =
+        ap (λ b. slice_index_or (cond b (known_row row i members) (slice_index_or all x [])) k set.empty) (same_number x s e)
+        ∙ in_row
+        ∙ ap (λ y. cond (k == i) members (knowers_in all y k)) (sym e)
+        ∙ sym (ap (λ b. cond (b && k == i) members (knowers_in all x k)) (same_number x s e))
+    by_sender (inr e) =
+        ap (λ b. slice_index_or (cond b (known_row row i members) (slice_index_or all x [])) k set.empty) (other_number x s e)
+        ∙ sym (ap (λ b. cond (b && k == i) members (knowers_in all x k)) (other_number x s e))
 
 -- as many numbers below n pass a test as the set of them has members
 len-members : (f : ℕ → Bool) (n : ℕ) → set.len (members_below n f) ≡ count_by f (range_with_len 0 n)

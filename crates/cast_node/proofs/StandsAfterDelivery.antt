@@ -1,64 +1,34 @@
 -- Once something was heard of a pair: what is delivered and decided, and that the node stands for one step more.
-use Rattle.std.proofs.Common.{◌≡◌, ◌≢◌, ℕ, suc, ◌-◌, ◌<◌, refl, sym, ◌∙◌, ap, subst, Bool, true, false, cond, List, [], ◌∷◌, ◌++◌, length, map, Some, inl, inr}
-use Rattle.std.specs.Prelude.{◌==◌, slice_index_or}
+use Rattle.std.proofs.Common.{◌≡◌, ℕ, suc, ◌-◌, ◌<◌, refl, sym, ◌∙◌, ap, subst, Bool, true, false, cond, List, [], ◌∷◌, ◌++◌, length, map, inl, inr}
+use Rattle.std.specs.Prelude.{◌==◌, slice_index_or, slice_set}
 use Rattle.std.specs.List.{filter}
-use Rattle.std.specs.FinSet as set
 use Rattle.std.proofs.lemmas.Bool.{cases_eq, eq-eqb, ne_eqb}
 use Rattle.std.proofs.lemmas.List.{append-nil, map-append}
 use Rattle.std.proofs.lemmas.List.Elements.{filter-append}
 use Rattle.cast_message.specs.declared.config.Config.{Config}
 use Rattle.cast_message.specs.declared.message.Item.{Item}
 use Rattle.cast_message.specs.declared.message.Message.{Message}
-use Rattle.cast_model.specs.History.{has_pair, numbered}
+use Rattle.cast_model.specs.History.{numbered}
 use Rattle.cast_model.specs.Replies.{is_from}
-use Rattle.cast_model.specs.Steps.{Step, Steps, own_items, frame_count, held}
-use Rattle.cast_model.specs.OwnSteps.{own_live, own_copies, own_known_enough, own_is_ready, own_next, own_taken, own_concerned, own_turns, own_deliveries, own_log, own_outcome, own_decisions_of, messages_from, IsOwnAccepted}
+use Rattle.cast_model.specs.Steps.{Step, Steps, held}
+use Rattle.cast_model.specs.OwnSteps.{own_known_enough, own_is_ready, own_next, own_turns, own_deliveries, own_log, own_outcome, own_decisions_of, messages_from}
 use Rattle.cast_model.proofs.Members.{Member}
 use Rattle.cast_model.proofs.Fronts.{filter_all, filter_none}
 use Rattle.cast_model.proofs.OwnFronts.{messages_sender, no_messages}
-use Rattle.cast_relay.specs.Held.{holds}
-use Rattle.cast_fifo.specs.Held.{held_of, nothing_held, known_items, known_after}
+use Rattle.cast_fifo.specs.Held.{Held as HeldBack, held_of, nothing_held, known_items, known_after}
 use Rattle.cast_fifo.proofs.Stands.{Stands as HoldsBack, Turned}
 use Rattle.cast_agree.specs.Journal.{counted_all, decisions_all}
+use Rattle.cast_agree.specs.Counted.{Counted}
 use Rattle.cast_agree.specs.Proposals.{counted_of}
-use Rattle.cast_node.specs.Kept.{Kept, link_to, taken_from, knowers_of, is_enough_in, is_enough}
+use Rattle.cast_node.specs.Kept.{Kept, knowers_of, is_enough_in, is_enough}
 use Rattle.cast_node.specs.Turns.{Told, told, released, unmoved, news_of}
 use Rattle.cast_model.specs.Shown.{item_of}
-use Rattle.cast_node.specs.Stands.{item_at, newest_first, StandsOut, Stands}
+use Rattle.cast_node.specs.Stands.{item_at, newest_first, Stands}
 use Rattle.cast_node.proofs.Places.{length-slice_set, at_set, same_number, other_number}
-use Rattle.cast_node.proofs.Known.{KnowsAll, enough-is}
+use Rattle.cast_node.proofs.HolderSets.{enough-is}
 use Rattle.cast_node.proofs.Back.{next_is, turns_are, told_turn, told_still}
+use Rattle.cast_node.proofs.StandsBeforeDelivery.{Heard}
 use Rattle.cast_node.proofs.Counting.{newest_first-append, counted_newest, decisions_are}
-
--- What stands once a step was taken in that tells of a pair, and before what has its turn is delivered: all but the marks
--- of the pair's sender, what was delivered, and what was counted.
-pub record Heard (config : Config) (me : ℕ) (step : Step) (steps : Steps) (kept : Kept) (s i : ℕ) : Type 0 where
-  pub accepted : IsOwnAccepted config me (step ∷ steps)
-  pub place : me < config.nodes
-  pub same_config : kept.config ≡ config
-  pub same_me : kept.me ≡ me
-  pub live : kept.live ≡ own_live (step ∷ steps)
-  pub frames : kept.frames ≡ frame_count (step ∷ steps)
-  pub stream : kept.stream ≡ own_items (step ∷ steps)
-  pub relay_me : kept.relay.me ≡ me
-  pub relay_size : length kept.relay.numbers ≡ 256
-  pub relay_holds : (x k : ℕ) → x < config.nodes → holds kept.relay x k ≡ has_pair (own_copies me (step ∷ steps)) x k
-  pub peers_out : length kept.outgoing ≡ config.nodes
-  pub out : (q : ℕ) → q < config.nodes → q ≢ me → StandsOut me (step ∷ steps) q (link_to kept q)
-  pub peers_in : length kept.incoming ≡ config.nodes
-  pub taken : (r slot : ℕ) → r < config.nodes → set.contains (taken_from kept r) slot ≡ own_taken (step ∷ steps) r slot
-  pub senders_back : length kept.hold_back ≡ config.nodes
-  pub back_here : HoldsBack (item_at (held me (step ∷ steps)) s) (own_is_ready config me steps s) (held_of kept.hold_back s)
-  pub back_other : (x : ℕ) → x < config.nodes → x ≢ s → HoldsBack (item_at (held me (step ∷ steps)) x) (own_is_ready config me (step ∷ steps) x) (held_of kept.hold_back x)
-  pub senders_known : length kept.knowers ≡ config.nodes
-  pub knows : KnowsAll config me (step ∷ steps) kept.knowers
-  pub senders_delivered : length kept.delivered ≡ config.nodes
-  pub delivers : (x : ℕ) → x < config.nodes → slice_index_or kept.delivered x [] ≡ map item_of (filter (is_from x) (own_log config me steps))
-  pub agrees : kept.agree ≡ counted_of (config.nodes - config.faults) (newest_first [] (own_log config me steps))
-  pub sender : s < config.nodes
-  pub pair : has_pair (own_copies me (step ∷ steps)) s i ≡ true
-  pub others : (k : ℕ) → k ≢ i → own_is_ready config me (step ∷ steps) s k ≡ own_is_ready config me steps s k
-  pub concerned : own_concerned me steps step ≡ Some s
 
 items_numbered : (s n : ℕ) (items : List Item) → map item_of (numbered s n items) ≡ items
 unfolding numbered
@@ -95,44 +65,56 @@ module _ (config : Config) (me : ℕ) (step : Step) (steps : Steps) where
     from_sender : (m : Message) → Member m (own_deliveries config me steps step) → m.sender ≡ s
     from_sender m n = messages_sender (held me (step ∷ steps)) s (own_next config me steps s) (own_next config me (step ∷ steps) s) m (subst (λ all. Member m all) deliveries_are n)
 
+    -- whatever is held back, delivered and counted, the rest stands
+    concluded : (hold_back : List HeldBack) (delivered : List (List Item)) (agree : Counted) → length hold_back ≡ config.nodes →
+        ((x : ℕ) → x < config.nodes → HoldsBack (item_at (held me (step ∷ steps)) x) (own_is_ready config me (step ∷ steps) x) (held_of hold_back x)) →
+        length delivered ≡ config.nodes → ((x : ℕ) → x < config.nodes → slice_index_or delivered x [] ≡ map item_of (filter (is_from x) (own_log config me (step ∷ steps)))) →
+        agree ≡ counted_of (config.nodes - config.faults) (newest_first [] (own_log config me (step ∷ steps))) →
+        Stands config me (step ∷ steps) (record kept { hold_back = hold_back; delivered = delivered; agree = agree })
+    concluded hold_back delivered agree senders_back holds_back senders_delivered delivers agrees = record {
+      accepted = h.own.accepted;
+      place = h.own.place;
+      same_config = h.own.same_config;
+      same_me = h.own.same_me;
+      live = h.own.live;
+      frames = h.own.frames;
+      stream = h.own.stream;
+      relay_me = h.own.relay_me;
+      relay_size = h.own.relay_size;
+      relay_holds = h.own.relay_holds;
+      peers_out = h.peers_out;
+      out = h.out;
+      peers_in = h.own.peers_in;
+      taken = h.own.taken;
+      senders_back = senders_back;
+      holds_back = holds_back;
+      senders_known = h.senders_known;
+      knows = h.knows;
+      senders_delivered = senders_delivered;
+      delivers = delivers;
+      agrees = agrees;
+    }
+
     turned : own_known_enough config.mode config me (step ∷ steps) s i ≡ true → ToldRight (released kept s i)
     unfolding own_log own_outcome
     turned enough = record {
-      stands = record {
-        accepted = h.accepted;
-        place = h.place;
-        same_config = h.same_config;
-        same_me = h.same_me;
-        live = h.live;
-        frames = h.frames;
-        stream = h.stream;
-        relay_me = h.relay_me;
-        relay_size = h.relay_size;
-        relay_holds = h.relay_holds;
-        peers_out = h.peers_out;
-        out = h.out;
-        peers_in = h.peers_in;
-        taken = h.taken;
-        senders_back = length-slice_set kept.hold_back s (known_after (held_of kept.hold_back s) i) ∙ h.senders_back;
-        holds_back = λ x l. subst (HoldsBack (item_at (held me (step ∷ steps)) x) (own_is_ready config me (step ∷ steps) x)) (sym (at_set kept.hold_back s x (known_after (held_of kept.hold_back s) i) nothing_held (subst (λ n. s < n) (sym h.senders_back) h.sender))) (back x l);
-        senders_known = h.senders_known;
-        knows = h.knows;
-        senders_delivered = length-slice_set kept.delivered s _ ∙ h.senders_delivered;
-        delivers = λ x l.
-            at_set kept.delivered s x (slice_index_or kept.delivered s [] ++ known_items (held_of kept.hold_back s) i) [] (subst (λ n. s < n) (sym h.senders_delivered) h.sender)
-            ∙ row x
-            ∙ ap (λ ms. cond (x == s) (slice_index_or kept.delivered x [] ++ map item_of ms) (slice_index_or kept.delivered x [])) news_are
-            ∙ log_here s (own_deliveries config me steps step) from_sender x (slice_index_or kept.delivered x []) (h.delivers x l);
-        agrees =
-            (λ k. counted_all (h.agrees k) (news_are k))
-            ∙ sym (counted_newest (config.nodes - config.faults) (newest_first [] (own_log config me steps)) (own_deliveries config me steps step))
-            ∙ ap (counted_of (config.nodes - config.faults)) (sym (newest_first-append [] (own_log config me steps) (own_deliveries config me steps step)));
-      };
+      stands = concluded (slice_set kept.hold_back s (known_after (held_of kept.hold_back s) i)) (slice_set kept.delivered s (slice_index_or kept.delivered s [] ++ known_items (held_of kept.hold_back s) i)) (counted_all kept.agree (news_of kept s i))
+          (length-slice_set kept.hold_back s (known_after (held_of kept.hold_back s) i) ∙ h.senders_back)
+          (λ x l. subst (HoldsBack (item_at (held me (step ∷ steps)) x) (own_is_ready config me (step ∷ steps) x)) (sym (at_set kept.hold_back s x (known_after (held_of kept.hold_back s) i) nothing_held (subst (λ n. s < n) (sym h.senders_back) h.sender))) (back x l))
+          (length-slice_set kept.delivered s _ ∙ h.senders_delivered)
+          (λ x l.
+          at_set kept.delivered s x (slice_index_or kept.delivered s [] ++ known_items (held_of kept.hold_back s) i) [] (subst (λ n. s < n) (sym h.senders_delivered) h.sender)
+          ∙ row x
+          ∙ ap (λ ms. cond (x == s) (slice_index_or kept.delivered x [] ++ map item_of ms) (slice_index_or kept.delivered x [])) news_are
+          ∙ log_here s (own_deliveries config me steps step) from_sender x (slice_index_or kept.delivered x []) (h.delivers x l))
+          ((λ k. counted_all (h.agrees k) (news_are k))
+          ∙ sym (counted_newest (config.nodes - config.faults) (newest_first [] (own_log config me steps)) (own_deliveries config me steps step))
+          ∙ ap (counted_of (config.nodes - config.faults)) (sym (newest_first-append [] (own_log config me steps) (own_deliveries config me steps step))));
       outcome = λ k. record { deliveries = news_are k; decisions = ((λ j. decisions_all (h.agrees j) (news_are j)) ∙ decisions_are config (own_log config me steps) (own_deliveries config me steps step)) k };
     }
       where
         t : Turned (item_at (held me (step ∷ steps)) s) (own_is_ready config me (step ∷ steps) s) (held_of kept.hold_back s).next (known_items (held_of kept.hold_back s) i) (known_after (held_of kept.hold_back s) i)
-        t = told_turn config me step steps h.accepted s i (held_of kept.hold_back s) h.pair h.others h.back_here enough
+        t = told_turn config me step steps h.own.accepted s i (held_of kept.hold_back s) h.pair h.others h.back_here enough
 
         news_are : news_of kept s i ≡ own_deliveries config me steps step
         news_are =
@@ -156,37 +138,20 @@ module _ (config : Config) (me : ℕ) (step : Step) (steps : Steps) where
     still : own_known_enough config.mode config me (step ∷ steps) s i ≡ false → ToldRight (unmoved kept)
     unfolding own_log own_outcome own_decisions_of
     still lacking = record {
-      stands = record {
-        accepted = h.accepted;
-        place = h.place;
-        same_config = h.same_config;
-        same_me = h.same_me;
-        live = h.live;
-        frames = h.frames;
-        stream = h.stream;
-        relay_me = h.relay_me;
-        relay_size = h.relay_size;
-        relay_holds = h.relay_holds;
-        peers_out = h.peers_out;
-        out = h.out;
-        peers_in = h.peers_in;
-        taken = h.taken;
-        senders_back = h.senders_back;
-        holds_back = λ x l. elim (cases_eq x s) [
-          | inl e ↦ subst (λ y. HoldsBack (item_at (held me (step ∷ steps)) y) (own_is_ready config me (step ∷ steps) y) (held_of kept.hold_back y)) (sym e) at
-          | inr e ↦ h.back_other x l e
-        ];
-        senders_known = h.senders_known;
-        knows = h.knows;
-        senders_delivered = h.senders_delivered;
-        delivers = λ x l. h.delivers x l ∙ ap (λ log. map item_of (filter (is_from x) log)) (sym log_same);
-        agrees = h.agrees ∙ ap (λ log. counted_of (config.nodes - config.faults) (newest_first [] log)) (sym log_same);
-      };
+      stands = concluded kept.hold_back kept.delivered kept.agree
+          (h.senders_back)
+          (λ x l. elim (cases_eq x s) [
+            | inl e ↦ subst (λ y. HoldsBack (item_at (held me (step ∷ steps)) y) (own_is_ready config me (step ∷ steps) y) (held_of kept.hold_back y)) (sym e) at
+            | inr e ↦ h.back_other x l e
+          ])
+          (h.senders_delivered)
+          (λ x l. h.delivers x l ∙ ap (λ log. map item_of (filter (is_from x) log)) (sym log_same))
+          (h.agrees ∙ ap (λ log. counted_of (config.nodes - config.faults) (newest_first [] log)) (sym log_same));
       outcome = ap (λ news. record { deliveries = news; decisions = own_decisions_of config (own_log config me steps) news }) (sym none);
     }
       where
         at : HoldsBack (item_at (held me (step ∷ steps)) s) (own_is_ready config me (step ∷ steps) s) (held_of kept.hold_back s)
-        at = told_still config me step steps h.accepted s i (held_of kept.hold_back s) h.pair h.others h.back_here lacking
+        at = told_still config me step steps h.own.accepted s i (held_of kept.hold_back s) h.pair h.others h.back_here lacking
 
         none : own_deliveries config me steps step ≡ []
         none = deliveries_are
@@ -201,7 +166,7 @@ module _ (config : Config) (me : ℕ) (step : Step) (steps : Steps) where
     told_right = by_test (is_enough kept s i) refl
       where
         enough : is_enough kept s i ≡ own_known_enough config.mode config me (step ∷ steps) s i
-        enough = ap (λ c. is_enough_in c.mode c.faults (knowers_of kept s i)) h.same_config ∙ enough-is config me (step ∷ steps) kept.knowers h.knows s i h.sender
+        enough = ap (λ c. is_enough_in c.mode c.faults (knowers_of kept s i)) h.own.same_config ∙ enough-is config me (step ∷ steps) kept.knowers h.knows s i h.sender
 
         by_test : (b : Bool) → is_enough kept s i ≡ b → ToldRight (cond b (released kept s i) (unmoved kept))
         by_test true e = turned (sym enough ∙ e)
