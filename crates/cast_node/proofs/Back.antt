@@ -21,6 +21,7 @@ use Rattle.cast_model.proofs.OwnGrowth.{own_ready_kept}
 use Rattle.cast_model.specs.Shown.{item_of}
 use Rattle.cast_node.specs.Stands.{item_at}
 use Rattle.cast_node.proofs.Places.{same_number, other_number}
+use Rattle.cast_node.proofs.Booleans.{or_false, or_comm}
 
 -- the message of a pair once one more is held
 message_at-more : (hs : List Held) (h : Held) (s i : ℕ) → item_at (hs ++ h ∷ []) s i ≡ first_of (item_at hs s i) (if is_pair (copy_of h) s i then Some h.message.item else None)
@@ -99,14 +100,6 @@ module _ (config : Config) (me : ℕ) (step : Step) (steps : Steps) (accepted : 
   there_all : (k : ℕ) → own_is_ready config me (step ∷ steps) s k ≡ true → is_some (item_at (held me (step ∷ steps)) s k) ≡ true
   there_all k e = item_there (held me (step ∷ steps)) s k (own_held_below config me (step ∷ steps) s k e)
 
-  no_more : (b : Bool) → b ≡ (b || false)
-  no_more true = refl
-  no_more false = refl
-
-  at_last : (b : Bool) → true ≡ (b || true)
-  at_last true = refl
-  at_last false = refl
-
   module _ (back : HeldBack) (pair : has_pair (own_copies me (step ∷ steps)) s i ≡ true) (others : (k : ℕ) → k ≢ i → own_is_ready config me (step ∷ steps) s k ≡ own_is_ready config me steps s k)
       (stands : HoldsBack (item_at (held me (step ∷ steps)) s) (own_is_ready config me steps s) back) where
     -- enough is known of the pair
@@ -119,8 +112,8 @@ module _ (config : Config) (me : ℕ) (step : Step) (steps : Steps) (accepted : 
 
         ready_is : (k : ℕ) → own_is_ready config me (step ∷ steps) s k ≡ (own_is_ready config me steps s k || (k == i))
         ready_is k = elim (cases_eq k i) [
-          | inl e ↦ ap (own_is_ready config me (step ∷ steps) s) e ∙ here_ready ∙ at_last (own_is_ready config me steps s k) ∙ ap (λ b. own_is_ready config me steps s k || b) (sym (same_number k i e))
-          | inr e ↦ others k e ∙ no_more (own_is_ready config me steps s k) ∙ ap (λ b. own_is_ready config me steps s k || b) (sym (other_number k i e))
+          | inl e ↦ ap (own_is_ready config me (step ∷ steps) s) e ∙ here_ready ∙ or_comm true (own_is_ready config me steps s k) ∙ ap (λ b. own_is_ready config me steps s k || b) (sym (same_number k i e))
+          | inr e ↦ others k e ∙ sym (or_false (own_is_ready config me steps s k)) ∙ ap (λ b. own_is_ready config me steps s k || b) (sym (other_number k i e))
         ]
 
     -- not enough is known of it

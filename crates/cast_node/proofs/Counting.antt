@@ -17,6 +17,7 @@ use Rattle.cast_agree.specs.Proposals.{has_proposed, with_item, proposals, count
 use Rattle.cast_agree.proofs.Law.{decides_least, values-push, length-values, proposed-push}
 use Rattle.cast_agree.specs.Journal.{counted_all, decisions_all}
 use Rattle.cast_node.specs.Stands.{newest_first}
+use Rattle.cast_node.proofs.Booleans.{or_false, and_false, and_true, or_comm}
 
 pub newest_first-append : (before : List (ℕ × Item)) (xs ys : List Message) → newest_first before (xs ++ ys) ≡ newest_first (newest_first before xs) ys
 unfolding newest_first
@@ -58,21 +59,13 @@ module _ (j : ℕ) where
       ps : List (ℕ × ℕ)
       ps = proposals j before
 
-      no_more : (b : Bool) → b ≡ (b || (false || false))
-      no_more true = refl
-      no_more false = refl
-
-      and_false : (b : Bool) → (b && false) ≡ false
-      and_false true = refl
-      and_false false = refl
-
       -- an item that proposes nothing here
       skipped : (item : Item) → m.item ≡ item → with_item j ps m.sender item ≡ ps → value_in j item ≡ None → CountsVotes ((m.sender, m.item) ∷ before) (seen ++ m ∷ [])
       skipped item e same none = record {
         proposed = λ s.
             ap (λ qs. has_proposed qs s) (ap (with_item j ps m.sender) e ∙ same)
             ∙ h.proposed s
-            ∙ no_more (voted seen s)
+            ∙ sym (or_false (voted seen s))
             ∙ sym (list_any-append _ seen (m ∷ []) ∙ ap (λ b. voted seen s || (b || false)) (ap (λ o. m.sender == s && is_some o) (ap (value_in j) e ∙ none) ∙ and_false (m.sender == s)));
         votes_are =
             ap values (ap (with_item j ps m.sender) e ∙ same)
@@ -93,21 +86,15 @@ module _ (j : ℕ) where
           again : (s : ℕ) → (voted seen s || ((m.sender == s && true) || false)) ≡ voted seen s
           again s = elim (eqb_tells m.sender s) [
             | inl here ↦ (let t : voted seen s ≡ true = sym (h.proposed s) ∙ ap (has_proposed ps) (sym here.1) ∙ old in ap (λ b. b || ((m.sender == s && true) || false)) t ∙ sym t)
-            | inr apart ↦ ap (λ b. voted seen s || ((b && true) || false)) apart.0 ∙ sym (no_more (voted seen s))
+            | inr apart ↦ ap (λ b. voted seen s || ((b && true) || false)) apart.0 ∙ or_false (voted seen s)
           ]
       proposing v e false new is = record {
-        proposed = λ s. ap (λ qs. has_proposed qs s) is ∙ proposed-push ps m.sender v s ∙ ap (λ b. (s == m.sender) || b) (h.proposed s) ∙ turn (s == m.sender) (voted seen s) ∙ ap (λ b. voted seen s || ((b && true) || false)) (flip s m.sender)
+        proposed = λ s. ap (λ qs. has_proposed qs s) is ∙ proposed-push ps m.sender v s ∙ ap (λ b. (s == m.sender) || b) (h.proposed s) ∙ or_comm (s == m.sender) (voted seen s) ∙ ap (λ b. voted seen s || b) (sym (or_false _ ∙ and_true (s == m.sender))) ∙ ap (λ b. voted seen s || ((b && true) || false)) (flip s m.sender)
             ∙ sym (list_any-append _ seen (m ∷ []) ∙ ap (λ o. voted seen s || ((m.sender == s && is_some o) || false)) e);
         votes_are = ap values is ∙ values-push ps m.sender v ∙ ap (λ xs. xs ++ v ∷ []) h.votes_are
             ∙ sym (first_votes-last [] seen m ∙ ap (λ b. first_votes j [] seen ++ (if not b then votes j (m ∷ []) else [])) (sym (h.proposed m.sender) ∙ new) ∙ ap (λ o. first_votes j [] seen ++ cons_option o []) e);
       }
         where
-          turn : (a b : Bool) → (a || b) ≡ (b || ((a && true) || false))
-          turn true true = refl
-          turn true false = refl
-          turn false true = refl
-          turn false false = refl
-
           flip : (a b : ℕ) → (a == b) ≡ (b == a)
           flip a b = grind (arith, nat_tests)
 

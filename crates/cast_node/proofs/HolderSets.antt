@@ -24,6 +24,7 @@ use Rattle.cast_node.specs.Kept.{knowers_in, is_enough_in}
 use Rattle.cast_node.specs.Turns.{known_row}
 use Rattle.cast_node.proofs.Links.{range-more}
 use Rattle.cast_node.proofs.Places.{same_number, other_number, at_set, at_padded, length-replicated}
+use Rattle.cast_node.proofs.Booleans.{or_false}
 
 -- the members known of one pair are others
 pub knowers_in-set : (all : List (List (set.FinSet nat_cmp))) (s i : ℕ) (members : set.FinSet nat_cmp) → s < length all → (x k : ℕ) →
@@ -148,11 +149,7 @@ unfolding has_pair
 pair_none me step steps e s i =
     ap (λ copies. has_pair copies s i) (own_copies-more me step steps ∙ ap (λ hs. own_copies me steps ++ map copy_of hs) e)
     ∙ list_any-append _ (own_copies me steps) []
-    ∙ no_more (has_pair (own_copies me steps) s i)
-  where
-    no_more : (b : Bool) → (b || false) ≡ b
-    no_more true = refl
-    no_more false = refl
+    ∙ or_false (has_pair (own_copies me steps) s i)
 
 module _ (config : Config) (me : ℕ) (step : Step) (steps : Steps) (all : List (List (set.FinSet nat_cmp))) (before : KnowsAll config me steps all) where
   -- nothing new is known

@@ -20,40 +20,23 @@ use Rattle.cast_node.specs.Delivering.{Delivering}
 use Rattle.cast_node.specs.Taking.{with_proposal, without_proposal}
 use Rattle.cast_node.specs.Sound.{IsNode, Owes}
 use Rattle.cast_node.specs.Giving.{OwesNothing}
+use Rattle.cast_node.proofs.Booleans.{or_false, or_comm, or_assoc}
 
 any_end : (f : Item → Bool) (items : List Item) (item : Item) → list_any f (items ++ item ∷ []) ≡ (list_any f items || f item)
-any_end f [] item = go (f item)
-  where
-    go : (b : Bool) → (b || false) ≡ b
-    go true = refl
-    go false = refl
-any_end f (x ∷ items) item = ap (λ b. f x || b) (any_end f items item) ∙ or_or (f x) (list_any f items) (f item)
-  where
-    or_or : (a b c : Bool) → (a || (b || c)) ≡ ((a || b) || c)
-    or_or true b c = refl
-    or_or false b c = refl
-
-or_false : (b : Bool) → b ≡ (b || false)
-or_false true = refl
-or_false false = refl
+any_end f [] item = or_false (f item)
+any_end f (x ∷ items) item = ap (λ b. f x || b) (any_end f items item) ∙ or_assoc (f x) (list_any f items) (f item)
 
 proposed_more : (proposed : set.FinSet nat_cmp) (items : List Item) (item : Item) (j : ℕ) → set.contains proposed j ≡ list_any (proposes j) items → set.contains (with_proposal proposed item) j ≡ list_any (proposes j) (items ++ item ∷ [])
-proposed_more proposed items (Data payload) j h = h ∙ or_false (list_any (proposes j) items) ∙ sym (any_end (proposes j) items (Data payload))
-proposed_more proposed items Close j h = h ∙ or_false (list_any (proposes j) items) ∙ sym (any_end (proposes j) items Close)
+proposed_more proposed items (Data payload) j h = h ∙ sym (or_false (list_any (proposes j) items)) ∙ sym (any_end (proposes j) items (Data payload))
+proposed_more proposed items Close j h = h ∙ sym (or_false (list_any (proposes j) items)) ∙ sym (any_end (proposes j) items Close)
 proposed_more proposed items (Propose k value) j h =
     contains-insert nat_cmp_total proposed k j
     ∙ (λ i. tie i || h i)
-    ∙ swap (k == j) (list_any (proposes j) items)
+    ∙ or_comm (k == j) (list_any (proposes j) items)
     ∙ sym (any_end (proposes j) items (Propose k value))
   where
     tie : eq_by_cmp nat_cmp j k ≡ (k == j)
     tie = grind (arith, nat_tests)
-
-    swap : (a b : Bool) → (a || b) ≡ (b || a)
-    swap true true = refl
-    swap true false = refl
-    swap false true = refl
-    swap false false = refl
 
 -- a proposal that is noted and withdrawn
 pub withdrawn : (proposed : set.FinSet nat_cmp) (items : List Item) (item : Item) → ((j : ℕ) → set.contains proposed j ≡ list_any (proposes j) items) → is_second_proposal items item ≡ false → without_proposal (with_proposal proposed item) item ≡ proposed

@@ -20,22 +20,15 @@ use Rattle.cast_model.proofs.Dues.{Member-map_in}
 use Rattle.cast_model.proofs.OwnGrowth.{own_copies-more, own_pair_kept, frames_in-more, frames_given, possible_given, GivenTo, tells_same}
 use Rattle.cast_model.proofs.OwnTurns.{length-map}
 use Rattle.cast_node.proofs.Places.{same_number}
+use Rattle.cast_node.proofs.Booleans.{or_assoc, and_alike}
 
 module _ {A : Type 0} where
   pub any_alike : (f g : A → Bool) (xs : List A) → ((x : A) → Member x xs → f x ≡ g x) → list_any f xs ≡ list_any g xs
   any_alike f g [] h = refl
   any_alike f g (x ∷ xs) h = λ i. h x here i || any_alike f g xs (λ y m. h y (there m)) i
 
-or_assoc : (a b c : Bool) → (a || (b || c)) ≡ ((a || b) || c)
-or_assoc true b c = refl
-or_assoc false b c = refl
-
 abbrev pub told_by : ℕ → Steps → ℕ → ℕ → ℕ → List Frame → Bool
 told_by me steps s i r frames = list_any (λ (frame : Frame). frame.from == r && tells_of (own_given_copies me steps r) s i frame.body) frames
-
-and_alike : (b c d : Bool) → (b ≡ true → c ≡ d) → (b && c) ≡ (b && d)
-and_alike true c d h = h refl
-and_alike false c d h = refl
 
 -- what is known after a step: what was, and what its frame tells
 pub knows_more : (config : Config) (me : ℕ) (step : Step) (steps : Steps) → IsOwnAccepted config me (step ∷ steps) → (s i r : ℕ) → own_knows me (step ∷ steps) s i r ≡ (own_knows me steps s i r || told_by me steps s i r (frame_of step))

@@ -1,3 +1,4 @@
+pub mod Booleans
 pub mod Places
 pub mod Links
 pub mod KnownHolders

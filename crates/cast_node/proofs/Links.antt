@@ -26,6 +26,7 @@ use Rattle.cast_relay.specs.Held.{Held as HeldPairs, relays_to}
 use Rattle.cast_node.specs.Turns.{given_from}
 use Rattle.cast_node.specs.Stands.{owed_in, StandsOut}
 use Rattle.cast_node.proofs.Places.{same_number, other_number}
+use Rattle.cast_node.proofs.Booleans.{or_false, and_false, and_true, or_implied}
 
 pub length-given_from : (q : ℕ) (relay : HeldPairs) (source : ℕ) (message : Message) (links : List (Link Message)) → length (given_from q relay source message links) ≡ length links
 unfolding given_on
@@ -54,11 +55,7 @@ acked_given config me steps accepted q slot e =
     by_body found.0.from found.0.body (frames_given config me steps accepted found.0 found.1) found.2
   where
     by_body : (from : ℕ) (body : FrameBody) → GivenTo me steps from body → (from == q && is_took_of slot body) ≡ true → slot < length (own_given me steps q)
-    by_body from (Carry place message) h t = absurd (true≢false (sym t ∙ never (from == q)))
-      where
-        never : (b : Bool) → (b && false) ≡ false
-        never true = refl
-        never false = refl
+    by_body from (Carry place message) h t = absurd (true≢false (sym t ∙ and_false (from == q)))
     by_body from (Took place) h t = grind (arith, nat_tests)
 
 pub range-more : (n a : ℕ) → range_with_len a (n + 1) ≡ range_with_len a n ++ (a + n) ∷ []
@@ -157,46 +154,29 @@ module _ (me : ℕ) (steps : Steps) (step : Step) (q : ℕ) where
                 ∙ sym (ap (λ b. if b && not (own_acked steps q slot) then Some (message_in (own_given me steps q ++ h ∷ []) slot) else None) (no_slot (size + 1) slot past)))
           ]
 
-  no_more : (b : Bool) → (b || false) ≡ b
-  no_more true = refl
-  no_more false = refl
-
-  unchanged : (b c : Bool) → (c ≡ true → b ≡ true) → (b || c) ≡ b
-  unchanged true c h = refl
-  unchanged false true h = sym (h refl)
-  unchanged false false h = refl
-
   -- where it takes the acknowledgement of a slot that was given
   module _ (slot : ℕ) (same : own_given me (step ∷ steps) q ≡ own_given me steps q) (told : (k : ℕ) → own_acked (step ∷ steps) q k ≡ (own_acked steps q k || (slot == k))) where
     -- it was acknowledged before
     pub out_acked_again : (link : Link Message) → own_acked steps q slot ≡ true → StandsOut me steps q link → StandsOut me (step ∷ steps) q link
-    out_acked_again link before h = out_same link same (λ k. told k ∙ unchanged (own_acked steps q k) (slot == k) (λ e. ap (own_acked steps q) (let z : k ≡ slot = grind (arith, nat_tests) in z) ∙ before)) h
+    out_acked_again link before h = out_same link same (λ k. told k ∙ or_implied (own_acked steps q k) (slot == k) (λ e. ap (own_acked steps q) (let z : k ≡ slot = grind (arith, nat_tests) in z) ∙ before)) h
 
     fewer : (p t : ℕ → Bool) (a n : ℕ) → a ≤ slot → slot < a + n → p slot ≡ true → ((k : ℕ) → t k ≡ (p k && not (slot == k))) → length (filter t (range_with_len a n)) + 1 ≡ length (filter p (range_with_len a n))
     fewer p t a zero low high e is = absurd (omega (arith, low, high))
     fewer p t a (suc n) low high e is = elim (cases_eq slot a) [
       | inl here ↦
-          (ap (λ b. length (cond b (a ∷ filter t (range_with_len (a + 1) n)) (filter t (range_with_len (a + 1) n))) + 1) (is a ∙ ap (λ b. p a && not b) (same_number slot a here) ∙ none (p a))
+          (ap (λ b. length (cond b (a ∷ filter t (range_with_len (a + 1) n)) (filter t (range_with_len (a + 1) n))) + 1) (is a ∙ ap (λ b. p a && not b) (same_number slot a here) ∙ and_false (p a))
           ∙ ap (λ xs. length xs + 1) (alike n (a + 1) (omega (arith, here)))
           ∙ (let z : length (filter p (range_with_len (a + 1) n)) + 1 ≡ suc (length (filter p (range_with_len (a + 1) n))) = omega arith in z)
           ∙ sym (ap (λ b. length (cond b (a ∷ filter p (range_with_len (a + 1) n)) (filter p (range_with_len (a + 1) n)))) (ap p (sym here) ∙ e)))
       | inr apart ↦
           (let rest = fewer p t (a + 1) n (omega (arith, low, apart)) (omega (arith, high)) e is in
-          ap (λ b. length (cond b (a ∷ filter t (range_with_len (a + 1) n)) (filter t (range_with_len (a + 1) n))) + 1) (is a ∙ ap (λ b. p a && not b) (other_number slot a apart) ∙ all (p a))
+          ap (λ b. length (cond b (a ∷ filter t (range_with_len (a + 1) n)) (filter t (range_with_len (a + 1) n))) + 1) (is a ∙ ap (λ b. p a && not b) (other_number slot a apart) ∙ and_true (p a))
           ∙ by_test (p a) rest)
     ]
       where
-        none : (b : Bool) → (b && false) ≡ false
-        none true = refl
-        none false = refl
-
-        all : (b : Bool) → (b && true) ≡ b
-        all true = refl
-        all false = refl
-
         alike : (m b : ℕ) → slot < b → filter t (range_with_len b m) ≡ filter p (range_with_len b m)
         alike zero b l = refl
-        alike (suc m) b l = λ i. cond ((is b ∙ ap (λ c. p b && not c) (other_number slot b (omega (arith, l))) ∙ all (p b)) i) (b ∷ alike m (b + 1) (omega (arith, l)) i) (alike m (b + 1) (omega (arith, l)) i)
+        alike (suc m) b l = λ i. cond ((is b ∙ ap (λ c. p b && not c) (other_number slot b (omega (arith, l))) ∙ and_true (p b)) i) (b ∷ alike m (b + 1) (omega (arith, l)) i) (alike m (b + 1) (omega (arith, l)) i)
 
         by_test : (b : Bool) → length (filter t (range_with_len (a + 1) n)) + 1 ≡ length (filter p (range_with_len (a + 1) n)) →
             length (cond b (a ∷ filter t (range_with_len (a + 1) n)) (filter t (range_with_len (a + 1) n))) + 1 ≡ length (cond b (a ∷ filter p (range_with_len (a + 1) n)) (filter p (range_with_len (a + 1) n)))
@@ -248,5 +228,5 @@ module _ (me : ℕ) (steps : Steps) (step : Step) (q : ℕ) where
               ∙ sym (is_after k ∙ ap (λ b. if nat_lt k (length (own_given me steps q)) && not (own_acked steps q k || b) then Some (message_in (own_given me steps q) k) else None) (same_number slot k (sym e)) ∙ gone (nat_lt k (length (own_given me steps q))) (own_acked steps q k) (Some (message_in (own_given me steps q) k))))
           | inr e ↦
               (ap (λ b. cond b None (finite.get link.owed k)) (other_number k slot e) ∙ stands.owed k
-              ∙ sym (is_after k ∙ ap (λ b. if nat_lt k (length (own_given me steps q)) && not b then Some (message_in (own_given me steps q) k) else None) (ap (λ b. own_acked steps q k || b) (other_number slot k (λ z. e (sym z))) ∙ no_more (own_acked steps q k))))
+              ∙ sym (is_after k ∙ ap (λ b. if nat_lt k (length (own_given me steps q)) && not b then Some (message_in (own_given me steps q) k) else None) (ap (λ b. own_acked steps q k || b) (other_number slot k (λ z. e (sym z))) ∙ or_false (own_acked steps q k))))
         ]

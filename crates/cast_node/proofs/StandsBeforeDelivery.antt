@@ -30,6 +30,7 @@ use Rattle.cast_node.proofs.Places.{length-slice_set, at_set, same_number, other
 use Rattle.cast_node.proofs.Links.{length-given_from, given_from-at, goes, out_same, out_given}
 use Rattle.cast_node.proofs.HolderSets.{KnowsAll, ready_alike, same_pair, pair_more, pair_none, knows_pair}
 use Rattle.cast_node.proofs.Back.{back_same, back_more, item_other}
+use Rattle.cast_node.proofs.Booleans.{or_false, and_false}
 
 -- The node's own numbers, its relay and what it took stand for the steps.
 pub record OwnStands (config : Config) (me : ℕ) (steps : Steps) (seen : Config) (number : ℕ) (is_live : Bool) (made : ℕ) (items : List Item) (relay : HeldPairs) (incoming : List (set.FinSet nat_cmp)) : Type 0 where
@@ -117,11 +118,7 @@ other_pair : (a b s i : ℕ) → s ≢ a → same_pair a b s i ≡ false
 other_pair a b s i e = ap (λ c. c && i == b) (other_number s a e)
 
 other_item : (a b i : ℕ) → i ≢ b → same_pair a b a i ≡ false
-other_item a b i e = ap (λ c. a == a && c) (other_number i b e) ∙ none (a == a)
-  where
-    none : (c : Bool) → (c && false) ≡ false
-    none true = refl
-    none false = refl
+other_item a b i e = ap (λ c. a == a && c) (other_number i b e) ∙ and_false (a == a)
 
 module _ (config : Config) (me : ℕ) (step : Step) (steps : Steps) (kept : Kept) (b : Base config me step steps kept) where
   -- more is heard of a pair that is held
@@ -185,11 +182,7 @@ module _ (config : Config) (me : ℕ) (step : Step) (steps : Steps) (kept : Kept
     held_is = held-more me step steps ∙ ap (λ hs. held me steps ++ hs) new
 
     pair_other : (x k : ℕ) → same_pair h.message.sender h.message.number x k ≡ false → has_pair (own_copies me (step ∷ steps)) x k ≡ has_pair (own_copies me steps) x k
-    pair_other x k e = pair_more me step steps h new x k ∙ ap (λ c. has_pair (own_copies me steps) x k || c) e ∙ none (has_pair (own_copies me steps) x k)
-      where
-        none : (c : Bool) → (c || false) ≡ c
-        none true = refl
-        none false = refl
+    pair_other x k e = pair_more me step steps h new x k ∙ ap (λ c. has_pair (own_copies me steps) x k || c) e ∙ or_false (has_pair (own_copies me steps) x k)
 
     pair_here : has_pair (own_copies me (step ∷ steps)) h.message.sender h.message.number ≡ true
     pair_here = pair_more me step steps h new h.message.sender h.message.number ∙ (λ k. fresh k || (same_number h.message.sender h.message.sender refl k && same_number h.message.number h.message.number refl k))

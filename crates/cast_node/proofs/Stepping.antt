@@ -40,18 +40,7 @@ use Rattle.cast_node.proofs.HolderSets.{knows_same, ready_alike, same_pair, pair
 use Rattle.cast_node.proofs.Back.{back_same}
 use Rattle.cast_node.proofs.StandsAfterDelivery.{ToldRight, told_right}
 use Rattle.cast_node.proofs.StandsBeforeDelivery.{Base, base_of, known_heard, new_heard}
-
-none : (b : Bool) → (b || false) ≡ b
-none true = refl
-none false = refl
-
-never : (b : Bool) → (b && false) ≡ false
-never true = refl
-never false = refl
-
-always : (b : Bool) → (b && true) ≡ b
-always true = refl
-always false = refl
+use Rattle.cast_node.proofs.Booleans.{or_false, and_false, and_true, or_comm, and_alike, or_implied}
 
 -- a pair that a node holds: of a sender in the group, and of its own numbers only those it ordered
 record InRange (config : Config) (me : ℕ) (steps : Steps) (s i : ℕ) : Type 0 where
@@ -73,7 +62,7 @@ module _ (config : Config) (me : ℕ) (place : me < config.nodes) where
       by_carry : (x : Step) (b : Bool) (from : ℕ) (slot : ℕ) (message : Message) → is_possible_body config me steps from (Carry slot message) ≡ true → list_any (λ (copy : FirstCopy). copy.sender == s && copy.number == i) (map copy_of (cond b [] (record { message = message; source = from } ∷ []))) ≡ true → InRange config me (x ∷ steps) s i
       by_carry x true from slot message fine t = absurd (false≢true t)
       by_carry x false from slot message fine t =
-          let p = and_parts (message.sender == s) (message.number == i) (sym (none (message.sender == s && message.number == i)) ∙ t) in
+          let p = and_parts (message.sender == s) (message.number == i) (sym (or_false (message.sender == s && message.number == i)) ∙ t) in
           let near = and_parts (nat_lt message.sender config.nodes && not (message.sender == me) && nat_lt message.number config.item_limit) (nat_lt slot (config.nodes * config.item_limit)) fine in
           let in_group = and_parts (nat_lt message.sender config.nodes && not (message.sender == me)) (nat_lt message.number config.item_limit) near.0 in
           let q = and_parts (nat_lt message.sender config.nodes) (not (message.sender == me)) in_group.0 in
@@ -93,7 +82,7 @@ module _ (config : Config) (me : ℕ) (place : me < config.nodes) where
 
       by_step : (x : Step) → is_ignored config me steps x ≡ false → list_any (λ (copy : FirstCopy). copy.sender == s && copy.number == i) (map copy_of (brought me steps x)) ≡ true → InRange config me (x ∷ steps) s i
       by_step (Ordered item) fine t =
-          let p = and_parts (me == s) (length (own_items steps) == i) (sym (none (me == s && length (own_items steps) == i)) ∙ t) in
+          let p = and_parts (me == s) (length (own_items steps) == i) (sym (or_false (me == s && length (own_items steps) == i)) ∙ t) in
           let same : me ≡ s = eqb-true me s p.0 in
           let at : length (own_items steps) ≡ i = eqb-true (length (own_items steps)) i p.1 in
           record { sender = subst (λ y. y < config.nodes) same place; number = λ z. (let n = length-append (own_items steps) (item ∷ []) in omega (arith, n, at)) }
@@ -162,13 +151,13 @@ module _ (config : Config) (me : ℕ) (steps : Steps) (kept : Kept) (st : Stands
 
   -- a step without a frame tells nothing
   no_ack : (step : Step) → frame_of step ≡ [] → (q slot : ℕ) → own_acked (step ∷ steps) q slot ≡ own_acked steps q slot
-  no_ack step e q slot = own_acked-more me step steps q slot ∙ ap (λ fs. own_acked steps q slot || list_any (λ (frame : Frame). frame.from == q && is_took_of slot frame.body) fs) e ∙ none (own_acked steps q slot)
+  no_ack step e q slot = own_acked-more me step steps q slot ∙ ap (λ fs. own_acked steps q slot || list_any (λ (frame : Frame). frame.from == q && is_took_of slot frame.body) fs) e ∙ or_false (own_acked steps q slot)
 
   no_take : (step : Step) → frame_of step ≡ [] → (r slot : ℕ) → own_taken (step ∷ steps) r slot ≡ own_taken steps r slot
-  no_take step e r slot = own_taken-more me step steps r slot ∙ ap (λ fs. own_taken steps r slot || list_any (λ (frame : Frame). frame.from == r && is_carry_of slot frame.body) fs) e ∙ none (own_taken steps r slot)
+  no_take step e r slot = own_taken-more me step steps r slot ∙ ap (λ fs. own_taken steps r slot || list_any (λ (frame : Frame). frame.from == r && is_carry_of slot frame.body) fs) e ∙ or_false (own_taken steps r slot)
 
   no_news : (step : Step) → IsOwnAccepted config me (step ∷ steps) → frame_of step ≡ [] → (s i r : ℕ) → own_knows me (step ∷ steps) s i r ≡ own_knows me steps s i r
-  no_news step accepted e s i r = knows_more config me step steps accepted s i r ∙ ap (λ fs. own_knows me steps s i r || told_by me steps s i r fs) e ∙ none (own_knows me steps s i r)
+  no_news step accepted e s i r = knows_more config me step steps accepted s i r ∙ ap (λ fs. own_knows me steps s i r || told_by me steps s i r fs) e ∙ or_false (own_knows me steps s i r)
 
   -- frames made, and the end
   pub quiet_stands : (step : Step) → IsOwnAccepted config me (step ∷ steps) → brought me steps step ≡ [] → own_items (step ∷ steps) ≡ own_items steps → frame_of step ≡ [] → (live : Bool) (frames : ℕ) → live ≡ own_live (step ∷ steps) → frames ≡ frame_count (step ∷ steps) →
@@ -198,19 +187,13 @@ relay_more relay a b l x k = ap (λ numbers. set.contains numbers k) (at_set rel
       (ap (λ c. set.contains (cond c (set.insert (numbers_of relay.numbers a) b) (numbers_of relay.numbers x)) k) (same_number x a e)
       ∙ contains-insert nat_cmp_total (numbers_of relay.numbers a) b k
       ∙ (λ i. cmp_eq k b i || set.contains (numbers_of relay.numbers (sym e i)) k)
-      ∙ turn (k == b) (holds relay x k)
+      ∙ or_comm (k == b) (holds relay x k)
       ∙ ap (λ c. holds relay x k || (c && k == b)) (sym (same_number x a e)))
   | inr e ↦
       (ap (λ c. set.contains (cond c (set.insert (numbers_of relay.numbers a) b) (numbers_of relay.numbers x)) k) (other_number x a e)
-      ∙ sym (none (holds relay x k))
+      ∙ sym (or_false (holds relay x k))
       ∙ ap (λ c. holds relay x k || (c && k == b)) (sym (other_number x a e)))
 ]
-  where
-    turn : (c d : Bool) → (c || d) ≡ (d || (true && c))
-    turn true true = refl
-    turn true false = refl
-    turn false true = refl
-    turn false false = refl
 
 -- a slot that was acknowledged was told of
 told_before : (me : ℕ) (steps : Steps) (from slot : ℕ) → own_acked steps from slot ≡ true → (s i x : ℕ) → (from == x && is_pair (copy_at (own_given_copies me steps x) slot) s i) ≡ true → own_knows me steps s i x ≡ true
@@ -232,7 +215,7 @@ took_base config me steps kept st from seq to slot accepted peers =
     let step : Step = Arrived (record { from = from; seq = seq; to = to; body = Took slot }) in
     base_of config me step steps kept st accepted refl (let z : frame_count steps + 0 ≡ frame_count steps = omega arith in z) kept.stream kept.relay (with_acked kept from slot).outgoing kept.incoming (st.stream ∙ sym (append-nil (own_items steps)))
     st.relay_me st.relay_size (λ x k l. st.relay_holds x k l ∙ sym (pair_none me step steps refl x k))
-    peers st.peers_in (λ r k l. st.taken r k l ∙ sym (own_taken-more me step steps r k ∙ ap (λ c. own_taken steps r k || (c || false)) (never (from == r)) ∙ none (own_taken steps r k)))
+    peers st.peers_in (λ r k l. st.taken r k l ∙ sym (own_taken-more me step steps r k ∙ ap (λ c. own_taken steps r k || (c || false)) (and_false (from == r)) ∙ or_false (own_taken steps r k)))
 
 module _ (config : Config) (me : ℕ) (steps : Steps) (kept : Kept) (st : Stands config me steps kept) where
   senders_below : (s : ℕ) → s < config.nodes → s < length kept.relay.numbers
@@ -241,7 +224,7 @@ module _ (config : Config) (me : ℕ) (steps : Steps) (kept : Kept) (st : Stands
   -- what was known of a pair that wasn't held: nothing but what needs no telling
   unknown : (s i : ℕ) → has_pair (own_copies me steps) s i ≡ false → (x : ℕ) → own_knows me steps s i x ≡ (x == me || x == s)
   unfolding own_knows
-  unknown s i fresh x = ap (λ c. (x == me || x == s) || c) (untold config me steps st.accepted s i x fresh) ∙ none (x == me || x == s)
+  unknown s i fresh x = ap (λ c. (x == me || x == s) || c) (untold config me steps st.accepted s i x fresh) ∙ or_false (x == me || x == s)
 
   -- an item of its own
   module _ (item : Item) (accepted : IsOwnAccepted config me (Ordered item ∷ steps)) where
@@ -300,33 +283,28 @@ module _ (config : Config) (me : ℕ) (steps : Steps) (kept : Kept) (st : Stands
               ∙ contains-insert nat_cmp_total (taken_from kept from) slot k
               ∙ (λ i. cmp_eq k slot i || set.contains (taken_from kept (sym e i)) k)
               ∙ ap (λ c. (k == slot) || c) (st.taken r k l)
-              ∙ turn (k == slot) (own_taken steps r k)
+              ∙ or_comm (k == slot) (own_taken steps r k)
+              ∙ ap (λ c. own_taken steps r k || c) (sym (or_false (k == slot)))
               ∙ (λ i. own_taken steps r k || ((sym (same_number from r (sym e)) i && flip k slot i) || false)))
           | inr e ↦
               (ap (λ c. set.contains (cond c (set.insert (taken_from kept from) slot) (taken_from kept r)) k) (other_number r from e)
               ∙ st.taken r k l
-              ∙ sym (none (own_taken steps r k))
+              ∙ sym (or_false (own_taken steps r k))
               ∙ (λ i. own_taken steps r k || ((sym (other_number from r (λ z. e (sym z))) i && (slot == k)) || false)))
         ]
         ∙ sym (own_taken-more me carry steps r k)
       where
-        turn : (c d : Bool) → (c || d) ≡ (d || ((true && c) || false))
-        turn true true = refl
-        turn true false = refl
-        turn false true = refl
-        turn false false = refl
-
         flip : (a b : ℕ) → (a == b) ≡ (b == a)
         flip a b = grind (arith, nat_tests)
 
     carry_acks : (q k : ℕ) → own_acked (carry ∷ steps) q k ≡ own_acked steps q k
-    carry_acks q k = own_acked-more me carry steps q k ∙ ap (λ c. own_acked steps q k || (c || false)) (never (from == q)) ∙ none (own_acked steps q k)
+    carry_acks q k = own_acked-more me carry steps q k ∙ ap (λ c. own_acked steps q k || (c || false)) (and_false (from == q)) ∙ or_false (own_acked steps q k)
 
     carry_knows : (s i x : ℕ) → own_knows me (carry ∷ steps) s i x ≡ (own_knows me steps s i x || ((from == x && (message.sender == s && message.number == i)) || false))
     carry_knows s i x = knows_more config me carry steps accepted s i x
 
     carry_other : (s i : ℕ) → same_pair message.sender message.number s i ≡ false → (x : ℕ) → own_knows me (carry ∷ steps) s i x ≡ own_knows me steps s i x
-    carry_other s i e x = carry_knows s i x ∙ ap (λ c. own_knows me steps s i x || ((from == x && c) || false)) (turn s message.sender i message.number ∙ e) ∙ ap (λ c. own_knows me steps s i x || (c || false)) (never (from == x)) ∙ none (own_knows me steps s i x)
+    carry_other s i e x = carry_knows s i x ∙ ap (λ c. own_knows me steps s i x || ((from == x && c) || false)) (turn s message.sender i message.number ∙ e) ∙ ap (λ c. own_knows me steps s i x || (c || false)) (and_false (from == x)) ∙ or_false (own_knows me steps s i x)
       where
         turn : (a b c d : ℕ) → (b == a && d == c) ≡ (a == b && c == d)
         turn a b c d = grind (arith, nat_tests)
@@ -350,7 +328,7 @@ module _ (config : Config) (me : ℕ) (steps : Steps) (kept : Kept) (st : Stands
         nothing_new = ap (λ c. if c then [] else record { message = message; source = from } ∷ []) pair
 
         here : (x : ℕ) → own_knows me (carry ∷ steps) message.sender message.number x ≡ (own_knows me steps message.sender message.number x || (from == x))
-        here x = carry_knows message.sender message.number x ∙ ap (λ c. own_knows me steps message.sender message.number x || c) (ap (λ c. (from == x && c) || false) itself ∙ none (from == x && true) ∙ always (from == x))
+        here x = carry_knows message.sender message.number x ∙ ap (λ c. own_knows me steps message.sender message.number x || c) (ap (λ c. (from == x && c) || false) itself ∙ or_false (from == x && true) ∙ and_true (from == x))
 
         base : Base config me carry steps (with_taken kept from slot)
         base = carry_base kept.relay st.relay_me st.relay_size (λ x k l. st.relay_holds x k l ∙ sym (pair_none me carry steps nothing_new x k))
@@ -367,7 +345,7 @@ module _ (config : Config) (me : ℕ) (steps : Steps) (kept : Kept) (st : Stands
         new = ap (λ c. if c then [] else record { message = message; source = from } ∷ []) fresh
 
         here : (x : ℕ) → own_knows me (carry ∷ steps) message.sender message.number x ≡ ((x == me || x == message.sender) || (from == x))
-        here x = carry_knows message.sender message.number x ∙ (λ k. unknown message.sender message.number fresh x k || (ap (λ c. (from == x && c) || false) itself ∙ none (from == x && true) ∙ always (from == x)) k)
+        here x = carry_knows message.sender message.number x ∙ (λ k. unknown message.sender message.number fresh x k || (ap (λ c. (from == x && c) || false) itself ∙ or_false (from == x && true) ∙ and_true (from == x)) k)
 
         base : Base config me carry steps (record (with_taken kept from slot) { relay = with_pair kept.relay message.sender message.number })
         base = carry_base (with_pair kept.relay message.sender message.number) st.relay_me (length-slice_set kept.relay.numbers message.sender _ ∙ st.relay_size)
@@ -411,7 +389,7 @@ module _ (config : Config) (me : ℕ) (steps : Steps) (kept : Kept) (st : Stands
     took_acks q k = own_acked-more me took steps q k
 
     took_takes : (r k : ℕ) → own_taken (took ∷ steps) r k ≡ own_taken steps r k
-    took_takes r k = own_taken-more me took steps r k ∙ ap (λ c. own_taken steps r k || (c || false)) (never (from == r)) ∙ none (own_taken steps r k)
+    took_takes r k = own_taken-more me took steps r k ∙ ap (λ c. own_taken steps r k || (c || false)) (and_false (from == r)) ∙ or_false (own_taken steps r k)
 
     took_knows : (s i x : ℕ) → own_knows me (took ∷ steps) s i x ≡ (own_knows me steps s i x || ((from == x && is_pair (copy_at (own_given_copies me steps x) slot) s i) || false))
     took_knows s i x = knows_more config me took steps accepted s i x
@@ -423,10 +401,6 @@ module _ (config : Config) (me : ℕ) (steps : Steps) (kept : Kept) (st : Stands
         ∙ (λ k. copy_is.0 k == s && copy_is.1 k == i)
         ∙ turn s message.sender i message.number)
       where
-        and_alike : (b c d : Bool) → (b ≡ true → c ≡ d) → (b && c) ≡ (b && d)
-        and_alike true c d h = h refl
-        and_alike false c d h = refl
-
         turn : (a b c d : ℕ) → (b == a && d == c) ≡ (a == b && c == d)
         turn a b c d = grind (arith, nat_tests)
 
@@ -445,9 +419,7 @@ module _ (config : Config) (me : ℕ) (steps : Steps) (kept : Kept) (st : Stands
     }
       where
         kept_so : (b c : Bool) → (c ≡ true → b ≡ true) → (b || (c || false)) ≡ b
-        kept_so true c h = refl
-        kept_so false true h = sym (h refl)
-        kept_so false false h = refl
+        kept_so b c h = ap (λ d. b || d) (or_false c) ∙ or_implied b c h
 
         acked_same : (q k : ℕ) → own_acked (took ∷ steps) q k ≡ own_acked steps q k
         acked_same q k = took_acks q k ∙ kept_so (own_acked steps q k) (from == q && slot == k) (λ e. let p = and_parts (from == q) (slot == k) e in (λ j. own_acked steps (sym (eqb-true from q p.0) j) (sym (eqb-true slot k p.1) j)) ∙ before)
@@ -462,10 +434,10 @@ module _ (config : Config) (me : ℕ) (steps : Steps) (kept : Kept) (st : Stands
       where
         here : (x : ℕ) → own_knows me (took ∷ steps) message.sender message.number x ≡ (own_knows me steps message.sender message.number x || (from == x))
         here x = took_knows message.sender message.number x ∙ ap (λ c. own_knows me steps message.sender message.number x || (c || false)) (tells message.sender message.number x ∙ (λ k. from == x && (same_number message.sender message.sender refl k && same_number message.number message.number refl k)))
-            ∙ ap (λ c. own_knows me steps message.sender message.number x || c) (none (from == x && true) ∙ always (from == x))
+            ∙ ap (λ c. own_knows me steps message.sender message.number x || c) (or_false (from == x && true) ∙ and_true (from == x))
 
         other : (s i : ℕ) → same_pair message.sender message.number s i ≡ false → (x : ℕ) → own_knows me (took ∷ steps) s i x ≡ own_knows me steps s i x
-        other s i e x = took_knows s i x ∙ ap (λ c. own_knows me steps s i x || (c || false)) (tells s i x ∙ ap (λ c. from == x && c) e ∙ never (from == x)) ∙ none (own_knows me steps s i x)
+        other s i e x = took_knows s i x ∙ ap (λ c. own_knows me steps s i x || (c || false)) (tells s i x ∙ ap (λ c. from == x && c) e ∙ and_false (from == x)) ∙ or_false (own_knows me steps s i x)
 
         base : Base config me took steps (with_acked kept from slot)
         base = took_base config me steps kept st from seq to slot accepted (length-slice_set kept.outgoing from _ ∙ st.peers_out)
@@ -475,9 +447,9 @@ module _ (config : Config) (me : ℕ) (steps : Steps) (kept : Kept) (st : Stands
             (elim (cases_eq q from) [
               | inl same ↦ subst (λ c. StandsOut me (took ∷ steps) q (cond c (record { given = (link_to kept from).given; owed = finite.remove (link_to kept from).owed slot }) (link_to kept q))) (sym (same_number q from same))
                   (subst (λ y. StandsOut me (took ∷ steps) y (record { given = (link_to kept from).given; owed = finite.remove (link_to kept from).owed slot })) (sym same)
-                  (out_acked me steps took from slot (given_same from) (λ k. took_acks from k ∙ (λ j. own_acked steps from k || ((same_number from from refl j && (slot == k)) || false)) ∙ ap (λ c. own_acked steps from k || c) (none (slot == k))) (link_to kept from) inside waiting (st.out from from_in other_node)))
+                  (out_acked me steps took from slot (given_same from) (λ k. took_acks from k ∙ (λ j. own_acked steps from k || ((same_number from from refl j && (slot == k)) || false)) ∙ ap (λ c. own_acked steps from k || c) (or_false (slot == k))) (link_to kept from) inside waiting (st.out from from_in other_node)))
               | inr differs ↦ subst (λ c. StandsOut me (took ∷ steps) q (cond c (record { given = (link_to kept from).given; owed = finite.remove (link_to kept from).owed slot }) (link_to kept q))) (sym (other_number q from differs))
-                  (out_same me steps took q (link_to kept q) (given_same q) (λ k. took_acks q k ∙ ap (λ c. own_acked steps q k || ((c && (slot == k)) || false)) (other_number from q (λ z. differs (sym z))) ∙ none (own_acked steps q k)) (st.out q l e))
+                  (out_same me steps took q (link_to kept q) (given_same q) (λ k. took_acks q k ∙ ap (λ c. own_acked steps q k || ((c && (slot == k)) || false)) (other_number from q (λ z. differs (sym z))) ∙ or_false (own_acked steps q k)) (st.out q l e))
             ])
 
     pub acknowledged_right : ToldRight config me took steps (acknowledged kept from slot (finite.get (link_to kept from).owed slot))

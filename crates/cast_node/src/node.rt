@@ -1,9 +1,9 @@
 //! A node of a broadcast group: what it holds, gives, waits for, delivers and decides.
-ghost use Rattle.std.specs.Prelude.{◌≡◌, ◌≢◌, ℕ, ◌<◌, ◌≤◌, ◌+◌, ◌∷◌, ◌++◌, [], false, true, IsTrue, length, nat_lt, Some, None, option_map, slice_get, MatchOption, if◌then◌else◌, IfOk, IfErr, OnOk, OnErr};
+ghost use Rattle.std.specs.Prelude.{◌≡◌, ◌≢◌, ℕ, ◌==◌, ◌<◌, ◌≤◌, ◌+◌, ◌∷◌, ◌++◌, [], false, true, IsTrue, length, nat_lt, Some, None, option_map, slice_get, MatchOption, if◌then◌else◌, IfOk, IfErr, OnOk, OnErr};
 ghost use Rattle.std.specs.FinMap as finite;
 ghost use Rattle.std.specs.FinSet as set;
 ghost use Rattle.cast_model.specs.Steps.{Ordered, Sent, Acknowledged, Arrived, Stopped};
-ghost use Rattle.cast_message.specs.declared.event.StepFault.TheVariants.{NoNode, Memory};
+ghost use Rattle.cast_message.specs.declared.event.StepFault.TheVariants.{NoNode, SelfLink, Memory};
 ghost use Rattle.cast_message.specs.declared.message.Frame.{Frame as Arriving};
 ghost use Rattle.cast_message.specs.declared.message.FrameBody.TheVariants.{Carry, Took};
 ghost use Rattle.cast_message.specs.declared.message.Item.{Item as Carried};
@@ -11,8 +11,8 @@ ghost use Rattle.cast_agree.specs.Counted.{decision};
 ghost use Rattle.cast_link.specs.Links.{IsLeastFrom};
 ghost use Rattle.cast_relay.specs.Held.{holds};
 ghost use Rattle.cast_node.specs.Kept.{nothing_kept, link_to, knowers_of};
-ghost use Rattle.cast_node.specs.Turns.{Gives, kept_fault, carry_of, took_of, message_owed, ordered, arrived_body, may_arrive};
-ghost use Rattle.cast_model.specs.Replies.{is_close, is_too_long, is_second_proposal};
+ghost use Rattle.cast_node.specs.Turns.{Gives, down, kept_fault, carry_of, took_of, message_owed, ordered, arrived_body, may_arrive};
+ghost use Rattle.cast_model.specs.Replies.{no_node, first_fault, is_close, is_too_long, is_second_proposal};
 ghost use Rattle.cast_node.specs.Taking.{with_proposal, without_proposal};
 ghost use Rattle.cast_node.specs.Calls.{is_peer, may_carry, carry_slot, carried_frame, took_frame, ordered_reply, sent_reply, number_reply, numbered_reply, arrived_reply, crashed_reply};
 
@@ -555,10 +555,14 @@ impl Node {
         None
     }
 
-    /// Why a send of this slot to a peer is refused, if it is, want of memory aside. It takes no memory.
-    #[tactic(auto, using(std::proofs::lemmas::Bool::Decides::nat_tests), unfolding(cast_model::specs::Replies::first_fault, crate::specs::Turns::kept_causes, crate::specs::Turns::kept_fault))]
-    pub fn send_fault(&self, to: NodeId, slot: u64) -> Option<StepFault>
-        ensures { result ≡ kept_fault self.now (Sent to slot) }
+    // Why any frame for a peer is refused, if it is.
+    #[tactic(auto, using(std::proofs::lemmas::Bool::Decides::nat_tests), unfolding(cast_model::specs::Replies::first_fault))]
+    fn peer_fault(&self, to: NodeId) -> Option<StepFault>
+        ensures { result
+            ≡ first_fault (no_node self.now.config to
+            ∷ record { holds = self.now.me == to; refusal = SelfLink }
+            ∷ down self.now
+            ∷ []) }
     {
         if u64::from(to.0) >= self.config.nodes() {
             return Some(StepFault::NoNode);
@@ -568,6 +572,17 @@ impl Node {
         }
         if !self.live {
             return Some(StepFault::Crashed);
+        }
+        None
+    }
+
+    /// Why a send of this slot to a peer is refused, if it is, want of memory aside. It takes no memory.
+    #[tactic(auto, using(std::proofs::lemmas::Bool::Decides::nat_tests), unfolding(cast_model::specs::Replies::first_fault, crate::specs::Turns::kept_causes, crate::specs::Turns::kept_fault))]
+    pub fn send_fault(&self, to: NodeId, slot: u64) -> Option<StepFault>
+        ensures { result ≡ kept_fault self.now (Sent to slot) }
+    {
+        if let Some(fault) = self.peer_fault(to) {
+            return Some(fault);
         }
         if self.outgoing.given(to) <= slot {
             return Some(StepFault::NoSlot);
@@ -586,14 +601,8 @@ impl Node {
     pub fn ack_fault(&self, to: NodeId, slot: u64) -> Option<StepFault>
         ensures { result ≡ kept_fault self.now (Acknowledged to slot) }
     {
-        if u64::from(to.0) >= self.config.nodes() {
-            return Some(StepFault::NoNode);
-        }
-        if self.me.0 == to.0 {
-            return Some(StepFault::SelfLink);
-        }
-        if !self.live {
-            return Some(StepFault::Crashed);
+        if let Some(fault) = self.peer_fault(to) {
+            return Some(fault);
         }
         if !self.incoming[usize::from(to.0)].may_ack(slot) {
             return Some(StepFault::NotTaken);
