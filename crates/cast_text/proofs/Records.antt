@@ -107,23 +107,22 @@ nothing_delivered : (config : Config) (past : History) (event : Event) → conce
 unfolding delivery_log
 nothing_delivered config past event none q s = rw none (ap (λ log. length (filter (is_from s) log)) (sym (append-nil (delivery_log config past q))))
 
-send_leaves : (config : Config) (events : List Event) (past : History) (xs : List Line) (index p q slot : ℕ) → Leaves config events past xs index (Send p q slot)
-unfolding answer is_live concerned
-send_leaves config events past xs index p q slot e on t = record {
-  events = events ++ Send p q slot ∷ [];
+-- an accepted event of which the record says nothing
+leaves_nothing : (config : Config) (events : List Event) (past : History) (event : Event) (xs : List Line) → after config past event ≡ event ∷ past → ((p : ℕ) → items_ordered event p ≡ []) → concerned past event ≡ None → ((p : ℕ) → is_live past p ≡ is_live (event ∷ past) p) → Told config events past xs → Grown config (event ∷ past) xs []
+leaves_nothing config events past event xs on none quiet live t = record {
+  events = events ++ event ∷ [];
   lines = xs;
   goes = goes_none xs;
-  told = told_quietly config events past (Send p q slot) xs (is_live past) on (λ r. refl) (nothing_delivered config past (Send p q slot) refl) (λ r. refl) t xs t.says;
+  told = told_quietly config events past event xs (is_live past) on none (nothing_delivered config past event quiet) live t xs t.says;
 }
+
+send_leaves : (config : Config) (events : List Event) (past : History) (xs : List Line) (index p q slot : ℕ) → Leaves config events past xs index (Send p q slot)
+unfolding answer is_live concerned
+send_leaves config events past xs index p q slot e on t = leaves_nothing config events past (Send p q slot) xs on (λ r. refl) refl (λ r. refl) t
 
 ack_leaves : (config : Config) (events : List Event) (past : History) (xs : List Line) (index p q slot : ℕ) → Leaves config events past xs index (Ack p q slot)
 unfolding answer is_live concerned
-ack_leaves config events past xs index p q slot e on t = record {
-  events = events ++ Ack p q slot ∷ [];
-  lines = xs;
-  goes = goes_none xs;
-  told = told_quietly config events past (Ack p q slot) xs (is_live past) on (λ r. refl) (nothing_delivered config past (Ack p q slot) refl) (λ r. refl) t xs t.says;
-}
+ack_leaves config events past xs index p q slot e on t = leaves_nothing config events past (Ack p q slot) xs on (λ r. refl) refl (λ r. refl) t
 
 below_from_test : (config : Config) (p : ℕ) → p < config.nodes → p < 256
 below_from_test config p l = omega (arith, config.nodes_in_range)

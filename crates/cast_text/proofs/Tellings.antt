@@ -75,19 +75,26 @@ says_as config st st' c c' l l' v v' xs a b d e h = record {
   decided = λ j w m. e j w (h.decided j w m);
 }
 
+-- what holds with a line more that breaks no rule
+says_more : {config : Config} {st st' : ℕ → List Item} {c c' : ℕ → ℕ → ℕ} {l l' : ℕ → Bool} {v v' : ℕ → List ℕ} (xs : List Line) (line : Line) → said.is_ended (line ∷ xs) ≡ false → said.group_of (line ∷ xs) ≡ said.group_of xs → said.broken xs line ≡ None → Says config st c l v xs
+    → ((p : ℕ) → items_of (line ∷ xs) p ≡ st' p) → ((q s : ℕ) → said.deliveries_of (line ∷ xs) q s ≡ c' q s) → ((p : ℕ) → said.has_crashed (line ∷ xs) p ≡ not (l' p)) → ((j w : ℕ) → Member w (said.values_in (line ∷ xs) j) → Member w (v' j))
+    → Says config st' c' l' v' (line ∷ xs)
+says_more xs line open_yet same_group sound h items delivered crashed decided = record {
+  goes_on = open_yet;
+  some = omega arith;
+  group = same_group ∙ h.group;
+  items = items;
+  numbered = numbered_on xs line (prefix_kept xs line sound) h.numbered;
+  delivered = delivered;
+  crashed = crashed;
+  decided = decided;
+}
+
 pub says_broadcast : (config : Config) (st : ℕ → List Item) (c : ℕ → ℕ → ℕ) (l : ℕ → Bool) (v : ℕ → List ℕ) (xs : List Line) (m : Message) → said.broken xs (Broadcast m) ≡ None → Says config st c l v xs
     → Says config (λ p. st p ++ items_in (Broadcast m) p) c l v (Broadcast m ∷ xs)
 unfolding said.group_of items_of said.deliveries_of said.has_crashed said.values_in
-says_broadcast config st c l v xs m sound h = record {
-  goes_on = refl;
-  some = omega arith;
-  group = h.group;
-  items = λ p. ap (λ items. items ++ items_in (Broadcast m) p) (h.items p);
-  numbered = numbered_on xs (Broadcast m) (prefix_kept xs (Broadcast m) sound) h.numbered;
-  delivered = h.delivered;
-  crashed = h.crashed;
-  decided = h.decided;
-}
+says_broadcast config st c l v xs m sound h =
+    says_more xs (Broadcast m) refl refl sound h (λ p. ap (λ items. items ++ items_in (Broadcast m) p) (h.items p)) h.delivered h.crashed h.decided
 
 abbrev pub one_if : Bool → ℕ → ℕ
 one_if b n = cond b n 0
@@ -99,30 +106,14 @@ counted false line lines = omega arith
 pub says_delivery : (config : Config) (st : ℕ → List Item) (c : ℕ → ℕ → ℕ) (l : ℕ → Bool) (v : ℕ → List ℕ) (xs : List Line) (q : ℕ) (m : Message) → said.broken xs (Delivered q m) ≡ None → Says config st c l v xs
     → Says config st (λ q' s'. c q' s' + one_if (nat_eq q q' && nat_eq m.sender s') 1) l v (Delivered q m ∷ xs)
 unfolding said.group_of items_of said.deliveries_of said.has_crashed said.values_in
-says_delivery config st c l v xs q m sound h = record {
-  goes_on = refl;
-  some = omega arith;
-  group = h.group;
-  items = λ p. append-nil (items_of xs p) ∙ h.items p;
-  numbered = numbered_on xs (Delivered q m) (prefix_kept xs (Delivered q m) sound) h.numbered;
-  delivered = λ q' s'. counted (nat_eq q q' && nat_eq m.sender s') (Delivered q m) (filter (said.is_delivery q' s') xs) ∙ ap (λ n. n + one_if (nat_eq q q' && nat_eq m.sender s') 1) (h.delivered q' s');
-  crashed = h.crashed;
-  decided = h.decided;
-}
+says_delivery config st c l v xs q m sound h =
+    says_more xs (Delivered q m) refl refl sound h (λ p. append-nil (items_of xs p) ∙ h.items p) (λ q' s'. counted (nat_eq q q' && nat_eq m.sender s') (Delivered q m) (filter (said.is_delivery q' s') xs) ∙ ap (λ n. n + one_if (nat_eq q q' && nat_eq m.sender s') 1) (h.delivered q' s')) h.crashed h.decided
 
 pub says_decision : (config : Config) (st : ℕ → List Item) (c : ℕ → ℕ → ℕ) (l : ℕ → Bool) (v : ℕ → List ℕ) (xs : List Line) (q : ℕ) (d : Decision) → said.broken xs (Decided q d) ≡ None → Member d.value (v d.instance) → Says config st c l v xs
     → Says config st c l v (Decided q d ∷ xs)
 unfolding said.group_of items_of said.deliveries_of said.has_crashed said.values_in
-says_decision config st c l v xs q d sound among h = record {
-  goes_on = refl;
-  some = omega arith;
-  group = h.group;
-  items = λ p. append-nil (items_of xs p) ∙ h.items p;
-  numbered = numbered_on xs (Decided q d) (prefix_kept xs (Decided q d) sound) h.numbered;
-  delivered = h.delivered;
-  crashed = h.crashed;
-  decided = λ j w m. go j w (nat_eq d.instance j) refl m;
-}
+says_decision config st c l v xs q d sound among h =
+    says_more xs (Decided q d) refl refl sound h (λ p. append-nil (items_of xs p) ∙ h.items p) h.delivered h.crashed (λ j w m. go j w (nat_eq d.instance j) refl m)
   where
     go : (j w : ℕ) (b : Bool) → nat_eq d.instance j ≡ b → Member w (cons_option (cond b (Some d.value) None) (said.values_in xs j)) → Member w (v j)
     go j w true e m = elim (Member-uncons w d.value (said.values_in xs j) m) [
@@ -134,16 +125,8 @@ says_decision config st c l v xs q d sound among h = record {
 pub says_crash : (config : Config) (st : ℕ → List Item) (c : ℕ → ℕ → ℕ) (l : ℕ → Bool) (v : ℕ → List ℕ) (xs : List Line) (p : ℕ) → said.broken xs (Crashed p) ≡ None → Says config st c l v xs
     → Says config st c (λ p'. not (nat_eq p p' || not (l p'))) v (Crashed p ∷ xs)
 unfolding said.group_of items_of said.deliveries_of said.has_crashed said.values_in
-says_crash config st c l v xs p sound h = record {
-  goes_on = refl;
-  some = omega arith;
-  group = h.group;
-  items = λ p. append-nil (items_of xs p) ∙ h.items p;
-  numbered = numbered_on xs (Crashed p) (prefix_kept xs (Crashed p) sound) h.numbered;
-  delivered = h.delivered;
-  crashed = λ p'. ap (λ b. nat_eq p p' || b) (h.crashed p') ∙ twice (nat_eq p p' || not (l p'));
-  decided = h.decided;
-}
+says_crash config st c l v xs p sound h =
+    says_more xs (Crashed p) refl refl sound h (λ p. append-nil (items_of xs p) ∙ h.items p) h.delivered (λ p'. ap (λ b. nat_eq p p' || b) (h.crashed p') ∙ twice (nat_eq p p' || not (l p'))) h.decided
   where
     twice : (b : Bool) → b ≡ not (not b)
     twice true = refl
@@ -152,16 +135,8 @@ says_crash config st c l v xs p sound h = record {
 pub says_refusal : (config : Config) (st : ℕ → List Item) (c : ℕ → ℕ → ℕ) (l : ℕ → Bool) (v : ℕ → List ℕ) (xs : List Line) (i code : ℕ) → said.broken xs (Refused i code) ≡ None → Says config st c l v xs
     → Says config st c l v (Refused i code ∷ xs)
 unfolding said.group_of items_of said.deliveries_of said.has_crashed said.values_in
-says_refusal config st c l v xs i code sound h = record {
-  goes_on = refl;
-  some = omega arith;
-  group = h.group;
-  items = λ p. append-nil (items_of xs p) ∙ h.items p;
-  numbered = numbered_on xs (Refused i code) (prefix_kept xs (Refused i code) sound) h.numbered;
-  delivered = h.delivered;
-  crashed = h.crashed;
-  decided = h.decided;
-}
+says_refusal config st c l v xs i code sound h =
+    says_more xs (Refused i code) refl refl sound h (λ p. append-nil (items_of xs p) ∙ h.items p) h.delivered h.crashed h.decided
 
 -- ---- the ranges of what is written
 
