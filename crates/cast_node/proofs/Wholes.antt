@@ -1,18 +1,20 @@
 -- A node's parts put together.
-use Rattle.std.specs.Prelude.{◌≡◌, ℕ, zero, suc, ◌+◌, ◌-◌, ◌<◌, ◌==◌, nat_lt, nat_le, Bool, true, false, not, ◌&&◌, if◌then◌else◌, List, [], ◌∷◌, ◌++◌, length, replicate, slice_set, slice_index_or, Option, Some, None, Result, Ok, Err, IfOk, OnOk, OnErr, refl}
+use Rattle.std.specs.Prelude.{◌≡◌, ℕ, zero, suc, ◌+◌, ◌-◌, ◌<◌, ◌==◌, nat_lt, nat_le, Bool, true, false, not, ◌&&◌, if◌then◌else◌, List, [], ◌∷◌, ◌++◌, length, replicate, slice_set, slice_index_or, Some, None, Result, Ok, Err, IfOk, OnOk, OnErr, refl}
 use Rattle.std.specs.List.{list_any}
 use Rattle.std.specs.Ordering.{nat_cmp}
 use Rattle.std.specs.FinSet as set
 use Rattle.std.specs.FinMap as finite
 use Rattle.std.proofs.Common.{sym, ap, ◌∙◌, subst, arith, true≢false, length-append}
 use Rattle.std.proofs.Math.ListN.{length-set}
+use Rattle.std.proofs.lemmas.Bool.{and_parts, ltb-true}
 use Rattle.std.proofs.lemmas.Bool.Decides.{nat_tests}
 use Rattle.cast_message.specs.declared.config.Config.{Config}
-use Rattle.cast_message.specs.declared.event.StepFault.{StepFault}
 use Rattle.cast_message.specs.declared.message.Item.{Item}
 use Rattle.cast_message.specs.declared.message.Message.{Message}
 use Rattle.cast_model.specs.Replies.{Cause, is_close, first_fault}
 use Rattle.cast_model.specs.Steps.{Ordered, Sent, Acknowledged}
+use Rattle.cast_model.proofs.Accepted.{no_cause}
+use Rattle.cast_model.proofs.Members.{here, there}
 use Rattle.cast_link.specs.Links.{Link, with_acknowledged}
 use Rattle.cast_node.specs.Giving.{link_in}
 use Rattle.cast_node.proofs.Gifts.{length_given}
@@ -64,17 +66,6 @@ told_is kept ds s i members m f l = go (is_enough_in ds.mode ds.faults members) 
 
 -- ---- a step that isn't refused
 
-pub none_holds : (cause : Cause) (causes : List Cause) → first_fault (cause ∷ causes) ≡ None → (cause.holds ≡ false) × (first_fault causes ≡ None)
-unfolding first_fault
-none_holds cause causes e = go cause.holds refl e
-  where
-    some_none : ◌≡◌ {A = Option StepFault} (Some cause.refusal) None → ⊥
-    some_none e = cc
-
-    go : (b : Bool) → cause.holds ≡ b → (if b then Some cause.refusal else first_fault causes) ≡ None → (cause.holds ≡ false) × (first_fault causes ≡ None)
-    go true f g = absurd (some_none g)
-    go false f g = (f, g)
-
 below : (q n : ℕ) → not (nat_lt q n) ≡ false → q < n
 below q n e = grind (arith, nat_tests)
 
@@ -82,35 +73,17 @@ above : (q n : ℕ) → nat_le n q ≡ false → q < n
 above q n e = grind (arith, nat_tests)
 
 pub peer_below : (kept : Kept) (q : ℕ) → is_peer kept q ≡ true → q < kept.config.nodes
-peer_below kept q e = go (nat_lt q kept.config.nodes) (not (q == kept.me)) refl e
-  where
-    go : (a b : Bool) → nat_lt q kept.config.nodes ≡ a → (a && b) ≡ true → q < kept.config.nodes
-    go true b f g = lt_tells q kept.config.nodes f
-      where
-        lt_tells : (q n : ℕ) → nat_lt q n ≡ true → q < n
-        lt_tells q n e = grind (arith, nat_tests)
-    go false b f g = absurd (true≢false (sym g))
+peer_below kept q e = ltb-true q kept.config.nodes (and_parts (nat_lt q kept.config.nodes) (not (q == kept.me)) e).0
 
 pub send_fine : (kept : Kept) (to slot : ℕ) → kept_fault kept (Sent to slot) ≡ None → (to < kept.config.nodes) × (kept.frames < 1048576)
 unfolding kept_fault kept_causes
 send_fine kept to slot e =
-    let a = none_holds _ _ e in
-    let b = none_holds _ _ a.1 in
-    let c = none_holds _ _ b.1 in
-    let d = none_holds _ _ c.1 in
-    let f = none_holds _ _ d.1 in
-    let g = none_holds _ _ f.1 in
-    (below to kept.config.nodes a.0, above kept.frames 1048576 g.0)
+    let causes = kept_causes kept (Sent to slot) in
+    (below to kept.config.nodes (no_cause _ causes e here), above kept.frames 1048576 (no_cause _ causes e (there (there (there (there (there here)))))))
 
 pub ack_fine : (kept : Kept) (to slot : ℕ) → kept_fault kept (Acknowledged to slot) ≡ None → kept.frames < 1048576
 unfolding kept_fault kept_causes
-ack_fine kept to slot e =
-    let a = none_holds _ _ e in
-    let b = none_holds _ _ a.1 in
-    let c = none_holds _ _ b.1 in
-    let d = none_holds _ _ c.1 in
-    let f = none_holds _ _ d.1 in
-    above kept.frames 1048576 f.0
+ack_fine kept to slot e = above kept.frames 1048576 (no_cause _ (kept_causes kept (Acknowledged to slot)) e (there (there (there (there here)))))
 
 -- the causes of an order that don't hold
 pub record OrderFine (kept : Kept) (item : Item) : Type 0 where
@@ -121,12 +94,8 @@ pub record OrderFine (kept : Kept) (item : Item) : Type 0 where
 pub order_fine : (kept : Kept) (item : Item) → kept_fault kept (Ordered item) ≡ None → OrderFine kept item
 unfolding kept_fault kept_causes
 order_fine kept item e =
-    let a = none_holds _ _ e in
-    let b = none_holds _ _ a.1 in
-    let c = none_holds _ _ b.1 in
-    let d = none_holds _ _ c.1 in
-    let f = none_holds _ _ d.1 in
-    record { unclosed = b.0; first = d.0; room = f.0 }
+    let causes = kept_causes kept (Ordered item) in
+    record { unclosed = no_cause _ causes e (there here); first = no_cause _ causes e (there (there (there here))); room = no_cause _ causes e (there (there (there (there here)))) }
 
 -- ---- results
 
