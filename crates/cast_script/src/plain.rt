@@ -1,7 +1,7 @@
 //! The plain case of a script, read off its tokens, one event after another, so that the value of the whole text is never
 //! kept: an object of words, numbers, empty lists and one list of events, each of these an array of words and numbers.
 //! What isn't so plain is read as a value by `reading`, which also says what is wrong with it.
-ghost use Rattle.std.specs.Prelude.{◌≡◌, ◌∷◌, List as Tokens, Some, Ok, IfOk, IfSome, option_map};
+ghost use Rattle.std.specs.Prelude.{◌≡◌, ◌∷◌, [], List as Tokens, Some, Ok, IfOk, IfSome, option_map};
 ghost use Rattle.json.specs.Json.{read_key};
 ghost use Rattle.json.specs.Token.{Token as Read, begin_array, end_array};
 ghost use Rattle.serde_json.specs.Data.{Data, Members, unsigned as unsigned_num, object};
@@ -28,6 +28,14 @@ use std::alloc::Global;
 struct Parts {
     others: Value,
     events: List<ScriptEvent>,
+}
+
+// A slot of what a node gives another.
+#[derive(Clone, Copy)]
+struct LinkSlot {
+    from: NodeId,
+    to: NodeId,
+    slot: u64,
 }
 
 /// The script that the bytes say, where it is plain.
@@ -180,10 +188,7 @@ fn send(reader: &mut Reader<'_>) -> Result<ScriptEvent, Unread>
     ensures { IfOk result (λ event. (ds : Tokens Data)
         × AreCells reader.old ds reader.new × (send_of ds ≡ Some event)) }
 {
-    let from = node(reader)?;
-    let to = node(reader)?;
-    let slot = number(reader)?;
-    end(reader)?;
+    let LinkSlot { from, to, slot } = link_slot(reader)?;
     Ok(ScriptEvent::Core(Event::Send { from, to, slot }))
 }
 
@@ -191,11 +196,22 @@ fn ack(reader: &mut Reader<'_>) -> Result<ScriptEvent, Unread>
     ensures { IfOk result (λ event. (ds : Tokens Data)
         × AreCells reader.old ds reader.new × (ack_of ds ≡ Some event)) }
 {
+    let LinkSlot { from, to, slot } = link_slot(reader)?;
+    Ok(ScriptEvent::Core(Event::Ack { from, to, slot }))
+}
+
+// The last cells of an array, which are a link and a slot of it.
+fn link_slot(reader: &mut Reader<'_>) -> Result<LinkSlot, Unread>
+    ensures { IfOk result (λ place. (p : Data) × (q : Data) × (s : Data)
+        × AreCells reader.old (p ∷ q ∷ s ∷ []) reader.new
+        × (node_of p ≡ Some place.from) × (node_of q ≡ Some place.to)
+        × (number_of s ≡ Some place.slot)) }
+{
     let from = node(reader)?;
     let to = node(reader)?;
     let slot = number(reader)?;
     end(reader)?;
-    Ok(ScriptEvent::Core(Event::Ack { from, to, slot }))
+    Ok(LinkSlot { from, to, slot })
 }
 
 fn arrive(reader: &mut Reader<'_>) -> Result<ScriptEvent, Unread>
