@@ -1,5 +1,6 @@
 -- Worked examples: what these events are answered, computed by the checker from the definitions.
 use Rattle.std.proofs.Common.{◌≡◌, ℕ, refl, List, [], ◌∷◌, Ok, Err, lit<, lit≤, map}
+use Rattle.std.specs.Prelude.{⊤}
 use Rattle.cast_message.specs.declared.config.Config.{Config}
 use Rattle.cast_message.specs.declared.config.Mode.TheVariants.{Basic, Uniform}
 use Rattle.cast_message.specs.declared.event.Event.{Event}
@@ -14,6 +15,11 @@ use Rattle.cast_model.specs.History.{History, stream, is_live, numbered, broadca
 use Rattle.cast_model.specs.Delivery.{knows, known_by, is_known_enough, is_ready, next, delivered, concerned, turns, deliveries, delivery_log, votes, least, decisions_of, outcome}
 use Rattle.cast_model.specs.Replies.{causes, first_fault, fault, answer, reply, after, history_from, history, replies_from, replies}
 use Rattle.cast_model.specs.Rounds.{Due, owed, due_between, live_nodes, due, frames_for, events_for, plan_from, plan, after_round}
+
+-- what a row unfolds to compute the definitions on its events
+unfoldable model_on_literals : ⊤
+unfolding stream is_live numbered broadcast has_pair given_of copy_at message_of frame_arriving copies_gained frames_gained first frames given arrivals taken acked knows known_by is_known_enough is_ready next delivered concerned turns deliveries delivery_log votes least decisions_of outcome causes first_fault fault answer reply after history_from replies_from owed due_between live_nodes due frames_for events_for plan_from plan after_round
+model_on_literals = tt
 
 abbrev group_1_0_1 : Config
 group_1_0_1 = record {
@@ -40,148 +46,22 @@ group_1_0_1 = record {
 }
 
 abbrev group_3_1_2 : Config
-group_3_1_2 = record {
-  nodes = 3;
-  faults = 1;
-  choices = 2;
-  item_limit = 4096;
-  log_limit = 65536;
-  box_size = 64;
-  first_stamp = 0;
-  mode = Basic;
-  some_node = lit≤ tt;
-  nodes_in_range = lit≤ tt;
-  faults_in_range = lit< tt;
-  some_choice = lit≤ tt;
-  choices_in_range = lit≤ tt;
-  some_item = lit≤ tt;
-  items_in_range = lit≤ tt;
-  some_entry = lit≤ tt;
-  log_in_range = lit≤ tt;
-  some_place = lit≤ tt;
-  box_in_range = lit≤ tt;
-  mode_in_range = lit< tt;
-}
+group_3_1_2 = record group_1_0_1 { nodes = 3; faults = 1; choices = 2; some_node = lit≤ tt; nodes_in_range = lit≤ tt; faults_in_range = lit< tt; some_choice = lit≤ tt; choices_in_range = lit≤ tt; mode_in_range = lit< tt }
 
 abbrev group_2_0_1 : Config
-group_2_0_1 = record {
-  nodes = 2;
-  faults = 0;
-  choices = 1;
-  item_limit = 4096;
-  log_limit = 65536;
-  box_size = 64;
-  first_stamp = 0;
-  mode = Basic;
-  some_node = lit≤ tt;
-  nodes_in_range = lit≤ tt;
-  faults_in_range = lit< tt;
-  some_choice = lit≤ tt;
-  choices_in_range = lit≤ tt;
-  some_item = lit≤ tt;
-  items_in_range = lit≤ tt;
-  some_entry = lit≤ tt;
-  log_in_range = lit≤ tt;
-  some_place = lit≤ tt;
-  box_in_range = lit≤ tt;
-  mode_in_range = lit< tt;
-}
+group_2_0_1 = record group_1_0_1 { nodes = 2; some_node = lit≤ tt; nodes_in_range = lit≤ tt; faults_in_range = lit< tt; choices_in_range = lit≤ tt; mode_in_range = lit< tt }
 
 abbrev group_3_0_1 : Config
-group_3_0_1 = record {
-  nodes = 3;
-  faults = 0;
-  choices = 1;
-  item_limit = 4096;
-  log_limit = 65536;
-  box_size = 64;
-  first_stamp = 0;
-  mode = Basic;
-  some_node = lit≤ tt;
-  nodes_in_range = lit≤ tt;
-  faults_in_range = lit< tt;
-  some_choice = lit≤ tt;
-  choices_in_range = lit≤ tt;
-  some_item = lit≤ tt;
-  items_in_range = lit≤ tt;
-  some_entry = lit≤ tt;
-  log_in_range = lit≤ tt;
-  some_place = lit≤ tt;
-  box_in_range = lit≤ tt;
-  mode_in_range = lit< tt;
-}
+group_3_0_1 = record group_1_0_1 { nodes = 3; some_node = lit≤ tt; nodes_in_range = lit≤ tt; faults_in_range = lit< tt; choices_in_range = lit≤ tt; mode_in_range = lit< tt }
 
 abbrev group_of_two_items : Config
-group_of_two_items = record {
-  nodes = 1;
-  faults = 0;
-  choices = 1;
-  item_limit = 2;
-  log_limit = 65536;
-  box_size = 64;
-  first_stamp = 0;
-  mode = Basic;
-  some_node = lit≤ tt;
-  nodes_in_range = lit≤ tt;
-  faults_in_range = lit< tt;
-  some_choice = lit≤ tt;
-  choices_in_range = lit≤ tt;
-  some_item = lit≤ tt;
-  items_in_range = lit≤ tt;
-  some_entry = lit≤ tt;
-  log_in_range = lit≤ tt;
-  some_place = lit≤ tt;
-  box_in_range = lit≤ tt;
-  mode_in_range = lit< tt;
-}
+group_of_two_items = record group_1_0_1 { item_limit = 2; some_item = lit≤ tt; items_in_range = lit≤ tt }
 
 abbrev uniform_3_1_2 : Config
-uniform_3_1_2 = record {
-  nodes = 3;
-  faults = 1;
-  choices = 2;
-  item_limit = 4096;
-  log_limit = 65536;
-  box_size = 64;
-  first_stamp = 0;
-  mode = Uniform;
-  some_node = lit≤ tt;
-  nodes_in_range = lit≤ tt;
-  faults_in_range = lit< tt;
-  some_choice = lit≤ tt;
-  choices_in_range = lit≤ tt;
-  some_item = lit≤ tt;
-  items_in_range = lit≤ tt;
-  some_entry = lit≤ tt;
-  log_in_range = lit≤ tt;
-  some_place = lit≤ tt;
-  box_in_range = lit≤ tt;
-  mode_in_range = lit< tt;
-}
+uniform_3_1_2 = record group_3_1_2 { mode = Uniform; mode_in_range = lit< tt }
 
 abbrev uniform_5_2_3 : Config
-uniform_5_2_3 = record {
-  nodes = 5;
-  faults = 2;
-  choices = 3;
-  item_limit = 4096;
-  log_limit = 65536;
-  box_size = 64;
-  first_stamp = 0;
-  mode = Uniform;
-  some_node = lit≤ tt;
-  nodes_in_range = lit≤ tt;
-  faults_in_range = lit< tt;
-  some_choice = lit≤ tt;
-  choices_in_range = lit≤ tt;
-  some_item = lit≤ tt;
-  items_in_range = lit≤ tt;
-  some_entry = lit≤ tt;
-  log_in_range = lit≤ tt;
-  some_place = lit≤ tt;
-  box_in_range = lit≤ tt;
-  mode_in_range = lit< tt;
-}
+uniform_5_2_3 = record uniform_3_1_2 { nodes = 5; faults = 2; choices = 3; some_node = lit≤ tt; nodes_in_range = lit≤ tt; faults_in_range = lit< tt; some_choice = lit≤ tt; choices_in_range = lit≤ tt; mode_in_range = lit< tt }
 
 abbrev data_a : Item
 data_a = Data (0x61 ∷ [])
@@ -213,7 +93,7 @@ propose_alone : replies group_1_0_1 propose_alone_events ≡
     Ok (Ordered 0 (delivers (message 0 0 data_a ∷ [])))
     ∷ Ok (Ordered 1 (deciding (message 0 1 (Propose 7 5) ∷ []) 7 5))
     ∷ []
-unfolding stream is_live numbered broadcast has_pair given_of copy_at message_of frame_arriving copies_gained frames_gained first frames given arrivals taken acked knows known_by is_known_enough is_ready next delivered concerned turns deliveries delivery_log votes least decisions_of outcome causes first_fault fault answer reply after history_from replies_from owed due_between live_nodes due frames_for events_for plan_from plan after_round
+unfolding model_on_literals
 propose_alone = refl
 
 abbrev hold_back_events : List Event
@@ -229,7 +109,7 @@ hold_back : replies group_3_1_2 hold_back_events ≡
     ∷ Ok (Arrived 1 nothing)
     ∷ Ok (Arrived 1 (delivers (message 0 0 data_a ∷ message 0 1 data_b ∷ [])))
     ∷ []
-unfolding stream is_live numbered broadcast has_pair given_of copy_at message_of frame_arriving copies_gained frames_gained first frames given arrivals taken acked knows known_by is_known_enough is_ready next delivered concerned turns deliveries delivery_log votes least decisions_of outcome causes first_fault fault answer reply after history_from replies_from owed due_between live_nodes due frames_for events_for plan_from plan after_round
+unfolding model_on_literals
 hold_back = refl
 
 abbrev acknowledged_twice_events : List Event
@@ -248,19 +128,19 @@ acknowledged_twice : replies group_3_1_2 acknowledged_twice_events ≡
     ∷ Ok (Sent 0)
     ∷ Ok (Sent 1)
     ∷ []
-unfolding stream is_live numbered broadcast has_pair given_of copy_at message_of frame_arriving copies_gained frames_gained first frames given arrivals taken acked knows known_by is_known_enough is_ready next delivered concerned turns deliveries delivery_log votes least decisions_of outcome causes first_fault fault answer reply after history_from replies_from owed due_between live_nodes due frames_for events_for plan_from plan after_round
+unfolding model_on_literals
 acknowledged_twice = refl
 
 acknowledged_twice_owed : owed (history group_3_1_2 acknowledged_twice_events) 0 1 ≡ 0 ∷ 1 ∷ []
-unfolding stream is_live numbered broadcast has_pair given_of copy_at message_of frame_arriving copies_gained frames_gained first frames given arrivals taken acked knows known_by is_known_enough is_ready next delivered concerned turns deliveries delivery_log votes least decisions_of outcome causes first_fault fault answer reply after history_from replies_from owed due_between live_nodes due frames_for events_for plan_from plan after_round
+unfolding model_on_literals
 acknowledged_twice_owed = refl
 
 acknowledged_twice_owed_after : owed (history_from group_3_1_2 (history group_3_1_2 acknowledged_twice_events) (Arrive 1 0 ∷ [])) 0 1 ≡ 0 ∷ []
-unfolding stream is_live numbered broadcast has_pair given_of copy_at message_of frame_arriving copies_gained frames_gained first frames given arrivals taken acked knows known_by is_known_enough is_ready next delivered concerned turns deliveries delivery_log votes least decisions_of outcome causes first_fault fault answer reply after history_from replies_from owed due_between live_nodes due frames_for events_for plan_from plan after_round
+unfolding model_on_literals
 acknowledged_twice_owed_after = refl
 
 acknowledged_twice_owed_again : owed (history_from group_3_1_2 (history group_3_1_2 acknowledged_twice_events) (Arrive 1 0 ∷ Arrive 1 1 ∷ [])) 0 1 ≡ 0 ∷ []
-unfolding stream is_live numbered broadcast has_pair given_of copy_at message_of frame_arriving copies_gained frames_gained first frames given arrivals taken acked knows known_by is_known_enough is_ready next delivered concerned turns deliveries delivery_log votes least decisions_of outcome causes first_fault fault answer reply after history_from replies_from owed due_between live_nodes due frames_for events_for plan_from plan after_round
+unfolding model_on_literals
 acknowledged_twice_owed_again = refl
 
 abbrev relay_after_crash_events : List Event
@@ -276,7 +156,7 @@ relay_after_crash : replies group_3_1_2 relay_after_crash_events ≡
     ∷ Ok (Sent 0)
     ∷ Ok (Arrived 2 (delivers (message 0 0 data_a ∷ [])))
     ∷ []
-unfolding stream is_live numbered broadcast has_pair given_of copy_at message_of frame_arriving copies_gained frames_gained first frames given arrivals taken acked knows known_by is_known_enough is_ready next delivered concerned turns deliveries delivery_log votes least decisions_of outcome causes first_fault fault answer reply after history_from replies_from owed due_between live_nodes due frames_for events_for plan_from plan after_round
+unfolding model_on_literals
 relay_after_crash = refl
 
 abbrev closed_stream_events : List Event
@@ -289,7 +169,7 @@ closed_stream : replies group_1_0_1 closed_stream_events ≡
     ∷ Err refusal.Closed
     ∷ Err refusal.Closed
     ∷ []
-unfolding stream is_live numbered broadcast has_pair given_of copy_at message_of frame_arriving copies_gained frames_gained first frames given arrivals taken acked knows known_by is_known_enough is_ready next delivered concerned turns deliveries delivery_log votes least decisions_of outcome causes first_fault fault answer reply after history_from replies_from owed due_between live_nodes due frames_for events_for plan_from plan after_round
+unfolding model_on_literals
 closed_stream = refl
 
 abbrev two_values_decided_events : List Event
@@ -308,7 +188,7 @@ two_values_decided : replies group_3_1_2 two_values_decided_events ≡
     ∷ Ok (Sent 0)
     ∷ Ok (Arrived 2 (deciding (message 1 0 (Propose 7 1) ∷ []) 7 1))
     ∷ []
-unfolding stream is_live numbered broadcast has_pair given_of copy_at message_of frame_arriving copies_gained frames_gained first frames given arrivals taken acked knows known_by is_known_enough is_ready next delivered concerned turns deliveries delivery_log votes least decisions_of outcome causes first_fault fault answer reply after history_from replies_from owed due_between live_nodes due frames_for events_for plan_from plan after_round
+unfolding model_on_literals
 two_values_decided = refl
 
 abbrev proposed_twice_events : List Event
@@ -323,7 +203,7 @@ proposed_twice : replies group_2_0_1 proposed_twice_events ≡
     ∷ Ok (Sent 0)
     ∷ Ok (Arrived 0 (deciding (message 1 0 (Propose 7 4) ∷ []) 7 4))
     ∷ []
-unfolding stream is_live numbered broadcast has_pair given_of copy_at message_of frame_arriving copies_gained frames_gained first frames given arrivals taken acked knows known_by is_known_enough is_ready next delivered concerned turns deliveries delivery_log votes least decisions_of outcome causes first_fault fault answer reply after history_from replies_from owed due_between live_nodes due frames_for events_for plan_from plan after_round
+unfolding model_on_literals
 proposed_twice = refl
 
 abbrev third_proposal_decides_events : List Event
@@ -340,7 +220,7 @@ third_proposal_decides : replies group_3_0_1 third_proposal_decides_events ≡
     ∷ Ok (Sent 0)
     ∷ Ok (Arrived 0 (deciding (message 2 0 (Propose 7 2) ∷ []) 7 1))
     ∷ []
-unfolding stream is_live numbered broadcast has_pair given_of copy_at message_of frame_arriving copies_gained frames_gained first frames given arrivals taken acked knows known_by is_known_enough is_ready next delivered concerned turns deliveries delivery_log votes least decisions_of outcome causes first_fault fault answer reply after history_from replies_from owed due_between live_nodes due frames_for events_for plan_from plan after_round
+unfolding model_on_literals
 third_proposal_decides = refl
 
 abbrev refusals_events : List Event
@@ -364,7 +244,7 @@ refusals : replies group_3_1_2 refusals_events ≡
     ∷ Err refusal.Crashed
     ∷ Err refusal.SelfLink
     ∷ []
-unfolding stream is_live numbered broadcast has_pair given_of copy_at message_of frame_arriving copies_gained frames_gained first frames given arrivals taken acked knows known_by is_known_enough is_ready next delivered concerned turns deliveries delivery_log votes least decisions_of outcome causes first_fault fault answer reply after history_from replies_from owed due_between live_nodes due frames_for events_for plan_from plan after_round
+unfolding model_on_literals
 refusals = refl
 
 abbrev one_order : History
@@ -372,45 +252,45 @@ one_order = history group_3_1_2 (Order 0 data_a ∷ [])
 
 settle_spreads_plan : plan group_3_1_2 one_order ≡
     Send 0 1 0 ∷ Arrive 0 0 ∷ Ack 1 0 0 ∷ Arrive 1 0 ∷ Send 0 2 0 ∷ Arrive 0 1 ∷ Ack 2 0 0 ∷ Arrive 2 0 ∷ []
-unfolding stream is_live numbered broadcast has_pair given_of copy_at message_of frame_arriving copies_gained frames_gained first frames given arrivals taken acked knows known_by is_known_enough is_ready next delivered concerned turns deliveries delivery_log votes least decisions_of outcome causes first_fault fault answer reply after history_from replies_from owed due_between live_nodes due frames_for events_for plan_from plan after_round
+unfolding model_on_literals
 settle_spreads_plan = refl
 
 settle_spreads_before : due group_3_1_2 one_order ≡ due_from 0 1 0 ∷ due_from 0 2 0 ∷ []
-unfolding stream is_live numbered broadcast has_pair given_of copy_at message_of frame_arriving copies_gained frames_gained first frames given arrivals taken acked knows known_by is_known_enough is_ready next delivered concerned turns deliveries delivery_log votes least decisions_of outcome causes first_fault fault answer reply after history_from replies_from owed due_between live_nodes due frames_for events_for plan_from plan after_round
+unfolding model_on_literals
 settle_spreads_before = refl
 
 settle_spreads_after_one : due group_3_1_2 (after_round group_3_1_2 one_order) ≡ due_from 1 2 0 ∷ due_from 2 1 0 ∷ []
-unfolding stream is_live numbered broadcast has_pair given_of copy_at message_of frame_arriving copies_gained frames_gained first frames given arrivals taken acked knows known_by is_known_enough is_ready next delivered concerned turns deliveries delivery_log votes least decisions_of outcome causes first_fault fault answer reply after history_from replies_from owed due_between live_nodes due frames_for events_for plan_from plan after_round
+unfolding model_on_literals
 settle_spreads_after_one = refl
 
 settle_spreads_after_two : due group_3_1_2 (after_round group_3_1_2 (after_round group_3_1_2 one_order)) ≡ []
-unfolding stream is_live numbered broadcast has_pair given_of copy_at message_of frame_arriving copies_gained frames_gained first frames given arrivals taken acked knows known_by is_known_enough is_ready next delivered concerned turns deliveries delivery_log votes least decisions_of outcome causes first_fault fault answer reply after history_from replies_from owed due_between live_nodes due frames_for events_for plan_from plan after_round
+unfolding model_on_literals
 settle_spreads_after_two = refl
 
 abbrev crashed_sender : History
 crashed_sender = history group_3_1_2 (Order 0 data_a ∷ Send 0 1 0 ∷ Crash 0 ∷ [])
 
 settle_after_crash_first : due group_3_1_2 crashed_sender ≡ []
-unfolding stream is_live numbered broadcast has_pair given_of copy_at message_of frame_arriving copies_gained frames_gained first frames given arrivals taken acked knows known_by is_known_enough is_ready next delivered concerned turns deliveries delivery_log votes least decisions_of outcome causes first_fault fault answer reply after history_from replies_from owed due_between live_nodes due frames_for events_for plan_from plan after_round
+unfolding model_on_literals
 settle_after_crash_first = refl
 
 abbrev arrived_late : History
 arrived_late = history_from group_3_1_2 crashed_sender (Arrive 0 0 ∷ [])
 
 settle_after_crash_arrival : due group_3_1_2 arrived_late ≡ due_from 1 2 0 ∷ []
-unfolding stream is_live numbered broadcast has_pair given_of copy_at message_of frame_arriving copies_gained frames_gained first frames given arrivals taken acked knows known_by is_known_enough is_ready next delivered concerned turns deliveries delivery_log votes least decisions_of outcome causes first_fault fault answer reply after history_from replies_from owed due_between live_nodes due frames_for events_for plan_from plan after_round
+unfolding model_on_literals
 settle_after_crash_arrival = refl
 
 settle_after_crash_plan : plan group_3_1_2 arrived_late ≡ Send 1 2 0 ∷ Arrive 1 0 ∷ Ack 2 1 0 ∷ Arrive 2 0 ∷ []
-unfolding stream is_live numbered broadcast has_pair given_of copy_at message_of frame_arriving copies_gained frames_gained first frames given arrivals taken acked knows known_by is_known_enough is_ready next delivered concerned turns deliveries delivery_log votes least decisions_of outcome causes first_fault fault answer reply after history_from replies_from owed due_between live_nodes due frames_for events_for plan_from plan after_round
+unfolding model_on_literals
 settle_after_crash_plan = refl
 
 settle_after_crash_second : due group_3_1_2 (after_round group_3_1_2 arrived_late) ≡ []
-unfolding stream is_live numbered broadcast has_pair given_of copy_at message_of frame_arriving copies_gained frames_gained first frames given arrivals taken acked knows known_by is_known_enough is_ready next delivered concerned turns deliveries delivery_log votes least decisions_of outcome causes first_fault fault answer reply after history_from replies_from owed due_between live_nodes due frames_for events_for plan_from plan after_round
+unfolding model_on_literals
 settle_after_crash_second = refl
 
 settle_after_crash_delivered : delivered group_3_1_2 (after_round group_3_1_2 arrived_late) 2 0 ≡ message 0 0 data_a ∷ []
-unfolding stream is_live numbered broadcast has_pair given_of copy_at message_of frame_arriving copies_gained frames_gained first frames given arrivals taken acked knows known_by is_known_enough is_ready next delivered concerned turns deliveries delivery_log votes least decisions_of outcome causes first_fault fault answer reply after history_from replies_from owed due_between live_nodes due frames_for events_for plan_from plan after_round
+unfolding model_on_literals
 settle_after_crash_delivered = refl
 
 abbrev place_kept_for_close_events : List Event
@@ -423,7 +303,7 @@ place_kept_for_close : replies group_of_two_items place_kept_for_close_events �
     ∷ Err refusal.StreamFull
     ∷ Ok (Ordered 1 (delivers (message 0 1 Close ∷ [])))
     ∷ []
-unfolding stream is_live numbered broadcast has_pair given_of copy_at message_of frame_arriving copies_gained frames_gained first frames given arrivals taken acked knows known_by is_known_enough is_ready next delivered concerned turns deliveries delivery_log votes least decisions_of outcome causes first_fault fault answer reply after history_from replies_from owed due_between live_nodes due frames_for events_for plan_from plan after_round
+unfolding model_on_literals
 place_kept_for_close = refl
 
 abbrev uniform_acknowledged_events : List Event
@@ -438,11 +318,11 @@ uniform_acknowledged : replies uniform_3_1_2 uniform_acknowledged_events ≡
     ∷ Ok (Sent 0)
     ∷ Ok (Arrived 0 (delivers (message 0 0 data_a ∷ [])))
     ∷ []
-unfolding stream is_live numbered broadcast has_pair given_of copy_at message_of frame_arriving copies_gained frames_gained first frames given arrivals taken acked knows known_by is_known_enough is_ready next delivered concerned turns deliveries delivery_log votes least decisions_of outcome causes first_fault fault answer reply after history_from replies_from owed due_between live_nodes due frames_for events_for plan_from plan after_round
+unfolding model_on_literals
 uniform_acknowledged = refl
 
 uniform_acknowledged_known : map (λ p. known_by uniform_3_1_2 (history uniform_3_1_2 uniform_acknowledged_events) p 0 0) (0 ∷ 1 ∷ 2 ∷ []) ≡ 2 ∷ 2 ∷ 0 ∷ []
-unfolding stream is_live numbered broadcast has_pair given_of copy_at message_of frame_arriving copies_gained frames_gained first frames given arrivals taken acked knows known_by is_known_enough is_ready next delivered concerned turns deliveries delivery_log votes least decisions_of outcome causes first_fault fault answer reply after history_from replies_from owed due_between live_nodes due frames_for events_for plan_from plan after_round
+unfolding model_on_literals
 uniform_acknowledged_known = refl
 
 abbrev uniform_second_holder_events : List Event
@@ -459,5 +339,5 @@ uniform_second_holder : replies uniform_5_2_3 uniform_second_holder_events ≡
     ∷ Ok (Sent 0)
     ∷ Ok (Arrived 1 (delivers (message 0 0 data_a ∷ [])))
     ∷ []
-unfolding stream is_live numbered broadcast has_pair given_of copy_at message_of frame_arriving copies_gained frames_gained first frames given arrivals taken acked knows known_by is_known_enough is_ready next delivered concerned turns deliveries delivery_log votes least decisions_of outcome causes first_fault fault answer reply after history_from replies_from owed due_between live_nodes due frames_for events_for plan_from plan after_round
+unfolding model_on_literals
 uniform_second_holder = refl
