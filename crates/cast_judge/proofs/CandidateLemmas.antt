@@ -6,9 +6,7 @@ use Rattle.std.proofs.lemmas.Bool.Decides.{nat_tests}
 use Rattle.cast_judge.specs.declared.candidates.Candidate.{Candidate}
 use Rattle.cast_judge.specs.Candidates.{is_for, proposed_as, decided_as, decided_at, is_decided, count_decided, with_candidate, decision_at, with_decision}
 use Rattle.cast_judge.specs.Kept.{count_with}
-
-same_number : (m n : ℕ) → nat_eq m n ≡ true → m ≡ n
-same_number m n e = grind (arith, nat_tests)
+use Rattle.cast_judge.proofs.TestLemmas.{same_number}
 
 -- ---- the first that passes, one by one
 
@@ -55,14 +53,17 @@ decision_of c cs v = ap (decision_at (c ∷ cs) v) (first_of (is_for v) c cs) �
 
 -- ---- a proposal
 
-has_pushed : (v w : ℕ) (cs : List Candidate) → list_any (is_for w) (cs ++ proposed_as v ∷ []) ≡ (nat_eq v w || list_any (is_for w) cs)
-has_pushed v w [] = refl
-has_pushed v w (c ∷ cs) = ap (λ b. is_for w c || b) (has_pushed v w cs) ∙ swap (is_for w c) (nat_eq v w) (list_any (is_for w) cs)
+pub list_any-push : {A : Type 0} (f : A → Bool) (xs : List A) (x : A) → list_any f (xs ++ x ∷ []) ≡ (f x || list_any f xs)
+list_any-push f [] x = refl
+list_any-push f (y ∷ ys) x = ap (λ b. f y || b) (list_any-push f ys x) ∙ swap (f y) (f x) (list_any f ys)
   where
     swap : (a b c : Bool) → (a || (b || c)) ≡ (b || (a || c))
     swap true true c = refl
     swap true false c = refl
     swap false b c = refl
+
+has_pushed : (v w : ℕ) (cs : List Candidate) → list_any (is_for w) (cs ++ proposed_as v ∷ []) ≡ (nat_eq v w || list_any (is_for w) cs)
+has_pushed v w cs = list_any-push (is_for w) cs (proposed_as v)
 
 pub proposed_has : (cs : List Candidate) (v w : ℕ) → list_any (is_for w) (with_candidate cs v) ≡ (nat_eq v w || list_any (is_for w) cs)
 proposed_has cs v w = go (list_any (is_for v) cs) refl

@@ -1,7 +1,6 @@
 -- Items and the words that spell them.
-use Rattle.std.proofs.Common.{◌≡◌, ℕ, zero, suc, ◌+◌, ◌<◌, ◌≤◌, ◌&&◌, Bool, true, false, nat_eq, List, [], ◌∷◌, ◌++◌, length, length-append, get_or, slice_get, Option, Some, None, refl, sym, ap, subst, ◌∙◌, arith}
+use Rattle.std.proofs.Common.{◌≡◌, ℕ, zero, suc, ◌+◌, ◌<◌, ◌≤◌, Bool, true, false, nat_eq, List, [], ◌∷◌, ◌++◌, length, length-append, get_or, slice_get, Option, Some, None, refl, sym, ap, subst, ◌∙◌, arith}
 use Rattle.std.specs.Str.{bytes_eq}
-use Rattle.std.proofs.lemmas.Bool.Decides.{nat_tests}
 use Rattle.std.proofs.lemmas.Option.{slice_get_past, slice_get-get_or}
 use Rattle.std.proofs.lemmas.Grind.{common_steps}
 use Rattle.std.proofs.lemmas.Slice.Eq.{bytes_eq-Decides}
@@ -14,6 +13,7 @@ use Rattle.cast_record.specs.ItemWords.{item_in}
 use Rattle.cast_record.proofs.ReadLemmas.{text_same, item_takes}
 use Rattle.cast_judge.specs.Kept.{is_same, has_item}
 use Rattle.cast_judge.specs.ItemList.{word_between, items_from, IsItemAt, AreItems, IsWordAt}
+use Rattle.cast_judge.proofs.TestLemmas.{same_number, test_same, and_true}
 
 -- ---- the items of a list
 
@@ -87,16 +87,6 @@ items_pushed start (end ∷ ends) bytes word item h e =
 
 -- ---- words are equal where their items are
 
-and_both : (a b : Bool) → (a && b) ≡ true → (a ≡ true) × (b ≡ true)
-and_both true b e = (refl, e)
-and_both false b e = absurd (cc)
-
-equal : (m n : ℕ) → nat_eq m n ≡ true → m ≡ n
-equal m n e = grind (arith, nat_tests)
-
-itself : (n : ℕ) → nat_eq n n ≡ true
-itself n = grind (arith, nat_tests)
-
 bytes_itself : (w : List ℕ) → bytes_eq w w ≡ true
 bytes_itself w = (bytes_eq-Decides w w).1 refl
 
@@ -105,7 +95,7 @@ item_same (Data xs) (Data ys) e = ap Data (text_same xs ys e)
 item_same (Data xs) (Propose k w) e = absurd (cc)
 item_same (Data xs) Close e = absurd (cc)
 item_same (Propose j v) (Data ys) e = absurd (cc)
-item_same (Propose j v) (Propose k w) e = let both = and_both (nat_eq j k) (nat_eq v w) e in (λ i. Propose (equal j k both.0 i) (equal v w both.1 i))
+item_same (Propose j v) (Propose k w) e = let both = and_true (nat_eq j k) (nat_eq v w) e in (λ i. Propose (same_number j k both.0 i) (same_number v w both.1 i))
 item_same (Propose j v) Close e = absurd (cc)
 item_same Close (Data ys) e = absurd (cc)
 item_same Close (Propose k w) e = absurd (cc)
@@ -113,7 +103,7 @@ item_same Close Close e = refl
 
 pub item_itself : (i : Item) → is_item i i ≡ true
 item_itself (Data xs) = bytes_itself xs
-item_itself (Propose j v) = rw (itself j, itself v) refl
+item_itself (Propose j v) = rw (test_same j, test_same v) refl
 item_itself Close = refl
 
 words_same : (v w : List ℕ) (i j : Item) → item_of v ≡ Some i → item_of w ≡ Some j → i ≡ j → v ≡ w

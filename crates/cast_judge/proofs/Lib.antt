@@ -1,3 +1,4 @@
+pub mod TestLemmas
 pub mod CandidateLemmas
 pub mod NodeLemmas
 pub mod RuleLemmas

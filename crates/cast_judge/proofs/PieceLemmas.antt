@@ -4,7 +4,7 @@ use Rattle.std.proofs.lemmas.List.Quantifiers.{position-Some}
 use Rattle.cast_record.proofs.PartLemmas.{at_place}
 use Rattle.cast_judge.specs.declared.judging.Judging.{Judging}
 use Rattle.cast_judge.specs.Judged.{Stands, is_reading, is_refused}
-use Rattle.cast_judge.proofs.StandingLemmas.{same_number}
+use Rattle.cast_judge.proofs.TestLemmas.{same_number}
 use Rattle.cast_judge.proofs.JudgedLemmas.{done_on}
 
 -- the piece is what was read of it and the rest

@@ -1,5 +1,5 @@
 -- What is kept tells the rules as the lines before do.
-use Rattle.std.proofs.Common.{◌≡◌, ℕ, ◌+◌, ◌<◌, ◌&&◌, ◌||◌, not, Bool, true, false, cond, nat_eq, nat_lt, List, [], ◌∷◌, length, Option, Some, None, refl, sym, ap, ◌∙◌, arith, length-append}
+use Rattle.std.proofs.Common.{◌≡◌, ℕ, ◌+◌, ◌<◌, ◌&&◌, ◌||◌, not, Bool, true, false, cond, nat_eq, nat_lt, List, [], ◌∷◌, length, refl, sym, ap, ◌∙◌, arith, length-append}
 use Rattle.std.specs.List.{filter}
 use Rattle.std.proofs.lemmas.Bool.Decides.{nat_tests}
 use Rattle.cast_message.specs.declared.message.Item.{Item}
@@ -8,11 +8,14 @@ use Rattle.cast_message.specs.declared.message.Message.{Message}
 use Rattle.cast_record.specs.declared.line.Line.{Line}
 use Rattle.cast_record.specs.declared.line.Line.TheVariants.{Head, Head2, Broadcast, Delivered, Decided, Crashed, Refused, End}
 use Rattle.cast_record.specs.Rules as said
+use Rattle.cast_record.proofs.ReadLemmas.{or_false}
+use Rattle.cast_record.proofs.VerdictLemmas.{least_of}
 use Rattle.cast_judge.specs.declared.kept.Place.TheVariants.{Body, Ended}
 use Rattle.cast_judge.specs.declared.kept.Kept.{Kept}
 use Rattle.cast_judge.specs.Kept as kept
 use Rattle.cast_judge.specs.Candidates.{is_decided, count_decided}
 use Rattle.cast_judge.specs.Stands.{items_in, items_of, StandsFor, StandsForNode}
+use Rattle.cast_judge.proofs.TestLemmas.{not_false, and_true}
 
 -- ---- as many items as broadcasts
 
@@ -38,14 +41,6 @@ items_counted (line ∷ past) p =
     ∙ sym (one_in p line (filter (said.is_broadcast (λ m. nat_eq m.sender p)) past))
 
 -- ---- a line in its place names nodes of the group
-
-or_false : (a b : Bool) → (a || b) ≡ false → (a ≡ false) × (b ≡ false)
-or_false true b e = absurd (cc)
-or_false false b e = (refl, e)
-
-not_false : (b : Bool) → not b ≡ false → b ≡ true
-not_false true e = refl
-not_false false e = absurd (cc)
 
 head_names : (n : ℕ) (line : Line) → said.is_head line ≡ true → said.names_below n line ≡ true
 head_names n (Head a b c) e = refl
@@ -83,10 +78,6 @@ place_same (last ∷ past) k line s =
     ∙ ap (λ n. said.is_end last || said.is_head line || not (said.names_below n line)) s.size
 
 -- ---- the other rules
-
-and_true : (a b : Bool) → (a && b) ≡ true → (a ≡ true) × (b ≡ true)
-and_true true b e = (refl, e)
-and_true false b e = absurd (cc)
 
 below : (p n : ℕ) → nat_lt p n ≡ true → p < n
 below p n e = grind (arith, nat_tests)
@@ -181,10 +172,6 @@ module _ (past : List Line) (k : Kept) (s : StandsFor past k) where
   twice_same (Crashed q) = refl
   twice_same (Refused i c) = refl
   twice_same End = refl
-
--- the least of seven rules
-abbrev least_of : Bool → Bool → Bool → Bool → Bool → Bool → Bool → Option ℕ
-least_of a b c d e f g = cond a (Some 0) (cond b (Some 1) (cond c (Some 2) (cond d (Some 3) (cond e (Some 4) (cond f (Some 5) (cond g (Some 6) None))))))
 
 -- what is kept tells the least rule that a line breaks
 pub rule_same : (past : List Line) (k : Kept) (line : Line) → StandsFor past k → kept.rule_by k line ≡ said.broken past line

@@ -23,22 +23,10 @@ use Rattle.cast_judge.specs.declared.sender.Sender.{Sender}
 use Rattle.cast_judge.specs.declared.kept.Kept.{Kept}
 use Rattle.cast_judge.specs.Kept as kept
 use Rattle.cast_judge.specs.Stands.{items_in, items_of, StandsFor, StandsForNode, StandsForInstance}
-use Rattle.cast_judge.proofs.CandidateLemmas.{proposed_has, proposed_decided, proposed_count, decision_has, decision_decided, decision_count}
+use Rattle.cast_judge.proofs.TestLemmas.{same_number, other_number, test_swaps, and_false, not_false}
+use Rattle.cast_judge.proofs.CandidateLemmas.{list_any-push, proposed_has, proposed_decided, proposed_count, decision_has, decision_decided, decision_count}
 use Rattle.cast_judge.proofs.NodeLemmas.{none_counted}
 use Rattle.cast_judge.proofs.RuleLemmas.{items_counted, head_first}
-
--- equal numbers, by their test
-pub same_number : (m n : ℕ) → nat_eq m n ≡ true → m ≡ n
-same_number m n e = grind (arith, nat_tests)
-
-pub other_number : (m n : ℕ) → nat_eq m n ≡ false → m ≢ n
-other_number m n e = grind (arith, nat_tests)
-
-test_swaps : (m n : ℕ) → nat_eq m n ≡ nat_eq n m
-test_swaps m n = grind (arith, nat_tests)
-
-test_same : (n : ℕ) → nat_eq n n ≡ true
-test_same n = grind (arith, nat_tests)
 
 -- ---- what a line adds to a node
 
@@ -163,15 +151,6 @@ node_on past line p node short h = record {
 
 -- ---- instances
 
-list_any-push : {A : Type 0} (f : A → Bool) (xs : List A) (x : A) → list_any f (xs ++ x ∷ []) ≡ (f x || list_any f xs)
-list_any-push f [] x = refl
-list_any-push f (y ∷ ys) x = ap (λ b. f y || b) (list_any-push f ys x) ∙ swap (f y) (f x) (list_any f ys)
-  where
-    swap : (a b c : Bool) → (a || (b || c)) ≡ (b || (a || c))
-    swap true true c = refl
-    swap true false c = refl
-    swap false b c = refl
-
 proposal_on : (past : List Line) (m : Message) (j w q : ℕ) (instance : Instance) → m.item ≡ Propose j w → StandsForInstance past q instance → StandsForInstance (Broadcast m ∷ past) q (kept.item_changes m.sender (Propose j w) q instance)
 unfolding said.has_proposed said.is_proposed said.values_in
 proposal_on past m j w q instance is h = go (nat_eq q j) refl
@@ -181,10 +160,6 @@ proposal_on past m j w q instance is h = go (nat_eq q j) refl
 
     for : (v : ℕ) (b : Bool) → nat_eq q j ≡ b → said.is_broadcast (λ m. said.proposes q v m.item) (Broadcast m) ≡ (b && nat_eq w v)
     for v b e = ap (λ item. said.proposes q v item) is ∙ ap (λ b. b && nat_eq w v) (test_swaps j q ∙ e)
-
-    and_false : (b : Bool) → (b && false) ≡ false
-    and_false true = refl
-    and_false false = refl
 
     and_true : (b : Bool) → (b && true) ≡ b
     and_true true = refl
@@ -217,10 +192,6 @@ silent_on past m q instance none never h = record {
   decided = h.decided;
   count = h.count;
 }
-  where
-    and_false : (b : Bool) → (b && false) ≡ false
-    and_false true = refl
-    and_false false = refl
 
 broadcast_on : (past : List Line) (m : Message) (item : Item) (q : ℕ) (instance : Instance) → m.item ≡ item → StandsForInstance past q instance → StandsForInstance (Broadcast m ∷ past) q (kept.item_changes m.sender item q instance)
 broadcast_on past m (Data payload) q instance is h = silent_on past m q instance (λ j. ap (said.proposes_in j) is) (λ j v. ap (said.proposes j v) is) h
@@ -265,18 +236,13 @@ decision_on past p d q instance was h = go (nat_eq q d.instance) (nat_eq d.insta
         left : nat_eq d.instance q ≡ false → said.values_in (Decided p d ∷ past) q ≡ said.values_in past q
         left e = rw e refl
 
--- what is not refused as not proposed was proposed
-was_proposed : (b : Bool) → not b ≡ false → b ≡ true
-was_proposed true e = refl
-was_proposed false e = absurd (cc)
-
 pub instance_on : (past : List Line) (line : Line) (q : ℕ) (instance : Instance) → said.is_not_proposed past line ≡ false → StandsForInstance past q instance → StandsForInstance (line ∷ past) q (kept.instance_after line q instance)
 unfolding said.has_proposed said.is_proposed said.values_in
 instance_on past (Head n f k) q instance sound h = record { proposed = h.proposed; values = h.values; decided = h.decided; count = h.count }
 instance_on past (Head2 n f k mode) q instance sound h = record { proposed = h.proposed; values = h.values; decided = h.decided; count = h.count }
 instance_on past (Broadcast m) q instance sound h = broadcast_on past m m.item q instance refl h
 instance_on past (Delivered p m) q instance sound h = record { proposed = h.proposed; values = h.values; decided = h.decided; count = h.count }
-instance_on past (Decided p d) q instance sound h = decision_on past p d q instance (was_proposed (said.is_proposed past d.instance d.value) sound) h
+instance_on past (Decided p d) q instance sound h = decision_on past p d q instance (not_false (said.is_proposed past d.instance d.value) sound) h
 instance_on past (Crashed p) q instance sound h = record { proposed = h.proposed; values = h.values; decided = h.decided; count = h.count }
 instance_on past (Refused i c) q instance sound h = record { proposed = h.proposed; values = h.values; decided = h.decided; count = h.count }
 instance_on past End q instance sound h = record { proposed = h.proposed; values = h.values; decided = h.decided; count = h.count }
@@ -347,46 +313,36 @@ numbered_on past End sound h m = h m ∙ sym (ap (λ items. kept.has_item items 
 
 -- ---- all that is kept
 
+-- what holds of each kind of line but a head
+for_body : (P : Line → Type 0) → ((m : Message) → P (Broadcast m)) → ((q : ℕ) (m : Message) → P (Delivered q m)) → ((q : ℕ) (d : Decision) → P (Decided q d)) → ((q : ℕ) → P (Crashed q)) → ((i c : ℕ) → P (Refused i c)) → P End
+    → (line : Line) → said.is_head line ≡ false → P line
+for_body P b d v x r end (Head n f k) e = absurd (cc)
+for_body P b d v x r end (Head2 n f k mode) e = absurd (cc)
+for_body P b d v x r end (Broadcast m) e = b m
+for_body P b d v x r end (Delivered q m) e = d q m
+for_body P b d v x r end (Decided q c) e = v q c
+for_body P b d v x r end (Crashed q) e = x q
+for_body P b d v x r end (Refused i c) e = r i c
+for_body P b d v x r end End e = end
+
 group_on : (past : List Line) (line : Line) → said.is_head line ≡ false → said.group_of (line ∷ past) ≡ said.group_of past
 unfolding said.group_of
-group_on past (Head n f k) e = absurd (cc)
-group_on past (Head2 n f k mode) e = absurd (cc)
-group_on past (Broadcast m) e = refl
-group_on past (Delivered q m) e = refl
-group_on past (Decided q d) e = refl
-group_on past (Crashed q) e = refl
-group_on past (Refused i c) e = refl
-group_on past End e = refl
+group_on past = for_body (λ line. said.group_of (line ∷ past) ≡ said.group_of past) (λ m. refl) (λ q m. refl) (λ q d. refl) (λ q. refl) (λ i c. refl) refl
 
 faults_on : (faults : ℕ) (line : Line) → said.is_head line ≡ false → kept.faults_after faults line ≡ faults
-faults_on faults (Head n f k) e = absurd (cc)
-faults_on faults (Head2 n f k mode) e = absurd (cc)
-faults_on faults (Broadcast m) e = refl
-faults_on faults (Delivered q m) e = refl
-faults_on faults (Decided q d) e = refl
-faults_on faults (Crashed q) e = refl
-faults_on faults (Refused i c) e = refl
-faults_on faults End e = refl
+faults_on faults = for_body (λ line. kept.faults_after faults line ≡ faults) (λ m. refl) (λ q m. refl) (λ q d. refl) (λ q. refl) (λ i c. refl) refl
 
 choices_on : (choices : ℕ) (line : Line) → said.is_head line ≡ false → kept.choices_after choices line ≡ choices
-choices_on choices (Head n f k) e = absurd (cc)
-choices_on choices (Head2 n f k mode) e = absurd (cc)
-choices_on choices (Broadcast m) e = refl
-choices_on choices (Delivered q m) e = refl
-choices_on choices (Decided q d) e = refl
-choices_on choices (Crashed q) e = refl
-choices_on choices (Refused i c) e = refl
-choices_on choices End e = refl
+choices_on choices = for_body (λ line. kept.choices_after choices line ≡ choices) (λ m. refl) (λ q m. refl) (λ q d. refl) (λ q. refl) (λ i c. refl) refl
 
 size_on : (nodes : List Sender) (line : Line) → said.is_head line ≡ false → length (kept.nodes_after nodes line) ≡ length nodes
-size_on nodes (Head n f k) e = absurd (cc)
-size_on nodes (Head2 n f k mode) e = absurd (cc)
-size_on nodes (Broadcast m) e = length-set nodes m.sender (kept.with_item (kept.node_at nodes m.sender) m.item)
-size_on nodes (Delivered q m) e = length-set nodes q (kept.with_delivery (kept.node_at nodes q) m.sender)
-size_on nodes (Decided q d) e = refl
-size_on nodes (Crashed q) e = length-set nodes q (kept.with_crash (kept.node_at nodes q))
-size_on nodes (Refused i c) e = refl
-size_on nodes End e = refl
+size_on nodes = for_body (λ line. length (kept.nodes_after nodes line) ≡ length nodes)
+    (λ m. length-set nodes m.sender (kept.with_item (kept.node_at nodes m.sender) m.item))
+    (λ q m. length-set nodes q (kept.with_delivery (kept.node_at nodes q) m.sender))
+    (λ q d. refl)
+    (λ q. length-set nodes q (kept.with_crash (kept.node_at nodes q)))
+    (λ i c. refl)
+    refl
 
 place_on : (line : Line) → kept.place_after line ≡ cond (said.is_end line) Ended Body
 place_on (Head n f k) = refl

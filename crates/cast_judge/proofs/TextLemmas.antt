@@ -1,5 +1,5 @@
 -- How the verdict on a text goes on as more of it is read.
-use Rattle.std.proofs.Common.{◌≡◌, ℕ, ◌+◌, ◌^◌, ◌<◌, ◌≤◌, ◌&&◌, Bool, true, false, cond, nat_eq, List, [], ◌∷◌, ◌++◌, append-nil, length, length-append, decimal, codes, Option, Some, None, Ok, Err, refl, sym, ap, subst, ◌∙◌, arith}
+use Rattle.std.proofs.Common.{◌≡◌, ℕ, ◌+◌, ◌^◌, ◌<◌, ◌≤◌, ◌&&◌, true, false, cond, nat_eq, List, [], ◌∷◌, ◌++◌, append-nil, length, length-append, decimal, codes, Option, Some, None, Ok, Err, refl, sym, ap, subst, ◌∙◌, arith}
 use Rattle.std.specs.List.{slice_split, onto_first}
 use Rattle.std.proofs.lemmas.Fmt.{length-decimal-le}
 use Rattle.std.proofs.lemmas.List.Elements.{All-head, All-tail, All-append}
@@ -18,9 +18,11 @@ use Rattle.cast_record.specs.Reading.{line_of}
 use Rattle.cast_record.specs.Rules.{is_ended, broken}
 use Rattle.cast_record.specs.Verdicts.{with_line, verdict_at_end, verdict_after}
 use Rattle.cast_record.proofs.PartLemmas.{has_first}
+use Rattle.cast_record.proofs.VerdictLemmas.{goes_by, offends_by}
 use Rattle.cast_words.proofs.UnhexLemmas.{length-hex}
 use Rattle.cast_record.proofs.ReadLemmas.{line_takes_text}
 use Rattle.cast_judge.specs.Judged.{HasNone, verdict_of}
+use Rattle.cast_judge.proofs.TestLemmas.{and_false}
 
 abbrev feeds : List ℕ → List (List ℕ)
 feeds bytes = slice_split (λ b. nat_eq b 10) bytes
@@ -30,25 +32,17 @@ feeds bytes = slice_split (λ b. nat_eq b 10) bytes
 cut_line : (line more : List ℕ) → HasNone 10 line → feeds (line ++ 10 ∷ more) ≡ line ∷ feeds more
 cut_line line more clean = slice_split_at (λ b. nat_eq b 10) line 10 more clean refl
 
-goes_by_parts : (past lines : List Line) (line next : List ℕ) (parts : List (List ℕ)) → with_line past (line_of line) ≡ Ok lines → verdict_after past (line ∷ next ∷ parts) ≡ verdict_after lines (next ∷ parts)
-unfolding verdict_after
-goes_by_parts past lines line next parts e = rw (e, verdict_after) refl
-
-offends_by_parts : (past : List Line) (rule : ℕ) (line next : List ℕ) (parts : List (List ℕ)) → with_line past (line_of line) ≡ Err rule → verdict_after past (line ∷ next ∷ parts) ≡ Bad (length past + 1) rule
-unfolding verdict_after
-offends_by_parts past rule line next parts e = rw (e, verdict_after) refl
-
 pub line_goes : (past lines : List Line) (line more : List ℕ) → HasNone 10 line → with_line past (line_of line) ≡ Ok lines → verdict_of past (line ++ 10 ∷ more) ≡ verdict_of lines more
 line_goes past lines line more clean e =
     let first = has_first (λ b. nat_eq b 10) more in
     ap (verdict_after past) (cut_line line more clean ∙ ap (λ parts. line ∷ parts) first.2)
-    ∙ goes_by_parts past lines line first.0 first.1 e ∙ sym (ap (verdict_after lines) first.2)
+    ∙ goes_by past lines line first.0 first.1 e ∙ sym (ap (verdict_after lines) first.2)
 
 pub line_offends : (past : List Line) (rule : ℕ) (line more : List ℕ) → HasNone 10 line → with_line past (line_of line) ≡ Err rule → verdict_of past (line ++ 10 ∷ more) ≡ Bad (length past + 1) rule
 line_offends past rule line more clean e =
     let first = has_first (λ b. nat_eq b 10) more in
     ap (verdict_after past) (cut_line line more clean ∙ ap (λ parts. line ∷ parts) first.2)
-    ∙ offends_by_parts past rule line first.0 first.1 e
+    ∙ offends_by past rule line first.0 first.1 e
 
 -- ---- the end of the text
 
@@ -68,10 +62,6 @@ front_goes_on (b ∷ bs) more part parts clean e =
 not_empty : (bytes more : List ℕ) → 0 < length bytes → nat_eq (length (bytes ++ more)) 0 ≡ false
 not_empty bytes more some = let some_in_all : 0 < length (bytes ++ more) = omega (arith, length-append bytes more) in grind (arith, nat_tests)
 
-and_false : (b : Bool) → (b && false) ≡ false
-and_false true = refl
-and_false false = refl
-
 bad_at_end : (past : List Line) (bytes : List ℕ) → nat_eq (length bytes) 0 ≡ false → verdict_after past (bytes ∷ []) ≡ Bad (length past + 1) 0
 unfolding verdict_after
 bad_at_end past bytes e = ap (λ b. cond (is_ended past && b) Good (Bad (length past + 1) 0)) e ∙ ap (λ b. cond b Good (Bad (length past + 1) 0)) (and_false (is_ended past))
@@ -83,7 +73,7 @@ front_offends past front more clean some never =
   where
     go : (part : List ℕ) (parts : List (List ℕ)) → verdict_after past ((front ++ part) ∷ parts) ≡ Bad (length past + 1) 0
     go part [] = bad_at_end past (front ++ part) (not_empty front part some)
-    go part (next ∷ parts) = offends_by_parts past 0 (front ++ part) next parts (never part)
+    go part (next ∷ parts) = offends_by past 0 (front ++ part) next parts (never part)
 
 -- after the end every line is out of place
 ended_line : (past : List Line) (o : Option Line) → is_ended past ≡ true → with_line past o ≡ Err 0

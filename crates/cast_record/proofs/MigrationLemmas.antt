@@ -22,6 +22,7 @@ use Rattle.cast_record.specs.Rules as said
 use Rattle.cast_record.specs.Text.{line_words, line_text}
 use Rattle.cast_record.specs.Verdicts.{with_line, kept_by, verdict_at_end, verdict_after, verdict}
 use Rattle.cast_record.proofs.PartLemmas.{has_first}
+use Rattle.cast_record.proofs.VerdictLemmas.{least_of, goes_by, offends_by}
 use Rattle.cast_record.proofs.ReadLemmas.{head_takes, text_same, line_again, line_takes_text}
 use Rattle.cast_record.proofs.WordLemmas.{split_line, line_without_feed}
 
@@ -153,9 +154,6 @@ place_same : (n f k : ℕ) (xs : List Line) (line : Line) → said.is_out_of_pla
 place_same n f k [] line = ap (λ (g : said.Group). false || said.is_head line || not (said.names_below g.nodes line)) (group_same n f k [])
 place_same n f k (x ∷ xs) line = ap (λ (g : said.Group). said.is_end x || said.is_head line || not (said.names_below g.nodes line)) (group_same n f k (x ∷ xs))
 
-abbrev least_of : Bool → Bool → Bool → Bool → Bool → Bool → Bool → Option ℕ
-least_of a b c d e f g = cond a (Some 0) (cond b (Some 1) (cond c (Some 2) (cond d (Some 3) (cond e (Some 4) (cond f (Some 5) (cond g (Some 6) None))))))
-
 broken_same : (n f k : ℕ) (xs : List Line) (line : Line) → said.broken (under n f k xs) line ≡ said.broken (renewed n f k xs) line
 unfolding said.broken
 broken_same n f k xs line = λ i. least_of (place_same n f k xs line i) (prefix_same n f k xs line i) (after_close_same n f k xs line i) (not_proposed_same n f k xs line i) (many_same n f k xs line i) (after_crash_same n f k xs line i) (twice_same n f k xs line i)
@@ -169,14 +167,6 @@ ended_same n f k (x ∷ xs) = refl
 
 end_same : (n f k : ℕ) (xs : List Line) (rest : List ℕ) → verdict_at_end (under n f k xs) rest ≡ verdict_at_end (renewed n f k xs) rest
 end_same n f k xs rest = λ i. cond (ended_same n f k xs i && nat_eq (length rest) 0) Good (Bad (length_same n f k xs i + 1) 0)
-
-offends_by : (past : List Line) (rule : ℕ) (line next : List ℕ) (parts : List (List ℕ)) → with_line past (line_of line) ≡ Err rule → verdict_after past (line ∷ next ∷ parts) ≡ Bad (length past + 1) rule
-unfolding verdict_after
-offends_by past rule line next parts e = rw (e, verdict_after) refl
-
-goes_by : (past lines : List Line) (line next : List ℕ) (parts : List (List ℕ)) → with_line past (line_of line) ≡ Ok lines → verdict_after past (line ∷ next ∷ parts) ≡ verdict_after lines (next ∷ parts)
-unfolding verdict_after
-goes_by past lines line next parts e = rw (e, verdict_after) refl
 
 abbrev GoesOn : ℕ → ℕ → ℕ → List Line → List (List ℕ) → Type 0
 GoesOn n f k xs parts = (line : Line) → verdict_after (under n f k (line ∷ xs)) parts ≡ verdict_after (renewed n f k (line ∷ xs)) parts

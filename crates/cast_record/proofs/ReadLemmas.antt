@@ -333,7 +333,7 @@ mode_takes word mode e = by_basic (bytes_eq word (codes "basic")) refl e
     by_basic true test h = let is : Basic ≡ mode = cc in ap mode_word (sym is) ∙ sym (text_same word (codes "basic") test)
     by_basic false test h = by_uniform (bytes_eq word (codes "uniform")) refl h
 
-or_false : (a b : Bool) → (a || b) ≡ false → (a ≡ false) × (b ≡ false)
+pub or_false : (a b : Bool) → (a || b) ≡ false → (a ≡ false) × (b ≡ false)
 or_false true b e = absurd (cc)
 or_false false b e = (refl, e)
 
