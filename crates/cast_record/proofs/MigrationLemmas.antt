@@ -7,6 +7,7 @@ use Rattle.cast_message.specs.declared.config.Mode.TheVariants.{Basic}
 use Rattle.cast_message.specs.declared.message.Item.{Item}
 use Rattle.cast_message.specs.declared.message.Item.TheVariants.{Data, Propose, Close}
 use Rattle.cast_message.specs.declared.message.Message.{Message}
+use Rattle.cast_message.specs.declared.message.Decision.{Decision}
 use Rattle.cast_record.specs.declared.line.Line.{Line}
 use Rattle.cast_record.specs.declared.line.Line.TheVariants.{Head, Head2, Broadcast, Delivered, Decided, Crashed, Refused, End}
 use Rattle.cast_record.specs.declared.verdict.Verdict.TheVariants.{Good, Bad}
@@ -85,70 +86,13 @@ module _ (n f k : ℕ) (xs : List Line) where
   unfolding said.has_crashed
   crashed_same p = any_same (said.is_crash p) (Head n f k) (Head2 n f k Basic) xs refl
 
-  prefix_same : (line : Line) → said.breaks_prefix (under n f k xs) line ≡ said.breaks_prefix (renewed n f k xs) line
-  prefix_same (Head a b c) = refl
-  prefix_same (Head2 a b c d) = refl
-  prefix_same (Broadcast m) = ap (λ count. not (nat_eq m.number count)) (broadcasts_same m.sender)
-  prefix_same (Delivered q m) = λ i. not (nat_eq m.number (deliveries_same q m.sender i)) || not (has_broadcast_same m i)
-  prefix_same (Decided q d) = refl
-  prefix_same (Crashed q) = refl
-  prefix_same (Refused i c) = refl
-  prefix_same End = refl
-
-  after_close_same : (line : Line) → said.is_after_close (under n f k xs) line ≡ said.is_after_close (renewed n f k xs) line
-  after_close_same (Head a b c) = refl
-  after_close_same (Head2 a b c d) = refl
-  after_close_same (Broadcast m) = closed_same m.sender
-  after_close_same (Delivered q m) = refl
-  after_close_same (Decided q d) = refl
-  after_close_same (Crashed q) = refl
-  after_close_same (Refused i c) = refl
-  after_close_same End = refl
-
-  not_proposed_same : (line : Line) → said.is_not_proposed (under n f k xs) line ≡ said.is_not_proposed (renewed n f k xs) line
-  not_proposed_same (Head a b c) = refl
-  not_proposed_same (Head2 a b c d) = refl
-  not_proposed_same (Broadcast m) = refl
-  not_proposed_same (Delivered q m) = refl
-  not_proposed_same (Decided q d) = ap not (is_proposed_same d.instance d.value)
-  not_proposed_same (Crashed q) = refl
-  not_proposed_same (Refused i c) = refl
-  not_proposed_same End = refl
-
-  many_same : (line : Line) → said.is_of_too_many (under n f k xs) line ≡ said.is_of_too_many (renewed n f k xs) line
-  many_same (Head a b c) = refl
-  many_same (Head2 a b c d) = refl
-  many_same (Broadcast m) = refl
-  many_same (Delivered q m) = refl
-  many_same (Decided q d) = λ i. nat_lt (group_same n f k xs i).faults (group_same n f k xs i).choices && nat_lt (group_same n f k xs i).choices (length (said.different (d.value ∷ values_same n f k d.instance xs i)))
-  many_same (Crashed q) = refl
-  many_same (Refused i c) = refl
-  many_same End = refl
-
-  after_crash_same : (line : Line) → said.is_after_crash (under n f k xs) line ≡ said.is_after_crash (renewed n f k xs) line
-  after_crash_same (Head a b c) = refl
-  after_crash_same (Head2 a b c d) = refl
-  after_crash_same (Broadcast m) = crashed_same m.sender
-  after_crash_same (Delivered q m) = crashed_same q
-  after_crash_same (Decided q d) = crashed_same q
-  after_crash_same (Crashed q) = crashed_same q
-  after_crash_same (Refused i c) = refl
-  after_crash_same End = refl
+  many_same : (q : ℕ) (d : Decision) → said.is_of_too_many (under n f k xs) (Decided q d) ≡ said.is_of_too_many (renewed n f k xs) (Decided q d)
+  many_same q d = λ i. nat_lt (group_same n f k xs i).faults (group_same n f k xs i).choices && nat_lt (group_same n f k xs i).choices (length (said.different (d.value ∷ values_same n f k d.instance xs i)))
 
   second_same : (p : ℕ) (item : Item) → said.is_second_proposal (under n f k xs) p item ≡ said.is_second_proposal (renewed n f k xs) p item
   second_same p (Data payload) = refl
   second_same p (Propose j w) = proposed_same p j
   second_same p Close = refl
-
-  twice_same : (line : Line) → said.is_proposed_twice (under n f k xs) line ≡ said.is_proposed_twice (renewed n f k xs) line
-  twice_same (Head a b c) = refl
-  twice_same (Head2 a b c d) = refl
-  twice_same (Broadcast m) = second_same m.sender m.item
-  twice_same (Delivered q m) = refl
-  twice_same (Decided q d) = refl
-  twice_same (Crashed q) = refl
-  twice_same (Refused i c) = refl
-  twice_same End = refl
 
 place_same : (n f k : ℕ) (xs : List Line) (line : Line) → said.is_out_of_place (under n f k xs) line ≡ said.is_out_of_place (renewed n f k xs) line
 place_same n f k [] line = ap (λ (g : said.Group). false || said.is_head line || not (said.names_below g.nodes line)) (group_same n f k [])
@@ -156,7 +100,14 @@ place_same n f k (x ∷ xs) line = ap (λ (g : said.Group). said.is_end x || sai
 
 broken_same : (n f k : ℕ) (xs : List Line) (line : Line) → said.broken (under n f k xs) line ≡ said.broken (renewed n f k xs) line
 unfolding said.broken
-broken_same n f k xs line = λ i. least_of (place_same n f k xs line i) (prefix_same n f k xs line i) (after_close_same n f k xs line i) (not_proposed_same n f k xs line i) (many_same n f k xs line i) (after_crash_same n f k xs line i) (twice_same n f k xs line i)
+broken_same n f k xs (Head a b c) = λ i. least_of (place_same n f k xs (Head a b c) i) false false false false false false
+broken_same n f k xs (Head2 a b c d) = λ i. least_of (place_same n f k xs (Head2 a b c d) i) false false false false false false
+broken_same n f k xs (Broadcast m) = λ i. least_of (place_same n f k xs (Broadcast m) i) (not (nat_eq m.number (broadcasts_same n f k xs m.sender i))) (closed_same n f k xs m.sender i) false false (crashed_same n f k xs m.sender i) (second_same n f k xs m.sender m.item i)
+broken_same n f k xs (Delivered q m) = λ i. least_of (place_same n f k xs (Delivered q m) i) (not (nat_eq m.number (deliveries_same n f k xs q m.sender i)) || not (has_broadcast_same n f k xs m i)) false false false (crashed_same n f k xs q i) false
+broken_same n f k xs (Decided q d) = λ i. least_of (place_same n f k xs (Decided q d) i) false false (not (is_proposed_same n f k xs d.instance d.value i)) (many_same n f k xs q d i) (crashed_same n f k xs q i) false
+broken_same n f k xs (Crashed q) = λ i. least_of (place_same n f k xs (Crashed q) i) false false false false (crashed_same n f k xs q i) false
+broken_same n f k xs (Refused a b) = λ i. least_of (place_same n f k xs (Refused a b) i) false false false false false false
+broken_same n f k xs End = λ i. least_of (place_same n f k xs End i) false false false false false false
 
 length_same : (n f k : ℕ) (xs : List Line) → length (under n f k xs) ≡ length (renewed n f k xs)
 length_same n f k xs = length-append xs (Head n f k ∷ []) ∙ sym (length-append xs (Head2 n f k Basic ∷ []))
