@@ -5,6 +5,7 @@ use Rattle.std.proofs.lemmas.Bool.Decides.{nat_tests}
 use Rattle.cast_message.specs.declared.message.Item.{Item}
 use Rattle.cast_message.specs.declared.message.Item.TheVariants.{Data, Propose, Close}
 use Rattle.cast_message.specs.declared.message.Message.{Message}
+use Rattle.cast_message.specs.declared.message.Decision.{Decision}
 use Rattle.cast_record.specs.declared.line.Line.{Line}
 use Rattle.cast_record.specs.declared.line.Line.TheVariants.{Head, Head2, Broadcast, Delivered, Decided, Crashed, Refused, End}
 use Rattle.cast_record.specs.Rules as said
@@ -82,6 +83,13 @@ place_same (last ∷ past) k line s =
 below : (p n : ℕ) → nat_lt p n ≡ true → p < n
 below p n e = grind (arith, nat_tests)
 
+-- one more value, where it may be known already
+pub value_count : (a b : Bool) (n v : ℕ) (vs : List ℕ) → a ≡ b → n ≡ length vs → cond a n (n + 1) ≡ length (cond b vs (v ∷ vs))
+value_count true true n v vs same count = count
+value_count true false n v vs same count = absurd (cc)
+value_count false true n v vs same count = absurd (cc)
+value_count false false n v vs same count = omega (arith, count)
+
 module _ (past : List Line) (k : Kept) (s : StandsFor past k) where
   node : (p : ℕ) → nat_lt p (length k.nodes.items) ≡ true → StandsForNode past p (kept.node_at k.nodes.items p)
   node p e = s.nodes p (below p (length k.nodes.items) e)
@@ -92,11 +100,11 @@ module _ (past : List Line) (k : Kept) (s : StandsFor past k) where
   item_same : (m : Message) → nat_lt m.sender (length k.nodes.items) ≡ true → kept.has_item (kept.node_at k.nodes.items m.sender).items m.number m.item ≡ said.has_broadcast past m
   item_same m e = ap (λ items. kept.has_item items m.number m.item) (node m.sender e).items ∙ sym (s.numbered m)
 
-  prefix_same : (line : Line) → said.names_below (length k.nodes.items) line ≡ true → kept.breaks_prefix k line ≡ said.breaks_prefix past line
-  prefix_same (Head n f c) e = refl
-  prefix_same (Head2 n f c d) e = refl
-  prefix_same (Broadcast m) e = ap (λ n. not (nat_eq m.number n)) (ap length (node m.sender e).items ∙ items_counted past m.sender)
-  prefix_same (Delivered q m) e =
+  numbered_same : (m : Message) → nat_lt m.sender (length k.nodes.items) ≡ true → not (nat_eq m.number (length (kept.node_at k.nodes.items m.sender).items)) ≡ not (nat_eq m.number (said.broadcasts_of past m.sender))
+  numbered_same m e = ap (λ n. not (nat_eq m.number n)) (ap length (node m.sender e).items ∙ items_counted past m.sender)
+
+  delivery_same : (q : ℕ) (m : Message) → said.names_below (length k.nodes.items) (Delivered q m) ≡ true → kept.breaks_prefix k (Delivered q m) ≡ said.breaks_prefix past (Delivered q m)
+  delivery_same q m e =
       let both = and_true (nat_lt q (length k.nodes.items)) (nat_lt m.sender (length k.nodes.items)) e in
       let small : m.sender < 64 = far m.sender (below m.sender (length k.nodes.items) both.1) in
       ap (λ n. not (nat_eq m.number n) || not (kept.has_item (kept.node_at k.nodes.items m.sender).items m.number m.item)) ((node q both.0).delivered m.sender small)
@@ -104,74 +112,30 @@ module _ (past : List Line) (k : Kept) (s : StandsFor past k) where
     where
       far : (p : ℕ) → p < length k.nodes.items → p < 64
       far p h = omega (arith, s.few)
-  prefix_same (Decided q d) e = refl
-  prefix_same (Crashed q) e = refl
-  prefix_same (Refused i c) e = refl
-  prefix_same End e = refl
 
-  close_same : (line : Line) → said.names_below (length k.nodes.items) line ≡ true → kept.is_after_close k line ≡ said.is_after_close past line
-  close_same (Head n f c) e = refl
-  close_same (Head2 n f c d) e = refl
-  close_same (Broadcast m) e = (node m.sender e).closed
-  close_same (Delivered q m) e = refl
-  close_same (Decided q d) e = refl
-  close_same (Crashed q) e = refl
-  close_same (Refused i c) e = refl
-  close_same End e = refl
-
-  proposed_same : (line : Line) → kept.is_not_proposed k line ≡ said.is_not_proposed past line
-  proposed_same (Head n f c) = refl
-  proposed_same (Head2 n f c d) = refl
-  proposed_same (Broadcast m) = refl
-  proposed_same (Delivered q m) = refl
-  proposed_same (Decided q d) = ap not ((s.instances d.instance).values d.value)
-  proposed_same (Crashed q) = refl
-  proposed_same (Refused i c) = refl
-  proposed_same End = refl
-
-  counted : (b c : Bool) (m n : ℕ) (x : ℕ) (xs : List ℕ) → b ≡ c → m ≡ length xs → cond b m (m + 1) ≡ length (cond c xs (x ∷ xs))
-  counted true true m n x xs e f = f
-  counted true false m n x xs e f = absurd (cc)
-  counted false true m n x xs e f = absurd (cc)
-  counted false false m n x xs e f = omega arith
-
-  many_same : (line : Line) → kept.is_of_too_many k line ≡ said.is_of_too_many past line
-  many_same (Head n f c) = refl
-  many_same (Head2 n f c d) = refl
-  many_same (Broadcast m) = refl
-  many_same (Delivered q m) = refl
-  many_same (Decided q d) =
+  many_same : (q : ℕ) (d : Decision) → kept.is_of_too_many k (Decided q d) ≡ said.is_of_too_many past (Decided q d)
+  many_same q d =
       let instance = s.instances d.instance in
-      let count = counted (is_decided (kept.instance_at k.instances d.instance).candidates d.value) (kept.has_value (said.values_in past d.instance) d.value) (count_decided (kept.instance_at k.instances d.instance).candidates) 0 d.value (said.different (said.values_in past d.instance)) (instance.decided d.value) instance.count in
+      let count = value_count (is_decided (kept.instance_at k.instances d.instance).candidates d.value) (kept.has_value (said.values_in past d.instance) d.value) (count_decided (kept.instance_at k.instances d.instance).candidates) d.value (said.different (said.values_in past d.instance)) (instance.decided d.value) instance.count in
       (λ i. nat_lt (s.faults i) (s.choices i) && nat_lt (s.choices i) (count i))
-  many_same (Crashed q) = refl
-  many_same (Refused i c) = refl
-  many_same End = refl
-
-  after_crash_same : (line : Line) → said.names_below (length k.nodes.items) line ≡ true → kept.is_after_crash k line ≡ said.is_after_crash past line
-  after_crash_same (Head n f c) e = refl
-  after_crash_same (Head2 n f c d) e = refl
-  after_crash_same (Broadcast m) e = crash_same m.sender e
-  after_crash_same (Delivered q m) e = crash_same q (and_true (nat_lt q (length k.nodes.items)) (nat_lt m.sender (length k.nodes.items)) e).0
-  after_crash_same (Decided q d) e = crash_same q e
-  after_crash_same (Crashed q) e = crash_same q e
-  after_crash_same (Refused i c) e = refl
-  after_crash_same End e = refl
 
   second_same : (p : ℕ) (item : Item) → kept.is_second_proposal k p item ≡ said.is_second_proposal past p item
   second_same p (Data payload) = refl
   second_same p (Propose j w) = (s.instances j).proposed p
   second_same p Close = refl
 
-  twice_same : (line : Line) → kept.is_proposed_twice k line ≡ said.is_proposed_twice past line
-  twice_same (Head n f c) = refl
-  twice_same (Head2 n f c d) = refl
-  twice_same (Broadcast m) = second_same m.sender m.item
-  twice_same (Delivered q m) = refl
-  twice_same (Decided q d) = refl
-  twice_same (Crashed q) = refl
-  twice_same (Refused i c) = refl
-  twice_same End = refl
+  -- of a line that names nodes of the group, the least rule is the same, by its kind
+  least_same : (line : Line) → said.names_below (length k.nodes.items) line ≡ true → kept.is_out_of_place k line ≡ said.is_out_of_place past line → kept.rule_by k line ≡ said.first_broken (said.rules past line)
+  least_same (Head n f c) e place = λ i. least_of (place i) false false false false false false
+  least_same (Head2 n f c d) e place = λ i. least_of (place i) false false false false false false
+  least_same (Broadcast m) e place = λ i. least_of (place i) (numbered_same m e i) ((node m.sender e).closed i) false false (crash_same m.sender e i) (second_same m.sender m.item i)
+  least_same (Delivered q m) e place =
+      let crash = crash_same q (and_true (nat_lt q (length k.nodes.items)) (nat_lt m.sender (length k.nodes.items)) e).0 in
+      (λ i. least_of (place i) (delivery_same q m e i) false false false (crash i) false)
+  least_same (Decided q d) e place = λ i. least_of (place i) false false (not ((s.instances d.instance).values d.value i)) (many_same q d i) (crash_same q e i) false
+  least_same (Crashed q) e place = λ i. least_of (place i) false false false false (crash_same q e i) false
+  least_same (Refused j c) e place = λ i. least_of (place i) false false false false false false
+  least_same End e place = λ i. least_of (place i) false false false false false false
 
 -- what is kept tells the least rule that a line breaks
 pub rule_same : (past : List Line) (k : Kept) (line : Line) → StandsFor past k → kept.rule_by k line ≡ said.broken past line
@@ -184,4 +148,4 @@ rule_same past k line s = go (said.is_out_of_place past line) refl
         ∙ sym (ap (λ b. least_of b (said.breaks_prefix past line) (said.is_after_close past line) (said.is_not_proposed past line) (said.is_of_too_many past line) (said.is_after_crash past line) (said.is_proposed_twice past line)) e)
     go false e =
         let range : said.names_below (length k.nodes.items) line ≡ true = ap (λ n. said.names_below n line) s.size ∙ in_range past line e in
-        (λ i. least_of (place_same past k line s i) (prefix_same past k s line range i) (close_same past k s line range i) (proposed_same past k s line i) (many_same past k s line i) (after_crash_same past k s line range i) (twice_same past k s line i))
+        least_same past k s line range (place_same past k line s)

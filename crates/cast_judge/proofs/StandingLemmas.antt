@@ -26,7 +26,7 @@ use Rattle.cast_judge.specs.Stands.{items_in, items_of, StandsFor, StandsForNode
 use Rattle.cast_judge.proofs.TestLemmas.{same_number, other_number, test_swaps, and_false, not_false}
 use Rattle.cast_judge.proofs.CandidateLemmas.{list_any-push, proposed_has, proposed_decided, proposed_count, decision_has, decision_decided, decision_count}
 use Rattle.cast_judge.proofs.NodeLemmas.{none_counted}
-use Rattle.cast_judge.proofs.RuleLemmas.{items_counted, head_first}
+use Rattle.cast_judge.proofs.RuleLemmas.{items_counted, head_first, value_count}
 
 -- ---- what a line adds to a node
 
@@ -197,13 +197,6 @@ broadcast_on : (past : List Line) (m : Message) (item : Item) (q : ℕ) (instanc
 broadcast_on past m (Data payload) q instance is h = silent_on past m q instance (λ j. ap (said.proposes_in j) is) (λ j v. ap (said.proposes j v) is) h
 broadcast_on past m (Propose j w) q instance is h = proposal_on past m j w q instance is h
 broadcast_on past m Close q instance is h = silent_on past m q instance (λ j. ap (said.proposes_in j) is) (λ j v. ap (said.proposes j v) is) h
-
--- one more value, where it may be known already
-value_count : (a b : Bool) (n v : ℕ) (vs : List ℕ) → a ≡ b → n ≡ length vs → cond a n (n + 1) ≡ length (cond b vs (v ∷ vs))
-value_count true true n v vs same count = count
-value_count true false n v vs same count = absurd (cc)
-value_count false true n v vs same count = absurd (cc)
-value_count false false n v vs same count = omega (arith, count)
 
 decision_on : (past : List Line) (p : ℕ) (d : Decision) (q : ℕ) (instance : Instance) → said.is_proposed past d.instance d.value ≡ true → StandsForInstance past q instance → StandsForInstance (Decided p d ∷ past) q (kept.changed_at d.instance (adds.Decided d.value) q instance)
 unfolding said.has_proposed said.is_proposed said.values_in
