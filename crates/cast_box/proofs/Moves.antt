@@ -53,6 +53,27 @@ module _ {T : Type 0} where
       ⊎_elim (λ (x : (j ≡ pass) × (w ≡ u)). subst (λ (y : ℕ × Known T). F y.0 y.1) (λ i. (sym x.0 i, x.1 i)) mine)
       (λ (x : (j ≢ pass) × (get_elem? views j ≡ some u)). others j u x.0 x.1) (at_set views pass j w u e)
 
+  all_snoc : (F : ℕ → Known T → Type 0) (views : List (Known T)) (w : Known T) → All F views → F (length views) w → All F (views ++ w ∷ [])
+  all_snoc F views w old new j u e =
+      ⊎_elim (λ x. old j u x)
+      (λ (x : (j ≡ length views) × (w ≡ u)). subst (λ (y : ℕ × Known T). F y.0 y.1) (λ i. (sym x.0 i, x.1 i)) new)
+      (at_snoc views w u j e)
+
+  -- what a putter knows goes on to hold where its seat and what it has put stay
+  putter_stays : {reader : ℕ} {seat seat' : ℕ → Option ℕ} {put put' : ℕ → List T} {taken taken' items items' : List (ℕ × T)} {size putters pass : ℕ} {v : Known T}
+      → IsPutter reader seat put taken items size putters pass v → seat' v.number ≡ some pass → put' v.number ≡ put v.number → IsPutter reader seat' put' taken' items' size putters pass v
+  putter_stays his sits same = record { sits = sits; put_is = his.put_is ∙ sym same; size_is = his.size_is; putters_is = his.putters_is; below = his.below }
+
+  -- an end beside the reader's is a putter or was given up
+  fits_beside : {reader : ℕ} {seat seat' : ℕ → Option ℕ} {put put' : ℕ → List T} {taken taken' items items' : List (ℕ × T)} {size size' putters putters' : ℕ} {j : ℕ} {u : Known T} (pass : ℕ)
+      → j ≢ pass → pass ≡ reader → Fits reader seat put taken items size putters j u
+      → (IsPutter reader seat put taken items size putters j u → IsPutter reader seat' put' taken' items' size' putters' j u) → Fits reader seat' put' taken' items' size' putters' j u
+  fits_beside pass other reads old stays = record {
+    as_putter = λ r. stays (old.as_putter r);
+    as_taker = λ r. absurd (other ((old.as_taker r).reads ∙ sym reads));
+    as_gatherer = λ r. absurd (other ((old.as_gatherer r).reads ∙ sym reads));
+  }
+
   pub begins : Ruled {T = T} [] (taker 0 0 0 [] [] ∷ [])
   begins = record {
     reader = 0;
@@ -109,11 +130,7 @@ module _ {T : Type 0} where
         };
         as_gatherer = λ q. cc;
       })
-      (λ j u other e. let old = h.fits j u e in record {
-        as_putter = λ q. absurd (seated h.seat u.number u.number j (fresh u.number).0 (old.as_putter q).sits refl);
-        as_taker = λ q. absurd (other ((old.as_taker q).reads ∙ sym mine.reads));
-        as_gatherer = λ q. absurd (other ((old.as_gatherer q).reads ∙ sym mine.reads));
-      }) in
+      (λ j u other e. fits_beside pass other mine.reads (h.fits j u e) (λ his. absurd (seated h.seat u.number u.number j (fresh u.number).0 his.sits refl))) in
       record {
         reader = h.reader;
         seat = h.seat;
@@ -124,10 +141,7 @@ module _ {T : Type 0} where
         fair = h.fair;
         room = let none_yet = h.room in let size_is = mine.size_is in let zero_is = ap (λ (w : Known T). w.size) is in omega arith;
         within = λ a k. (fresh a).1;
-        fits = λ j u e. ⊎_elim (λ x. old_fits j u x)
-            (λ (x : (j ≡ length vs) × (spent ≡ u)). subst (λ (y : ℕ × Known T). F y.0 y.1) (λ i. (sym x.0 i, x.1 i))
-            (spent_fits h.reader h.seat h.put h.taken items size putters (length vs)))
-            (at_snoc vs spent u j e);
+        fits = all_snoc F vs spent old_fits (spent_fits h.reader h.seat h.put h.taken items size putters (length vs));
       }
 
   pub puts : (n pass : ℕ) (v : Known T) (x : T) → v.role ≡ Putting → v.size ≡ n → Pushes Ruled n pass v (v.number, x) (Puts v (v.number, x))
@@ -162,13 +176,7 @@ module _ {T : Type 0} where
                 as_gatherer = λ r. cc;
               })
               (λ j u other e. let old = h.fits j u e in record {
-                as_putter = λ r. let his = old.as_putter r in record {
-                  sits = his.sits;
-                  put_is = his.put_is ∙ sym (same u.number (apart h.seat u.number v.number j pass his.sits mine.sits other));
-                  size_is = his.size_is;
-                  putters_is = his.putters_is;
-                  below = his.below;
-                };
+                as_putter = λ r. let his = old.as_putter r in putter_stays his his.sits (same u.number (apart h.seat u.number v.number j pass his.sits mine.sits other));
                 as_taker = λ r. let his = old.as_taker r in record {
                   reads = his.reads;
                   taken_is = his.taken_is;
@@ -207,51 +215,47 @@ module _ {T : Type 0} where
         (of v.number h.taken, mine.put_is ∙ sym (h.fair v.number) ∙ of-append v.number h.taken items),
       )
 
-  -- a putter's knowledge says nothing of what was taken and is held
-  kept_putter : (reader : ℕ) (seat : ℕ → Option ℕ) (put : ℕ → List T) (taken taken' items items' : List (ℕ × T)) (size putters pass : ℕ) (v : Known T)
-      → IsPutter reader seat put taken items size putters pass v → IsPutter reader seat put taken' items' size putters pass v
-  kept_putter reader seat put taken taken' items items' size putters pass v his =
-      record { sits = his.sits; put_is = his.put_is; size_is = his.size_is; putters_is = his.putters_is; below = his.below }
+  -- the reader's end takes the next item, and knows then what w says
+  pops : (m : ℕ × T) (items : List (ℕ × T)) (views : List (Known T)) (pass : ℕ) (w : Known T) (h : Ruled (m ∷ items) views) → pass ≡ h.reader
+      → Fits h.reader h.seat h.put (h.taken ++ m ∷ []) items h.size h.putters pass w → Ruled items (set views pass w)
+  pops m items views pass w h reads mine =
+      let taken' = h.taken ++ m ∷ [] in
+      record {
+        reader = h.reader;
+        seat = h.seat;
+        put = h.put;
+        taken = taken';
+        size = h.size;
+        putters = h.putters;
+        fair = λ a. ap (of a) (append_assoc h.taken (m ∷ []) items) ∙ h.fair a;
+        room = let was = h.room in omega arith;
+        within = h.within;
+        fits = all_set (Fits h.reader h.seat h.put taken' items h.size h.putters) views pass w mine
+            (λ j u other e. fits_beside pass other reads (h.fits j u e) (λ his. putter_stays his his.sits refl));
+      }
 
   pub takes : (pass : ℕ) (v : Known T) → v.role ≡ Taking → Pops Ruled pass v (Takes v)
   takes pass v may m items views h at =
       let w : Known T = taker v.size v.putters v.number (v.taken ++ m ∷ []) v.ended in
       let mine = (h.fits pass v at).as_taker may in
       let below : m.0 < v.number = dite (dec_lt m.0 v.number) (λ y. y)
-      (λ n. absurd (not_nil m.1 (of m.0 h.taken) (of m.0 items) (sym (brought h.taken m items) ∙ h.fair m.0 ∙ (mine.unmade m.0 (omega arith)).1))) in
-      let taken' = h.taken ++ m ∷ [] in (
+      (λ n. absurd (not_nil m.1 (of m.0 h.taken) (of m.0 items) (sym (brought h.taken m items) ∙ h.fair m.0 ∙ (mine.unmade m.0 (omega arith)).1))) in (
         w,
-        record {
-          reader = h.reader;
-          seat = h.seat;
-          put = h.put;
-          taken = taken';
-          size = h.size;
-          putters = h.putters;
-          fair = λ a. ap (of a) (append_assoc h.taken (m ∷ []) items) ∙ h.fair a;
-          room = let was = h.room in omega arith;
-          within = h.within;
-          fits = all_set (Fits h.reader h.seat h.put taken' items h.size h.putters) views pass w
-              (record {
-                as_putter = λ r. cc;
-                as_taker = λ r. record {
-                  reads = mine.reads;
-                  taken_is = ap (λ l. l ++ m ∷ []) mine.taken_is;
-                  unmade = mine.unmade;
-                  ended = mine.ended;
-                  ended_made = mine.ended_made;
-                  size_is = mine.size_is;
-                  putters_is = mine.putters_is;
-                  made_within = mine.made_within;
-                };
-                as_gatherer = λ r. cc;
-              })
-              (λ j u other e. let old = h.fits j u e in record {
-                as_putter = λ r. kept_putter h.reader h.seat h.put h.taken taken' (m ∷ items) items h.size h.putters j u (old.as_putter r);
-                as_taker = λ r. absurd (other ((old.as_taker r).reads ∙ sym mine.reads));
-                as_gatherer = λ r. absurd (other ((old.as_gatherer r).reads ∙ sym mine.reads));
-              });
-        },
+        pops m items views pass w h mine.reads
+            (record {
+              as_putter = λ r. cc;
+              as_taker = λ r. record {
+                reads = mine.reads;
+                taken_is = ap (λ l. l ++ m ∷ []) mine.taken_is;
+                unmade = mine.unmade;
+                ended = mine.ended;
+                ended_made = mine.ended_made;
+                size_is = mine.size_is;
+                putters_is = mine.putters_is;
+                made_within = mine.made_within;
+              };
+              as_gatherer = λ r. cc;
+            }),
         (refl, below),
       )
 
@@ -285,17 +289,8 @@ module _ {T : Type 0} where
         };
         as_gatherer = λ q. cc;
       })
-      (λ j u other e. let old = h.fits j u e in record {
-        as_putter = λ q. let his = old.as_putter q in record {
-          sits = kept u.number (λ eq. seated h.seat v.number u.number j free.0 his.sits (sym eq)) ∙ his.sits;
-          put_is = his.put_is;
-          size_is = his.size_is;
-          putters_is = his.putters_is;
-          below = his.below;
-        };
-        as_taker = λ q. absurd (other ((old.as_taker q).reads ∙ sym mine.reads));
-        as_gatherer = λ q. absurd (other ((old.as_gatherer q).reads ∙ sym mine.reads));
-      }) in
+      (λ j u other e. fits_beside pass other mine.reads (h.fits j u e)
+      (λ his. putter_stays his (kept u.number (λ eq. seated h.seat v.number u.number j free.0 his.sits (sym eq)) ∙ his.sits) refl)) in
       let new : F (length vs) r = record {
         as_putter = λ q. record {
           sits = seat_same h.seat v.number (some (length vs));
@@ -317,9 +312,7 @@ module _ {T : Type 0} where
         fair = h.fair;
         room = h.room;
         within = h.within;
-        fits = λ j u e. ⊎_elim (λ x. old_fits j u x)
-            (λ (x : (j ≡ length vs) × (r ≡ u)). subst (λ (y : ℕ × Known T). F y.0 y.1) (λ i. (sym x.0 i, x.1 i)) new)
-            (at_snoc vs r u j e);
+        fits = all_snoc F vs r old_fits new;
       }
 
   pub merges : (pass : ℕ) (v : Known T) (other : ℕ) (w : Known T) → v.role ≡ Taking → w.role ≡ Putting → w.number ≡ length v.ended
@@ -358,17 +351,8 @@ module _ {T : Type 0} where
         };
         as_gatherer = λ q. cc;
       })
-      (λ j u o e ne. let old = h.fits j u e in record {
-        as_putter = λ q. let its = old.as_putter q in record {
-          sits = kept u.number (apart h.seat u.number w.number j other its.sits his.sits ne) ∙ its.sits;
-          put_is = its.put_is;
-          size_is = its.size_is;
-          putters_is = its.putters_is;
-          below = its.below;
-        };
-        as_taker = λ q. absurd (o ((old.as_taker q).reads ∙ sym mine.reads));
-        as_gatherer = λ q. absurd (o ((old.as_gatherer q).reads ∙ sym mine.reads));
-      }) in
+      (λ j u o e ne. fits_beside pass o mine.reads (h.fits j u e)
+      (λ its. putter_stays its (kept u.number (apart h.seat u.number w.number j other its.sits his.sits ne) ∙ its.sits) refl)) in
       record {
         reader = h.reader;
         seat = seat';
@@ -394,27 +378,10 @@ module _ {T : Type 0} where
       let w : Known T = gatherer v.taken v.ended items in
       let mine = (h.fits pass v at).as_taker may in
       let know = all_ended h.reader h.seat h.put h.taken (m ∷ items) h.size h.putters pass v all mine in
-      let taken' = h.taken ++ m ∷ [] in
       let room : length (m ∷ items) ≤ v.size = let was = h.room in let is = mine.size_is in omega arith in (
         w,
-        record {
-          reader = h.reader;
-          seat = h.seat;
-          put = h.put;
-          taken = taken';
-          size = h.size;
-          putters = h.putters;
-          fair = λ a. ap (of a) (append_assoc h.taken (m ∷ []) items) ∙ h.fair a;
-          room = let was = h.room in omega arith;
-          within = h.within;
-          fits = all_set (Fits h.reader h.seat h.put taken' items h.size h.putters) views pass w
-              (record { as_putter = λ r. cc; as_taker = λ r. cc; as_gatherer = λ r. record { reads = mine.reads; left_is = refl; all_ended = λ a. (know a).0 } })
-              (λ j u other e. let old = h.fits j u e in record {
-                as_putter = λ r. kept_putter h.reader h.seat h.put h.taken taken' (m ∷ items) items h.size h.putters j u (old.as_putter r);
-                as_taker = λ r. absurd (other ((old.as_taker r).reads ∙ sym mine.reads));
-                as_gatherer = λ r. absurd (other ((old.as_gatherer r).reads ∙ sym mine.reads));
-              });
-        },
+        pops m items views pass w h mine.reads
+            (record { as_putter = λ r. cc; as_taker = λ r. cc; as_gatherer = λ r. record { reads = mine.reads; left_is = refl; all_ended = λ a. (know a).0 } }),
         (refl, (λ a. ap (λ l. of a (l ++ m ∷ items)) mine.taken_is ∙ h.fair a ∙ sym (know a).1), room),
       )
 
@@ -427,27 +394,10 @@ module _ {T : Type 0} where
   pub empties : (pass : ℕ) (v : Known T) → v.role ≡ Gathering → Pops Ruled pass v (Empties v)
   empties pass v may m items views h at =
       let w : Known T = gatherer v.taken v.ended items in
-      let mine = (h.fits pass v at).as_gatherer may in
-      let taken' = h.taken ++ m ∷ [] in (
+      let mine = (h.fits pass v at).as_gatherer may in (
         w,
-        record {
-          reader = h.reader;
-          seat = h.seat;
-          put = h.put;
-          taken = taken';
-          size = h.size;
-          putters = h.putters;
-          fair = λ a. ap (of a) (append_assoc h.taken (m ∷ []) items) ∙ h.fair a;
-          room = let was = h.room in omega arith;
-          within = h.within;
-          fits = all_set (Fits h.reader h.seat h.put taken' items h.size h.putters) views pass w
-              (record { as_putter = λ r. cc; as_taker = λ r. cc; as_gatherer = λ r. record { reads = mine.reads; left_is = refl; all_ended = mine.all_ended } })
-              (λ j u other e. let old = h.fits j u e in record {
-                as_putter = λ r. kept_putter h.reader h.seat h.put h.taken taken' (m ∷ items) items h.size h.putters j u (old.as_putter r);
-                as_taker = λ r. absurd (other ((old.as_taker r).reads ∙ sym mine.reads));
-                as_gatherer = λ r. absurd (other ((old.as_gatherer r).reads ∙ sym mine.reads));
-              });
-        },
+        pops m items views pass w h mine.reads
+            (record { as_putter = λ r. cc; as_taker = λ r. cc; as_gatherer = λ r. record { reads = mine.reads; left_is = refl; all_ended = mine.all_ended } }),
         (refl, mine.left_is),
       )
 
