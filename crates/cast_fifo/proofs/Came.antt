@@ -13,16 +13,12 @@ use Rattle.cast_fifo.specs.declared.queue.Waiting.{Waiting}
 use Rattle.cast_fifo.specs.Held.{Held, held_of, waiting_at, came, marked, with_item, without_item, with_mark, run_from, rest_from, known_after, offered_after}
 use Rattle.cast_fifo.proofs.Entries.{Entries, keys_of-marked}
 use Rattle.cast_fifo.proofs.Turns.{found_inserted}
-use Rattle.cast_fifo.proofs.Stands.{look_inserted, look_changed}
+use Rattle.cast_fifo.proofs.Stands.{look_inserted, look_changed, or_true, lt_true}
 
 pub held_of-set : (all : List Held) (s : ℕ) (v : Held) → s < length all → held_of (slice_set all s v) s ≡ v
 held_of-set [] s v l = absurd (omega (arith, l))
 held_of-set (x ∷ all) zero v l = refl
 held_of-set (x ∷ all) (suc s) v l = held_of-set all s v (omega (arith, l))
-
-or_true : (b : Bool) → (b || true) ≡ true
-or_true true = refl
-or_true false = refl
 
 -- a message that is kept came
 pub came-with_item : (held : Held) (k : ℕ) (item : Item) → came (with_item held k item) k ≡ true
@@ -77,9 +73,6 @@ some_rest n i (e ∷ es) h = go (e.0 == n && e.1.known) refl (λ l. some_rest (n
     go true f rest = head (is_at (nat_cmp i) e.0) refl h (is_turn e.0 n e.1.known f) rest
     go false f rest = inl h
 
-below : (i n : ℕ) → i < n → nat_lt i n ≡ true
-below i n l = grind (arith, nat_tests)
-
 -- what came stays so where a number is marked
 pub came-known_after : (held : Held) (k i : ℕ) → came held i ≡ true → came (known_after held k) i ≡ true
 came-known_after held k i h = go (nat_lt i held.next) refl h
@@ -91,7 +84,7 @@ came-known_after held k i h = go (nat_lt i held.next) refl h
     next = held.next + length (run_from held.next es)
 
     passed : i < next → (nat_lt i next || is_some (waiting_at (rest_from held.next es) i)) ≡ true
-    passed l = ap (λ b. b || is_some (waiting_at (rest_from held.next es) i)) (below i next l)
+    passed l = ap (λ b. b || is_some (waiting_at (rest_from held.next es) i)) (lt_true i next l)
 
     lt_tells : (n : ℕ) → nat_lt i n ≡ true → i < n
     lt_tells n e = grind (arith, nat_tests)

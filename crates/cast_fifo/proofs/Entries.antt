@@ -149,7 +149,10 @@ change_far n (Some x ∷ ring) far k w l =
     ap (λ b. cond b ((n, w) ∷ es) ((n, x) ∷ set_value (is_at (nat_cmp k)) es w)) (at_false k n (omega (arith, l)))
     ∙ ap (λ fs. (n, x) ∷ fs) (change_far (n + 1) ring far k w (omega (arith, l)))
 
-eq_false : (k n : ℕ) (b : Bool) → k ≢ n → (k == n && b) ≡ false
+pub cons_nil : (i : Item) (is : List Item) → ◌≡◌ {A = List Item} (i ∷ is) [] → ⊥
+cons_nil i is e = cc
+
+pub eq_false : (k n : ℕ) (b : Bool) → k ≢ n → (k == n && b) ≡ false
 eq_false k n b e = grind (arith, nat_tests)
 
 -- the numbers that wait are all past this one: none has its turn
@@ -164,9 +167,6 @@ pub rest_none : (n : ℕ) (es : Entries) → run_from n es ≡ [] → rest_from 
 rest_none n [] e = refl
 rest_none n (x ∷ es) e = go (x.0 == n && x.1.known) e
   where
-    cons_nil : (i : Item) (is : List Item) → ◌≡◌ {A = List Item} (i ∷ is) [] → ⊥
-    cons_nil i is e = cc
-
     go : (b : Bool) → (if b then x.1.item ∷ run_from (n + 1) es else []) ≡ [] → (if b then rest_from (n + 1) es else x ∷ es) ≡ x ∷ es
     go true e = absurd (cons_nil x.1.item _ e)
     go false e = refl

@@ -12,7 +12,9 @@ use Rattle.cast_message.specs.declared.message.Message.{Message}
 use Rattle.cast_model.specs.History.{numbered}
 use Rattle.cast_fifo.specs.Held.{Held, nothing_held, held_of, came, with_item, known_items, known_after, offered_items, offered_after}
 use Rattle.cast_fifo.specs.Calls.{Call, Hold, Known, Offer, is_pair, is_offer_of, is_hold_of, is_mark_of, is_ready, first_of, item_of, message_of, between, sender_of, held_after, held_by, answer, MayCall, MayBeCalled, GivesInOrder}
-use Rattle.cast_fifo.proofs.Stands.{Stands, same_stands, came_is, holds, knows, with_one, numbered-map}
+use Rattle.cast_fifo.proofs.Stands.{Stands, same_stands, came_is, holds, knows, with_one, numbered-map, first_none, or_true}
+use Rattle.cast_fifo.proofs.Turns.{or_false}
+use Rattle.cast_fifo.proofs.Came.{held_of-set}
 
 some_first : (a b : Option Item) → is_some (first_of a b) ≡ (is_some a || is_some b)
 some_first None b = refl
@@ -36,14 +38,6 @@ offer_order false true true = refl
 offer_order false true false = refl
 offer_order false false true = refl
 offer_order false false false = refl
-
-or_false : (b : Bool) → (b || false) ≡ b
-or_false true = refl
-or_false false = refl
-
-first_none : (o : Option Item) → first_of o None ≡ o
-first_none None = refl
-first_none (Some x) = refl
 
 -- a pair has an item where it was offered or held
 came_by : (calls : List Call) (s i : ℕ) → is_some (item_of calls s i) ≡ (list_any (is_offer_of s i) calls || list_any (is_hold_of s i) calls)
@@ -182,10 +176,6 @@ module _ (nodes : ℕ) (past : List Call) (may : MayBeCalled nodes past) where
           own : (s k : ℕ) → (s == s && k == k) ≡ true
           own s k = grind (arith, nat_tests)
 
-          or_true : (b : Bool) → (b || true) ≡ true
-          or_true true = refl
-          or_true false = refl
-
 length-replicate : (n : ℕ) → length (replicate n nothing_held) ≡ n
 length-replicate zero = refl
 length-replicate (suc n) = ap suc (length-replicate n)
@@ -200,11 +190,6 @@ nothing_of : (n s : ℕ) → held_of (replicate n nothing_held) s ≡ nothing_he
 nothing_of zero s = refl
 nothing_of (suc n) zero = refl
 nothing_of (suc n) (suc s) = nothing_of n s
-
-set_here : (all : List Held) (s : ℕ) (v : Held) → s < length all → held_of (slice_set all s v) s ≡ v
-set_here [] s v l = absurd (omega (arith, l))
-set_here (x ∷ all) zero v l = refl
-set_here (x ∷ all) (suc s) v l = set_here all s v (omega (arith, l))
 
 set_elsewhere : (all : List Held) (t s : ℕ) (v : Held) → t ≢ s → held_of (slice_set all t v) s ≡ held_of all s
 set_elsewhere [] t s v e = refl
@@ -235,9 +220,9 @@ sender_within nodes past (Known t k) may = omega (arith, may.0, length-held_by n
 sender_within nodes past (Offer m) may = omega (arith, may, length-held_by nodes past)
 
 own_step : (nodes : ℕ) (past : List Call) (call : Call) → MayBeCalled nodes past → MayCall nodes past call → Stands (item_of past (sender_of call)) (is_ready past (sender_of call)) (held_of (held_by nodes past) (sender_of call)) → Step call past (held_of (held_by nodes past) (sender_of call)) (held_of (held_by nodes (call ∷ past)) (sender_of call)) (answer (held_by nodes past) call)
-own_step nodes past (Hold m) may call h = subst (λ after. Step (Hold m) past (held_of (held_by nodes past) m.sender) after []) (sym (set_here (held_by nodes past) m.sender _ (sender_within nodes past (Hold m) call))) (hold_step nodes past may m (held_of (held_by nodes past) m.sender) h)
-own_step nodes past (Known s k) may call h = subst (λ after. Step (Known s k) past (held_of (held_by nodes past) s) after (answer (held_by nodes past) (Known s k))) (sym (set_here (held_by nodes past) s _ (sender_within nodes past (Known s k) call))) (known_step nodes past may s k (held_of (held_by nodes past) s) call.1 h)
-own_step nodes past (Offer m) may call h = subst (λ after. Step (Offer m) past (held_of (held_by nodes past) m.sender) after (answer (held_by nodes past) (Offer m))) (sym (set_here (held_by nodes past) m.sender _ (sender_within nodes past (Offer m) call))) (offer_step nodes past may m (held_of (held_by nodes past) m.sender) h)
+own_step nodes past (Hold m) may call h = subst (λ after. Step (Hold m) past (held_of (held_by nodes past) m.sender) after []) (sym (held_of-set (held_by nodes past) m.sender _ (sender_within nodes past (Hold m) call))) (hold_step nodes past may m (held_of (held_by nodes past) m.sender) h)
+own_step nodes past (Known s k) may call h = subst (λ after. Step (Known s k) past (held_of (held_by nodes past) s) after (answer (held_by nodes past) (Known s k))) (sym (held_of-set (held_by nodes past) s _ (sender_within nodes past (Known s k) call))) (known_step nodes past may s k (held_of (held_by nodes past) s) call.1 h)
+own_step nodes past (Offer m) may call h = subst (λ after. Step (Offer m) past (held_of (held_by nodes past) m.sender) after (answer (held_by nodes past) (Offer m))) (sym (held_of-set (held_by nodes past) m.sender _ (sender_within nodes past (Offer m) call))) (offer_step nodes past may m (held_of (held_by nodes past) m.sender) h)
 
 stands : (nodes : ℕ) (calls : List Call) → MayBeCalled nodes calls → (s : ℕ) → Stands (item_of calls s) (is_ready calls s) (held_of (held_by nodes calls) s)
 stands nodes [] may s =

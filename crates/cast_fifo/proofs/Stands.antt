@@ -15,19 +15,13 @@ use Rattle.cast_model.specs.History.{numbered}
 use Rattle.cast_fifo.specs.declared.queue.Waiting.{Waiting}
 use Rattle.cast_fifo.specs.Held.{Held, waiting_at, came, marked, with_mark, with_item, run_from, rest_from, is_close, advanced, known_items, known_after}
 use Rattle.cast_fifo.specs.Calls.{first_of}
-use Rattle.cast_fifo.proofs.Entries.{Entries}
-use Rattle.cast_fifo.proofs.Turns.{numbered-cons, numbered-none}
+use Rattle.cast_fifo.proofs.Entries.{Entries, at_true, at_false}
+use Rattle.cast_fifo.proofs.Turns.{numbered-cons, numbered-none, or_false, or_or}
 
 -- numbers that rise from one on
 abbrev pub Ascends : ℕ → Entries → Type 0
 Ascends n [] = Unit {0}
 Ascends n (e ∷ es) = (n ≤ e.0) × Ascends (e.0 + 1) es
-
-at_true : (k n : ℕ) → k ≡ n → is_at (nat_cmp k) n ≡ true
-at_true k n e = grind (arith, nat_tests)
-
-at_false : (k n : ℕ) → k ≢ n → is_at (nat_cmp k) n ≡ false
-at_false k n e = grind (arith, nat_tests)
 
 pub lower : (n m : ℕ) (es : Entries) → m ≤ n → Ascends n es → Ascends m es
 lower n m [] l h = tt
@@ -240,7 +234,7 @@ is_some-waiting_of : (o : Option Item) (b : Bool) → is_some (waiting_of o b) �
 is_some-waiting_of None b = refl
 is_some-waiting_of (Some x) b = refl
 
-lt_true : (i n : ℕ) → i < n → nat_lt i n ≡ true
+pub lt_true : (i n : ℕ) → i < n → nat_lt i n ≡ true
 lt_true i n l = grind (arith, nat_tests)
 
 ge_false : (i n : ℕ) → n ≤ i → nat_lt i n ≡ false
@@ -260,7 +254,7 @@ same_number i k e = grind (arith, nat_tests)
 other_number : (i k : ℕ) → i ≢ k → (i == k) ≡ false
 other_number i k e = grind (arith, nat_tests)
 
-first_none : (o : Option Item) → first_of o None ≡ o
+pub first_none : (o : Option Item) → first_of o None ≡ o
 first_none None = refl
 first_none (Some x) = refl
 
@@ -330,13 +324,9 @@ pub record Marked (items : ℕ → Option Item) (ready : ℕ → Bool) (n : ℕ)
   pub waits : (i : ℕ) → n ≤ i → waiting_at es i ≡ waiting_of (items i) (ready i)
   pub ascends : Ascends n es
 
-or_true : (b : Bool) → (b || true) ≡ true
+pub or_true : (b : Bool) → (b || true) ≡ true
 or_true true = refl
 or_true false = refl
-
-or_false : (b : Bool) → (b || false) ≡ b
-or_false true = refl
-or_false false = refl
 
 there_is : (o : Option Item) (b : Bool) (es : Entries) (k : ℕ) → is_some o ≡ true → waiting_at es k ≡ waiting_of o b → (w : Waiting) × (waiting_at es k ≡ Some w) × (o ≡ Some w.item)
 there_is None b es k e f = absurd (true≢false (sym e))
@@ -381,10 +371,6 @@ split_range a (suc m) k f =
     ap (λ n. list_any f (range_with_len a n)) (let e : suc m + k ≡ suc (m + k) = omega arith in e)
     ∙ ap (λ b. f a || b) (split_range (a + 1) m k f ∙ ap (λ b. list_any f (range_with_len (a + 1) m) || list_any f (range_with_len b k)) (let e : a + 1 + m ≡ a + suc m = omega arith in e))
     ∙ or_or (f a) (list_any f (range_with_len (a + 1) m)) (list_any f (range_with_len (a + suc m) k))
-  where
-    or_or : (a b c : Bool) → (a || (b || c)) ≡ ((a || b) || c)
-    or_or true b c = refl
-    or_or false b c = refl
 
 any_map : (f : ℕ → Item) (ns : List ℕ) → list_any is_close (map f ns) ≡ list_any (λ i. is_close (f i)) ns
 any_map f [] = refl

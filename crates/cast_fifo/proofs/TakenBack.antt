@@ -16,6 +16,7 @@ use Rattle.cast_fifo.specs.Held.{Held, held_of, waiting_at, came, with_item, wit
 use Rattle.cast_fifo.specs.Windows.{entries_of, StartsUnmarked, IsWindow}
 use Rattle.cast_fifo.proofs.Entries.{Places, Entries, seen, past, none_at, below_ring, near_at, past_ring, at_true, at_false}
 use Rattle.cast_fifo.proofs.Turns.{at_self, at_same, equal_tells, greater_tells}
+use Rattle.cast_fifo.proofs.Came.{held_of-set}
 
 some_none : (w : Waiting) → ◌≡◌ {A = Option Waiting} (Some w) None → ⊥
 some_none w e = cc
@@ -136,15 +137,10 @@ set_same [] s v e = refl
 set_same (x ∷ all) zero v e = ap (λ y. y ∷ all) (sym e)
 set_same (x ∷ all) (suc s) v e = ap (λ xs. x ∷ xs) (set_same all s v e)
 
-held_of_set : (all : List Held) (s : ℕ) (v : Held) → s < length all → held_of (slice_set all s v) s ≡ v
-held_of_set [] s v l = absurd (omega (arith, l))
-held_of_set (x ∷ all) zero v l = refl
-held_of_set (x ∷ all) (suc s) v l = held_of_set all s v (omega (arith, l))
-
 -- for callers: the same of a hold-back
 pub all_taken_back : (all kept : List Held) (s k : ℕ) (item : Item) → s < length all → came (held_of all s) k ≡ false → kept ≡ slice_set all s (with_item (held_of all s) k item) → slice_set kept s (without_item (held_of kept s) k) ≡ all
 all_taken_back all kept s k item l e is =
     let v = with_item (held_of all s) k item in
     ap (λ (ks : List Held). slice_set ks s (without_item (held_of ks s) k)) is
     ∙ set_again all s v (without_item (held_of (slice_set all s v) s) k)
-    ∙ set_same all s (without_item (held_of (slice_set all s v) s) k) (sym (ap (λ h. without_item h k) (held_of_set all s v l) ∙ taken_back (held_of all s) k item e))
+    ∙ set_same all s (without_item (held_of (slice_set all s v) s) k) (sym (ap (λ h. without_item h k) (held_of-set all s v l) ∙ taken_back (held_of all s) k item e))

@@ -15,7 +15,7 @@ use Rattle.cast_model.specs.History.{numbered}
 use Rattle.cast_fifo.specs.declared.queue.Waiting.{Waiting}
 use Rattle.cast_fifo.specs.Held.{Held, waiting_at, came, marked, with_mark, with_item, run_from, rest_from, is_close, advanced, turned_items, turned_after, known_items, known_after, offered_items, offered_after}
 use Rattle.cast_fifo.specs.Windows.{entries_from, entries_of, marked_front, front_item, HasFront, next_item, next_far, HasNext, StartsUnmarked, IsWindow}
-use Rattle.cast_fifo.proofs.Entries.{Places, Entries, seen, past, none_at, below_ring, insert_before, no_run, rest_none}
+use Rattle.cast_fifo.proofs.Entries.{Places, Entries, seen, past, none_at, below_ring, insert_before, no_run, rest_none, eq_false, cons_nil}
 
 pub numbered-cons : (s n : ℕ) (x : Item) (xs : List Item) → numbered s n (x ∷ xs) ≡ record { sender = s; number = n; item = x } ∷ numbered s (n + 1) xs
 unfolding numbered
@@ -38,7 +38,7 @@ run_first n x es = ap (λ b. if b then x ∷ run_from (n + 1) es else []) (same_
 rest_first : (n : ℕ) (x : Item) (es : Entries) → rest_from n ((n, marked_item x) ∷ es) ≡ rest_from (n + 1) es
 rest_first n x es = ap (λ b. if b then rest_from (n + 1) es else (n, marked_item x) ∷ es) (same_test n true)
 
-or_or : (a b c : Bool) → (a || (b || c)) ≡ ((a || b) || c)
+pub or_or : (a b c : Bool) → (a || (b || c)) ≡ ((a || b) || c)
 or_or true b c = refl
 or_or false b c = refl
 
@@ -52,7 +52,7 @@ advanced_first n closed x es =
       waiting = rest_first n x es i;
     }
 
-or_false : (b : Bool) → (b || false) ≡ b
+pub or_false : (b : Bool) → (b || false) ≡ b
 or_false true = refl
 or_false false = refl
 
@@ -212,9 +212,6 @@ starts_none n [] far e = tt
 starts_none n (None ∷ places) far e = tt
 starts_none n (Some w ∷ places) far e = go w.known refl
   where
-    cons_nil : (i : Item) (is : List Item) → ◌≡◌ {A = List Item} (i ∷ is) [] → ⊥
-    cons_nil i is e = cc
-
     go : (b : Bool) → w.known ≡ b → w.known ≡ false
     go true f = absurd (cons_nil w.item _ (sym (ap (λ b. if b then w.item ∷ run_from (n + 1) (entries_of (n + 1) places far) else []) (same_test n w.known ∙ f)) ∙ e))
     go false f = f
@@ -338,14 +335,8 @@ none_ready n ring far h = go ring h.starts
     go (None ∷ places) s = no_run n (n + 1) places far (omega arith) late
     go (Some w ∷ places) s = ap (λ b. if b then w.item ∷ run_from (n + 1) (entries_of (n + 1) places far) else []) (same_test n w.known ∙ s)
 
-other_number : (k n : ℕ) (b : Bool) → k ≢ n → (k == n && b) ≡ false
-other_number k n b e = grind (arith, nat_tests)
-
 pub tells : (k q : ℕ) → is_at (nat_cmp k) q ≡ true → q ≡ k
 tells k q e = grind (arith, nat_tests)
-
-cons_nil : (i : Item) (is : List Item) → ◌≡◌ {A = List Item} (i ∷ is) [] → ⊥
-cons_nil i is e = cc
 
 head_stops : (n : ℕ) (e : ℕ × Waiting) (es fs : Entries) → run_from n (e ∷ es) ≡ [] → run_from n (e ∷ fs) ≡ []
 head_stops n e es fs h = go (e.0 == n && e.1.known) h
@@ -355,7 +346,7 @@ head_stops n e es fs h = go (e.0 == n && e.1.known) h
     go false h = refl
 
 other_head : (n k : ℕ) (w : Waiting) (es : Entries) → k ≢ n → run_from n ((k, w) ∷ es) ≡ []
-other_head n k w es e = ap (λ b. if b then w.item ∷ run_from (n + 1) es else []) (other_number k n w.known e)
+other_head n k w es e = ap (λ b. if b then w.item ∷ run_from (n + 1) es else []) (eq_false k n w.known e)
 
 -- a change at another number brings no turn
 pub none_by_change : (n k : ℕ) (es : Entries) (w : Waiting) → k ≢ n → run_from n es ≡ [] → run_from n (set_value (is_at (nat_cmp k)) es w) ≡ []

@@ -1,4 +1,4 @@
-use Rattle.std.proofs.Common.{◌≡◌, ◌⊎◌, ◌≤◌, ◌<◌, ◌+◌, ◌++◌, ◌^◌, ℕ, true, List, length, drop, is_some, sym, ap, ◌∙◌, subst, refl, arith}
+use Rattle.std.proofs.Common.{[], ◌≡◌, ◌⊎◌, ◌≤◌, ◌<◌, ◌+◌, ◌++◌, ◌^◌, ℕ, true, List, length, drop, is_some, sym, ap, ◌∙◌, subst, refl, arith}
 use Rattle.std.specs.Prelude.{IsSome}
 use Rattle.std.specs.Map.{keys_of}
 use Rattle.std.specs.List.{All}
@@ -11,6 +11,7 @@ use Rattle.cast_fifo.specs.Windows.{entries_of, HasFront, next_far}
 use Rattle.cast_fifo.proofs.Entries.{Places, past}
 use Rattle.cast_fifo.proofs.Turns.{has_front, begins, continues, next_of, next_fits, between_first, between_next, between_same, starts_none, advanced_none, numbered-none, append_none}
 use Rattle.cast_fifo.proofs.queue.Queue.turn.Goals as goal
+use Rattle.cast_fifo.proofs.queue.Queue.turn.Goals.{After-gather}
 
 pub take_front-first-requires : goal.take_front-first-requires
 take_front-first-requires c =
@@ -69,32 +70,29 @@ loop-place-preserved c =
       between = between_same _ _ _ _ _ _ _ _ (sym passed.next) (sym taken.ring) (sym taken.far) (sym taken.room) (between_next next ring far (deque_capacity c.loop-place.self-inside.ring) i.between some beyond);
     }
 
+-- none that waits has its turn once the loop has ended
+ran_out : (c : After-gather) → run_from c.loop-place.self-inside.next (entries_of c.loop-place.self-inside.next c.loop-place.self-inside.ring.items c.loop-place.self-inside.far.entries) ≡ []
+ran_out c = nil_from_length _ (omega (arith, c.loop-place.invariant.ready, c.loop-place-test.false))
+
 pub returns-clause-messages : goal.returns-clause-messages
 returns-clause-messages c =
-    let i = c.loop-place.invariant in
-    let none = nil_from_length (run_from c.loop-place.self-inside.next (entries_of c.loop-place.self-inside.next c.loop-place.self-inside.ring.items c.loop-place.self-inside.far.entries)) (omega (arith, i.ready, c.loop-place-test.false)) in
-    sym (append_none c.loop-place.messages.items) ∙ ap (λ ms. c.loop-place.messages.items ++ ms) (sym (numbered-none c.args.sender c.loop-place.self-inside.next) ∙ ap (numbered c.args.sender c.loop-place.self-inside.next) (sym none)) ∙ i.messages
+    let none = ran_out (goal.at.returns-clause-messages c).After-gather in
+    sym (append_none c.loop-place.messages.items) ∙ ap (λ ms. c.loop-place.messages.items ++ ms) (sym (numbered-none c.args.sender c.loop-place.self-inside.next) ∙ ap (numbered c.args.sender c.loop-place.self-inside.next) (sym none)) ∙ c.loop-place.invariant.messages
 
 pub returns-clause-ok : goal.returns-clause-ok
 returns-clause-ok c =
-    let i = c.loop-place.invariant in
     let next = c.loop-place.self-inside.next in
-    let ring = c.loop-place.self-inside.ring.items in
-    let far = c.loop-place.self-inside.far.entries in
-    let none = nil_from_length (run_from next (entries_of next ring far)) (omega (arith, i.ready, c.loop-place-test.false)) in
     (λ k. record { next = next; closed = c.loop-place.self-inside.closed; waiting = c.gather.ensures.same k })
-    ∙ sym (advanced_none next c.loop-place.self-inside.closed (entries_of next ring far) none)
-    ∙ i.after
+    ∙ sym (advanced_none next c.loop-place.self-inside.closed (entries_of next c.loop-place.self-inside.ring.items c.loop-place.self-inside.far.entries) (ran_out (goal.at.returns-clause-ok c).After-gather))
+    ∙ c.loop-place.invariant.after
 
 pub invariant_of-self-2 : goal.invariant_of-self-2
 invariant_of-self-2 c =
-    let i = c.loop-place.invariant in
     let next = c.loop-place.self-inside.next in
-    let none = nil_from_length (run_from next (entries_of next c.loop-place.self-inside.ring.items c.loop-place.self-inside.far.entries)) (omega (arith, i.ready, c.loop-place-test.false)) in
     record {
       short = c.gather.ensures.short;
       fits = c.gather.ensures.fits;
-      starts = starts_none next c.gather.new.ring.items c.gather.new.far.entries (ap (run_from next) c.gather.ensures.same ∙ none);
+      starts = starts_none next c.gather.new.ring.items c.gather.new.far.entries (ap (run_from next) c.gather.ensures.same ∙ ran_out (goal.at.invariant_of-self-2 c).After-gather);
       beyond = c.gather.ensures.beyond;
       below = c.gather.ensures.below;
     }
