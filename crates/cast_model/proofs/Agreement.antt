@@ -1,10 +1,11 @@
 -- Each decided value was proposed, and an instance has at most one decided value more than there are tolerated faults.
-use Rattle.std.proofs.Common.{◌≡◌, ℕ, zero, suc, ◌+◌, ◌<◌, ◌≤◌, refl, sym, ◌∙◌, ap, subst, Bool, true, false, cond, List, [], ◌∷◌, ◌++◌, length, min, Option, Some, None, inl, inr, arith, length-append}
+use Rattle.std.proofs.Common.{◌≡◌, ℕ, suc, ◌+◌, ◌<◌, ◌≤◌, refl, sym, ◌∙◌, ap, subst, Bool, true, false, cond, List, [], ◌∷◌, ◌++◌, length, min, Option, Some, None, inl, inr, arith, length-append}
 use Rattle.std.specs.Prelude.{◌==◌, nat_eq, nat_le, nat_lt}
-use Rattle.std.specs.List.{filter, filter_map, cons_option, list_any, flat_map, IsDistinct, fold, range_with_len}
+use Rattle.std.specs.List.{filter, filter_map, cons_option, list_any, flat_map, IsDistinct, fold}
 use Rattle.std.specs.Cmp.{nat_eq_equiv}
 use Rattle.std.proofs.lemmas.Map.Made.{length-le_from_is_member}
 use Rattle.std.proofs.lemmas.Bool.{eq-eqb, eqb-true, cases_lt, leb-true, ltb-true, le-leb, lt-ltb}
+use Rattle.std.proofs.lemmas.List.FromFn.{length-range_with_len}
 use Rattle.cast_message.specs.declared.config.Config.{Config}
 use Rattle.cast_message.specs.declared.event.Event.{Event}
 use Rattle.cast_message.specs.declared.event.Event.TheVariants.{Order, Send, Ack, Arrive, Crash}
@@ -163,10 +164,6 @@ two_filters p q apart (x ∷ xs) = by_tests (p x) (q x) (apart x) (two_filters p
     by_tests true false f ih = omega arith
     by_tests false true f ih = omega arith
     by_tests false false f ih = omega arith
-
-length-range_with_len : (a n : ℕ) → length (range_with_len a n) ≡ n
-length-range_with_len a zero = refl
-length-range_with_len a (suc n) = ap suc (length-range_with_len (a + 1) n)
 
 -- the values of some nodes that have one each at most
 length-flat_map : (f : ℕ → List ℕ) → ((x : ℕ) → length (f x) ≤ 1) → (xs : List ℕ) → length (flat_map f xs) ≤ length xs

@@ -1,32 +1,28 @@
 -- At rest all live nodes hold the same pairs.
-use Rattle.std.proofs.Common.{◌≡◌, ℕ, zero, suc, ◌+◌, ◌<◌, ◌≤◌, refl, sym, ◌∙◌, ap, subst, Bool, true, false, ◌&&◌, [], ◌∷◌, length, inl, inr, arith}
-use Rattle.std.specs.Prelude.{◌==◌, IsTrue}
+use Rattle.std.proofs.Common.{◌≡◌, ℕ, zero, suc, ◌+◌, ◌<◌, ◌≤◌, refl, sym, ◌∙◌, ap, subst, true, ◌&&◌, [], ◌∷◌, length, inl, inr, arith}
+use Rattle.std.specs.Prelude.{IsTrue}
 use Rattle.std.specs.List.{range_with_len, take_while}
-use Rattle.std.proofs.lemmas.Bool.{and_from, and_parts, eqb-true, ne_eqb, cases_eq, not_from_false, true_from_ne_false, false≢true}
+use Rattle.std.proofs.lemmas.Bool.{and_from, eqb-true, ne_eqb, cases_eq, not_from_false, true_from_ne_false, false≢true}
 use Rattle.cast_message.specs.declared.config.Config.{Config}
 use Rattle.cast_message.specs.declared.config.Mode.{Mode}
 use Rattle.cast_message.specs.declared.config.Mode.TheVariants.{Basic, Uniform}
 use Rattle.cast_message.specs.declared.message.Message.{Message}
 use Rattle.cast_message.specs.declared.message.FrameBody.{FrameBody}
 use Rattle.cast_message.specs.declared.message.FrameBody.TheVariants.{Carry, Took}
-use Rattle.cast_model.specs.History.{History, stream, broadcast, is_live, has_pair, given, given_of, copy_at, first, arrivals, taken, acked, is_carry_of, is_took_of}
+use Rattle.cast_model.specs.History.{History, stream, broadcast, is_live, has_pair, given, given_of, copy_at, first, taken, acked, is_carry_of, is_took_of}
 use Rattle.cast_model.specs.Delivery.{is_ready, is_known_enough, delivered}
 use Rattle.cast_model.specs.Replies.{IsAccepted}
 use Rattle.cast_model.specs.Rounds.{owed, Rest}
-use Rattle.cast_model.proofs.Members.{Member, here, there, filter-Member, Member-list_any, place_of_Member}
-use Rattle.cast_model.proofs.Sound.{Sound, sound, BodyOk, HeldAt, Member-has_pair}
+use Rattle.cast_model.proofs.Members.{Member, here, there, filter-Member, place_of_Member}
+use Rattle.cast_model.proofs.Sound.{Sound, sound, BodyOk, HeldAt, Member-has_pair, arrivals-Told}
+use Rattle.cast_model.proofs.Ready.{both_same}
 
 -- what was acknowledged was taken
 pub acked_taken : (past : History) → Sound past → (p q slot : ℕ) → acked past p q slot ≡ true → taken past p q slot ≡ true
 unfolding acked
 acked_taken past ok p q slot h =
-    let found = Member-list_any _ (arrivals past p) h in
-    let parts = and_parts (found.0.from == q) _ found.2 in
-    let arrival = ok.arrivals_ok p found.0 found.1 in
-    let from : found.0.from ≡ q = eqb-true _ _ parts.0 in
-    let body : BodyOk past q p found.0.body =
-    subst (λ a. BodyOk past a p found.0.body) from (subst (λ b. BodyOk past found.0.from b found.0.body) arrival.to_is arrival.made_ok.body_ok) in
-    by_body found.0.body body parts.1
+    let told = arrivals-Told past ok p q (is_took_of slot) h in
+    by_body told.body told.body_ok told.tells
   where
     by_body : (body : FrameBody) → BodyOk past q p body → is_took_of slot body ≡ true → taken past p q slot ≡ true
     by_body (Carry place message) b e = absurd (false≢true e)
@@ -36,13 +32,8 @@ acked_taken past ok p q slot h =
 pub taken_held : (past : History) → Sound past → (p q slot : ℕ) → taken past p q slot ≡ true → has_pair (first past q) (copy_at (given past p q) slot).sender (copy_at (given past p q) slot).number ≡ true
 unfolding taken
 taken_held past ok p q slot h =
-    let found = Member-list_any _ (arrivals past q) h in
-    let parts = and_parts (found.0.from == p) _ found.2 in
-    let arrival = ok.arrivals_ok q found.0 found.1 in
-    let from : found.0.from ≡ p = eqb-true _ _ parts.0 in
-    let body : BodyOk past p q found.0.body =
-    subst (λ a. BodyOk past a q found.0.body) from (subst (λ b. BodyOk past found.0.from b found.0.body) arrival.to_is arrival.made_ok.body_ok) in
-    by_body found.0.body body arrival.held parts.1
+    let told = arrivals-Told past ok q p (is_carry_of slot) h in
+    by_body told.body told.body_ok told.held told.tells
   where
     by_body : (body : FrameBody) → BodyOk past p q body → HeldAt past q body → is_carry_of slot body ≡ true →
         has_pair (first past q) (copy_at (given past p q) slot).sender (copy_at (given past p q) slot).number ≡ true
@@ -96,15 +87,10 @@ module _ (config : Config) (past : History) (accepted : IsAccepted config past) 
   pub same_pairs : Rest config past → (p q : ℕ) → p < config.nodes → q < config.nodes → IsTrue (is_live past p) → IsTrue (is_live past q) → (s i : ℕ) → has_pair (first past p) s i ≡ has_pair (first past q) s i
   same_pairs rest p q p_in q_in p_live q_live s i = elim (cases_eq p q) [
     | inl same ↦ ap (λ x. has_pair (first past x) s i) same
-    | inr differs ↦ both _ _
+    | inr differs ↦ both_same _ _
         (spreads p q s i (rest.settled p q p_in q_in p_live q_live differs))
         (spreads q p s i (rest.settled q p q_in p_in q_live p_live (λ e. differs (sym e))))
   ]
-    where
-      both : (a b : Bool) → (a ≡ true → b ≡ true) → (b ≡ true → a ≡ true) → a ≡ b
-      both true b f g = sym (f refl)
-      both false true f g = g refl
-      both false false f g = refl
 
   -- so in basic mode they have delivered the same from each sender
   pub same_delivered : Rest config past → config.mode ≡ Basic → (p q : ℕ) → p < config.nodes → q < config.nodes → IsTrue (is_live past p) → IsTrue (is_live past q) → (s : ℕ) → delivered config past p s ≡ delivered config past q s

@@ -43,7 +43,7 @@ slice_get-numbered s k (item ∷ items) zero message e =
 slice_get-numbered s k (item ∷ items) (suc i) message e = slice_get-numbered s (suc k) items i message e
 
 -- an order is accepted only while the stream has no close
-Order-open : (config : Config) (past : History) (p : ℕ) (item : Item) → fault config past (Order p item) ≡ None → list_any is_close (stream past p) ≡ false
+pub Order-open : (config : Config) (past : History) (p : ℕ) (item : Item) → fault config past (Order p item) ≡ None → list_any is_close (stream past p) ≡ false
 unfolding fault causes
 Order-open config past p item e = no_cause _ (causes config past (Order p item)) e (there (there here))
 

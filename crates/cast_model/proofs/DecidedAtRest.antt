@@ -1,5 +1,5 @@
 -- At rest, in both modes: all live nodes have delivered the same, the whole stream of a live sender, and decided the same instances.
-use Rattle.std.proofs.Common.{◌≡◌, ℕ, ◌-◌, ◌≤◌, refl, sym, ◌∙◌, ap, subst, Bool, true, false, cond, [], length, Some, None, arith}
+use Rattle.std.proofs.Common.{◌≡◌, ℕ, ◌-◌, ◌≤◌, refl, sym, ◌∙◌, ap, subst, Bool, true, [], length, Some, None, arith}
 use Rattle.std.specs.Prelude.{is_some, nat_le, ◌==◌}
 use Rattle.std.specs.List.{filter, list_any, take_while}
 use Rattle.std.proofs.lemmas.List.{append-nil}
@@ -20,7 +20,7 @@ use Rattle.cast_model.proofs.Ready.{both_same}
 use Rattle.cast_model.proofs.Sound.{sound}
 use Rattle.cast_model.proofs.Prefix.{delivery_log-front}
 use Rattle.cast_model.proofs.AtRest.{same_pairs, same_delivered}
-use Rattle.cast_model.proofs.Rested.{whole_stream, take_while_all, numbered_below, Member-voters}
+use Rattle.cast_model.proofs.Rested.{whole_stream, take_while_all, numbered_below, Member-voters, is_some-cond}
 use Rattle.cast_model.proofs.UniformRest.{held_ready, ready_as_well}
 use Rattle.cast_model.proofs.Votes.{voters, length-voters}
 use Rattle.cast_model.proofs.Agreement.{pigeonhole, distinct, voter_message}
@@ -77,11 +77,7 @@ module _ (config : Config) (past : History) (accepted : IsAccepted config past) 
 
   decides : (q j : ℕ) → is_some (decision config past q j) ≡ nat_le (config.nodes - config.faults) (length (votes j (delivery_log config past q)))
   unfolding decision
-  decides q j = tested _ _
-    where
-      tested : (b : Bool) (v : ℕ) → is_some (cond b (Some v) None) ≡ b
-      tested true v = refl
-      tested false v = refl
+  decides q j = is_some-cond _ _
 
   -- an instance that one live node decided is decided by every live node
   pub all_decided_same : (p q j : ℕ) → Live config past p → Live config past q → is_some (decision config past p j) ≡ is_some (decision config past q j)

@@ -5,6 +5,7 @@ use Rattle.std.specs.List.{filter, list_any, filter_map, cons_option, prefix_len
 use Rattle.std.proofs.lemmas.List.{append-nil}
 use Rattle.std.proofs.lemmas.List.Elements.{filter-append, filter_map-append}
 use Rattle.std.proofs.lemmas.Bool.{and_parts, eq-eqb, eqb-true, ne_eqb, cases_lt, cases_eq, false≢true, false_from_ne_true}
+use Rattle.std.proofs.lemmas.List.FromFn.{length-range_with_len}
 use Rattle.cast_message.specs.declared.config.Config.{Config}
 use Rattle.cast_message.specs.declared.message.Message.{Message}
 use Rattle.cast_model.specs.History.{FirstCopy, has_pair}
@@ -19,7 +20,7 @@ use Rattle.cast_model.proofs.RoundSpreads.{Member-map}
 use Rattle.cast_model.proofs.Agreement.{pigeonhole}
 use Rattle.cast_model.proofs.Decisions.{Member-filter_map}
 use Rattle.cast_model.proofs.Dues.{Once-range, Once-distinct, range_bounds}
-use Rattle.cast_model.proofs.OwnTurns.{length-map, length-range}
+use Rattle.cast_model.proofs.OwnTurns.{length-map}
 use Rattle.cast_model.proofs.OwnGrowth.{brought, held-more, own_ready_kept, own_ready_same}
 
 -- how far the numbers from a on pass a test
@@ -60,7 +61,7 @@ module _ (config : Config) (me : ℕ) (steps : Steps) (s : ℕ) where
       let inside = (range_bounds n 0 i m).1 in
       let found = Member-has_pair (own_copies me steps) s i (own_held_below i (all i (omega (arith, inside)))) in
       subst (λ k. Member k (map (λ (copy : FirstCopy). copy.number) (own_copies me steps))) found.3 (Member-map (λ (copy : FirstCopy). copy.number) found.0 (own_copies me steps) found.1)) in
-      omega (arith, h, length-range n 0, length-map (λ (copy : FirstCopy). copy.number) (own_copies me steps), length-map copy_of (held me steps))
+      omega (arith, h, length-range_with_len 0 n, length-map (λ (copy : FirstCopy). copy.number) (own_copies me steps), length-map copy_of (held me steps))
 
   stops_inside : own_next config me steps s < length (held me steps) → own_is_ready config me steps s (own_next config me steps s) ≡ false
   unfolding own_next

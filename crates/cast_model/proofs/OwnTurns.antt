@@ -4,6 +4,7 @@ use Rattle.std.specs.Prelude.{◌==◌, slice_get, slice_range, slice_index_or, 
 use Rattle.std.specs.List.{list_any, count_by, filter_map, cons_option, prefix_len, range_with_len}
 use Rattle.std.proofs.lemmas.List.{append-nil}
 use Rattle.std.proofs.lemmas.Bool.{and_parts, eqb-true, eq-eqb, cond-true, cond-false, false≢true}
+use Rattle.std.proofs.lemmas.List.FromFn.{length-range_with_len}
 use Rattle.cast_message.specs.declared.config.Config.{Config}
 use Rattle.cast_message.specs.declared.config.Mode.{Mode}
 use Rattle.cast_message.specs.declared.config.Mode.TheVariants.{Basic, Uniform}
@@ -66,10 +67,6 @@ pub length-map : {A B : Type 0} (f : A → B) (xs : List A) → length (map f xs
 length-map f [] = refl
 length-map f (x ∷ xs) = ap suc (length-map f xs)
 
-pub length-range : (n a : ℕ) → length (range_with_len a n) ≡ n
-length-range zero a = refl
-length-range (suc n) a = ap suc (length-range n (a + 1))
-
 -- a node holds at least as many pairs as it may deliver of one sender
 next_within : (config : Config) (past : History) → IsAccepted config past → (me s : ℕ) → next config past me s ≤ length (held me (steps_of past me))
 unfolding is_ready
@@ -81,7 +78,7 @@ next_within config past accepted me s =
     let found = Member-has_pair (first past me) s i (and_parts (has_pair (first past me) s i) _ ready).0 in
     subst (λ k. Member k (map (λ (copy : FirstCopy). copy.number) (first past me))) found.3 (Member-map (λ (copy : FirstCopy). copy.number) found.0 (first past me) found.1)) in
     let count : length (held me (steps_of past me)) ≡ length (first past me) = sym (length-map copy_of (held me (steps_of past me))) ∙ ap length (held-steps_of past me) in
-    omega (arith, h, count, length-range n 0, length-map (λ (copy : FirstCopy). copy.number) (first past me))
+    omega (arith, h, count, length-range_with_len 0 n, length-map (λ (copy : FirstCopy). copy.number) (first past me))
 
 -- the next number
 pub own_next-steps_of : (config : Config) (past : History) → IsAccepted config past → (me s : ℕ) → own_next config me (steps_of past me) s ≡ next config past me s

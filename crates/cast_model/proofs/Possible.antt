@@ -6,6 +6,7 @@ use Rattle.std.proofs.lemmas.List.{append-nil, map-append}
 use Rattle.std.proofs.Math.Nat.{mul-le-mul_right}
 use Rattle.std.proofs.lemmas.List.Folds.{list_any-append}
 use Rattle.std.proofs.lemmas.Bool.{and_from, and_parts, or_left, or_right, eqb-true, ne_eqb, leb-false, cases_lt, cond-false, lt-ltb, not_from_false, false≢true, false_from_ne_true}
+use Rattle.std.proofs.lemmas.List.FromFn.{length-range_with_len}
 use Rattle.cast_message.specs.declared.config.Config.{Config}
 use Rattle.cast_message.specs.declared.event.Event.{Event}
 use Rattle.cast_message.specs.declared.event.Event.TheVariants.{Order, Send, Ack, Arrive, Crash}
@@ -27,12 +28,9 @@ use Rattle.cast_model.proofs.Agreement.{pigeonhole, node_in}
 use Rattle.cast_model.proofs.AtRest.{Member-range_with_len}
 use Rattle.cast_model.proofs.Dues.{Once, Once-append, Once-distinct, Member-map_in}
 use Rattle.cast_model.proofs.OwnHeld.{Elsewhere, steps_after, steps_same}
-use Rattle.cast_model.proofs.OwnTurns.{length-map, length-range}
+use Rattle.cast_model.proofs.OwnTurns.{length-map}
 use Rattle.cast_model.proofs.OwnReplies.{frame_ends, given_count, own_fault-steps_of, own_reply-steps_of}
-
-open_stream : (config : Config) (past : History) (p : ℕ) (item : Item) → fault config past (Order p item) ≡ None → list_any is_close (stream past p) ≡ false
-unfolding fault causes
-open_stream config past p item e = no_cause _ (causes config past (Order p item)) e (there (there here))
+use Rattle.cast_model.proofs.Closed.{Order-open}
 
 room_left : (config : Config) (past : History) (p : ℕ) (item : Item) → fault config past (Order p item) ≡ None → is_close item ≡ false → length (stream past p) < config.item_limit - 1
 unfolding fault causes
@@ -61,7 +59,7 @@ stream_room config (event ∷ past) accepted p = by_event event accepted.1 (stre
       where
         by_test : (b : Bool) → (node == p) ≡ b → Room (stream past p ++ cond b (item ∷ []) [])
         by_test false differs = same room
-        by_test true equal = ordered (open_stream config past p item here_too) (room_left config past p item here_too)
+        by_test true equal = ordered (Order-open config past p item here_too) (room_left config past p item here_too)
           where
             here_too : fault config past (Order p item) ≡ None
             here_too = subst (λ x. fault config past (Order x item) ≡ None) (eqb-true node p equal) e
@@ -190,7 +188,7 @@ held_bounded config past accepted q =
     let top : suc r.0.sender * config.item_limit ≤ config.nodes * config.item_limit = mul-le-mul_right config.item_limit a.0 in
     let g : suc r.0.sender * config.item_limit ≡ r.0.sender * config.item_limit + config.item_limit = grind arith in
     Member-range_with_len (config.nodes * config.item_limit) 0 k (omega arith) (let low = a.1 in let e = r.2 in omega (arith, top, g, low, e))) in
-    omega (arith, h, length-map (place config.item_limit) pairs, length-map strip copies, length-range (config.nodes * config.item_limit) 0)
+    omega (arith, h, length-map (place config.item_limit) pairs, length-map strip copies, length-range_with_len 0 (config.nodes * config.item_limit))
   where
     Once-map_on : (f : FirstCopy → ℕ) (xs : List FirstCopy) → ((x y : FirstCopy) → Member x xs → Member y xs → f x ≡ f y → x ≡ y) → Once xs → Once (map f xs)
     Once-map_on f [] same once = tt

@@ -16,7 +16,7 @@ use Rattle.cast_model.specs.History.{History, FirstCopy, has_pair, copies_gained
 use Rattle.cast_model.specs.Delivery.{tells_of, is_pair, knows, known_by, is_known_enough, is_ready, nodes_of, Concerned, concerned, concerned_by, sender_in}
 use Rattle.cast_model.proofs.Members.{Member, Member-append, Member-append_left, list_any-Member, Member-list_any, Member-slice_get}
 use Rattle.cast_model.proofs.Growth.{gained, arriving, first-more, arrivals-more, copy_at-kept, pair_kept}
-use Rattle.cast_model.proofs.Sound.{Sound, BodyOk, gained-Order, gained-Arrive, arriving-Arrived, Member-has_pair, has_pair-Member}
+use Rattle.cast_model.proofs.Sound.{Sound, BodyOk, gained-Order, gained-Arrive, arriving-Arrived, Member-has_pair, has_pair-Member, arrivals-Told}
 
 -- the event concerns q and the sender s
 pub record Concerns (past : History) (event : Event) (q s : ℕ) : Type 0 where
@@ -29,13 +29,8 @@ pub record Concerns (past : History) (event : Event) (q s : ℕ) : Type 0 where
 pub took_in_given : (past : History) → Sound past → (p r slot : ℕ) → taken past r p slot ≡ true → slot < length (given past r p)
 unfolding taken
 took_in_given past ok p r slot h =
-    let found = Member-list_any _ (arrivals past p) h in
-    let parts = and_parts _ _ found.2 in
-    let arrival = ok.arrivals_ok p found.0 found.1 in
-    let from : found.0.from ≡ r = eqb-true _ _ parts.0 in
-    let body : BodyOk past r p found.0.body =
-    subst (λ a. BodyOk past a p found.0.body) from (subst (λ b. BodyOk past found.0.from b found.0.body) arrival.to_is arrival.made_ok.body_ok) in
-    by_body found.0.body body parts.1
+    let told = arrivals-Told past ok p r (is_carry_of slot) h in
+    by_body told.body told.body_ok told.tells
   where
     by_body : (body : FrameBody) → BodyOk past r p body → is_carry_of slot body ≡ true → slot < length (given past r p)
     by_body (Carry place message) b e = subst (λ k. k < length (given past r p)) (eqb-true _ _ e) b.in_given

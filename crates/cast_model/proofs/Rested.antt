@@ -74,6 +74,10 @@ module _ (config : Config) (past : History) (accepted : IsAccepted config past) 
         let h = pigeonhole (voters j at_p) (voters j at_q) (distinct config past accepted p j at_p [] (sym (append-nil at_p))) within in
         omega (arith, h, length-voters j at_p, length-voters j at_q)
 
+pub is_some-cond : (b : Bool) (v : ℕ) → is_some (cond b (Some v) None) ≡ b
+is_some-cond true v = refl
+is_some-cond false v = refl
+
 -- an instance that one live node decided is decided by every live node
 pub same_instances : (config : Config) (past : History) → IsAccepted config past → Rest config past → config.mode ≡ Basic → (p q j : ℕ) → p < config.nodes → q < config.nodes → IsTrue (is_live past p) → IsTrue (is_live past q) → is_some (decision config past p j) ≡ is_some (decision config past q j)
 unfolding decision
@@ -81,8 +85,4 @@ same_instances config past accepted rest basic p q j p_in q_in p_live q_live =
     let pq = fewer_votes config past accepted rest basic p q j p_in q_in p_live q_live in
     let qp = fewer_votes config past accepted rest basic q p j q_in p_in q_live p_live in
     let same : length (votes j (delivery_log config past p)) ≡ length (votes j (delivery_log config past q)) = omega (arith, pq, qp) in
-    tested _ _ ∙ ap (λ n. nat_le (config.nodes - config.faults) n) same ∙ sym (tested _ _)
-  where
-    tested : (b : Bool) (v : ℕ) → is_some (cond b (Some v) None) ≡ b
-    tested true v = refl
-    tested false v = refl
+    is_some-cond _ _ ∙ ap (λ n. nat_le (config.nodes - config.faults) n) same ∙ sym (is_some-cond _ _)

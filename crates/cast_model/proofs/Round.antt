@@ -33,22 +33,18 @@ pub acked_later : (events : List Event) (past : History) (p q slot : ℕ) → ac
 acked_later [] past p q slot h = h
 acked_later (event ∷ events) past p q slot h = acked_later events (event ∷ past) p q slot (acked_kept event past p q slot h)
 
+length-either : (b : Bool) (frame : Frame) → length (cond b (frame ∷ []) []) ≡ cond b 1 0
+length-either true frame = refl
+length-either false frame = refl
+
 -- what the frames number, one event on
 pub frames-Send : (past : History) (from to slot p : ℕ) → length (frames (Send from to slot ∷ past) p) ≡ length (frames past p) + cond (from == p) 1 0
 unfolding frames_gained
-frames-Send past from to slot p = ap length (frames-more (Send from to slot) past p) ∙ length-append (frames past p) (made (Send from to slot) past p) ∙ ap (λ n. length (frames past p) + n) (either (from == p) _)
-  where
-    either : (b : Bool) (frame : Frame) → length (cond b (frame ∷ []) []) ≡ cond b 1 0
-    either true frame = refl
-    either false frame = refl
+frames-Send past from to slot p = ap length (frames-more (Send from to slot) past p) ∙ length-append (frames past p) (made (Send from to slot) past p) ∙ ap (λ n. length (frames past p) + n) (length-either (from == p) _)
 
 pub frames-Ack : (past : History) (from to slot p : ℕ) → length (frames (Ack from to slot ∷ past) p) ≡ length (frames past p) + cond (from == p) 1 0
 unfolding frames_gained
-frames-Ack past from to slot p = ap length (frames-more (Ack from to slot) past p) ∙ length-append (frames past p) (made (Ack from to slot) past p) ∙ ap (λ n. length (frames past p) + n) (either (from == p) _)
-  where
-    either : (b : Bool) (frame : Frame) → length (cond b (frame ∷ []) []) ≡ cond b 1 0
-    either true frame = refl
-    either false frame = refl
+frames-Ack past from to slot p = ap length (frames-more (Ack from to slot) past p) ∙ length-append (frames past p) (made (Ack from to slot) past p) ∙ ap (λ n. length (frames past p) + n) (length-either (from == p) _)
 
 pub frames-Arrive : (past : History) (from seq p : ℕ) → frames (Arrive from seq ∷ past) p ≡ frames past p
 unfolding frames_gained

@@ -54,13 +54,20 @@ live-Arrive : (past : History) (from seq p : ℕ) → is_live (Arrive from seq �
 unfolding is_live
 live-Arrive past from seq p = refl
 
+-- where no frame arrives, nothing is newly acknowledged
+acked_same : (event : Event) (past : History) (p q slot : ℕ) → arriving event past p ≡ [] → acked (event ∷ past) p q slot ≡ acked past p q slot
+unfolding acked
+acked_same event past p q slot none =
+    ap (λ all. list_any (λ frame. frame.from == q && is_took_of slot frame.body) all)
+    (arrivals-more event past p ∙ ap (λ more. arrivals past p ++ more) none ∙ append-nil (arrivals past p))
+
 acked-Send : (past : History) (from to place p q slot : ℕ) → acked (Send from to place ∷ past) p q slot ≡ acked past p q slot
-unfolding acked frame_arriving
-acked-Send past from to place p q slot = ap (λ all. list_any (λ frame. frame.from == q && is_took_of slot frame.body) all) (arrivals-more (Send from to place) past p ∙ append-nil (arrivals past p))
+unfolding frame_arriving
+acked-Send past from to place p q slot = acked_same (Send from to place) past p q slot refl
 
 acked-Ack : (past : History) (from to place p q slot : ℕ) → acked (Ack from to place ∷ past) p q slot ≡ acked past p q slot
-unfolding acked frame_arriving
-acked-Ack past from to place p q slot = ap (λ all. list_any (λ frame. frame.from == q && is_took_of slot frame.body) all) (arrivals-more (Ack from to place) past p ∙ append-nil (arrivals past p))
+unfolding frame_arriving
+acked-Ack past from to place p q slot = acked_same (Ack from to place) past p q slot refl
 
 -- a slot is newly acknowledged by the arrival of its acknowledgement alone
 acked-Arrive : (past : History) (from seq : ℕ) (frame : Frame) (p q slot : ℕ) → slice_get (frames past from) seq ≡ Some frame → acked (Arrive from seq ∷ past) p q slot ≡ true →

@@ -1,6 +1,7 @@
 -- What holds of the pairs held, the frames made and the frames arrived, after every accepted history.
 use Rattle.std.proofs.Common.{◌≡◌, ℕ, ◌+◌, ◌<◌, ◌≤◌, refl, sym, ◌∙◌, ap, subst, Bool, true, false, cond, List, [], ◌∷◌, ◌++◌, length, Option, Some, None, inl, inr, arith, length-append}
-use Rattle.std.specs.Prelude.{slice_get, slice_index_or, ◌==◌}
+use Rattle.std.specs.Prelude.{slice_get, slice_index_or, ◌==◌, ◌&&◌}
+use Rattle.std.specs.List.{list_any}
 use Rattle.std.proofs.lemmas.List.{get_or_append_left}
 use Rattle.std.proofs.lemmas.Bool.{and_from, and_parts, eq-eqb, eqb-true, cases_lt, cond-true, cond-false, cases_Bool}
 use Rattle.cast_message.specs.declared.config.Config.{Config}
@@ -323,3 +324,22 @@ held_in_stream config past accepted q s i h =
     let below : found.0.number < length (stream past found.0.sender) = ok.broadcast in
     let at_sender : found.0.number < length (stream past s) = subst (λ p. found.0.number < length (stream past p)) found.2 below in
     subst (λ k. k < length (stream past s)) found.3 at_sender
+
+-- the body of a frame that came to p from r, and passes this test
+pub record Told (past : History) (p r : ℕ) (test : FrameBody → Bool) : Type 0 where
+  pub body : FrameBody
+  pub body_ok : BodyOk past r p body
+  pub held : HeldAt past p body
+  pub tells : test body ≡ true
+
+pub arrivals-Told : (past : History) → Sound past → (p r : ℕ) (test : FrameBody → Bool) → list_any (λ frame. frame.from == r && test frame.body) (arrivals past p) ≡ true → Told past p r test
+arrivals-Told past ok p r test h =
+    let found = Member-list_any _ (arrivals past p) h in
+    let parts = and_parts (found.0.from == r) _ found.2 in
+    let arrival = ok.arrivals_ok p found.0 found.1 in
+    record {
+      body = found.0.body;
+      body_ok = subst (λ a. BodyOk past a p found.0.body) (eqb-true _ _ parts.0) (subst (λ b. BodyOk past found.0.from b found.0.body) arrival.to_is arrival.made_ok.body_ok);
+      held = arrival.held;
+      tells = parts.1;
+    }

@@ -18,7 +18,7 @@ use Rattle.cast_model.proofs.Growth.{gained}
 use Rattle.cast_model.proofs.Ready.{knows_kept}
 use Rattle.cast_message.specs.declared.event.Event.{Event}
 use Rattle.cast_message.specs.declared.event.Event.TheVariants.{Order, Send, Ack, Arrive, Crash}
-use Rattle.cast_model.proofs.Sound.{sound, BodyOk, held_in_stream, gained-Order, gained-Arrive, Member-has_pair}
+use Rattle.cast_model.proofs.Sound.{sound, BodyOk, held_in_stream, gained-Order, gained-Arrive, Member-has_pair, arrivals-Told}
 
 module _ (config : Config) (past : History) (accepted : IsAccepted config past) where
   -- whom a node knows to hold a pair holds it
@@ -30,15 +30,9 @@ module _ (config : Config) (past : History) (accepted : IsAccepted config past) 
       | inr sender ↦ subst (λ x. has_pair (first past x) s i ≡ true) (sym (eqb-true r s sender))
           ((sound config past accepted).own_held s i (held_in_stream config past accepted p s i held))
     ])
-    | inr told ↦
-        (let ok = sound config past accepted in
-        let found = Member-list_any _ (arrivals past p) told in
-        let parts = and_parts (found.0.from == r) _ found.2 in
-        let arrival = ok.arrivals_ok p found.0 found.1 in
-        let from : found.0.from ≡ r = eqb-true _ _ parts.0 in
-        let body : BodyOk past r p found.0.body =
-        subst (λ a. BodyOk past a p found.0.body) from (subst (λ b. BodyOk past found.0.from b found.0.body) arrival.to_is arrival.made_ok.body_ok) in
-        by_body found.0.body body parts.1)
+    | inr heard ↦
+        (let told = arrivals-Told past (sound config past accepted) p r (tells_of (given past p r) s i) heard in
+        by_body told.body told.body_ok told.tells)
   ]
     where
       by_body : (body : FrameBody) → BodyOk past r p body → tells_of (given past p r) s i body ≡ true → has_pair (first past r) s i ≡ true

@@ -5,6 +5,7 @@ use Rattle.std.specs.List.{filter, list_any, count_by, range_with_len}
 use Rattle.std.proofs.lemmas.List.{append-nil, take-take, take-append-drop}
 use Rattle.std.proofs.lemmas.List.Sums.{length-filter}
 use Rattle.std.proofs.lemmas.Bool.{and_parts, and_from, ltb-true, lt-ltb, cases_eq, false≢true}
+use Rattle.std.proofs.lemmas.List.FromFn.{length-range_with_len}
 use Rattle.cast_message.specs.declared.config.Config.{Config}
 use Rattle.cast_message.specs.declared.config.Mode.TheVariants.{Uniform}
 use Rattle.cast_message.specs.declared.message.Message.{Message}
@@ -43,10 +44,6 @@ none_both p q xs none x m e = by_test (q x) refl
     by_test false f = refl
     by_test true f = absurd (false≢true (sym none ∙ list_any-Member (λ y. p y && q y) x xs m (and_from _ _ e f)))
 
-length-range : (a n : ℕ) → length (range_with_len a n) ≡ n
-length-range a zero = refl
-length-range a (suc n) = ap suc (length-range (a + 1) n)
-
 range-below : (n a x : ℕ) → Member x (range_with_len a n) → x < a + n
 range-below zero a x m = elim m [ ]
 range-below (suc n) a x m = elim (Member-uncons x a (range_with_len (a + 1) n) m) [ inl same ↦ omega arith | inr later ↦ (let h = range-below n (a + 1) x later in omega (arith, h)) ]
@@ -76,7 +73,7 @@ module _ (config : Config) (past : History) (accepted : IsAccepted config past) 
         | inl same ↦ subst (λ x. knows past p s i x ≡ true) same (self_known past p s i)
         | inr apart ↦ knows_all config past accepted p r s i (rest.settled p r p_in (let h = range-below config.nodes 0 r m in omega (arith, h)) p_live live apart) held
       ]) in
-      let split = length-filter_split (is_live past) (nodes_of config) ∙ length-range 0 config.nodes in
+      let split = length-filter_split (is_live past) (nodes_of config) ∙ length-range_with_len 0 config.nodes in
       let one = some-Member p (filter (is_live past) (nodes_of config)) (filter-Member (is_live past) p (nodes_of config) (Member-range_with_len config.nodes 0 p (omega arith) (omega (arith, p_in))) p_live) in
       let enough : config.faults < count_by (knows past p s i) (nodes_of config) =
       enough_know config.faults _ _ _ config.nodes few majority split one (subst (λ n. length (filter (is_live past) (nodes_of config)) ≤ n) (length-filter (knows past p s i) (nodes_of config)) all) in
