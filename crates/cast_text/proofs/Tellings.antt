@@ -22,7 +22,8 @@ use Rattle.cast_record.proofs.WordLemmas.{line_without_feed}
 use Rattle.cast_record.specs.Verdicts.{with_line, kept_by}
 use Rattle.cast_judge.specs.Judged.{verdict_of}
 use Rattle.cast_judge.specs.Stands.{items_in, items_of}
-use Rattle.cast_judge.proofs.StandingLemmas.{numbered_on, same_number}
+use Rattle.cast_judge.proofs.StandingLemmas.{numbered_on}
+use Rattle.cast_judge.proofs.TestLemmas.{same_number}
 use Rattle.cast_judge.proofs.TextLemmas.{line_goes}
 use Rattle.cast_record.proofs.WritingLemmas.{record_text-append}
 use Rattle.cast_text.proofs.Sayings.{Says, delivery_sound, decision_sound}
