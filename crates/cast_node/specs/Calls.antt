@@ -4,6 +4,7 @@
 --     carry_slot slot s i item     what a frame says that carries the message of these numbers
 --     carried_frame me from ..     the frame to this node that carries the message of these numbers; took_frame: a word that a slot
 --                                  was taken
+--     silent_reply me              the answer to an arrival at which nothing is delivered or decided
 use Rattle.std.specs.Prelude.{ℕ, ◌*◌, ◌==◌, nat_lt, Bool, not, ◌&&◌, Result, Ok, Err}
 use Rattle.cast_message.specs.declared.event.Outcome.{Outcome}
 use Rattle.cast_message.specs.declared.event.Answer.{Answer}
@@ -13,6 +14,7 @@ use Rattle.cast_message.specs.declared.message.Frame.{Frame}
 use Rattle.cast_message.specs.declared.message.Item.{Item}
 use Rattle.cast_message.specs.declared.message.FrameBody.{FrameBody}
 use Rattle.cast_message.specs.declared.message.FrameBody.TheVariants.{Carry, Took}
+use Rattle.cast_model.specs.OwnSteps.{nothing}
 use Rattle.cast_node.specs.declared.node.Numbers.{Numbers}
 use Rattle.cast_node.specs.Kept.{Kept}
 
@@ -57,6 +59,10 @@ numbered_reply (Err refusal) = Err refusal
 abbrev pub arrived_reply : ℕ → Result Outcome StepFault → Result Answer StepFault
 arrived_reply me (Ok outcome) = Ok (Arrived me outcome)
 arrived_reply me (Err refusal) = Err refusal
+
+-- nothing is delivered or decided
+abbrev pub silent_reply : ℕ → Result Answer StepFault
+silent_reply me = Ok (Arrived me nothing)
 
 abbrev pub crashed_reply : Result Unit StepFault → Result Answer StepFault
 crashed_reply (Ok done) = Ok Down

@@ -127,14 +127,12 @@ impl Deliveries {
         ensures ok { OnOk result (self.new ≡ told_in self.old sender number members) }
         ensures err { OnErr result (self.new ≡ self.old) }
     {
-        let place = usize::from(sender.0);
-        let nothing = self.brings_nothing(sender, number, &members);
-        let row = &mut self.knowers[place];
-        make_place(row, number)?;
-        if nothing {
-            note(row, number, members);
+        if self.tell_silently(sender, number, &members)? {
             return Ok(no_news(self.alloc));
         }
+        let place = usize::from(sender.0);
+        let row = &mut self.knowers[place];
+        make_place(row, number)?;
         let items = &mut self.delivered[place];
         let ready = prepare(&self.hold_back, items, &mut self.agree, sender, number)?;
         note(row, number, members);
@@ -158,15 +156,12 @@ impl Deliveries {
         ensures err { OnErr result (self.new ≡ self.old) }
         ensures as_before { OnErr result (link.new ≡ link.old) }
     {
-        let place = usize::from(sender.0);
-        let nothing = self.brings_nothing(sender, number, &members);
-        let row = &mut self.knowers[place];
-        make_place(row, number)?;
-        if nothing {
-            link.take(slot)?;
-            note(row, number, members);
+        if self.tell_carried_silently(sender, number, &members, link, slot)? {
             return Ok(no_news(self.alloc));
         }
+        let place = usize::from(sender.0);
+        let row = &mut self.knowers[place];
+        make_place(row, number)?;
         let items = &mut self.delivered[place];
         let ready = prepare(&self.hold_back, items, &mut self.agree, sender, number)?;
         if let Err(refused) = link.take(slot) {
@@ -175,6 +170,68 @@ impl Deliveries {
         }
         note(row, number, members);
         Ok(release(&mut self.hold_back, items, sender, number, ready))
+    }
+
+    /// These nodes are known to hold a pair, where no message has its turn by that. Says whether it is so; else they are enough,
+    /// and nothing changed.
+    pub fn tell_silently(
+        &mut self,
+        sender: NodeId,
+        number: u64,
+        members: &NodeSet,
+    ) -> Result<bool, AllocError>
+        requires sender { sender < length self.old.hold_back }
+        requires number { number < 4096 }
+        ensures ok { IfOk result (λ silent. IsTrue silent →
+            self.new ≡ told_in self.old sender number members.now) }
+        ensures outcome { IfOk result (λ silent. IsTrue silent →
+            outcome_in self.old sender number members.now ≡ nothing) }
+        ensures enough { IfOk result (λ silent. IsFalse silent →
+            is_enough_in self.old.mode self.old.faults members.now ≡ true) }
+        ensures same { IfOk result (λ silent. IsFalse silent → self.new ≡ self.old) }
+        ensures err { OnErr result (self.new ≡ self.old) }
+    {
+        if !self.brings_nothing(sender, number, members) {
+            return Ok(false);
+        }
+        let row = &mut self.knowers[usize::from(sender.0)];
+        make_place(row, number)?;
+        note(row, number, members.copy());
+        Ok(true)
+    }
+
+    /// The same, as a peer's slot brings it, which is taken where no message has its turn.
+    pub fn tell_carried_silently(
+        &mut self,
+        sender: NodeId,
+        number: u64,
+        members: &NodeSet,
+        link: &mut LinkIn,
+        slot: u64,
+    ) -> Result<bool, AllocError>
+        requires sender { sender < length self.old.hold_back }
+        requires number { number < 4096 }
+        ensures ok { IfOk result (λ silent. IsTrue silent →
+            self.new ≡ told_in self.old sender number members.now) }
+        ensures outcome { IfOk result (λ silent. IsTrue silent →
+            outcome_in self.old sender number members.now ≡ nothing) }
+        ensures taken { IfOk result (λ silent. IsTrue silent →
+            link.new ≡ set.insert link.old slot) }
+        ensures enough { IfOk result (λ silent. IsFalse silent →
+            is_enough_in self.old.mode self.old.faults members.now ≡ true) }
+        ensures same { IfOk result (λ silent. IsFalse silent → self.new ≡ self.old) }
+        ensures same_link { IfOk result (λ silent. IsFalse silent → link.new ≡ link.old) }
+        ensures err { OnErr result (self.new ≡ self.old) }
+        ensures as_before { OnErr result (link.new ≡ link.old) }
+    {
+        if !self.brings_nothing(sender, number, members) {
+            return Ok(false);
+        }
+        let row = &mut self.knowers[usize::from(sender.0)];
+        make_place(row, number)?;
+        link.take(slot)?;
+        note(row, number, members.copy());
+        Ok(true)
     }
 
     /// Keeps a message back, and these nodes are known to hold it.

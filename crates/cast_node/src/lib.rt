@@ -10,6 +10,7 @@ mod node;
 mod outgoing;
 mod taking;
 
+pub use deliveries::no_news;
 pub use entry::{Entry, EntryKind, Origin};
 pub use node::{Node, Numbers};
 

@@ -1,8 +1,9 @@
 //! A node of a broadcast group: what it holds, gives, waits for, delivers and decides.
-ghost use Rattle.std.specs.Prelude.{◌≡◌, ◌≢◌, ℕ, ◌==◌, ◌<◌, ◌≤◌, ◌+◌, ◌∷◌, ◌++◌, [], false, true, IsTrue, length, nat_lt, Some, None, option_map, slice_get, MatchOption, if◌then◌else◌, IfOk, IfErr, OnOk, OnErr};
+ghost use Rattle.std.specs.Prelude.{◌≡◌, ◌≢◌, ℕ, ◌==◌, ◌<◌, ◌≤◌, ◌+◌, ◌∷◌, ◌++◌, [], false, true, IsTrue, length, nat_lt, Some, None, option_map, slice_get, MatchOption, if◌then◌else◌, IfOk, IfErr, OnOk, OnErr, IsFalse};
 ghost use Rattle.std.specs.FinMap as finite;
 ghost use Rattle.std.specs.FinSet as set;
 ghost use Rattle.cast_model.specs.Steps.{Ordered, Sent, Acknowledged, Arrived, Stopped};
+ghost use Rattle.cast_model.specs.OwnSteps.{nothing};
 ghost use Rattle.cast_message.specs.declared.event.StepFault.TheVariants.{NoNode, SelfLink, Memory};
 ghost use Rattle.cast_message.specs.declared.message.Frame.{Frame as Arriving};
 ghost use Rattle.cast_message.specs.declared.message.FrameBody.TheVariants.{Carry, Took};
@@ -14,7 +15,7 @@ ghost use Rattle.cast_node.specs.Kept.{nothing_kept, link_to, knowers_of};
 ghost use Rattle.cast_node.specs.Turns.{Gives, down, kept_fault, carry_of, took_of, message_owed, ordered, arrived_body, may_arrive};
 ghost use Rattle.cast_model.specs.Replies.{no_node, first_fault, is_close, is_too_long, is_second_proposal};
 ghost use Rattle.cast_node.specs.Taking.{with_proposal, without_proposal};
-ghost use Rattle.cast_node.specs.Calls.{is_peer, may_carry, carry_slot, carried_frame, took_frame, ordered_reply, sent_reply, number_reply, numbered_reply, arrived_reply, crashed_reply};
+ghost use Rattle.cast_node.specs.Calls.{is_peer, may_carry, carry_slot, carried_frame, took_frame, ordered_reply, sent_reply, number_reply, numbered_reply, arrived_reply, silent_reply, crashed_reply};
 
 use crate::deliveries::{Deliveries, no_news};
 use crate::outgoing::Outgoing;
@@ -222,43 +223,47 @@ impl Node {
     }
 
     /// Takes a frame that arrives from a peer with a message that the node holds, told by its slot and its numbers, as `arrive`
-    /// does whatever the message's item.
+    /// does whatever the message's item, where nothing is delivered or decided by it. Says whether it did; else nothing changed,
+    /// and `arrive` says what comes of the frame.
     #[tactic(auto, using(std::proofs::lemmas::Bool::Decides::nat_tests), unfolding(cast_model::specs::Replies::first_fault, crate::specs::Turns::kept_causes, crate::specs::Turns::kept_fault))]
-    pub fn arrive_again(
+    pub fn arrive_again_silently(
         &mut self,
         from: NodeId,
         slot: u64,
         sender: NodeId,
         number: u64,
-    ) -> Result<Outcome, StepFault>
+    ) -> bool
         requires { holds self.old.relay sender number ≡ true }
-        ensures exact { (seq : ℕ) (item : Carried) → Gives self.old
+        ensures took { IsTrue result → (seq : ℕ) (item : Carried) → Gives self.old
             (Arrived (carried_frame self.old.me from seq slot sender number item))
-            (arrived_reply self.old.me result) self.new }
+            (silent_reply self.old.me) self.new }
+        ensures not { IsFalse result → self.new ≡ self.old }
     {
         if !self.live {
-            return Err(StepFault::Crashed);
+            return false;
         }
         if !self.is_peer(from) || !self.may_carry(slot, sender, number) {
-            return Ok(no_news(self.alloc));
+            return true;
         }
-        Ok(self.take_again(from, slot, sender, number)?)
+        self.take_again_silently(from, slot, sender, number)
     }
 
-    /// Takes a frame that arrives from a peer with its word that it took a slot, as `arrive` does.
+    /// Takes a frame that arrives from a peer with its word that it took a slot, as `arrive` does, where nothing is delivered or
+    /// decided by it. Says whether it did; else nothing changed, and `arrive` says what comes of the frame.
     #[tactic(auto, using(std::proofs::lemmas::Bool::Decides::nat_tests), unfolding(cast_model::specs::Replies::first_fault, crate::specs::Turns::kept_causes, crate::specs::Turns::kept_fault))]
-    pub fn arrive_took(&mut self, from: NodeId, slot: u64) -> Result<Outcome, StepFault>
-        ensures exact { (seq : ℕ) → Gives self.old
+    pub fn arrive_took_silently(&mut self, from: NodeId, slot: u64) -> bool
+        ensures took { IsTrue result → (seq : ℕ) → Gives self.old
             (Arrived (took_frame self.old.me from seq slot))
-            (arrived_reply self.old.me result) self.new }
+            (silent_reply self.old.me) self.new }
+        ensures not { IsFalse result → self.new ≡ self.old }
     {
         if !self.live {
-            return Err(StepFault::Crashed);
+            return false;
         }
         if !self.is_peer(from) || slot >= self.outgoing.given(from) {
-            return Ok(no_news(self.alloc));
+            return true;
         }
-        Ok(self.take_acknowledged(from, slot)?)
+        self.take_acknowledged_silently(from, slot)
     }
 
     /// Stops for good. Refused is a second crash.
@@ -477,6 +482,57 @@ impl Node {
         self.outgoing.acknowledge(from, slot);
         self.quiet = self.outgoing.owes_nothing();
         Ok(outcome)
+    }
+
+    // Takes a slot of a peer with a message that the node holds in it, where nothing comes of that.
+    fn take_again_silently(&mut self, from: NodeId, slot: u64, sender: NodeId, number: u64) -> bool
+        requires from { from < self.old.config.nodes }
+        requires sender { is_peer self.old sender ≡ true }
+        requires number { number < self.old.config.item_limit }
+        requires held { holds self.old.relay sender number ≡ true }
+        ensures outcome { (item : Carried) → IsTrue result →
+            (arrived_body self.old from (carry_slot slot sender number item)).outcome ≡ nothing }
+        ensures took { (item : Carried) → IsTrue result → self.new
+            ≡ (arrived_body self.old from (carry_slot slot sender number item)).kept }
+        ensures not { IsFalse result → self.new ≡ self.old }
+    {
+        let place = usize::from(from.0);
+        let mut members = self.deliveries.members(sender, number);
+        members.insert(from);
+        let link = &mut self.incoming[place];
+        let Ok(silent) = self
+            .deliveries
+            .tell_carried_silently(sender, number, &members, link, slot)
+        else {
+            return false;
+        };
+        silent
+    }
+
+    // Takes a peer's word that it took a slot, where nothing comes of that.
+    fn take_acknowledged_silently(&mut self, from: NodeId, slot: u64) -> bool
+        requires { from < self.old.config.nodes }
+        ensures outcome { IsTrue result →
+            (arrived_body self.old from (Took slot)).outcome ≡ nothing }
+        ensures took { IsTrue result → self.new ≡ (arrived_body self.old from (Took slot)).kept }
+        ensures not { IsFalse result → self.new ≡ self.old }
+    {
+        let Some(message) = self.outgoing.message(from, slot) else {
+            return true;
+        };
+        let sender = message.sender;
+        let number = message.number;
+        let mut members = self.deliveries.members(sender, number);
+        members.insert(from);
+        let Ok(silent) = self.deliveries.tell_silently(sender, number, &members) else {
+            return false;
+        };
+        if !silent {
+            return false;
+        }
+        self.outgoing.acknowledge(from, slot);
+        self.quiet = self.outgoing.owes_nothing();
+        true
     }
 
     // The node of this number, which has done nothing, or want of memory.

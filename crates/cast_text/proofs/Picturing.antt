@@ -7,7 +7,7 @@ use Rattle.cast_message.specs.declared.event.Event.{Event}
 use Rattle.cast_message.specs.declared.event.Answer.{Answer}
 use Rattle.cast_message.specs.declared.event.StepFault.{StepFault}
 use Rattle.cast_model.specs.History.{History}
-use Rattle.cast_model.specs.Replies.{is_want_of_memory, fault, answer, reply, after}
+use Rattle.cast_model.specs.Replies.{is_want_of_memory, fault, answer, reply}
 use Rattle.cast_model.specs.Rounds.{Due, due, events_for, plan_from, plan}
 use Rattle.cast_model.proofs.Round.{with_all}
 use Rattle.cast_model.proofs.RoundFaults.{Going, Going-next, Going-start}

@@ -4,16 +4,19 @@ use Rattle.std.specs.Prelude.{not, is_some, is_ok}
 use Rattle.std.proofs.KnownBytes.{Appends-nil, Appends-trans}
 use Rattle.cast_message.specs.declared.config.Config.{Config}
 use Rattle.cast_message.specs.declared.event.Event.{Event}
+use Rattle.cast_message.specs.declared.event.Event.TheVariants.{Order, Send, Ack, Arrive, Crash}
 use Rattle.cast_message.specs.declared.event.Answer.{Answer}
+use Rattle.cast_message.specs.declared.event.Answer.TheVariants as answers
 use Rattle.cast_message.specs.declared.event.StepFault.{StepFault}
 use Rattle.cast_model.specs.History.{History}
 use Rattle.cast_model.specs.Replies.{is_want_of_memory, fault, answer, reply, reply_by, after}
 use Rattle.cast_world.specs.Group.{State, Stands, Continues}
+use Rattle.cast_world.specs.Moves.{IsSilent}
 use Rattle.cast_world.proofs.Running.{settled as settled_step}
 use Rattle.cast_record.specs.declared.line.Line.{Line}
 use Rattle.cast_record.specs.declared.line.Line.TheVariants.{End}
 use Rattle.cast_script.specs.declared.script.ScriptEvent.{ScriptEvent}
-use Rattle.cast_record.specs.Lines.{lines_for, head_of}
+use Rattle.cast_record.specs.Lines.{lines_for, head_of, outcome_lines}
 use Rattle.cast_record.specs.Text.{record_text, line_text}
 use Rattle.cast_words.specs.Written.{WroteAll, WrotePrefix}
 use Rattle.cast_record.proofs.WritingLemmas.{record_text-append}
@@ -69,6 +72,30 @@ unfolding reply
 recorded_event config past index event result world said {old = old} {new = new} {failed = failed} step had is wrote =
     let here = settled_step config past event result world step had in
     (is ∙ ap is_ok here.0 ∙ answered (fault config past event) (answer config past event), here.1, subst (λ r. WroteAll old new failed (record_text (lines_for index event r))) here.0 wrote)
+
+-- an event at which nothing is ordered, delivered or decided leaves no line
+no_lines : (index : ℕ) (event : Event) (answer : Answer) → IsSilent (Ok answer) → lines_for index event (Ok answer) ≡ []
+no_lines index (Order node item) (answers.Sent seq) silent = refl
+no_lines index (Send from to slot) (answers.Sent seq) silent = refl
+no_lines index (Ack from to slot) (answers.Sent seq) silent = refl
+no_lines index (Arrive from seq) (answers.Sent seq2) silent = refl
+no_lines index (Crash node) (answers.Sent seq) silent = refl
+no_lines index (Order node item) (answers.Arrived at outcome) silent = refl
+no_lines index (Send from to slot) (answers.Arrived at outcome) silent = refl
+no_lines index (Ack from to slot) (answers.Arrived at outcome) silent = refl
+no_lines index (Arrive from seq) (answers.Arrived at outcome) silent = ap (outcome_lines at) silent
+no_lines index (Crash node) (answers.Arrived at outcome) silent = refl
+no_lines index event (answers.Ordered number outcome) silent = absurd silent
+no_lines index event answers.Down silent = absurd silent
+
+pub left_silently : (config : Config) (past : History) (index : ℕ) (event : Event) (world : State) {old : Option (List ℕ)} {failed : Bool} →
+    IsSilent (reply config past event) × Stands config (event ∷ past) world → failed ≡ false →
+    Tries config (one_left config index past event) world old old failed (Ok true)
+left_silently config past index event world {old = old} {failed = failed} silent sound = by_reply (reply config past event) refl silent.0
+  where
+    by_reply : (r : Result Answer StepFault) → reply config past event ≡ r → IsSilent r → Tries config (one_left config index past event) world old old failed (Ok true)
+    by_reply (Err refusal) e quiet = absurd quiet
+    by_reply (Ok answer) e quiet = recorded_event config past index event (Ok answer) world true (e, silent.1) refl refl (subst (λ lines. WroteAll old old failed (record_text lines)) (sym (no_lines index event answer quiet)) (record { appends = Appends-nil old; sound = sound }))
 
 pub event_breaks : (config : Config) (past : History) (index : ℕ) (event : Event) (result : Result Answer StepFault) (world : State) {old new : Option (List ℕ)} {failed : Bool} →
     Continues config past event result world → is_want_of_memory result ≡ false → WrotePrefix old new failed (record_text (lines_for index event result)) →

@@ -1,12 +1,12 @@
 -- A round comes together slot by slot: its events are those of the plan.
-use Rattle.std.proofs.Common.{◌≡◌, ℕ, ◌+◌, ◌<◌, ◌≤◌, List, [], ◌∷◌, ◌++◌, length, take, drop, get_or, Bool, true, false, Option, Some, None, Result, Ok, Err, refl, sym, ap, ◌∙◌, subst, append_assoc, append-nil}
+use Rattle.std.proofs.Common.{◌≡◌, ℕ, ◌+◌, ◌<◌, List, [], ◌∷◌, ◌++◌, length, take, drop, get_or, Bool, true, false, Option, Some, None, Result, Ok, refl, sym, ap, ◌∙◌, subst, append_assoc, append-nil}
 use Rattle.std.specs.Prelude.{not}
 use Rattle.std.proofs.lemmas.List.{take_more}
 use Rattle.cast_message.specs.declared.config.Config.{Config}
 use Rattle.cast_message.specs.declared.event.Event.{Event}
 use Rattle.cast_message.specs.declared.event.Event.TheVariants.{Send, Ack, Arrive}
 use Rattle.cast_message.specs.declared.event.StepFault.{StepFault}
-use Rattle.cast_model.specs.History.{History, frames}
+use Rattle.cast_model.specs.History.{History}
 use Rattle.cast_model.specs.Replies.{fault, reply}
 use Rattle.cast_model.specs.Rounds.{Due, due, events_for, plan_from, plan}
 use Rattle.cast_model.proofs.Round.{with_all, Counted}
@@ -14,7 +14,6 @@ use Rattle.cast_model.proofs.RoundFaults.{Going, Going-next, Going-start}
 use Rattle.cast_record.specs.declared.line.Line.{Line}
 use Rattle.cast_record.specs.Lines.{lines_for}
 use Rattle.cast_record.specs.Text.{record_text}
-use Rattle.cast_words.specs.Written.{WroteAll}
 use Rattle.cast_words.proofs.WritingLemmas.{IsGoing, going_start, going_again, going_more, going_done, drop-next}
 use Rattle.cast_text.specs.declared.fault.TextFault.{TextFault}
 use Rattle.cast_text.specs.Rec.{Left, tried, round_left}

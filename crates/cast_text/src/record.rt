@@ -139,6 +139,10 @@ fn record_event<W: Write>(
         Tries config (one_left config index past event.now) world.new (W.contents writer.old.inner)
         (W.contents writer.new.inner) writer.new.failed result }
 {
+    // (most events leave no line)
+    if world.step_if_silent(event) {
+        return Ok(true);
+    }
     // (the reply is read where it lies, since nothing here keeps it)
     record_reply(index, event, &world.step(event), writer)
 }

@@ -11,3 +11,4 @@ mod FirstDue
 pub mod Numbering
 mod Marks
 pub mod Far
+mod Silent

@@ -19,6 +19,7 @@ use Rattle.cast_model.specs.Steps.{Step, Ordered, Sent, Acknowledged, Arrived, S
 use Rattle.std.specs.FinMap as finite
 use Rattle.cast_relay.specs.Held.{holds}
 use Rattle.cast_node.specs.Kept.{Kept, nothing_kept, link_to, is_enough}
+use Rattle.cast_node.specs.Calls.{number_reply}
 use Rattle.cast_node.specs.Turns.{told, released, unmoved, own_taken_up, acknowledged, arrived_body, may_arrive, taken_up, with_taken, with_acked, with_knower, kept_causes, kept_fault, kept_after, Gives}
 use Rattle.cast_node.proofs.Places.{length-slice_set, at_set, same_number, other_number}
 use Rattle.cast_world.specs.declared.frames.Mark.{Mark}
@@ -183,6 +184,15 @@ sent_in kept to slot e = in_group kept.config to _ e
 pub acknowledged_in : (kept : Kept) (to slot : ℕ) → kept_fault kept (Acknowledged to slot) ≡ None → to < kept.config.nodes
 unfolding kept_fault kept_causes
 acknowledged_in kept to slot e = in_group kept.config to _ e
+
+-- what holds of a call that answers a frame's number holds of its reply
+pub made_so : (P : Type 0) (r : Result ℕ StepFault) → OnOk r P → OnOk (number_reply r) P
+made_so P (Ok seq) h = h
+made_so P (Err refusal) h = h
+
+pub kept_so : (P : Type 0) (r : Result ℕ StepFault) → OnErr r P → OnErr (number_reply r) P
+kept_so P (Ok seq) h = h
+kept_so P (Err refusal) h = h
 
 -- rows of frames as the code keeps them
 module _ {A : Type 0} (items : A → List Mark) (config : Config) (nodes : List Kept) (rows : List A) where

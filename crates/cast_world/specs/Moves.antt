@@ -1,13 +1,16 @@
 -- What a step changes of a world: one node takes a step, and may make a frame.
 --     TakesStep world p step made reply new     node p is asked for the step, and makes frames with these marks where it takes it
 --     StepsTo world event reply new             the world answers the event so, and is this then
+--     IsSilent reply                            the event was accepted, and nothing was ordered, delivered or decided by it
 --     IsSound world                             the nodes are those of the group, and frames go to them
 use Rattle.std.specs.Prelude.{◌≡◌, ◌⊎◌, ℕ, ◌<◌, ◌≤◌, nat_lt, if◌then◌else◌, List, [], ◌∷◌, ◌++◌, length, slice_get, slice_index_or, slice_set, Option, Some, None, Result, Ok, Err}
 use Rattle.cast_message.specs.declared.event.Event.{Event}
 use Rattle.cast_message.specs.declared.event.Event.TheVariants.{Order, Send, Ack, Arrive, Crash}
 use Rattle.cast_message.specs.declared.event.Answer.{Answer}
+use Rattle.cast_message.specs.declared.event.Answer.TheVariants.{Sent as AnswerSent, Arrived as AnswerArrived}
 use Rattle.cast_message.specs.declared.event.StepFault.{StepFault}
 use Rattle.cast_message.specs.declared.event.StepFault.TheVariants.{NoNode, NoFrame}
+use Rattle.cast_model.specs.OwnSteps.{nothing}
 use Rattle.cast_model.specs.Replies.{IsRefused}
 use Rattle.cast_model.specs.Steps.{Step, Ordered, Sent, Acknowledged, Arrived, Stopped}
 use Rattle.cast_node.specs.Kept.{Kept}
@@ -73,6 +76,11 @@ StepsTo world (Ack from to slot) reply new =
 StepsTo world (Arrive from seq) reply new =
     ArrivesBy world from seq (slice_get (marks_at world from) seq) reply new
 StepsTo world (Crash node) reply new = TakesStep world node Stopped [] reply new
+
+abbrev pub IsSilent : Result Answer StepFault → Type 0
+IsSilent (Ok (AnswerSent seq)) = Unit {0}
+IsSilent (Ok (AnswerArrived node outcome)) = outcome ≡ nothing
+IsSilent _ = ⊥
 
 pub record IsSound (world : State) : Type 0 where
   pub size : length world.nodes ≡ world.config.nodes

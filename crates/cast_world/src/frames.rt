@@ -1,11 +1,12 @@
 //! Frames on their way: a node makes one, whose mark goes to the end of those that it made, and one arrives. The room for a mark
 //! is there before its node takes the step, so that a refusal changes neither.
-ghost use Rattle.std.specs.Prelude.{◌≡◌, ℕ, ◌==◌, true, false, List, ◌++◌, ◌∷◌, [], IfOk, OnOk, OnErr, map};
+ghost use Rattle.std.specs.Prelude.{◌≡◌, ℕ, ◌==◌, true, false, IsTrue, IsFalse, List, ◌++◌, ◌∷◌, [], IfOk, OnOk, OnErr, map};
 ghost use Rattle.cast_message.specs.declared.config.Config.{Config as Settings};
 ghost use Rattle.cast_model.specs.Steps.{Sent, Acknowledged, Arrived};
 ghost use Rattle.cast_model.specs.Replies.{IsRefused};
 ghost use Rattle.cast_node.specs.Kept.{Kept};
 ghost use Rattle.cast_relay.specs.Held.{holds};
+ghost use Rattle.cast_node.specs.Calls.{number_reply, silent_reply};
 ghost use Rattle.cast_node.specs.Turns.{Gives, kept_fault, carry_of, took_of};
 ghost use Rattle.cast_world.specs.Group.{mark_of, item_in, body_in, frame_in};
 ghost use Rattle.cast_world.specs.Moves.{FindsMark};
@@ -32,8 +33,8 @@ pub struct Mark {
 }
 
 /// The frame that carries a slot. It is answered by its number.
-pub fn send(node: &mut Node, made: &mut Vec<Mark>, to: NodeId, slot: u64) -> Reply
-    ensures gives { Gives node.old (Sent to slot) result node.new }
+pub fn send(node: &mut Node, made: &mut Vec<Mark>, to: NodeId, slot: u64) -> Result<u64, StepFault>
+    ensures gives { Gives node.old (Sent to slot) (number_reply result) node.new }
     ensures made { OnOk result (made.new.items
         ≡ made.old.items ++ mark_of (carry_of node.old to slot) ∷ []) }
     ensures same { OnErr result (made.new.items ≡ made.old.items) }
@@ -48,12 +49,17 @@ pub fn send(node: &mut Node, made: &mut Vec<Mark>, to: NodeId, slot: u64) -> Rep
         to,
         sender: sent.sender,
     });
-    Ok(Answer::Sent { seq: sent.seq })
+    Ok(sent.seq)
 }
 
 /// The frame that acknowledges a slot. It is answered by its number.
-pub fn acknowledge(node: &mut Node, made: &mut Vec<Mark>, to: NodeId, slot: u64) -> Reply
-    ensures gives { Gives node.old (Acknowledged to slot) result node.new }
+pub fn acknowledge(
+    node: &mut Node,
+    made: &mut Vec<Mark>,
+    to: NodeId,
+    slot: u64,
+) -> Result<u64, StepFault>
+    ensures gives { Gives node.old (Acknowledged to slot) (number_reply result) node.new }
     ensures made { OnOk result (made.new.items
         ≡ made.old.items ++ mark_of (took_of node.old to slot) ∷ []) }
     ensures same { OnErr result (made.new.items ≡ made.old.items) }
@@ -68,7 +74,7 @@ pub fn acknowledge(node: &mut Node, made: &mut Vec<Mark>, to: NodeId, slot: u64)
         to,
         sender: NodeId(NOBODY),
     });
-    Ok(Answer::Sent { seq })
+    Ok(seq)
 }
 
 /// The mark of the frame of this number that a node made, or why there is none.
@@ -134,52 +140,66 @@ fn item_of(nodes: &Vec<Node>, sender: NodeId, number: u64) -> Result<Item, Alloc
     item.copy()
 }
 
-/// Whether a mark is that of an acknowledgement.
-pub fn is_word(mark: &Mark) -> bool
+/// The frame of a mark arrives at its target, where nothing is delivered or decided by it. Says whether it did; else nothing
+/// changed.
+pub fn arrive_silently(node: &mut Node, from: NodeId, mark: &Mark) -> bool
+    requires { mark.now.to ≡ node.old.me }
+    ensures took { (config : Settings) (nodes : List Kept) (seq : ℕ) → IsTrue result →
+        Gives node.old (Arrived (frame_in config nodes from seq mark.now))
+        (silent_reply mark.now.to) node.new }
+    ensures not { IsFalse result → node.new ≡ node.old }
+{
+    if is_word(mark) {
+        return arrive_word(node, from, mark);
+    }
+    if is_held(node, mark) {
+        return arrive_again(node, from, mark);
+    }
+    false
+}
+
+// Whether a mark is that of an acknowledgement.
+fn is_word(mark: &Mark) -> bool
     ensures { result ≡ (mark.now.sender == 255) }
 {
     mark.sender.0 == NOBODY
 }
 
-/// An acknowledgement arrives at its target.
-pub fn arrive_word(node: &mut Node, from: NodeId, mark: &Mark) -> Reply
+// An acknowledgement arrives.
+fn arrive_word(node: &mut Node, from: NodeId, mark: &Mark) -> bool
     requires word { (mark.now.sender == 255) ≡ true }
     requires target { mark.now.to ≡ node.old.me }
-    ensures { (config : Settings) (nodes : List Kept) (seq : ℕ) →
-        Gives node.old (Arrived (frame_in config nodes from seq mark.now)) result node.new }
+    ensures took { (config : Settings) (nodes : List Kept) (seq : ℕ) → IsTrue result →
+        Gives node.old (Arrived (frame_in config nodes from seq mark.now))
+        (silent_reply mark.now.to) node.new }
+    ensures not { IsFalse result → node.new ≡ node.old }
 {
-    let outcome = node.arrive_took(from, u64::from(mark.slot))?;
-    Ok(Answer::Arrived {
-        node: mark.to,
-        outcome,
-    })
+    node.arrive_took_silently(from, u64::from(mark.slot))
 }
 
-/// Whether a node holds the message of a mark, so that its item is nothing to the node.
-pub fn is_held(node: &Node, mark: &Mark) -> bool
+// Whether a node holds the message of a mark, so that its item is nothing to the node.
+fn is_held(node: &Node, mark: &Mark) -> bool
     ensures { result ≡ holds node.now.relay mark.now.sender mark.now.number }
 {
     node.holds(mark.sender, u64::from(mark.number))
 }
 
-/// A frame arrives at its target, which holds its message.
-pub fn arrive_again(node: &mut Node, from: NodeId, mark: &Mark) -> Reply
+// A message arrives that the node holds.
+fn arrive_again(node: &mut Node, from: NodeId, mark: &Mark) -> bool
     requires carries { (mark.now.sender == 255) ≡ false }
     requires held { holds node.old.relay mark.now.sender mark.now.number ≡ true }
     requires target { mark.now.to ≡ node.old.me }
-    ensures { (config : Settings) (nodes : List Kept) (seq : ℕ) →
-        Gives node.old (Arrived (frame_in config nodes from seq mark.now)) result node.new }
+    ensures took { (config : Settings) (nodes : List Kept) (seq : ℕ) → IsTrue result →
+        Gives node.old (Arrived (frame_in config nodes from seq mark.now))
+        (silent_reply mark.now.to) node.new }
+    ensures not { IsFalse result → node.new ≡ node.old }
 {
-    let outcome = node.arrive_again(
+    node.arrive_again_silently(
         from,
         u64::from(mark.slot),
         mark.sender,
         u64::from(mark.number),
-    )?;
-    Ok(Answer::Arrived {
-        node: mark.to,
-        outcome,
-    })
+    )
 }
 
 /// A frame arrives at its target.

@@ -86,14 +86,35 @@ fn bring_again(
     if !node.holds(NodeId(sender), number) {
         return Err(StepFault::NoFrame);
     }
-    let outcome = node.arrive_again(NodeId(from), slot, NodeId(sender), number)?;
-    Ok(outcome.deliveries.as_slice().len())
+    let sender = NodeId(sender);
+    if node.arrive_again_silently(NodeId(from), slot, sender, number) {
+        return Ok(0);
+    }
+    let message = Message {
+        sender,
+        number,
+        item: Item::Close,
+    };
+    bring_body(node, from, FrameBody::Carry { slot, message })
 }
 
 // How many messages a peer's word brings that it took a slot.
 fn bring_word(node: &mut Node, from: u8, slot: u64) -> Result<usize, StepFault> {
-    let outcome = node.arrive_took(NodeId(from), slot)?;
-    Ok(outcome.deliveries.as_slice().len())
+    if node.arrive_took_silently(NodeId(from), slot) {
+        return Ok(0);
+    }
+    bring_body(node, from, FrameBody::Took { slot })
+}
+
+// How many messages a frame of a peer brings.
+fn bring_body(node: &mut Node, from: u8, body: FrameBody) -> Result<usize, StepFault> {
+    let frame = Frame {
+        from: NodeId(from),
+        seq: 0,
+        to: node.id(),
+        body,
+    };
+    bring(node, &frame)
 }
 
 fn send(node: &mut Node, to: u8, slot: u64) -> Option<StepFault> {

@@ -1,4 +1,4 @@
-use Rattle.std.proofs.Common.{◌≡◌, ◌≤◌, length, take, arith}
+use Rattle.std.proofs.Common.{◌≡◌, length, take, arith}
 use Rattle.std.proofs.lemmas.Grind.{common_steps}
 use Rattle.cast_text.proofs.JudgingLemmas.{judging_more}
 use Rattle.cast_text.proofs.judge.judge_input.Goals as goal

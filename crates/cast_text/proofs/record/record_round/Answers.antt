@@ -1,10 +1,6 @@
-use Rattle.std.proofs.Common.{ℕ, ◌+◌, take, drop, List, ◌∷◌, [], ◌++◌, ◌≡◌, sym, ap, ◌∙◌, subst, Option, Ok, Err}
+use Rattle.std.proofs.Common.{◌∙◌, Ok, Err}
 use Rattle.std.proofs.lemmas.Result.{err_from_is_err_and}
 use Rattle.std.proofs.lemmas.List.{drop_all}
-use Rattle.cast_record.specs.Text.{record_text}
-use Rattle.cast_text.specs.Rec.{tried}
-use Rattle.cast_text.specs.Recorded.{Tries}
-use Rattle.cast_text.specs.Text.{BreaksOff}
 use Rattle.cast_text.proofs.Rounds.{round_none, round_next, before_next, round_more, round_refused, round_breaks, round_done, slot_events, tries_these}
 use Rattle.cast_text.proofs.record.record_round.Goals as goal
 

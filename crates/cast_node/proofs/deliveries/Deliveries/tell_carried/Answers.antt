@@ -1,42 +1,29 @@
 use Rattle.std.proofs.Common.{◌∙◌}
 use Rattle.cast_node.proofs.Parts.{on_err}
-use Rattle.cast_node.proofs.DeliveryTables.{row_same, both_same, noted_is, told_is, told_sound, outcome_none}
+use Rattle.cast_node.proofs.DeliveryTables.{row_same, both_same, told_is, told_sound}
 use Rattle.cast_node.proofs.deliveries.Deliveries.tell_carried.Goals as goal
 
 pub returns-in_err-make_place-clause-err : goal.returns-in_err-make_place-clause-err
 returns-in_err-make_place-clause-err c =
-    on_err c.from_residual.result (row_same _ _ _ _ _ _ c.args.self.now c.self.view_is c.self.invariant c.from-place.result c.args.sender (c.from-place.ensures ∙ c.sender.view_is) c.requires.sender c.index_mut-row.result.now c.make_place.new.row c.index_mut-row.ensures.value c.make_place.ensures.same)
-
-pub returns-in_err-take-clause-err : goal.returns-in_err-take-clause-err
-returns-in_err-take-clause-err c =
-    on_err c.from_residual-in_err-take.result (row_same _ _ _ _ _ _ c.args.self.now c.self.view_is c.self.invariant c.from-place.result c.args.sender (c.from-place.ensures ∙ c.sender.view_is) c.requires.sender c.index_mut-row.result.now c.make_place.new.row c.index_mut-row.ensures.value c.make_place.ensures.same)
-
-pub returns-then-nothing-clause-ok : goal.returns-then-nothing-clause-ok
-returns-then-nothing-clause-ok c =
-    noted_is _ _ _ _ _ _ c.args.self.now c.self.view_is c.self.invariant c.from-place.result c.args.sender (c.from-place.ensures ∙ c.sender.view_is) c.requires.sender
-    c.index_mut-row.result.now c.make_place.new.row c.note.new.row c.args.number c.args.members c.index_mut-row.ensures.value c.make_place.ensures.same c.note.ensures (c.brings_nothing-nothing.ensures.nothing c.if-nothing.true)
-
-pub returns-then-nothing-clause-outcome : goal.returns-then-nothing-clause-outcome
-returns-then-nothing-clause-outcome c =
-    c.no_news.ensures ∙ outcome_none c.args.self.now c.args.sender c.args.number c.args.members (c.brings_nothing-nothing.ensures.nothing c.if-nothing.true)
+    on_err c.from_residual-in_err-make_place.result (row_same _ _ _ _ _ _ c.args.self.now (c.self.view_is ∙ c.in_ok-tell_carried_silently.ensures.same c.if-branch.false) c.self.invariant c.from-place.result c.args.sender (c.from-place.ensures ∙ c.sender.view_is) c.requires.sender c.index_mut-row.result.now c.make_place.new.row c.index_mut-row.ensures.value c.make_place.ensures.same)
 
 pub returns-in_err-ready-clause-err : goal.returns-in_err-ready-clause-err
 returns-in_err-ready-clause-err c =
     on_err c.from_residual-in_err-ready.result
-    (both_same _ _ _ _ _ _ c.args.self.now c.self.view_is c.self.invariant c.from-place.result c.args.sender (c.from-place.ensures ∙ c.sender.view_is) c.requires.sender
+    (both_same _ _ _ _ _ _ c.args.self.now (c.self.view_is ∙ c.in_ok-tell_carried_silently.ensures.same c.if-branch.false) c.self.invariant c.from-place.result c.args.sender (c.from-place.ensures ∙ c.sender.view_is) c.requires.sender
     c.index_mut-row.result.now c.make_place.new.row c.index_mut-items.result.now c.prepare.new.items c.prepare.new.agree c.index_mut-row.ensures.value c.make_place.ensures.same c.index_mut-items.ensures.value c.prepare.ensures.same c.in_err-ready.ensures.err)
 
 pub returns-in-Err-clause-err : goal.returns-in-Err-clause-err
 returns-in-Err-clause-err c =
-    both_same _ _ _ _ _ _ c.args.self.now c.self.view_is c.self.invariant c.from-place.result c.args.sender (c.from-place.ensures ∙ c.sender.view_is) c.requires.sender
+    both_same _ _ _ _ _ _ c.args.self.now (c.self.view_is ∙ c.in_ok-tell_carried_silently.ensures.same c.if-branch.false) c.self.invariant c.from-place.result c.args.sender (c.from-place.ensures ∙ c.sender.view_is) c.requires.sender
     c.index_mut-row.result.now c.make_place.new.row c.index_mut-items.result.now c.prepare.new.items c.take_back.new.self c.index_mut-row.ensures.value c.make_place.ensures.same c.index_mut-items.ensures.value c.prepare.ensures.same (c.take_back.ensures ∙ c.in_ok-ready.ensures.back)
 
 pub invariant_of-self-2 : goal.invariant_of-self-2
 invariant_of-self-2 c =
-    told_sound c.self.inside.knowers.items c.self.inside.hold_back c.self.inside.delivered.items c.from-place.result c.args.sender c.args.number c.note-2.new.row c.release.new.items c.release.new.hold_back c.self.invariant c.release.ensures.hold_back
+    told_sound c.self.inside.knowers.items c.self.inside.hold_back c.self.inside.delivered.items c.from-place.result c.args.sender c.args.number c.note.new.row c.release.new.items c.release.new.hold_back c.self.invariant c.release.ensures.hold_back
 
 pub returns-clause-ok : goal.returns-clause-ok
 returns-clause-ok c =
-    told_is _ _ _ _ _ _ c.args.self.now c.self.view_is c.self.invariant c.from-place.result c.args.sender (c.from-place.ensures ∙ c.sender.view_is) c.requires.sender
-    c.index_mut-row.result.now c.make_place.new.row c.note-2.new.row c.index_mut-items.result.now c.prepare.new.items c.release.new.items c.args.number c.args.members c.release.new.hold_back c.prepare.new.agree
-    c.index_mut-row.ensures.value c.make_place.ensures.same c.note-2.ensures c.index_mut-items.ensures.value c.prepare.ensures.same c.release.ensures.items c.release.ensures.hold_back c.in_ok-ready.ensures.agree (c.brings_nothing-nothing.ensures.enough c.if-nothing.false)
+    told_is _ _ _ _ _ _ c.args.self.now (c.self.view_is ∙ c.in_ok-tell_carried_silently.ensures.same c.if-branch.false) c.self.invariant c.from-place.result c.args.sender (c.from-place.ensures ∙ c.sender.view_is) c.requires.sender
+    c.index_mut-row.result.now c.make_place.new.row c.note.new.row c.index_mut-items.result.now c.prepare.new.items c.release.new.items c.args.number c.args.members c.release.new.hold_back c.prepare.new.agree
+    c.index_mut-row.ensures.value c.make_place.ensures.same c.note.ensures c.index_mut-items.ensures.value c.prepare.ensures.same c.release.ensures.items c.release.ensures.hold_back c.in_ok-ready.ensures.agree (c.in_ok-tell_carried_silently.ensures.enough c.if-branch.false)
