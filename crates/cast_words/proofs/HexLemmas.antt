@@ -1,7 +1,8 @@
 -- Digits of bytes, written from the first one on.
-use Rattle.std.proofs.Common.{◌≡◌, ℕ, ◌+◌, ◌*◌, ◌/◌, ◌%◌, ◌<◌, List, [], ◌∷◌, ◌++◌, append_assoc, ap, sym, ◌∙◌, refl, take, drop, length, arith, slice_set, length-set, get_or}
-use Rattle.std.proofs.lemmas.List.{take-append-drop, take_more, take_more_set}
+use Rattle.std.proofs.Common.{◌≡◌, ℕ, ◌+◌, ◌*◌, ◌/◌, ◌%◌, ◌<◌, ◌≤◌, List, [], ◌∷◌, ◌++◌, append_assoc, ap, sym, ◌∙◌, refl, take, drop, length, arith, slice_set, length-set, length-append, length-drop, get_or}
+use Rattle.std.proofs.lemmas.List.{take-append-drop, take_all, take_more, take_more_set}
 use Rattle.cast_words.specs.Hex.{hex, hex_digit}
+use Rattle.cast_words.proofs.UnhexLemmas.{length-hex}
 
 hex-append : (xs ys : List ℕ) → hex (xs ++ ys) ≡ hex xs ++ hex ys
 hex-append [] ys = refl
@@ -21,3 +22,13 @@ two_more bytes digits i high low room within e f before =
     let second : take (2 * i + 1 + 1) (slice_set (slice_set digits (2 * i) high) (2 * i + 1) low) ≡ take (2 * i + 1) (slice_set digits (2 * i) high) ++ low ∷ []
     = take_more_set (slice_set digits (2 * i) high) (2 * i + 1) low (omega (arith, length-set {A = ℕ})) in
     rw (next, second, first, before, append_assoc, e, f, take_more bytes i 0 within, hex-append) refl
+
+-- the digits of all bytes
+pub all_put : (bytes digits : List ℕ) (i : ℕ) → length bytes ≤ i → length digits ≡ 2 * length bytes → take (2 * i) digits ≡ hex (take i bytes) → digits ≡ hex bytes
+all_put bytes digits i past places put =
+    sym (take_all (2 * i) digits (omega arith)) ∙ put ∙ ap hex (take_all i bytes past)
+
+-- the digits stand at the front of a room, which is as long as before
+pub room_kept : (bytes digits room : List ℕ) → digits ≡ hex bytes → 2 * length bytes ≤ length room → length (digits ++ drop (2 * length bytes) room) ≡ length room
+room_kept bytes digits room put within =
+    rw (length-append, length-drop, put, length-hex bytes) (omega arith)

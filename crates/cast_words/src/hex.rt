@@ -1,37 +1,16 @@
 //! Bytes as two digits each.
-ghost use Rattle.std.specs.Prelude.{◌≡◌, ◌*◌, ◌<◌, ◌≤◌, length, take};
+ghost use Rattle.std.specs.Prelude.{◌≡◌, ◌*◌, ◌<◌, length};
 ghost use Rattle.cast_words.specs.Hex.{hex, hex_digit};
 
-/// The digits of at most 32 bytes, at the front of their place.
-#[derive(Drop)]
-pub struct HexDigits {
-    digits: [u8; 64],
-    len: usize,
-    ghost within: { len ≤ 64 },
-}
-
-impl HexDigits {
-    /// The digits of the bytes.
-    pub fn new(bytes: &[u8]) -> HexDigits
-        requires { length bytes.now ≤ 32 }
-        ensures { take result.len result.digits ≡ hex bytes.now }
-    {
-        let mut digits = [0; 64];
-        for (i, byte) in bytes.iter().enumerate() {
-            digits[2 * i] = hex_digit(*byte / 16);
-            digits[2 * i + 1] = hex_digit(*byte % 16);
-        }
-        HexDigits {
-            digits,
-            len: 2 * bytes.len(),
-        }
-    }
-
-    /// The digits in order.
-    pub fn as_slice(&self) -> &[u8]
-        ensures { result.now ≡ take self.now.len self.now.digits }
-    {
-        &self.digits[..self.len]
+/// Puts the digits of the bytes into a place that is twice as long. Each byte goes the same way, with no branch, so that the
+/// compiler may take many at once.
+pub fn put_hex(bytes: &[u8], digits: &mut [u8])
+    requires { length digits.old ≡ 2 * length bytes.now }
+    ensures { digits.new ≡ hex bytes.now }
+{
+    for (i, byte) in bytes.iter().enumerate() {
+        digits[2 * i] = hex_digit(*byte / 16);
+        digits[2 * i + 1] = hex_digit(*byte % 16);
     }
 }
 

@@ -1,5 +1,6 @@
 //! Words that spell numbers, read.
-ghost use Rattle.std.specs.Prelude.{◌≡◌};
+ghost use Rattle.std.specs.Prelude.{◌≡◌, ◌+◌, ◌*◌, ◌^◌, ◌<◌};
+ghost use Rattle.std.specs.Option.{SomeIff};
 ghost use Rattle.cast_words.specs.Numbers.{number_of, value_of};
 
 /// The number that a word spells: decimal, with no zero in front.
@@ -12,6 +13,9 @@ pub fn number(word: &[u8]) -> Option<u64>
     }
 }
 
+// Ten times a number below this, and a digit, fit 64 bits.
+const SMALL: u64 = 1_844_674_407_370_955_161;
+
 #[tactic(auto, using(crate::proofs::NumberLemmas::too_large))]
 fn value_of_digits(digits: &[u8]) -> Option<u64>
     ensures { result ≡ value_of digits.now }
@@ -21,9 +25,18 @@ fn value_of_digits(digits: &[u8]) -> Option<u64>
         if !digit.is_ascii_digit() {
             return None;
         }
-        value = value
-            .checked_mul(10)?
-            .checked_add(u64::from(*digit - b'0'))?;
+        value = with_digit(value, u64::from(*digit - b'0'))?;
     }
     Some(value)
+}
+
+// The number with one more digit, if it fits. Almost every number is small, and then nothing has to be tested.
+fn with_digit(value: u64, digit: u64) -> Option<u64>
+    requires { digit < 10 }
+    ensures { SomeIff result (value * 10 + digit < 2 ^ 64) (value * 10 + digit) }
+{
+    if value < SMALL {
+        return Some(value * 10 + digit);
+    }
+    value.checked_mul(10)?.checked_add(digit)
 }

@@ -1,6 +1,6 @@
 //! Bytes that are written as two digits each.
-ghost use Rattle.std.specs.Prelude.{◌≡◌, IfOk, option_map};
-ghost use Rattle.cast_words.specs.Unhex.{unhex, digit_of, byte_of};
+ghost use Rattle.std.specs.Prelude.{◌≡◌, ◌*◌, if◌then◌else◌, length, IfOk, Some, None, option_map, unwrap_or};
+ghost use Rattle.cast_words.specs.Unhex.{unhex, digit_of};
 
 use std::alloc::{AllocError, Global};
 
@@ -8,36 +8,40 @@ use std::alloc::{AllocError, Global};
 pub fn bytes_of(alloc: Global, digits: &[u8]) -> Result<Option<Vec<u8>>, AllocError>
     ensures { IfOk result (λ o. option_map (λ bytes. bytes.items) o ≡ unhex digits.now) }
 {
-    let mut bytes = Vec::with_capacity(alloc, digits.len() / 2)?;
-    let mut rest = digits;
-    while let [high, low, after @ ..] = rest {
-        let Some(byte) = byte(*high, *low) else {
-            return Ok(None);
-        };
-        bytes.push(byte)?;
-        rest = after;
+    if digits.len() % 2 != 0 {
+        return Ok(None);
     }
-    if rest.is_empty() {
+    let mut bytes = vec![in alloc; 0u8; digits.len() / 2]?;
+    if put_bytes(digits, bytes.as_mut_slice()) {
         Ok(Some(bytes))
     } else {
         Ok(None)
     }
 }
 
-fn byte(high: u8, low: u8) -> Option<u8>
-    ensures { result ≡ byte_of (digit_of high) (digit_of low) }
+// Puts the bytes that the digits stand for into a place that is half as long, and answers whether all are digits. Each byte
+// goes the same way, with no branch, so that the compiler may take many at once; so what is no digit shows at the end.
+fn put_bytes(digits: &[u8], bytes: &mut [u8]) -> bool
+    requires { length digits.now ≡ 2 * length bytes.old }
+    ensures { unhex digits.now ≡ (if result then Some bytes.new else None) }
 {
-    let high = digit(high)?;
-    let low = digit(low)?;
-    Some(16 * high + low)
+    let mut greatest = 0u8;
+    for i in 0..bytes.len() {
+        let high = digit(digits[2 * i]);
+        let low = digit(digits[2 * i + 1]);
+        bytes[i] = 16 * (high % 16) + low % 16;
+        greatest = greatest.max(high).max(low);
+    }
+    greatest < 16
 }
 
-fn digit(code: u8) -> Option<u8>
-    ensures { result ≡ digit_of code }
+// The number that a digit stands for, or 255.
+fn digit(code: u8) -> u8
+    ensures { result ≡ unwrap_or (digit_of code) 255 }
 {
     match code {
-        b'0'..=b'9' => Some(code - b'0'),
-        b'a'..=b'f' => Some(code - b'a' + 10),
-        _ => None,
+        b'0'..=b'9' => code - b'0',
+        b'a'..=b'f' => code - b'a' + 10,
+        _ => 255,
     }
 }

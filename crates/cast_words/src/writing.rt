@@ -4,12 +4,13 @@ ghost use Rattle.cast_words.specs.Hex.{hex};
 ghost use Rattle.cast_words.specs.Written.{Writes};
 
 use crate::digits::Digits;
-use crate::hex::HexDigits;
+use crate::hex::put_hex;
 use crate::meter::Meter;
 use std::io::Write;
 use thiserror::Error;
 
-const BYTES_AT_ONCE: usize = 32;
+// So many that the writer is called seldom, and so few that a short text doesn't pay for the room.
+const BYTES_AT_ONCE: usize = 128;
 
 /// Why a text was not written: the writer failed, or took no byte, in this call.
 #[derive(Clone, Copy, Debug, PartialEq, Eq, Error)]
@@ -33,10 +34,13 @@ pub fn write_hex<W: Write>(bytes: &[u8], writer: &mut Meter<W>) -> Result<(), Wr
     ensures { Writes (W.contents writer.old.inner)
         (W.contents writer.new.inner) writer.new.failed result (hex bytes.now) }
 {
+    let mut room = [0; 2 * BYTES_AT_ONCE];
     let mut rest = bytes;
     while !rest.is_empty() {
         let (front, others) = rest.split_at(rest.len().min(BYTES_AT_ONCE));
-        write_bytes(HexDigits::new(front).as_slice(), writer)?;
+        let digits = &mut room[..2 * front.len()];
+        put_hex(front, digits);
+        write_bytes(digits, writer)?;
         rest = others;
     }
     Ok(())

@@ -1,9 +1,0 @@
-use Rattle.std.proofs.Common.{arith, length-set, ℕ}
-use Rattle.cast_words.proofs.HexLemmas.{two_more}
-use Rattle.cast_words.proofs.hex.HexDigits.new.Goals as goal
-
-pub loop-i-preserved : goal.loop-i-preserved
-loop-i-preserved c = record {
-  places = omega (arith, length-set {A = ℕ});
-  digits = two_more c.args.bytes.now c.loop-i.digits c.loop-i.i _ _ (omega arith) (omega arith) c.hex_digit.ensures c.hex_digit-in-loop-i.ensures c.loop-i.invariant.digits;
-}
