@@ -1,10 +1,11 @@
 -- The tokens of a plain script are those of a value, and the value says the script.
-use Rattle.std.proofs.Common.{◌≡◌, ℕ, ◌+◌, ◌≤◌, ◌^◌, ◌<◌, List, [], ◌∷◌, ◌++◌, length, codes, Bool, true, false, ◌&&◌, lt-ltb, ne_eqb, ok_or, SomeIff, bytes_eq, Option, Some, None, Result, Ok, Err, IfOk, IfSome, Ordering, Less, Equal, Greater, nat_cmp, is_eq, get_or, true≢false, refl, sym, ap, ◌∙◌, subst, append_assoc, append-nil, length-append, arith}
+use Rattle.std.proofs.Common.{◌≡◌, ℕ, ◌+◌, ◌≤◌, ◌<◌, List, [], ◌∷◌, ◌++◌, length, codes, Bool, true, false, ◌&&◌, ok_or, bytes_eq, Option, Some, None, Result, Ok, Err, IfOk, IfSome, Ordering, Less, Equal, Greater, nat_cmp, is_eq, true≢false, refl, sym, ap, ◌∙◌, subst, append_assoc, append-nil, length-append, arith}
 use Rattle.std.proofs.lemmas.Map.Text.{is_eq-slice_cmp}
 use Rattle.std.proofs.lemmas.Slice.Eq.{bytes_eq-Decides}
 use Rattle.std.specs.Cmp.Lexicographic.{slice_cmp}
 use Rattle.std.specs.Ordering.{match_ordering}
-use Rattle.fast_float.specs.Text.{scan, digits_of, IsInteger}
+use Rattle.cast_words.specs.Numbers as words
+use Rattle.cast_words.proofs.NumberLemmas.{number_takes}
 use Rattle.json.specs.Token.{Token}
 use Rattle.json.specs.Json as json
 use Rattle.json.specs.Json.{after_end_array, read_key}
@@ -15,6 +16,7 @@ use Rattle.serde_json.specs.Data as value
 use Rattle.serde_json.specs.Data.{Data, Items, Members, put, unsigned}
 use Rattle.serde_json.specs.Find.{get_member}
 use Rattle.serde_json.specs.Read.{read, of_json, of_items, of_members, max_depth, number_of}
+use Rattle.serde_json.proofs.Numbers.{number_of-decimal}
 use Rattle.serde_json.proofs.Views.{get_member-put, get_member-put_other}
 use Rattle.cast_script.specs.declared.script.ScriptEvent.{ScriptEvent}
 use Rattle.cast_script.specs.declared.script.Settings.{Settings}
@@ -35,13 +37,14 @@ some_or P Q (Some x) e f h = f x h
 
 -- ---- a number's text
 
-plain_number : (s : List ℕ) (n : ℕ) → (get_or s 0 0 ≡ 45 → ⊥) → IsInteger (scan s) → digits_of (scan s) < 2 ^ 64 → n ≡ digits_of (scan s) → number_of s ≡ Some (unsigned n)
-unfolding number_of
-plain_number s n signless integer small is = rw (ne_eqb (get_or s 0 0) 45 signless, lt-ltb _ _ integer.0, integer.1, integer.2, lt-ltb _ _ small, is) refl
+plain_number : (s : List ℕ) (n : ℕ) → words.number_of s ≡ Some n → number_of s ≡ Some (unsigned n)
+plain_number s n e =
+    let is = number_takes s n e in
+    ap number_of is.0 ∙ number_of-decimal n is.1
 
-pub number_or : {E : Type 0} (s : List ℕ) (o : Option ℕ) (e : E) → (get_or s 0 0 ≡ 45 → ⊥) → SomeIff o (IsInteger (scan s) × (digits_of (scan s) < 2 ^ 64)) (digits_of (scan s)) → IfOk (ok_or o e) (λ n. number_of s ≡ Some (unsigned n))
-number_or s None e signless h = tt
-number_or s (Some n) e signless h = plain_number s n signless h.0.0 h.0.1 h.1
+pub number_or : {E : Type 0} (s : List ℕ) (o : Option ℕ) (e : E) → o ≡ words.number_of s → IfOk (ok_or o e) (λ n. number_of s ≡ Some (unsigned n))
+number_or s None e is = tt
+number_or s (Some n) e is = plain_number s n (sym is)
 
 -- ---- cells
 

@@ -18,7 +18,6 @@ use crate::script::{FaultPlan, Script, ScriptEvent};
 use bytes::Bytes;
 use cast_message::{Event, Item, List, NodeId, Payload};
 use cast_words::bytes_of;
-use fast_float::Numeral;
 use json::{Reader, Scratch, Token};
 use serde_json::{Map, Value};
 use std::alloc::Global;
@@ -316,14 +315,11 @@ fn number(reader: &mut Reader<'_>) -> Result<u64, Unread>
     unsigned(text)
 }
 
+// Decimal digits with no zero in front. A number with a sign, a point or an exponent isn't so plain, nor is one past 64 bits.
 fn unsigned(text: &str) -> Result<u64, Unread>
     ensures { IfOk result (λ number. number_in text.now ≡ Some (unsigned_num number)) }
 {
-    let digits = text.as_bytes();
-    if digits.is_empty() || digits[0] == b'-' {
-        return Err(Unread::Shape);
-    }
-    Numeral::scan(digits).to_u64().ok_or(Unread::Shape)
+    cast_words::number(text.as_bytes()).ok_or(Unread::Shape)
 }
 
 // The bracket that closes an array.

@@ -1,6 +1,5 @@
-use Rattle.std.proofs.Common.{◌≡◌, Some}
-use Rattle.std.proofs.Common.{◌<◌, ◌^◌, get_or, subst, sym, IfOk, SomeIff}
-use Rattle.fast_float.specs.Text.{digits_of, IsInteger}
+use Rattle.std.proofs.Common.{◌≡◌, Some, IfOk, subst, sym, ap, ◌∙◌}
+use Rattle.cast_words.specs.Numbers.{number_of as number_in_words}
 use Rattle.serde_json.specs.Data.{unsigned}
 use Rattle.serde_json.specs.Read.{number_of}
 use Rattle.cast_script.specs.declared.element.Unread.TheVariants.{Shape}
@@ -9,8 +8,6 @@ use Rattle.cast_script.proofs.plain.unsigned.Goals as goal
 
 pub returns : goal.returns
 returns c =
-    let signless = λ (e : get_or c.as_bytes-digits.result.now 0 0 ≡ 45). c.if-digits-eq45.false e in
-    let scanned = subst (λ p. SomeIff c.to_u64.result (IsInteger p × (digits_of p < 2 ^ 64)) (digits_of p)) c.scan.ensures.parts c.to_u64.ensures in
-    let read = number_or c.as_bytes-digits.result.now c.to_u64.result Shape signless scanned in
-    subst (λ s. IfOk c.ok_or.result (λ n. number_of s ≡ Some (unsigned n))) c.as_bytes-digits.ensures.value
-    (subst (λ r. IfOk r (λ n. number_of c.as_bytes-digits.result.now ≡ Some (unsigned n))) (sym c.ok_or.ensures.value) read)
+    let bytes = c.as_bytes.ensures.value in
+    let read = number_or c.args.text.now c.number.result Shape (c.number.ensures ∙ ap number_in_words bytes) in
+    subst (λ r. IfOk r (λ n. number_of c.args.text.now ≡ Some (unsigned n))) (sym c.ok_or.ensures.value) read
