@@ -17,7 +17,7 @@ use cast_agree::{Agree, Counting};
 use cast_fifo::HoldBack;
 use cast_link::LinkIn;
 use cast_message::{Config, Item, List, Message, Mode, NodeId, Outcome};
-use cast_sets::NodeSet;
+use cast_sets::GroupSet;
 use std::alloc::{AllocError, Global};
 use std::marker::Model;
 
@@ -28,7 +28,7 @@ pub struct Deliveries {
     mode: Mode,
     faults: u64,
     // By sender and number.
-    knowers: Vec<Vec<NodeSet>>,
+    knowers: Vec<Vec<GroupSet>>,
     hold_back: HoldBack,
     // By sender.
     delivered: Vec<Vec<Item>>,
@@ -90,13 +90,13 @@ impl Deliveries {
     }
 
     /// The nodes known to hold a pair. The sender is a node.
-    pub fn members(&self, sender: NodeId, number: u64) -> NodeSet
+    pub fn members(&self, sender: NodeId, number: u64) -> GroupSet
         requires { sender < length self.now.hold_back }
         ensures { result ≡ knowers_in self.now.knowers sender number }
     {
         match self.knowers[usize::from(sender.0)].get(number as usize) {
             Some(members) => members.copy(),
-            None => NodeSet::new(),
+            None => GroupSet::new(),
         }
     }
 
@@ -119,7 +119,7 @@ impl Deliveries {
         &mut self,
         sender: NodeId,
         number: u64,
-        members: NodeSet,
+        members: GroupSet,
     ) -> Result<Outcome, AllocError>
         requires sender { sender < length self.old.hold_back }
         requires number { number < 4096 }
@@ -144,7 +144,7 @@ impl Deliveries {
         &mut self,
         sender: NodeId,
         number: u64,
-        members: NodeSet,
+        members: GroupSet,
         link: &mut LinkIn,
         slot: u64,
     ) -> Result<Outcome, AllocError>
@@ -178,7 +178,7 @@ impl Deliveries {
         &mut self,
         sender: NodeId,
         number: u64,
-        members: &NodeSet,
+        members: &GroupSet,
     ) -> Result<bool, AllocError>
         requires sender { sender < length self.old.hold_back }
         requires number { number < 4096 }
@@ -205,7 +205,7 @@ impl Deliveries {
         &mut self,
         sender: NodeId,
         number: u64,
-        members: &NodeSet,
+        members: &GroupSet,
         link: &mut LinkIn,
         slot: u64,
     ) -> Result<bool, AllocError>
@@ -235,7 +235,7 @@ impl Deliveries {
     }
 
     /// Keeps a message back, and these nodes are known to hold it.
-    pub fn take_up(&mut self, message: Message, members: NodeSet) -> Result<Outcome, AllocError>
+    pub fn take_up(&mut self, message: Message, members: GroupSet) -> Result<Outcome, AllocError>
         requires sender { message.sender < length self.old.hold_back }
         requires number { message.number < 4096 }
         ensures outcome { IfOk result (λ outcome. outcome ≡ outcome_with self.old message members) }
@@ -256,7 +256,7 @@ impl Deliveries {
     pub fn take_up_carried(
         &mut self,
         message: Message,
-        members: NodeSet,
+        members: GroupSet,
         link: &mut LinkIn,
         slot: u64,
     ) -> Result<Outcome, AllocError>
@@ -279,7 +279,7 @@ impl Deliveries {
     }
 
     // Whether nothing has its turn by a pair that these nodes hold: they are not enough, or it had its turn before.
-    fn brings_nothing(&self, sender: NodeId, number: u64, members: &NodeSet) -> bool
+    fn brings_nothing(&self, sender: NodeId, number: u64, members: &GroupSet) -> bool
         requires { sender < length self.now.hold_back }
         ensures nothing { IsTrue result → BringsNothing self.now.mode self.now.faults
             (held_of self.now.hold_back sender) number members.now }
@@ -313,7 +313,7 @@ impl Deliveries {
 }
 
 // Whether these nodes are enough that a message they hold may be delivered.
-fn is_enough(mode: Mode, faults: u64, members: &NodeSet) -> bool
+fn is_enough(mode: Mode, faults: u64, members: &GroupSet) -> bool
     ensures { result ≡ is_enough_in mode faults members.now }
 {
     match mode {
@@ -333,7 +333,7 @@ pub fn no_news(alloc: Global) -> Outcome
 }
 
 // Room for a place of this number.
-fn make_place(row: &mut Vec<NodeSet>, number: u64) -> Result<(), AllocError>
+fn make_place(row: &mut Vec<GroupSet>, number: u64) -> Result<(), AllocError>
     requires { number < 4096 }
     ensures same { row.new.items ≡ row.old.items }
     ensures ok { OnOk result
@@ -343,14 +343,14 @@ fn make_place(row: &mut Vec<NodeSet>, number: u64) -> Result<(), AllocError>
 }
 
 // These nodes are known to hold the pair of this number. There is room for its place.
-fn note(row: &mut Vec<NodeSet>, number: u64, members: NodeSet)
+fn note(row: &mut Vec<GroupSet>, number: u64, members: GroupSet)
     requires number { number < 4096 }
     requires room { vec_len row.old + (suc number - vec_len row.old) ≤ vec_capacity row.old }
     ensures { row.new.items ≡ known_row row.old.items number members }
 {
     let place = number as usize;
     for _empty in row.len()..place + 1 {
-        row.push_reserved(NodeSet::new());
+        row.push_reserved(GroupSet::new());
     }
     row[place] = members;
 }

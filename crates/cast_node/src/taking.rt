@@ -13,7 +13,7 @@ use crate::outgoing::Outgoing;
 use cast_link::LinkIn;
 use cast_message::{Item, Message, NodeId, Outcome};
 use cast_relay::Relay;
-use cast_sets::NodeSet;
+use cast_sets::GroupSet;
 use std::alloc::AllocError;
 
 /// A message that a node did not hold, the node that it came from, and those that are known to hold it.
@@ -21,14 +21,18 @@ use std::alloc::AllocError;
 pub struct Fresh {
     pub message: Message,
     pub source: NodeId,
-    pub members: NodeSet,
+    pub members: GroupSet,
 }
 
-/// Those that are known to hold a message once the node `me` does: itself, the sender, and where it came from.
-pub fn first_members(me: NodeId, sender: NodeId, source: NodeId) -> NodeSet
+/// Those that are known to hold a message once the node `me` does: itself, the sender, and where it came from. They are nodes of
+/// one group.
+pub fn first_members(me: NodeId, sender: NodeId, source: NodeId) -> GroupSet
+    requires me { me < 64 }
+    requires sender { sender < 64 }
+    requires source { source < 64 }
     ensures { result ≡ first_members me sender source }
 {
-    let mut members = NodeSet::new();
+    let mut members = GroupSet::new();
     members.insert(me);
     members.insert(sender);
     members.insert(source);
@@ -47,6 +51,7 @@ pub fn take_up_own(
     requires me { relay.old.me ≡ me }
     requires number { relay.old.own < 4096 }
     requires sender { me < length deliveries.old.hold_back }
+    requires group { me < 64 }
     ensures relay { OnOk result (relay.new ≡ with_own relay.old) }
     ensures links { OnOk result (links_of outgoing.new
         ≡ given_from 0 (with_own relay.old) me (message_of relay.old item) (links_of outgoing.old)) }

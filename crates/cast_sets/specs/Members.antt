@@ -4,6 +4,7 @@
 --     members_below-same           two tests that agree make one set
 --     members_below-insert         one number more
 --     members_below-remove         one number fewer
+--     members_below-more           one number more to be below
 --     members_below-len            it has at most n
 --     remove-inserted              a new number that is taken out again
 use Rattle.std.specs.Prelude.{◌≡◌, ℕ, zero, suc, ◌+◌, ◌≤◌, ◌<◌, nat_lt, nat_le, nat_eq, Bool, true, false, cond, not, ◌&&◌, ◌||◌, List, [], ◌∷◌, length, refl}
@@ -162,3 +163,29 @@ remove-inserted s k h = same_set nat_cmp_total nat_cmp-IsAntisymmetric _ _ (λ q
 
     left : (q : ℕ) → (not (eq_by_cmp nat_cmp q k) && (eq_by_cmp nat_cmp q k || set.contains s q)) ≡ set.contains s q
     left q = kept (eq_by_cmp nat_cmp q k) (set.contains s q) (λ e. ap (set.contains s) (tie q e) ∙ h)
+
+-- the next number is a member or not
+pub members_below-more : (n : ℕ) (p : ℕ → Bool) → set.len (members_below (suc n) p) ≡ cond (p n) (set.len (members_below n p) + 1) (set.len (members_below n p))
+members_below-more n p = go (p n) refl
+  where
+    new : set.contains (members_below n p) n ≡ false
+    new = contains-members_below n p n ∙ ap (λ b. b && p n) (none n)
+      where
+        none : (m : ℕ) → nat_lt m m ≡ false
+        none m = grind (arith, nat_tests)
+
+    inside : (q : ℕ) → p n ≡ true → (nat_lt q (suc n) && p q) ≡ (eq_by_cmp nat_cmp q n || (nat_lt q n && p q))
+    inside q e = tests q (λ f. ap p f ∙ e)
+      where
+        tests : (q : ℕ) → (q ≡ n → p q ≡ true) → (nat_lt q (suc n) && p q) ≡ (eq_by_cmp nat_cmp q n || (nat_lt q n && p q))
+        tests q h = grind (arith, nat_tests, h)
+
+    outside : (q : ℕ) → p n ≡ false → (nat_lt q (suc n) && p q) ≡ (nat_lt q n && p q)
+    outside q e = tests q (λ f. ap p f ∙ e)
+      where
+        tests : (q : ℕ) → (q ≡ n → p q ≡ false) → (nat_lt q (suc n) && p q) ≡ (nat_lt q n && p q)
+        tests q h = grind (arith, nat_tests, h)
+
+    go : (b : Bool) → p n ≡ b → set.len (members_below (suc n) p) ≡ cond b (set.len (members_below n p) + 1) (set.len (members_below n p))
+    go true e = ap set.len (same_set nat_cmp_total nat_cmp-IsAntisymmetric _ _ (λ q. contains-members_below (suc n) p q ∙ inside q e ∙ sym (contains-insert nat_cmp_total (members_below n p) n q ∙ ap (λ b. eq_by_cmp nat_cmp q n || b) (contains-members_below n p q)))) ∙ len-new_member (members_below n p) n new
+    go false e = ap set.len (same_set nat_cmp_total nat_cmp-IsAntisymmetric _ _ (λ q. contains-members_below (suc n) p q ∙ outside q e ∙ sym (contains-members_below n p q)))

@@ -19,8 +19,8 @@ returns-clause-outcome c =
     let found = sym c.message.ensures ∙ ap option_copied c.in-Some.is in
     let owed = c.self.invariant.owes c.args.from c.args.slot c.in-Some.message.now found in
     let sender : c.in-Some.message.now.sender < length c.self.inside.deliveries.knowers = omega (arith, owed.0, c.self.invariant.rows) in
-    let members = c.insert-self-inside.ensures.members ∙ ap (λ members. set.insert members c.args.from) c.members-members.ensures in
-    let told = taken_word c.self.inside.config c.self.inside.me c.self.inside.live c.self.inside.frames c.self.inside.stream.items c.self.inside.relay (links_of c.self.inside.outgoing) c.self.inside.incoming.items c.self.inside.deliveries c.args.self.now c.self.view_is c.self.invariant.mode c.self.invariant.faults c.args.from c.args.slot c.in-Some.message.now c.insert-self-inside.new.self (links_of c.acknowledge.new.self) c.tell.new.self sender found members c.acknowledge.ensures c.in_ok-outcome.ensures.ok in
+    let members = c.insert.ensures ∙ ap (λ members. set.insert members c.args.from) c.members-members.ensures in
+    let told = taken_word c.self.inside.config c.self.inside.me c.self.inside.live c.self.inside.frames c.self.inside.stream.items c.self.inside.relay (links_of c.self.inside.outgoing) c.self.inside.incoming.items c.self.inside.deliveries c.args.self.now c.self.view_is c.self.invariant.mode c.self.invariant.faults c.args.from c.args.slot c.in-Some.message.now c.insert.new.self (links_of c.acknowledge.new.self) c.tell.new.self sender found members c.acknowledge.ensures c.in_ok-outcome.ensures.ok in
     c.in_ok-outcome.ensures.outcome ∙ told.1
 
 pub returns-clause-ok : goal.returns-clause-ok
@@ -28,8 +28,8 @@ returns-clause-ok c =
     let found = sym c.message.ensures ∙ ap option_copied c.in-Some.is in
     let owed = c.self.invariant.owes c.args.from c.args.slot c.in-Some.message.now found in
     let sender : c.in-Some.message.now.sender < length c.self.inside.deliveries.knowers = omega (arith, owed.0, c.self.invariant.rows) in
-    let members = c.insert-self-inside.ensures.members ∙ ap (λ members. set.insert members c.args.from) c.members-members.ensures in
-    let told = taken_word c.self.inside.config c.self.inside.me c.self.inside.live c.self.inside.frames c.self.inside.stream.items c.self.inside.relay (links_of c.self.inside.outgoing) c.self.inside.incoming.items c.self.inside.deliveries c.args.self.now c.self.view_is c.self.invariant.mode c.self.invariant.faults c.args.from c.args.slot c.in-Some.message.now c.insert-self-inside.new.self (links_of c.acknowledge.new.self) c.tell.new.self sender found members c.acknowledge.ensures c.in_ok-outcome.ensures.ok in
+    let members = c.insert.ensures ∙ ap (λ members. set.insert members c.args.from) c.members-members.ensures in
+    let told = taken_word c.self.inside.config c.self.inside.me c.self.inside.live c.self.inside.frames c.self.inside.stream.items c.self.inside.relay (links_of c.self.inside.outgoing) c.self.inside.incoming.items c.self.inside.deliveries c.args.self.now c.self.view_is c.self.invariant.mode c.self.invariant.faults c.args.from c.args.slot c.in-Some.message.now c.insert.new.self (links_of c.acknowledge.new.self) c.tell.new.self sender found members c.acknowledge.ensures c.in_ok-outcome.ensures.ok in
     told.0
 
 pub members-members-requires : goal.members-members-requires
@@ -58,7 +58,7 @@ invariant_of-self-2 c =
     let links = links_of c.self.inside.outgoing in
     let ds = c.self.inside.deliveries in
     let done = c.in_ok-outcome.ensures.ok in
-    let told = told_keeps ds c.in-Some.message.now.sender c.in-Some.message.now.number c.insert-self-inside.new.self in
+    let told = told_keeps ds c.in-Some.message.now.sender c.in-Some.message.now.number c.insert.new.self in
     let after = c.acknowledge.ensures in
     keeps_rows c.self.inside.config c.self.inside.me c.self.inside.stream.items c.self.inside.closed c.self.inside.proposed c.self.inside.relay c.self.inside.relay links (links_of c.acknowledge.new.self) c.self.inside.incoming.items c.self.inside.incoming.items ds c.tell.new.self c.self.inside.quiet _ c.self.invariant refl refl
     (ap length after ∙ length-set links c.args.from _) refl

@@ -19,7 +19,7 @@ returns-clause-outcome c _ =
     let found = sym c.message.ensures ∙ ap option_copied c.in-Some.is in
     let owed = c.self.invariant.owes c.args.from c.args.slot c.in-Some.message.now found in
     let sender : c.in-Some.message.now.sender < length c.self.inside.deliveries.knowers = omega (arith, owed.0, c.self.invariant.rows) in
-    let members = c.insert.ensures.members ∙ ap (λ members. set.insert members c.args.from) c.members-members.ensures in
+    let members = c.insert.ensures ∙ ap (λ members. set.insert members c.args.from) c.members-members.ensures in
     let told = taken_word c.self.inside.config c.self.inside.me c.self.inside.live c.self.inside.frames c.self.inside.stream.items c.self.inside.relay (links_of c.self.inside.outgoing) c.self.inside.incoming.items c.self.inside.deliveries c.args.self.now c.self.view_is c.self.invariant.mode c.self.invariant.faults c.args.from c.args.slot c.in-Some.message.now c.insert.new.self (links_of c.acknowledge.new.self) c.tell_silently.new.self sender found members c.acknowledge.ensures (c.in-Ok.ensures.ok c.if-not-silent.false) in
     sym told.1 ∙ c.in-Ok.ensures.outcome c.if-not-silent.false
 
@@ -28,7 +28,7 @@ returns-clause-took c _ =
     let found = sym c.message.ensures ∙ ap option_copied c.in-Some.is in
     let owed = c.self.invariant.owes c.args.from c.args.slot c.in-Some.message.now found in
     let sender : c.in-Some.message.now.sender < length c.self.inside.deliveries.knowers = omega (arith, owed.0, c.self.invariant.rows) in
-    let members = c.insert.ensures.members ∙ ap (λ members. set.insert members c.args.from) c.members-members.ensures in
+    let members = c.insert.ensures ∙ ap (λ members. set.insert members c.args.from) c.members-members.ensures in
     let told = taken_word c.self.inside.config c.self.inside.me c.self.inside.live c.self.inside.frames c.self.inside.stream.items c.self.inside.relay (links_of c.self.inside.outgoing) c.self.inside.incoming.items c.self.inside.deliveries c.args.self.now c.self.view_is c.self.invariant.mode c.self.invariant.faults c.args.from c.args.slot c.in-Some.message.now c.insert.new.self (links_of c.acknowledge.new.self) c.tell_silently.new.self sender found members c.acknowledge.ensures (c.in-Ok.ensures.ok c.if-not-silent.false) in
     told.0
 
