@@ -8,6 +8,7 @@ pub mod Planning
 pub mod Rounding
 pub mod Resting
 mod FirstDue
+mod DueRuns
 pub mod Numbering
 mod Marks
 pub mod Far

@@ -1,8 +1,8 @@
 -- The frames of a plan are numbered on.
-use Rattle.std.proofs.Common.{◌≡◌, ℕ, zero, suc, ◌+◌, ◌<◌, ◌≤◌, refl, sym, ◌∙◌, ap, subst, cond, List, [], ◌∷◌, ◌++◌, length, take, drop, get_or, replicate, inl, inr, arith, append_assoc, append-nil}
+use Rattle.std.proofs.Common.{◌≡◌, ℕ, zero, suc, ◌+◌, ◌<◌, ◌≤◌, refl, sym, ◌∙◌, ap, subst, cond, List, [], ◌∷◌, ◌++◌, length, take, drop, replicate, inl, inr, arith, append_assoc, append-nil}
 use Rattle.std.specs.Prelude.{◌==◌, ◌||◌, ◌^◌, slice_index_or}
 use Rattle.std.proofs.lemmas.Bool.{cases_lt}
-use Rattle.std.proofs.lemmas.List.{take_more, take_all, drop_all, take-append-drop}
+use Rattle.std.proofs.lemmas.List.{take_all, drop_all}
 use Rattle.std.proofs.lemmas.List.Sums.{count_by-le-length}
 use Rattle.cast_message.specs.declared.config.Config.{Config}
 use Rattle.cast_message.specs.declared.event.Event.{Event}
@@ -14,7 +14,6 @@ use Rattle.cast_model.proofs.Dues.{due_ok}
 use Rattle.cast_model.proofs.Round.{frames_for-push}
 use Rattle.cast_world.specs.Group.{State, Stands}
 use Rattle.cast_world.specs.Rounds.{events_after}
-use Rattle.cast_world.proofs.Rounding.{drop-next}
 use Rattle.cast_world.proofs.Stepping.{made_count}
 
 -- of these slots so many frames were counted, by the node
@@ -32,32 +31,28 @@ zero_at zero p = refl
 zero_at (suc n) zero = refl
 zero_at (suc n) (suc p) = zero_at n p
 
-pub counted_none : (made : List ℕ) (ds : List Due) → made ≡ replicate 256 0 → AreCounted (take 0 ds) made
+pub counted_none : (made : List ℕ) → made ≡ replicate 256 0 → AreCounted [] made
 unfolding frames_for
-counted_none made ds is = subst (AreCounted []) (sym is) (record { size = refl; counted = λ p l. zero_at 256 p })
+counted_none made is = subst (AreCounted []) (sym is) (record { size = refl; counted = λ p l. zero_at 256 p })
 
 -- no slot, no event
-pub plan_none : (past : History) (ds : List Due) (events : List Event) → events ≡ [] → events ≡ plan_from past [] (take 0 ds)
+pub plan_none : (past : History) (events : List Event) → events ≡ [] → events ≡ plan_from past [] []
 unfolding plan_from
-plan_none past ds events none = none
+plan_none past events none = none
 
 -- they are no more than the slots
-pub counted_few : (ds : List Due) (i : ℕ) (made : List ℕ) → length ds < 2 ^ 63 → AreCounted (take i ds) made → (p : ℕ) → slice_index_or made p 0 < 2 ^ 63
+pub counted_few : (ds : List Due) (made : List ℕ) → length ds < 2 ^ 63 → AreCounted ds made → (p : ℕ) → slice_index_or made p 0 < 2 ^ 63
 unfolding frames_for
-counted_few ds i made few count p = elim (cases_lt p 256) [
-  | inl l ↦ (let h = count.counted p l in let k = count_by-le-length (λ d. d.from == p || d.to == p) (take i ds) in let t = taken ds i in omega (arith, h, k, t, few))
+counted_few ds made few count p = elim (cases_lt p 256) [
+  | inl l ↦ (let h = count.counted p l in let k = count_by-le-length (λ d. d.from == p || d.to == p) ds in omega (arith, h, k, few))
   | inr l ↦ (let h = none_past made p (let size = count.size in omega (arith, l, size)) in omega (arith, h))
 ]
-  where
-    taken : (ds : List Due) (i : ℕ) → length (take i ds) ≤ length ds
-    taken ds zero = omega arith
-    taken [] (suc i) = omega arith
-    taken (d ∷ ds) (suc i) = let h = taken ds i in omega (arith, h)
 
-pub counted_more : (ds : List Due) (i : ℕ) (d : Due) (made new : List ℕ) → i < length ds → d ≡ get_or ds i d → AreCounted (take i ds) made → length new ≡ 256 → ((p : ℕ) → p < 256 → slice_index_or new p 0 ≡ slice_index_or made p 0 + cond (d.from == p || d.to == p) 1 0) → AreCounted (take (i + 1) ds) new
-counted_more ds i d made new within is count size one =
-    subst (λ before. AreCounted before new) (sym (take_more ds i d within ∙ ap (λ e. take i ds ++ e ∷ []) (sym is)))
-    (record { size = size; counted = λ p l. one p l ∙ ap (λ n. n + cond (d.from == p || d.to == p) 1 0) (count.counted p l) ∙ sym (frames_for-push (take i ds) d p) })
+pub counted_more : (ds : List Due) (d : Due) (made new : List ℕ) → AreCounted ds made → length new ≡ 256 → ((p : ℕ) → p < 256 → slice_index_or new p 0 ≡ slice_index_or made p 0 + cond (d.from == p || d.to == p) 1 0) → AreCounted (ds ++ d ∷ []) new
+counted_more ds d made new count size one = record {
+  size = size;
+  counted = λ p l. one p l ∙ ap (λ n. n + cond (d.from == p || d.to == p) 1 0) (count.counted p l) ∙ sym (frames_for-push ds d p);
+}
 
 -- the numbers written through a slice of all of them
 pub written_back : (new old : List ℕ) (len : ℕ) → length new ≡ 256 → length old ≡ 256 → len ≡ 256 → take len (new ++ drop (length new) old) ≡ new
@@ -76,10 +71,10 @@ plan_push past before (x ∷ ds) d =
 
 module _ (config : Config) (past : History) (world : State) (st : Stands config past world) where
   -- the next slot's events are numbered on from those before it
-  numbered_on : (ds : List Due) (i : ℕ) (d : Due) (made : List ℕ) → ds ≡ due config past → i < length ds → d ≡ get_or ds i d → AreCounted (take i ds) made → events_after world made d ≡ events_for past (take i ds) d
+  numbered_on : (before left : List Due) (d : Due) (made : List ℕ) → before ++ d ∷ left ≡ due config past → AreCounted before made → events_after world made d ≡ events_for past before d
   unfolding events_for
-  numbered_on ds i d made all within is count =
-      let ok = due_ok config past d (subst (λ xs. Member d xs) (take-append-drop i ds ∙ all) (Member-append_right d (take i ds) (drop i ds) (subst (λ xs. Member d xs) (sym (drop-next ds i d within is)) here))) in
+  numbered_on before left d made all count =
+      let ok = due_ok config past d (subst (λ xs. Member d xs) all (Member-append_right d before (d ∷ left) here)) in
       let nodes = config.nodes_in_range in
       let from = count.counted d.from (let l = ok.from_in in omega (arith, l, nodes)) in
       let to = count.counted d.to (let l = ok.to_in in omega (arith, l, nodes)) in
@@ -89,14 +84,13 @@ module _ (config : Config) (past : History) (world : State) (st : Stands config 
       ∷ Arrive d.to (made_count config past world st d.to k + to k)
       ∷ []
 
-  pub plan_more : (ds : List Due) (i : ℕ) (d : Due) (made : List ℕ) (before new : List Event) → ds ≡ due config past → i < length ds → d ≡ get_or ds i d → AreCounted (take i ds) made → before ≡ plan_from past [] (take i ds) → new ≡ before ++ events_after world made d → new ≡ plan_from past [] (take (i + 1) ds)
-  plan_more ds i d made before new all within is count so_far one =
+  pub plan_more : (before left : List Due) (d : Due) (made : List ℕ) (events new : List Event) → before ++ d ∷ left ≡ due config past → AreCounted before made → events ≡ plan_from past [] before → new ≡ events ++ events_after world made d → new ≡ plan_from past [] (before ++ d ∷ [])
+  plan_more before left d made events new all count so_far one =
       one
       ∙ ap (λ es. es ++ events_after world made d) so_far
-      ∙ ap (λ es. plan_from past [] (take i ds) ++ es) (numbered_on ds i d made all within is count)
-      ∙ sym (plan_push past [] (take i ds) d)
-      ∙ sym (ap (plan_from past []) (take_more ds i d within ∙ ap (λ x. take i ds ++ x ∷ []) (sym is)))
+      ∙ ap (λ es. plan_from past [] before ++ es) (numbered_on before left d made all count)
+      ∙ sym (plan_push past [] before d)
 
-  pub plan_made : (ds : List Due) (i : ℕ) (events : List Event) → ds ≡ due config past → length ds ≤ i → events ≡ plan_from past [] (take i ds) → events ≡ plan config past
+  pub plan_made : (before left : List Due) (events : List Event) → before ++ left ≡ due config past → left ≡ [] → events ≡ plan_from past [] before → events ≡ plan config past
   unfolding plan
-  plan_made ds i events all past_all so_far = so_far ∙ ap (plan_from past []) (take_all i ds past_all ∙ all)
+  plan_made before left events all none so_far = so_far ∙ ap (plan_from past []) (sym (append-nil before) ∙ ap (λ rest. before ++ rest) (sym none) ∙ all)

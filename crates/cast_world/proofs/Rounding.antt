@@ -1,6 +1,5 @@
 -- A round comes together slot by slot: its events are those of the plan.
-use Rattle.std.proofs.Common.{◌≡◌, ℕ, suc, ◌+◌, ◌*◌, ◌<◌, refl, sym, ◌∙◌, ap, subst, List, [], ◌∷◌, ◌++◌, length, take, drop, drop-cons, get_or, Some, None, Result, Ok, Err, IfOk, inl, inr, ◌⊎◌, arith, append_assoc, append-nil}
-use Rattle.std.proofs.lemmas.List.{take_more}
+use Rattle.std.proofs.Common.{◌≡◌, ℕ, suc, ◌+◌, ◌*◌, ◌<◌, refl, sym, ◌∙◌, ap, subst, List, [], ◌∷◌, ◌++◌, length, drop, drop-cons, get_or, Some, None, Result, Ok, Err, IfOk, inl, inr, ◌⊎◌, arith, append_assoc, append-nil}
 use Rattle.cast_message.specs.declared.config.Config.{Config}
 use Rattle.cast_message.specs.declared.event.Event.{Event}
 use Rattle.cast_message.specs.declared.event.Event.TheVariants.{Send, Ack, Arrive}
@@ -75,11 +74,13 @@ module _ (config : Config) (past : History) where
   unfolding plan
   under_way ds world is st = subst (λ all. IsUnderWay [] all world) (sym is) (record { front = []; split = refl; stands = st; going = Going-start config past })
 
-  pub slot_next : (ds : List Due) (world : State) (i : ℕ) (d : Due) → i < length ds → d ≡ get_or ds i d → IsUnderWay (take i ds) (drop i ds) world → IsUnderWay (take i ds) (d ∷ drop (i + 1) ds) world
-  slot_next ds world i d within is round = subst (λ left. IsUnderWay (take i ds) left world) (drop-next ds i d within is) round
+  -- these slots are left, where others were settled before
+  pub record IsLeft (left : List Due) (world : State) : Type 0 where
+    pub before : List Due
+    pub round : IsUnderWay before left world
 
-  pub before_next : (ds left : List Due) (world : State) (i : ℕ) (d : Due) → i < length ds → d ≡ get_or ds i d → IsUnderWay (take i ds ++ d ∷ []) left world → IsUnderWay (take (i + 1) ds) left world
-  before_next ds left world i d within is round = subst (λ before. IsUnderWay before left world) (sym (take_more ds i d within ∙ ap (λ e. take i ds ++ e ∷ []) (sym is))) round
+  pub left_first : (ds : List Due) (world : State) → ds ≡ due config past → Stands config past world → IsLeft ds world
+  left_first ds world is st = record { before = []; round = under_way ds world is st }
 
   plan_next : (before ds : List Due) (d : Due) → plan_from past before (d ∷ ds) ≡ events_for past before d ++ plan_from past (before ++ d ∷ []) ds
   unfolding plan_from

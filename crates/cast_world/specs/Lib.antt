@@ -2,4 +2,5 @@ pub mod Group
 pub mod Moves
 pub mod Code
 pub mod Plans
+pub mod DueRuns
 pub mod Rounds

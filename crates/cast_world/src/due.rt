@@ -10,36 +10,18 @@ ghost use Rattle.cast_model.specs.Rounds.{due};
 ghost use Rattle.cast_world.specs.Group.{StandingFor, node_at};
 ghost use Rattle.cast_world.specs.Plans.{live_at, due_of, due_between_at, due_at, owed_below, OwesNoneFrom, events_from, IsBounded};
 
+use crate::due_slots::{DueSlot, DueSlots};
 use crate::world::World;
 use cast_message::{Event, NodeId};
 use cast_node::Node;
 use std::alloc::{AllocError, Global};
-use std::marker::Model;
-
-/// A slot that a live node owes another live node.
-#[derive(Clone, Copy, Debug)]
-pub struct DueSlot {
-    pub from: NodeId,
-    pub to: NodeId,
-    pub slot: u64,
-}
-
-impl Model for DueSlot {
-    ghost use Rattle.cast_model.specs.Rounds.{Due};
-
-    ghost Value = { Due };
-
-    ghost view = { λ d. record { from = d.from; to = d.to; slot = d.slot } };
-
-    ghost inverse = { λ d. record { from = d.from; to = d.to; slot = d.slot } };
-}
 
 impl World {
     /// The slots that live nodes owe live nodes, by the giver, then the taker, ascending: what a round settles. Or want of
     /// memory.
-    pub fn due(&self) -> Result<Vec<DueSlot>, AllocError>
+    pub fn due(&self) -> Result<DueSlots, AllocError>
         ensures { StandingFor self.now (λ config past.
-            IfOk result (λ found. found.items ≡ due config past)) }
+            IfOk result (λ found. found ≡ due config past)) }
     {
         find_due(self.allocator(), self)
     }
@@ -70,10 +52,10 @@ impl World {
 }
 
 // The slots that live nodes owe live nodes, by the giver, then the taker, ascending.
-fn find_due(alloc: Global, world: &World) -> Result<Vec<DueSlot>, AllocError>
-    ensures { IsBounded world.now → IfOk result (λ due. due.items ≡ due_at world.now) }
+fn find_due(alloc: Global, world: &World) -> Result<DueSlots, AllocError>
+    ensures { IsBounded world.now → IfOk result (λ due. due ≡ due_at world.now) }
 {
-    let mut due = Vec::new(alloc);
+    let mut due = DueSlots::new(alloc);
     for giver in 0..world.node_count() {
         if world.is_up(NodeId(giver)) {
             add_due_from(world, NodeId(giver), &mut due)?;
@@ -82,10 +64,10 @@ fn find_due(alloc: Global, world: &World) -> Result<Vec<DueSlot>, AllocError>
     Ok(due)
 }
 
-fn add_due_from(world: &World, giver: NodeId, due: &mut Vec<DueSlot>) -> Result<(), AllocError>
+fn add_due_from(world: &World, giver: NodeId, due: &mut DueSlots) -> Result<(), AllocError>
     requires { giver < length world.now.nodes }
-    ensures { IsBounded world.now → OnOk result (due.new.items
-        ≡ due.old.items ++ flat_map (due_between_at world.now giver) (live_at world.now)) }
+    ensures { IsBounded world.now → OnOk result (due.new
+        ≡ due.old ++ flat_map (due_between_at world.now giver) (live_at world.now)) }
 {
     if world.node_of(giver).owes_nothing() {
         return Ok(());
@@ -102,12 +84,12 @@ fn add_due_between(
     world: &World,
     giver: NodeId,
     taker: NodeId,
-    due: &mut Vec<DueSlot>,
+    due: &mut DueSlots,
 ) -> Result<(), AllocError>
     requires giver { giver < length world.now.nodes }
     requires taker { taker < length world.now.nodes }
-    ensures { IsBounded world.now → OnOk result (due.new.items
-        ≡ due.old.items ++ due_between_at world.now giver taker) }
+    ensures { IsBounded world.now → OnOk result (due.new
+        ≡ due.old ++ due_between_at world.now giver taker) }
 {
     if giver == taker {
         return Ok(());
@@ -116,16 +98,11 @@ fn add_due_between(
 }
 
 // The slots that a node owes a peer.
-fn add_owed(
-    node: &Node,
-    giver: NodeId,
-    taker: NodeId,
-    due: &mut Vec<DueSlot>,
-) -> Result<(), AllocError>
+fn add_owed(node: &Node, giver: NodeId, taker: NodeId, due: &mut DueSlots) -> Result<(), AllocError>
     requires { is_peer node.now taker ≡ true }
     ensures { (bound : ℕ) → bound < 2 ^ 64 → OwesNoneFrom bound (link_to node.now taker) →
-        OnOk result (due.new.items
-        ≡ due.old.items ++ map (due_of giver taker) (owed_below bound (link_to node.now taker))) }
+        OnOk result (due.new
+        ≡ due.old ++ map (due_of giver taker) (owed_below bound (link_to node.now taker))) }
 {
     let mut from = 0;
     while let Some(slot) = node.least_owed(taker, from) {

@@ -2,12 +2,14 @@
 #![tactic(auto)]
 
 mod due;
+mod due_run;
+mod due_slots;
 mod frames;
 mod rest;
 mod round;
 mod run;
 mod world;
 
-pub use due::DueSlot;
+pub use due_slots::{DueSlot, DueSlots};
 pub use run::{is_want_of_memory, run_events};
 pub use world::World;

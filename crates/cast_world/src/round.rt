@@ -9,7 +9,7 @@ ghost use Rattle.cast_model.specs.Rounds.{Rest, HoldTheSame, FewCrashedIn, AreAc
 ghost use Rattle.cast_world.specs.Group.{Stands, StandingFor};
 ghost use Rattle.cast_world.specs.Rounds.{TakesAll, TakesRound, Spreads, AgreesAtRest, HaveWhatAnyDelivered, events_after};
 
-use crate::due::DueSlot;
+use crate::due_slots::DueSlot;
 use crate::world::World;
 use cast_message::{Event, List, NodeId, StepFault};
 use std::alloc::AllocError;
@@ -29,13 +29,13 @@ impl World {
             IfOk result (λ events. events ≡ plan config past)) }
     {
         let alloc = self.allocator();
-        let due = self.due()?;
+        let mut due = self.due()?;
         // By the node, how many frames the events so far make.
         let mut made = vec![in alloc; 0; NODE_IDS]?;
-        let mut events = Vec::new(alloc);
-        for slot in due.as_slice() {
-            self.add_events(*slot, made.as_slice(), &mut events)?;
-            count_frames(*slot, made.as_mut_slice());
+        let mut events = Vec::with_capacity(alloc, 4 * due.len() as usize)?;
+        'slots: while let Some(slot) = due.pop_front() {
+            self.add_events(slot, made.as_slice(), &mut events)?;
+            count_frames(slot, made.as_mut_slice());
         }
         Ok(List::from_vec(events))
     }
@@ -61,14 +61,15 @@ impl World {
             Stands config (after_round config past) self.old →
             IfOk result (λ _. Rest config (after_round config (after_round config past))) }
     {
-        let Ok(due) = self.due() else {
+        let Ok(mut due) = self.due() else {
             return self.unlisted();
         };
-        for slot in due.as_slice() {
-            let events = self.events_for(*slot);
+        let frames = 2 * due.len();
+        'slots: while let Some(slot) = due.pop_front() {
+            let events = self.events_for(slot);
             self.take_all(&events)?;
         }
-        Ok(2 * due.len() as u64)
+        Ok(frames)
     }
 
     // What becomes of a round whose slots find no room: the first event may have a cause of refusal all the same.

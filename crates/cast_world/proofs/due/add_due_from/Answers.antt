@@ -1,4 +1,4 @@
-use Rattle.std.proofs.Common.{◌∙◌, sym, ap}
+use Rattle.std.proofs.Common.{◌∙◌, sym}
 use Rattle.cast_world.specs.Plans.{due_between_at, live_at}
 use Rattle.cast_world.proofs.Planning.{nodes_more, nodes_same, none_due}
 use Rattle.cast_world.proofs.due.add_due_from.Goals.{then-is_up+in_ok-add_due_between, else-is_up}
@@ -7,11 +7,11 @@ use Rattle.cast_world.proofs.due.add_due_from.Goals as goal
 pub loop-taker-preserved : goal.loop-taker-preserved
 loop-taker-preserved c bounded = elim c.if-is_up.branch [
   | then-is_up+in_ok-add_due_between w ↦
-      nodes_more (due_between_at c.args.world.now c.args.giver) _ c.loop-taker.taker c.args.due.now.items c.loop-taker.due.items c.if-is_up.due.items (sym c.is_up.ensures ∙ w.if-is_up.true) (c.loop-taker.invariant bounded) (ap (λ v. v.items) w.due-is ∙ w.in_ok-add_due_between.ensures bounded)
+      nodes_more (due_between_at c.args.world.now c.args.giver) _ c.loop-taker.taker c.args.due.now c.loop-taker.due c.if-is_up.due (sym c.is_up.ensures ∙ w.if-is_up.true) (c.loop-taker.invariant bounded) (w.due-is ∙ w.in_ok-add_due_between.ensures bounded)
   | else-is_up w ↦
-      nodes_same (due_between_at c.args.world.now c.args.giver) _ c.loop-taker.taker c.args.due.now.items c.loop-taker.due.items c.if-is_up.due.items (sym c.is_up.ensures ∙ w.if-is_up.false) (c.loop-taker.invariant bounded) (ap (λ v. v.items) w.due-is)
+      nodes_same (due_between_at c.args.world.now c.args.giver) _ c.loop-taker.taker c.args.due.now c.loop-taker.due c.if-is_up.due (sym c.is_up.ensures ∙ w.if-is_up.false) (c.loop-taker.invariant bounded) w.due-is
 ]
 
 pub returns-then-owes_nothing : goal.returns-then-owes_nothing
 returns-then-owes_nothing c bounded =
-    none_due c.args.world.now c.args.giver c.node_of.result.now (live_at c.args.world.now) c.args.due.now.items c.node_of.ensures.node (c.owes_nothing.ensures c.if-owes_nothing.true)
+    none_due c.args.world.now c.args.giver c.node_of.result.now (live_at c.args.world.now) c.args.due.now c.node_of.ensures.node (c.owes_nothing.ensures c.if-owes_nothing.true)

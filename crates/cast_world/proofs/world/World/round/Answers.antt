@@ -1,36 +1,33 @@
-use Rattle.std.proofs.Common.{◌∙◌, ◌*◌, take, drop, ap, sym}
+use Rattle.std.proofs.Common.{◌*◌, ◌∷◌, ◌++◌, [], ap, subst}
 use Rattle.std.proofs.lemmas.Result.{err_from_is_err_and}
-use Rattle.std.proofs.lemmas.List.{drop_all}
 use Rattle.cast_model.specs.Rounds.{Rest, after_round}
 use Rattle.cast_model.proofs.Round.{with_all}
 use Rattle.cast_model.proofs.TwoRounds.{rests, two_rounds_rest}
 use Rattle.cast_world.specs.Rounds.{Spreads}
-use Rattle.cast_world.proofs.Rounding.{under_way, slot_next, before_next, slot_settled, slot_stops, round_ends, round_spreads, where_taken}
+use Rattle.cast_world.proofs.Rounding.{IsLeft, left_first, slot_settled, slot_stops, round_ends, round_spreads, where_taken}
 use Rattle.cast_world.proofs.world.World.round.Goals as goal
 
-pub loop-slot-init : goal.loop-slot-init
-loop-slot-init c config past st =
-    under_way config past c.as_slice-slot-items.result.now c.args.self.now (c.as_slice-slot-items.ensures.value ∙ c.in-Ok.ensures config past st) st
+pub slots-init : goal.slots-init
+slots-init c config past st = left_first config past _ c.args.self.now (c.in-Ok.ensures config past st) st
 
 pub returns-in_err-take_all-clause-takes : goal.returns-in_err-take_all-clause-takes
 returns-in_err-take_all-clause-takes c config past st =
     let p = err_from_is_err_and c.from_residual.result c.from_residual.ensures.1 in
-    let slots = c.as_slice-slot-items.result.now in
-    let round = slot_next config past slots c.loop-slot.self c.loop-slot.slot-index c.slot-item.result c.loop-slot-test.true c.slot-item.is (c.loop-slot.invariant config past st) in
-    rw (p.1, p.2) (slot_stops config past _ _ c.slot-item.result c.loop-slot.self round _ c.events_for-events.ensures c.take_all.new.self c.in_err-take_all.field-0.0 (c.in_err-take_all.ensures config (with_all past round.front) round.stands))
+    let left = subst (λ slots. IsLeft config past slots c.slots.self) c.in-Some.ensures.some (c.slots.invariant config past st) in
+    rw (p.1, p.2) (slot_stops config past _ _ c.in-Some.slot c.slots.self left.round _ c.events_for-events.ensures c.take_all.new.self c.in_err-take_all.field-0.0 (c.in_err-take_all.ensures config (with_all past left.round.front) left.round.stands))
 
-pub loop-slot-preserved : goal.loop-slot-preserved
-loop-slot-preserved c config past st =
-    let slots = c.as_slice-slot-items.result.now in
-    let round = slot_next config past slots c.loop-slot.self c.loop-slot.slot-index c.slot-item.result c.loop-slot-test.true c.slot-item.is (c.loop-slot.invariant config past st) in
-    before_next config past slots _ c.take_all.new.self c.loop-slot.slot-index c.slot-item.result c.loop-slot-test.true c.slot-item.is
-    (slot_settled config past _ _ c.slot-item.result c.loop-slot.self round _ c.events_for-events.ensures c.take_all.new.self (c.in_ok-take_all.ensures config (with_all past round.front) round.stands))
+pub slots-preserved : goal.slots-preserved
+slots-preserved c config past st =
+    let left = subst (λ slots. IsLeft config past slots c.slots.self) c.in-Some.ensures.some (c.slots.invariant config past st) in
+    record {
+      before = left.before ++ c.in-Some.slot ∷ [];
+      round = slot_settled config past _ _ c.in-Some.slot c.slots.self left.round _ c.events_for-events.ensures c.take_all.new.self (c.in_ok-take_all.ensures config (with_all past left.round.front) left.round.stands);
+    }
 
 pub returns-clause-takes : goal.returns-clause-takes
 returns-clause-takes c config past st =
-    let slots = c.as_slice-slot-items.result.now in
-    round_ends config past slots (take c.loop-slot.slot-index slots) (drop c.loop-slot.slot-index slots) c.loop-slot.self (2 * c.len.result) (c.as_slice-slot-items.ensures.value ∙ c.in-Ok.ensures config past st)
-    (ap (λ n. 2 * n) (c.len.ensures ∙ sym c.as_slice-slot-items.ensures.len)) (drop_all c.loop-slot.slot-index slots c.loop-slot-test.false) (c.loop-slot.invariant config past st)
+    let left = c.slots.invariant config past st in
+    round_ends config past _ left.before _ c.slots.self _ (c.in-Ok.ensures config past st) (ap (λ n. 2 * n) c.len-frames.ensures.len) c.in_default-pop_front.ensures.none left.round
 
 pub returns-clause-spreads : goal.returns-clause-spreads
 returns-clause-spreads c config past st = round_spreads config past st.accepted (returns-clause-takes c config past st).accepted

@@ -1,0 +1,14 @@
+//! Slots in succession. (The type stands in a file of its own, since the definitions that its calls cite name it.)
+ghost use Rattle.std.specs.Prelude.{◌+◌, ◌<◌, ◌^◌};
+
+use cast_message::NodeId;
+
+/// Slots in succession that a node owes a peer: the first, and how many more.
+#[derive(Clone, Copy, Debug)]
+pub struct Run {
+    pub from: NodeId,
+    pub to: NodeId,
+    pub first: u64,
+    pub more: u64,
+    pub ghost within: { first + more < 2 ^ 64 },
+}

@@ -1,0 +1,187 @@
+//! The slots of a round, kept as runs: what a node owes a peer are mostly slots in succession, of which there may be millions.
+ghost use Rattle.std.specs.Prelude.{◌≡◌, ◌+◌, ◌<◌, ◌≤◌, ◌^◌, ◌++◌, ◌∷◌, [], length, IsTrue, IfSome, IfNone, IfOk, OnOk, OnErr};
+ghost use Rattle.cast_world.specs.DueRuns.{slots_of, rest_of, slots_from};
+
+use crate::due_run::Run;
+use cast_message::NodeId;
+use std::alloc::{AllocError, Global};
+use std::marker::Model;
+
+// More slots than a list could have.
+const TOO_MANY: u64 = 1 << 61;
+
+/// A slot that a live node owes another live node.
+#[derive(Clone, Copy, Debug)]
+pub struct DueSlot {
+    pub from: NodeId,
+    pub to: NodeId,
+    pub slot: u64,
+}
+
+impl Model for DueSlot {
+    ghost use Rattle.cast_model.specs.Rounds.{Due};
+
+    ghost Value = { Due };
+
+    ghost view = { λ d. record { from = d.from; to = d.to; slot = d.slot } };
+
+    ghost inverse = { λ d. record { from = d.from; to = d.to; slot = d.slot } };
+}
+
+/// Slots that are due, to be taken one after another. Contracts see the list of them.
+#[derive(Debug, Drop)]
+pub struct DueSlots {
+    runs: Vec<Run>,
+    // The run whose turn it is; those before it were taken.
+    place: usize,
+    // How many slots there are.
+    len: u64,
+}
+
+impl Model for DueSlots {
+    ghost use Rattle.std.specs.Prelude.{◌≡◌, ◌<◌, ◌≤◌, ◌^◌, List, length};
+    ghost use Rattle.cast_model.specs.Rounds.{Due};
+    ghost use Rattle.cast_world.specs.DueRuns.{slots_from};
+
+    ghost Value = { List Due };
+
+    ghost view = { λ d. slots_from d.place d.runs.items };
+
+    ghost invariant = { λ d. (d.place ≤ length d.runs.items)
+        × (d.len ≡ length (slots_from d.place d.runs.items)) × (d.len ≤ 2 ^ 61) };
+}
+
+impl DueSlots {
+    /// There are none. It takes no memory.
+    pub fn new(alloc: Global) -> DueSlots
+        ensures { result ≡ [] }
+    {
+        DueSlots {
+            runs: Vec::new(alloc),
+            place: 0,
+            len: 0,
+        }
+    }
+
+    /// How many slots there are.
+    pub fn len(&self) -> u64
+        ensures len { result ≡ length self.now }
+        ensures few { result ≤ 2 ^ 61 }
+    {
+        self.len
+    }
+
+    /// One slot more, behind the others, or want of memory.
+    pub fn push(&mut self, due: DueSlot) -> Result<(), AllocError>
+        ensures ok { OnOk result (self.new ≡ self.old ++ due ∷ []) }
+        ensures err { OnErr result (self.new ≡ self.old) }
+    {
+        if self.len >= TOO_MANY {
+            return Err(AllocError);
+        }
+        add_slot(&mut self.runs, self.place, due)?;
+        self.len += 1;
+        Ok(())
+    }
+
+    /// Takes the first slot, where there is one.
+    pub fn pop_front(&mut self) -> Option<DueSlot>
+        ensures some { IfSome result (λ due. self.old ≡ due ∷ self.new) }
+        ensures none { IfNone result (self.old ≡ []) }
+    {
+        let run = *self.runs.get(self.place)?;
+        match run.rest() {
+            Some(rest) => self.runs[self.place] = rest,
+            None => self.place += 1,
+        }
+        self.len -= 1;
+        Some(run.slot())
+    }
+}
+
+impl Run {
+    // This slot alone.
+    fn new(due: DueSlot) -> Run
+        ensures { slots_of result ≡ due ∷ [] }
+    {
+        Run {
+            from: due.from,
+            to: due.to,
+            first: due.slot,
+            more: 0,
+        }
+    }
+
+    // The first slot.
+    fn slot(self) -> DueSlot
+        ensures { slots_of self ≡ result ∷ rest_of self }
+    {
+        DueSlot {
+            from: self.from,
+            to: self.to,
+            slot: self.first,
+        }
+    }
+
+    // The slots behind the first, if there are any.
+    fn rest(self) -> Option<Run>
+        ensures some { IfSome result (λ rest. slots_of rest ≡ rest_of self) }
+        ensures none { IfNone result (rest_of self ≡ []) }
+    {
+        if self.more == 0 {
+            return None;
+        }
+        Some(Run {
+            from: self.from,
+            to: self.to,
+            first: self.first + 1,
+            more: self.more - 1,
+        })
+    }
+
+    // These slots and this one, if it is the next.
+    fn with(&self, due: &DueSlot) -> Option<Run>
+        ensures { IfSome result (λ longer. slots_of longer ≡ slots_of self.now ++ due.now ∷ []) }
+    {
+        if !self.is_before(due) {
+            return None;
+        }
+        Some(Run {
+            from: self.from,
+            to: self.to,
+            first: self.first,
+            more: self.more + 1,
+        })
+    }
+
+    // Whether a slot is the next.
+    fn is_before(&self, due: &DueSlot) -> bool
+        ensures from { IsTrue result → due.now.from ≡ self.now.from }
+        ensures to { IsTrue result → due.now.to ≡ self.now.to }
+        ensures slot { IsTrue result → due.now.slot ≡ self.now.first + self.now.more + 1 }
+        ensures within { IsTrue result → self.now.first + self.now.more + 1 < 2 ^ 64 }
+    {
+        due.from == self.from
+            && due.to == self.to
+            && (self.first + self.more).checked_add(1) == Some(due.slot)
+    }
+}
+
+// One slot more behind those of the runs from this place on.
+fn add_slot(runs: &mut Vec<Run>, place: usize, due: DueSlot) -> Result<(), AllocError>
+    requires { place ≤ length runs.old.items }
+    ensures ok { OnOk result (slots_from place runs.new.items
+        ≡ slots_from place runs.old.items ++ due ∷ []) }
+    ensures more { length runs.old.items ≤ length runs.new.items }
+    ensures err { OnErr result (runs.new.items ≡ runs.old.items) }
+{
+    if place < runs.len() {
+        let end = runs.len() - 1;
+        if let Some(longer) = runs[end].with(&due) {
+            runs[end] = longer;
+            return Ok(());
+        }
+    }
+    runs.push(Run::new(due))?;
+    Ok(())
+}
