@@ -159,15 +159,10 @@ module _ (config : Config) (index : ℕ) where
         going = Going-start config past;
       })
 
-  pub round_next : {past : History} {begun : Sheet} (ds : List Due) {world : State} {sheet : Sheet} (i : ℕ) (d : Due) → i < length ds → d ≡ get_or ds i d →
-      IsRoundDrawn past begun (take i ds) (drop i ds) world sheet → IsRoundDrawn past begun (take i ds) (d ∷ drop (i + 1) ds) world sheet
-  round_next {past = past} {begun = begun} ds {world = world} {sheet = sheet} i d within is round =
-      subst (λ rest. IsRoundDrawn past begun (take i ds) rest world sheet) (drop-next ds i d within is) round
-
-  pub before_next : {past : History} {begun : Sheet} (ds : List Due) {rest : List Due} {world : State} {sheet : Sheet} (i : ℕ) (d : Due) → i < length ds → d ≡ get_or ds i d →
-      IsRoundDrawn past begun (take i ds ++ d ∷ []) rest world sheet → IsRoundDrawn past begun (take (i + 1) ds) rest world sheet
-  before_next {past = past} {begun = begun} ds {rest = rest} {world = world} {sheet = sheet} i d within is round =
-      subst (λ before. IsRoundDrawn past begun before rest world sheet) (sym (take_more ds i d within ∙ ap (λ e. take i ds ++ e ∷ []) (sym is))) round
+  -- these slots are left, where others were settled before
+  pub record IsRoundDrawnLeft (past : History) (begun : Sheet) (left : List Due) (world : State) (sheet : Sheet) : Type 0 where
+    pub before : List Due
+    pub round : IsRoundDrawn past begun before left world sheet
 
   pub draws_these : (now : History) (sheet : Sheet) (xs ys : List Event) (world' : State) (picture : Picture) (result : Result Bool TextFault) → xs ≡ ys →
       DrawsTried config (tried config index now xs) (tried_drawn config index sheet now xs) world' picture result → DrawsTried config (tried config index now ys) (tried_drawn config index sheet now ys) world' picture result

@@ -100,15 +100,10 @@ module _ (config : Config) (index : ℕ) where
         going = Going-start config past;
       })
 
-  pub round_next : {past : History} (ds : List Due) {world : State} {old new : Option (List ℕ)} {failed : Bool} (i : ℕ) (d : Due) → i < length ds → d ≡ get_or ds i d →
-      IsRound past (take i ds) (drop i ds) world old new failed → IsRound past (take i ds) (d ∷ drop (i + 1) ds) world old new failed
-  round_next {past = past} ds {world = world} {old = old} {new = new} {failed = failed} i d within is round =
-      subst (λ rest. IsRound past (take i ds) rest world old new failed) (drop-next ds i d within is) round
-
-  pub before_next : {past : History} (ds : List Due) {rest : List Due} {world : State} {old new : Option (List ℕ)} {failed : Bool} (i : ℕ) (d : Due) → i < length ds → d ≡ get_or ds i d →
-      IsRound past (take i ds ++ d ∷ []) rest world old new failed → IsRound past (take (i + 1) ds) rest world old new failed
-  before_next {past = past} ds {rest = rest} {world = world} {old = old} {new = new} {failed = failed} i d within is round =
-      subst (λ before. IsRound past before rest world old new failed) (sym (take_more ds i d within ∙ ap (λ e. take i ds ++ e ∷ []) (sym is))) round
+  -- these slots are left, where others were settled before
+  pub record IsRoundLeft (past : History) (left : List Due) (world : State) (old new : Option (List ℕ)) (failed : Bool) : Type 0 where
+    pub before : List Due
+    pub round : IsRound past before left world old new failed
 
   pub tries_these : (now : History) (xs ys : List Event) (world' : State) (old new : Option (List ℕ)) (failed : Bool) (result : Result Bool TextFault) → xs ≡ ys →
       Tries config (tried config index now xs) world' old new failed result → Tries config (tried config index now ys) world' old new failed result

@@ -118,9 +118,9 @@ fn draw_round(world: &mut World, index: u64, picture: &mut Picture) -> Result<bo
         (round_drawn config index (sheet_of picture.old) past) world.new picture.new result }
     ensures err { IfErr result (λ fault. fault ≡ TextFault.Memory) }
 {
-    let due = world.due()?;
-    for slot in due.as_slice() {
-        let events = world.events_for(*slot);
+    let mut due = world.due()?;
+    'slots: while let Some(slot) = due.pop_front() {
+        let events = world.events_for(slot);
         if !draw_events(world, index, &events, picture)? {
             return Ok(false);
         }

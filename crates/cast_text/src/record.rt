@@ -95,9 +95,9 @@ fn record_round<W: Write>(
         Tries config (round_left config index past) world.new (W.contents writer.old.inner)
         (W.contents writer.new.inner) writer.new.failed result }
 {
-    let due = world.due()?;
-    for slot in due.as_slice() {
-        let events = world.events_for(*slot);
+    let mut due = world.due()?;
+    'slots: while let Some(slot) = due.pop_front() {
+        let events = world.events_for(slot);
         if !record_events(world, index, &events, writer)? {
             return Ok(false);
         }

@@ -1,6 +1,6 @@
-//! Both sets at the edges of their words and bits.
+//! The sets at the edges of their words and bits.
 use cast_message::NodeId;
-use cast_sets::{NodeSet, NumberSet};
+use cast_sets::{GroupSet, NodeSet, NumberSet};
 use std::test::Fail;
 
 #[test]
@@ -15,6 +15,17 @@ fn keeps_nodes(rt: HostRuntime) {
     assert!(rt; nodes.copy().contains(NodeId(255)));
     assert!(rt; nodes.contains(NodeId(255)));
     assert!(rt; !nodes.contains(NodeId(1)));
+}
+
+#[test]
+fn keeps_nodes_of_a_group(rt: HostRuntime) {
+    let mut nodes = GroupSet::new();
+    assert!(rt; nodes.len() == 0);
+    nodes.insert(NodeId(0));
+    nodes.insert(NodeId(63));
+    nodes.insert(NodeId(63));
+    assert!(rt; nodes.len() == 2);
+    assert!(rt; nodes.copy().len() == 2);
 }
 
 #[test]
