@@ -31,7 +31,7 @@ slots-preserved g c = record {
   sound = c.in_ok-record_events.ensures.sound;
   round = λ config past st.
       let left = subst (λ slots. IsRoundLeft config c.args.index past slots c.slots.world (g.W.Write.contents c.args.writer.now.inner) (g.W.Write.contents c.slots.writer.inner) c.slots.writer.failed) c.in-Some.ensures.some (c.slots.invariant.round config past st) in
-    let next = left.round in
+      let next = left.round in
       let events = c.events_for-events.ensures ∙ slot_events config c.args.index past next.trying.now _ _ c.in-Some.slot c.slots.world next.trying.stands next.going in
       let tries = tries_these config c.args.index next.trying.now _ _ c.record_events.new.world (g.W.Write.contents c.slots.writer.inner) (g.W.Write.contents c.record_events.new.writer.inner) c.record_events.new.writer.failed (Ok c.in_ok-record_events.field-0) events (c.in_ok-record_events.ensures.left config next.trying.now next.trying.stands) in
       record {
