@@ -126,7 +126,8 @@ fn finds_what_is_due_round_a_slot_that_is_not(rt: HostRuntime) -> Result<(), Fai
     for byte in b"abc" {
         world.step(&order(0, data(alloc, &[*byte])?))?;
     }
-    take_all(&mut world, &world.events_for(due_slot(0, 1, 1)))?;
+    let events = world.events_for(due_slot(0, 1, 1));
+    take_all(&mut world, &events)?;
     assert!(rt; are_due(world.due()?, &[due_slot(0, 1, 0), due_slot(0, 1, 2)]));
     Ok(())
 }
