@@ -93,9 +93,11 @@ fn is_same(found: &DueSlot, slot: &DueSlot) -> bool {
 // Whether these slots are due, in this order, and no others.
 fn are_due(mut due: DueSlots, slots: &[DueSlot]) -> bool {
     for slot in slots {
-        match due.pop_front() {
-            Some(found) if is_same(&found, slot) => {}
-            _ => return false,
+        let Some(found) = due.pop_front() else {
+            return false;
+        };
+        if !is_same(&found, slot) {
+            return false;
         }
     }
     due.len() == 0
