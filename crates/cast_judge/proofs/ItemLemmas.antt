@@ -1,6 +1,7 @@
 -- Items and the words that spell them.
-use Rattle.std.proofs.Common.{◌≡◌, ℕ, zero, suc, ◌+◌, ◌<◌, ◌≤◌, Bool, true, false, nat_eq, List, [], ◌∷◌, ◌++◌, length, length-append, get_or, slice_get, Option, Some, None, refl, sym, ap, subst, ◌∙◌, arith}
+use Rattle.std.proofs.Common.{◌≡◌, ℕ, zero, suc, ◌+◌, add-one, ◌<◌, ◌≤◌, Bool, true, false, nat_eq, List, [], ◌∷◌, ◌++◌, length, length-append, take, drop, drop-cons, get_or, slice_get, Option, Some, None, refl, sym, ap, subst, ◌∙◌, arith}
 use Rattle.std.specs.Str.{bytes_eq}
+use Rattle.std.proofs.lemmas.List.{take-append-drop}
 use Rattle.std.proofs.lemmas.Option.{slice_get_past, slice_get-get_or}
 use Rattle.std.proofs.lemmas.Grind.{common_steps}
 use Rattle.std.proofs.lemmas.Slice.Eq.{bytes_eq-Decides}
@@ -134,3 +135,10 @@ has_told items place v w item h e = same_word v w item e ∙ ap (λ o. is_same o
 
 pub has_none : (items : List Item) (place : ℕ) (item : Item) → length items ≤ place → false ≡ has_item items place item
 has_none items place item past = sym (ap (λ o. is_same o item) (slice_get_past items place past))
+
+-- ---- a word at the front of a text
+
+pub after_feed : (bytes word : List ℕ) → take (length word) bytes ≡ word → length word < length bytes → get_or bytes (length word) 0 ≡ 10 → bytes ≡ word ++ 10 ∷ drop (length word + 1) bytes
+after_feed bytes word front within feed =
+    sym (take-append-drop (length word) bytes)
+    ∙ (λ i. front i ++ (drop-cons bytes (length word) 0 within ∙ ap (λ n. get_or bytes (length word) 0 ∷ drop n bytes) (sym (add-one (length word))) ∙ ap (λ b. b ∷ drop (length word + 1) bytes) feed) i)

@@ -7,13 +7,14 @@ use Rattle.cast_record.specs.Reading.{line_of}
 use Rattle.cast_record.specs.Rules.{is_end, is_ended}
 use Rattle.cast_record.specs.Verdicts.{with_line, kept_by, verdict}
 use Rattle.cast_record.proofs.ReadLemmas.{line_takes_text}
+use Rattle.cast_record.proofs.WordLemmas.{line_without_feed}
 use Rattle.cast_judge.specs.declared.judging.State.{State}
 use Rattle.cast_judge.specs.declared.judging.State.TheVariants.{Reading, Offended, Refused}
 use Rattle.cast_judge.specs.declared.kept.Kept.{Kept}
 use Rattle.cast_judge.specs.declared.kept.Place.TheVariants.{Body, Ended}
 use Rattle.cast_judge.specs.Kept.{is_ended_at, rule_by, Keeps, IsNew}
 use Rattle.cast_judge.specs.Stands.{StandsFor, place_of}
-use Rattle.cast_judge.specs.Judges.{IsKept, IsRefused, Judges}
+use Rattle.cast_judge.specs.Judges.{IsKept, IsRefused, Judges, IsTakenOff}
 use Rattle.cast_judge.specs.Judged.{HasNone, verdict_of, IsReading, Offends, HasOffended, StandsAs, is_reading_state, is_refused_state, state_with, lines_with}
 use Rattle.cast_judge.proofs.RuleLemmas.{rule_same}
 use Rattle.cast_judge.proofs.StandingLemmas.{stands_on, stands_for_none}
@@ -89,6 +90,17 @@ line_counted text tail part old new lines (Some rule) h clean short judges =
           ∙ line_offends h.past rule (tail ++ part) more (clean_both tail part h.clean clean) refused.breaks
           ∙ ap (λ n. Bad (n + 1) rule) h.count;
     }
+
+-- a line that was taken off has no line feed
+taken_clean : (front : List ℕ) (line : Line) → line_of front ≡ Some line → HasNone 10 front
+taken_clean front line read = let is = line_takes_text front line read in subst (HasNone 10) is.1 (line_without_feed line is.0)
+
+-- a line was taken off, where none is unfinished
+pub taken_counted : (text bytes after : List ℕ) (old new : Kept) (lines : ℕ) → IsReading text old [] lines → lines < 2 ^ 63 → (taken : IsTakenOff bytes after old new)
+    → StandsAs Reading (text ++ (taken.front ++ 10 ∷ [])) new [] (lines + 1)
+taken_counted text bytes after old new lines h short taken =
+    line_counted text [] taken.front old new lines None h (taken_clean taken.front taken.line taken.read) short
+    (λ past s few. judges_kept past taken.front taken.line old new s few taken.read taken.sound taken.keeps)
 
 -- the unfinished line offends
 pub let_go : (text more tail : List ℕ) (kept : Kept) (lines rule : ℕ) → IsReading text kept tail lines → Offends more lines rule → HasOffended more kept [] lines rule

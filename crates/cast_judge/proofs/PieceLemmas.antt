@@ -3,7 +3,7 @@ use Rattle.std.proofs.Common.{◌≡◌, ℕ, ◌+◌, false, nat_eq, List, [], 
 use Rattle.std.proofs.lemmas.List.Quantifiers.{position-Some}
 use Rattle.cast_record.proofs.PartLemmas.{at_place}
 use Rattle.cast_judge.specs.declared.judging.Judging.{Judging}
-use Rattle.cast_judge.specs.Judged.{Stands, is_reading, is_refused}
+use Rattle.cast_judge.specs.Judged.{Stands, is_reading, IsLineTaken}
 use Rattle.cast_judge.proofs.TestLemmas.{same_number}
 use Rattle.cast_judge.proofs.JudgedLemmas.{done_on}
 
@@ -17,11 +17,11 @@ pub reads_none : (text piece : List ℕ) (judging : Judging) → Stands text jud
 reads_none text piece judging h = record { front = []; parts = refl; stands = subst (λ t. Stands t judging) (sym (append-nil text)) h }
 
 -- a line and its line feed were read
-pub reads_line : (text piece rest line after : List ℕ) (old new : Judging) → rest ≡ line ++ 10 ∷ after → (r : Reads text piece rest old) → Stands ((text ++ r.front) ++ (line ++ 10 ∷ [])) new → Reads text piece after new
-reads_line text piece rest line after old new cut r h = record {
-  front = r.front ++ (line ++ 10 ∷ []);
-  parts = r.parts ∙ ap (λ bytes. r.front ++ bytes) (cut ∙ sym (append_assoc line (10 ∷ []) after)) ∙ sym (append_assoc r.front (line ++ 10 ∷ []) after);
-  stands = subst (λ t. Stands t new) (append_assoc text r.front (line ++ 10 ∷ [])) h;
+pub reads_line : (text piece rest after : List ℕ) (old new : Judging) → IsLineTaken rest after old new → Reads text piece rest old → Reads text piece after new
+reads_line text piece rest after old new taken r = record {
+  front = r.front ++ (taken.line ++ 10 ∷ []);
+  parts = r.parts ∙ ap (λ bytes. r.front ++ bytes) (taken.cut ∙ sym (append_assoc taken.line (10 ∷ []) after)) ∙ sym (append_assoc r.front (taken.line ++ 10 ∷ []) after);
+  stands = subst (λ t. Stands t new) (append_assoc text r.front (taken.line ++ 10 ∷ [])) (taken.stands (text ++ r.front) r.stands);
 }
 
 -- the rest was read
@@ -35,8 +35,8 @@ line_at rest at e =
     at_place (λ b. nat_eq b 10) rest at e ∙ ap (λ b. take at rest ++ b ∷ drop (at + 1) rest) feed
 
 -- nothing more of the piece is read
-pub reads_done : (text piece rest line after : List ℕ) (old new : Judging) → rest ≡ line ++ 10 ∷ after → (r : Reads text piece rest old) → is_reading new ≡ false → is_refused new ≡ false → Stands ((text ++ r.front) ++ (line ++ 10 ∷ [])) new → Stands (text ++ piece) new
-reads_done text piece rest line after old new cut r e f h =
-    let next = reads_line text piece rest line after old new cut r h in
+pub reads_done : (text piece rest after : List ℕ) (old new : Judging) → IsLineTaken rest after old new → Reads text piece rest old → is_reading new ≡ false → Stands (text ++ piece) new
+reads_done text piece rest after old new taken r ended =
+    let next = reads_line text piece rest after old new taken r in
     subst (λ t. Stands t new) (append_assoc text next.front after ∙ ap (λ bytes. text ++ bytes) (sym next.parts))
-    (done_on new.state (text ++ next.front) after new.kept new.tail.items new.lines e f next.stands)
+    (done_on new.state (text ++ next.front) after new.kept new.tail.items new.lines ended taken.going next.stands)

@@ -1,7 +1,7 @@
 -- What a judging stands for: the text that was fed.
 --     Stands text judging     the judging is that of this text
 --     IsSkipped old new       nothing was kept of a piece
-use Rattle.std.specs.Prelude.{◌≡◌, ℕ, ◌+◌, ◌==◌, Bool, true, false, List, [], ◌++◌, length, Option, Some, None}
+use Rattle.std.specs.Prelude.{◌≡◌, ℕ, ◌+◌, ◌≤◌, ◌==◌, Bool, true, false, List, [], ◌∷◌, ◌++◌, length, Option, Some, None}
 use Rattle.std.specs.List.{slice_split, All}
 use Rattle.cast_record.specs.declared.line.Line.{Line}
 use Rattle.cast_record.specs.declared.verdict.Verdict.{Verdict}
@@ -81,6 +81,24 @@ StandsAs Refused text kept tail lines = Unit {0}
 
 abbrev pub Stands : List ℕ → Judging → Type 0
 Stands text judging = StandsAs judging.state text judging.kept judging.tail.items judging.lines
+
+-- The bytes are a line, its line feed, and what follows, and the judging is of that line too.
+pub record IsLineTaken (bytes after : List ℕ) (old new : Judging) : Type 0 where
+  pub line : List ℕ
+  pub cut : bytes ≡ line ++ 10 ∷ after
+  pub lines : new.lines ≤ old.lines + 1
+  pub going : is_refused new ≡ false
+  pub stands : (text : List ℕ) → Stands text old → Stands (text ++ (line ++ 10 ∷ [])) new
+
+-- a line was taken off the front of the bytes, and this follows it, or nothing changed
+abbrev pub TakesDelivery : List ℕ → Judging → Judging → Option (List ℕ) → Type 0
+TakesDelivery bytes old new (Some after) = IsLineTaken bytes after old new
+TakesDelivery bytes old new None = new ≡ old
+
+-- the same, and nothing changed only where the bytes have no line feed
+abbrev pub TakesLine : List ℕ → Judging → Judging → Option (List ℕ) → Type 0
+TakesLine bytes old new (Some after) = IsLineTaken bytes after old new
+TakesLine bytes old new None = (new ≡ old) × HasNone 10 bytes
 
 -- all is as it was, but for how many bytes were fed
 pub record IsSkipped (old new : Judging) : Type 0 where

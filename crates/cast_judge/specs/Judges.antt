@@ -1,8 +1,9 @@
 -- What becomes of one line.
---     Takes bytes old new b        the bytes spell a line that breaks no rule and is kept, or nothing changed
+--     Takes bytes old new o        the bytes begin with a line that breaks no rule and is kept, and o is what follows its line
+--                                  feed, or nothing changed
 --     Judges past bytes o kept     the line that the bytes spell, after those lines, breaks rule o and is not kept, or
 --                                  breaks none and is kept
-use Rattle.std.specs.Prelude.{◌≡◌, ℕ, List, ◌∷◌, Bool, true, false, Option, Some, None, Ok, Err}
+use Rattle.std.specs.Prelude.{◌≡◌, ℕ, List, ◌∷◌, ◌++◌, Option, Some, None, Ok, Err}
 use Rattle.cast_record.specs.declared.line.Line.{Line}
 use Rattle.cast_record.specs.Reading.{line_of}
 use Rattle.cast_record.specs.Verdicts.{with_line}
@@ -23,12 +24,15 @@ abbrev pub Judges : List Line → List ℕ → Option ℕ → Kept → Type 0
 Judges past bytes None kept = IsKept past bytes kept
 Judges past bytes (Some rule) kept = IsRefused past bytes rule kept
 
-pub record IsTakenBy (bytes : List ℕ) (old new : Kept) : Type 0 where
+-- the bytes are a line that breaks no rule and is kept, its line feed, and what follows
+pub record IsTakenOff (bytes after : List ℕ) (old new : Kept) : Type 0 where
   pub line : Line
-  pub read : line_of bytes ≡ Some line
+  pub front : List ℕ
+  pub cut : bytes ≡ front ++ 10 ∷ after
+  pub read : line_of front ≡ Some line
   pub sound : rule_by old line ≡ None
   pub keeps : Keeps old new line
 
-abbrev pub Takes : List ℕ → Kept → Kept → Bool → Type 0
-Takes bytes old new true = IsTakenBy bytes old new
-Takes bytes old new false = new ≡ old
+abbrev pub Takes : List ℕ → Kept → Kept → Option (List ℕ) → Type 0
+Takes bytes old new (Some after) = IsTakenOff bytes after old new
+Takes bytes old new None = new ≡ old

@@ -193,23 +193,28 @@ rules_by kept line =
 abbrev pub rule_by : Kept → Line → Option ℕ
 rule_by kept line = said.first_broken (rules_by kept line)
 
--- ---- a line `d` by its word
+-- ---- a line `d` by its last word
 
--- the line, where its word spells this item
+-- the line, where its last word spells this item
 abbrev pub delivered_as : Delivery → Item → Line
 delivered_as d item = Delivered d.node (record { sender = d.sender; number = d.number; item = item })
 
--- the word spells an item, and the line with that item breaks no rule
-pub record IsDue (kept : Kept) (d : Delivery) : Type 0 where
+-- The rest of the line begins with a word and a line feed, which end there. The word spells an item, and the line with that item
+-- breaks no rule.
+pub record IsDue (kept : Kept) (d : Delivery) (end : ℕ) : Type 0 where
+  pub word : List ℕ
+  pub after : List ℕ
+  pub cut : d.rest.now ≡ word ++ 10 ∷ after
+  pub ends : end ≡ length word + 1
   pub item : Item
-  pub spells : item_of d.word.now ≡ Some item
+  pub spells : item_of word ≡ Some item
   pub sound : rule_by kept (delivered_as d item) ≡ None
   pub body : kept.place ≡ Body
 
-pub record IsTaken (old new : Kept) (d : Delivery) : Type 0 where
-  pub due : IsDue old d
+pub record IsTaken (old new : Kept) (d : Delivery) (end : ℕ) : Type 0 where
+  pub due : IsDue old d end
   pub keeps : Keeps old new (delivered_as d due.item)
 
-abbrev pub Delivers : Kept → Kept → Delivery → Bool → Type 0
-Delivers old new d true = IsTaken old new d
-Delivers old new d false = new ≡ old
+abbrev pub Delivers : Kept → Kept → Delivery → Option ℕ → Type 0
+Delivers old new d (Some end) = IsTaken old new d end
+Delivers old new d None = new ≡ old

@@ -1,9 +1,9 @@
 //! Reading a text piece by piece.
-ghost use Rattle.std.specs.Prelude.{◌≡◌, ℕ, ◌+◌, ◌^◌, ◌<◌, ◌≤◌, ◌++◌, [], ◌∷◌, List, length, nat_lt, true, false, Some, IfOk, OnOk, OnErr, IsOk, IsErr};
+ghost use Rattle.std.specs.Prelude.{◌≡◌, ℕ, ◌+◌, ◌^◌, ◌<◌, ◌≤◌, ◌++◌, [], ◌∷◌, List, length, nat_lt, option_map, true, false, Some, IfOk, OnOk, OnErr, IsOk, IsErr};
 ghost use Rattle.cast_record.specs.Verdicts.{verdict};
 
 use crate::kept::Kept;
-use crate::lines::{find_line_feed, judge_line};
+use crate::lines::{find_line_feed, judge_line, take_delivery};
 use cast_record::Verdict;
 use std::alloc::{AllocError, Global};
 
@@ -51,7 +51,7 @@ pub fn judge(alloc: Global, text: &[u8]) -> Result<Verdict, AllocError>
 }
 
 impl Judging {
-    ghost use Rattle.cast_judge.specs.Judged.{Stands, IsSkipped, HasNone, lines_with, state_with, is_reading, is_offended, is_refused};
+    ghost use Rattle.cast_judge.specs.Judged.{Stands, IsSkipped, TakesDelivery, TakesLine, HasNone, lines_with, state_with, is_reading, is_offended, is_refused};
 
     /// Nothing was fed. It takes no memory.
     pub fn new(alloc: Global) -> Judging
@@ -139,14 +139,47 @@ impl Judging {
         ensures ok { OnOk result (is_refused self.new ≡ false) }
     {
         let mut rest = piece;
-        while let Some(at) = find_line_feed(rest) {
-            self.end_line(&rest[..at])?;
+        while let Some(after) = self.take_line(rest)? {
             if !self.is_reading() {
                 return Ok(());
             }
-            rest = &rest[at + 1..];
+            rest = after;
         }
         self.keep_tail(rest)
+    }
+
+    // Takes a line and its line feed off the front of the bytes, and tells what follows. None changes nothing: there is no line feed.
+    fn take_line<'a>(&mut self, bytes: &'a [u8]) -> Result<Option<&'a [u8]>, AllocError>
+        requires reading { is_reading self.old ≡ true }
+        requires room { self.old.lines + length bytes.now ≤ self.old.fed }
+        ensures fed { self.new.fed ≡ self.old.fed }
+        ensures taken { IfOk result (λ after. TakesLine bytes.now self.old self.new
+            (option_map (λ rest. rest.now) after)) }
+    {
+        if let Some(after) = self.take_delivery(bytes) {
+            return Ok(Some(after));
+        }
+        let Some(at) = find_line_feed(bytes) else {
+            return Ok(None);
+        };
+        self.end_line(&bytes[..at])?;
+        Ok(Some(&bytes[at + 1..]))
+    }
+
+    // Takes a line `d` that breaks no rule, where no line is unfinished, before its end is looked for: nearly all lines are such ones.
+    // None changes nothing.
+    fn take_delivery<'a>(&mut self, bytes: &'a [u8]) -> Option<&'a [u8]>
+        requires reading { is_reading self.old ≡ true }
+        requires room { self.old.lines + length bytes.now ≤ self.old.fed }
+        ensures fed { self.new.fed ≡ self.old.fed }
+        ensures taken { TakesDelivery bytes.now self.old self.new (option_map (λ after. after.now) result) }
+    {
+        if !self.tail.is_empty() {
+            return None;
+        }
+        let after = take_delivery(&mut self.kept, bytes)?;
+        self.count(None);
+        Some(after)
     }
 
     fn is_reading(&self) -> bool

@@ -1,9 +1,8 @@
 //! What is kept of the lines read so far.
-ghost use Rattle.std.specs.Prelude.{◌≡◌, ℕ, ◌<◌, ◌≤◌, length, replicate, slice_set, slice_index, nat_lt, true, IfOk, OnOk, MatchOption};
+ghost use Rattle.std.specs.Prelude.{◌≡◌, ℕ, ◌<◌, ◌≤◌, length, replicate, slice_set, slice_index, nat_lt, IfSome, IfOk, OnOk, MatchOption};
 ghost use Rattle.cast_record.specs.WordLines.{line_said};
 ghost use Rattle.cast_message.specs.declared.message.Item.{Item};
 ghost use Rattle.cast_judge.specs.Kept.{rule_by, is_ended_at, is_out_of_place, breaks_prefix, is_after_close, is_not_proposed, is_of_too_many, is_after_crash, is_proposed_twice, is_second_proposal};
-ghost use Rattle.cast_judge.specs.ItemList.{IsWordAt};
 ghost use Rattle.cast_judge.specs.Kept.{Delivers, IsDue, node_at, has_item, nobody, count_with, instance_at, item_changes, with_item, with_delivery, with_crash, Keeps, IsNew};
 
 use crate::instances::{Addition, Instances, Proposal};
@@ -94,37 +93,29 @@ impl Kept {
         }
     }
 
-    /// Takes a delivery that breaks no rule, and whose word is the one that is kept of its item. Any other line changes nothing.
-    pub fn deliver(&mut self, delivery: &Delivery<'_>) -> bool
+    /// Takes a delivery that breaks no rule, where its rest begins with the word that is kept of its item, and a line feed. It tells
+    /// where in the rest the line ends, behind its line feed. Any other line changes nothing.
+    pub fn deliver(&mut self, delivery: &Delivery<'_>) -> Option<usize>
         ensures { Delivers self.old self.new delivery.now result }
     {
-        if !self.is_due(delivery) {
-            return false;
-        }
+        let end = self.end_of_due(delivery)?;
         put_delivery(&mut self.nodes, delivery.node, delivery.sender);
-        true
+        Some(end)
     }
 
-    // Whether the delivery breaks no rule, by its word.
-    fn is_due(&self, delivery: &Delivery<'_>) -> bool
-        ensures { result ≡ true → IsDue self.now delivery.now }
+    // Where in its rest the delivery ends, where it breaks no rule by its word.
+    fn end_of_due(&self, delivery: &Delivery<'_>) -> Option<usize>
+        ensures { IfSome result (IsDue self.now delivery.now) }
     {
         let Place::Body = self.place else {
-            return false;
+            return None;
         };
-        let Some(node) = self.node(delivery.node) else {
-            return false;
-        };
-        if node.crashed {
-            return false;
+        let node = self.node(delivery.node)?;
+        if node.crashed || node.count_from(delivery.sender) != delivery.number {
+            return None;
         }
-        if node.count_from(delivery.sender) != delivery.number {
-            return false;
-        }
-        match self.node(delivery.sender) {
-            Some(sender) => sender.has_word(delivery.number, delivery.word),
-            None => false,
-        }
+        self.node(delivery.sender)?
+            .end_of_word(delivery.number, delivery.rest)
     }
 
     fn open(&mut self, nodes: u64, faults: u64, choices: u64) -> Result<(), AllocError>

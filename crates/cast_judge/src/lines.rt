@@ -1,5 +1,5 @@
 //! One line of a text.
-ghost use Rattle.std.specs.Prelude.{◌≡◌, ◌^◌, ◌<◌, ◌==◌, List, length, position, IfOk};
+ghost use Rattle.std.specs.Prelude.{◌≡◌, ◌^◌, ◌<◌, ◌==◌, List, length, position, option_map, IfOk};
 ghost use Rattle.cast_record.specs.declared.line.Line.{Line as Said};
 ghost use Rattle.cast_judge.specs.Stands.{StandsFor};
 ghost use Rattle.cast_judge.specs.Judges.{Judges, Takes};
@@ -17,28 +17,19 @@ pub fn find_line_feed(bytes: &[u8]) -> Option<usize>
     memchr(b'\n', bytes)
 }
 
+/// Takes a line `d` that breaks no rule, and its line feed, off the front of the bytes, and tells what follows. None changes nothing.
+pub fn take_delivery<'a>(kept: &mut Kept, bytes: &'a [u8]) -> Option<&'a [u8]>
+    ensures { Takes bytes.now kept.old kept.new (option_map (λ after. after.now) result) }
+{
+    let Some(delivery) = read_delivery(bytes) else {
+        return None;
+    };
+    let end = kept.deliver(&delivery)?;
+    Some(&delivery.rest[end..])
+}
+
 /// Takes the line that these bytes spell, or tells the least rule that it breaks.
 pub fn judge_line(kept: &mut Kept, bytes: &[u8]) -> Result<Option<u64>, AllocError>
-    ensures { (past : List Said) → StandsFor past kept.old → length past < 2 ^ 63 →
-        IfOk result (λ broken. Judges past bytes.now broken kept.new) }
-{
-    if take_delivery(kept, bytes) {
-        return Ok(None);
-    }
-    judge_any(kept, bytes)
-}
-
-// Takes a line `d` that breaks no rule. Any other changes nothing.
-fn take_delivery(kept: &mut Kept, bytes: &[u8]) -> bool
-    ensures { Takes bytes.now kept.old kept.new result }
-{
-    match read_delivery(bytes) {
-        Some(delivery) => kept.deliver(&delivery),
-        None => false,
-    }
-}
-
-fn judge_any(kept: &mut Kept, bytes: &[u8]) -> Result<Option<u64>, AllocError>
     ensures { (past : List Said) → StandsFor past kept.old → length past < 2 ^ 63 →
         IfOk result (λ broken. Judges past bytes.now broken kept.new) }
 {

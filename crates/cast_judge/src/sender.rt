@@ -1,6 +1,6 @@
 //! What is kept of a node: its items, how many it delivered from each, and whether it closed or crashed.
-ghost use Rattle.std.specs.Prelude.{◌≡◌, replicate, slice_set, slice_index, true, IfOk, OnOk};
-ghost use Rattle.cast_judge.specs.ItemList.{IsWordAt};
+ghost use Rattle.std.specs.Prelude.{◌≡◌, replicate, slice_set, slice_index, IfSome, IfOk, OnOk};
+ghost use Rattle.cast_judge.specs.ItemList.{BeginsWithWord};
 ghost use Rattle.cast_judge.specs.Kept.{node_at, has_item, nobody, with_item, with_delivery, with_crash};
 
 use crate::items::Items;
@@ -49,14 +49,16 @@ impl Sender {
         }
     }
 
-    // Whether this is the word that is kept of the item of this number.
-    pub fn has_word(&self, number: u64, word: &[u8]) -> bool
-        ensures { result ≡ true → IsWordAt self.now.items number word.now }
+    // Where the bytes begin with the word that is kept of the item of this number, and a line feed: the place behind these.
+    pub fn end_of_word(&self, number: u64, bytes: &[u8]) -> Option<usize>
+        ensures { IfSome result (BeginsWithWord self.now.items number bytes.now) }
     {
-        match self.items.word(number) {
-            Some(kept) => kept == word,
-            None => false,
+        let word = self.items.word(number)?;
+        let length = word.len();
+        if length < bytes.len() && bytes[length] == b'\n' && &bytes[..length] == word {
+            return Some(length + 1);
         }
+        None
     }
 
     pub fn put_item(&mut self, item: &ItemWord<'_>) -> Result<(), AllocError>

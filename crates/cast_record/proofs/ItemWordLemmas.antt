@@ -1,7 +1,10 @@
 -- What a word of an item says of it.
-use Rattle.std.proofs.Common.{◌≡◌, ℕ, ◌%◌, ◌&&◌, Bool, true, false, cond, nat_lt, List, [], ◌∷◌, length, Option, Some, None, option_map, refl, ap, ◌∙◌, arith}
+use Rattle.std.proofs.Common.{◌≡◌, ℕ, ◌-◌, ◌%◌, ◌&&◌, Bool, true, false, cond, nat_lt, List, [], ◌∷◌, length, take, drop, Option, Some, None, option_map, refl, sym, ap, ◌∙◌, arith}
 use Rattle.std.specs.Prelude.{unwrap_or}
 use Rattle.std.specs.List.{list_all}
+use Rattle.std.proofs.lemmas.Grind.{common_steps}
+use Rattle.std.proofs.lemmas.List.{take-append-drop}
+use Rattle.std.proofs.lemmas.List.Folds.{list_all-append}
 use Rattle.cast_message.specs.declared.message.Item.{Item}
 use Rattle.cast_message.specs.declared.message.Item.TheVariants as items
 use Rattle.cast_record.specs.Reading.{data_of, item_of}
@@ -57,3 +60,18 @@ kind_told (Some item) kind e = (refl, cc)
 
 pub spells : (word : List ℕ) (kind : ItemKind) → Some kind ≡ option_map kind_of (item_of word) → SpellsItem word kind
 spells word kind e = let told = kind_told (item_of word) kind e in record { spells = told.0; is = told.1 }
+
+-- ---- digits in blocks
+
+-- a slice from a place on
+pub from_on : (n : ℕ) (bytes : List ℕ) → take (length bytes - n) (drop n bytes) ≡ drop n bytes
+from_on n bytes = grind (arith, common_steps)
+
+pub all_after : (n : ℕ) (digits : List ℕ) → list_all is_hex_digit digits ≡ (list_all is_hex_digit (take n digits) && list_all is_hex_digit (drop n digits))
+all_after n digits = ap (list_all is_hex_digit) (sym (take-append-drop n digits)) ∙ list_all-append is_hex_digit (take n digits) (drop n digits)
+
+pub all_but_front : (n : ℕ) (digits : List ℕ) → list_all is_hex_digit (take n digits) ≡ true → list_all is_hex_digit (drop n digits) ≡ list_all is_hex_digit digits
+all_but_front n digits e = sym (all_after n digits ∙ ap (λ b. b && list_all is_hex_digit (drop n digits)) e)
+
+pub not_all : (n : ℕ) (digits : List ℕ) → list_all is_hex_digit (take n digits) ≡ false → list_all is_hex_digit digits ≡ false
+not_all n digits e = all_after n digits ∙ ap (λ b. b && list_all is_hex_digit (drop n digits)) e

@@ -1,8 +1,7 @@
 -- What a line says whose item stands as its word.
 --     line_said line              the line
---     SaysDelivery bytes d        the bytes spell this line `d`, if its last word spells an item
-use Rattle.std.specs.Prelude.{◌≡◌, ℕ, ◌^◌, ◌<◌, ◌≤◌, ◌==◌, true, List, ◌∷◌, length, take, Option, Some, None}
-use Rattle.std.specs.List.{slice_split}
+--     SaysDelivery bytes d        the bytes begin with this line `d`, if a word at the front of its rest spells an item
+use Rattle.std.specs.Prelude.{◌≡◌, ℕ, ◌^◌, ◌<◌, ◌≤◌, true, List, ◌∷◌, ◌++◌, length, take, Option, Some, None}
 use Rattle.std.specs.Str.{all_ascii_digits}
 use Rattle.cast_message.specs.declared.message.Item.{Item}
 use Rattle.cast_record.specs.declared.line.Line.{Line}
@@ -11,6 +10,7 @@ use Rattle.cast_record.specs.declared.word_line.WordLine.{WordLine}
 use Rattle.cast_record.specs.declared.word_line.WordLine.TheVariants as words
 use Rattle.cast_record.specs.declared.word_line.Delivery.{Delivery}
 use Rattle.cast_words.specs.Numbers.{read_on, number_of}
+use Rattle.cast_record.specs.Nodes.{node_of}
 use Rattle.cast_record.specs.Reading.{item_of, line_of}
 
 abbrev pub line_said : WordLine → Line
@@ -29,13 +29,27 @@ short_of (Broadcast message) = None
 short_of (Delivered node message) = None
 short_of line = Some line
 
-abbrev pub SaysDelivery : List ℕ → Delivery → Type 0
-SaysDelivery bytes d = (item : Item) → item_of d.word.now ≡ Some item → line_of bytes ≡ Some (Delivered d.node (record { sender = d.sender; number = d.number; item = item }))
+-- the bytes are a front that spells the line, and more
+pub record BeginsWithLine (bytes more : List ℕ) (line : Line) : Type 0 where
+  pub front : List ℕ
+  pub cut : bytes ≡ front ++ more
+  pub spells : line_of front ≡ Some line
 
--- the first word spells this number, and the others are those of the rest
+abbrev pub SaysDelivery : List ℕ → Delivery → Type 0
+SaysDelivery bytes d =
+    (word more : List ℕ) (item : Item) → d.rest.now ≡ word ++ more → item_of word ≡ Some item
+    → BeginsWithLine bytes more (Delivered d.node (record { sender = d.sender; number = d.number; item = item }))
+
+-- the bytes are a word that names the node, a blank and the rest
+pub record BeginsWithNode (bytes : List ℕ) (node : ℕ) (rest : List ℕ) : Type 0 where
+  pub word : List ℕ
+  pub cut : bytes ≡ word ++ 32 ∷ rest
+  pub names : node_of word ≡ Some node
+
+-- the bytes are a word that spells the number, a blank and the rest
 pub record BeginsWithNumber (bytes : List ℕ) (number : ℕ) (rest : List ℕ) : Type 0 where
   pub word : List ℕ
-  pub cut : slice_split (λ b. b == 32) bytes ≡ word ∷ slice_split (λ b. b == 32) rest
+  pub cut : bytes ≡ word ++ 32 ∷ rest
   pub spells : number_of word ≡ Some number
 
 -- the first bytes are digits of this value

@@ -9,6 +9,9 @@ use crate::parts::two_parts;
 use cast_words::number;
 use std::marker::Model;
 
+/// How many digits are looked at before the first of them that is none may end it.
+const BLOCK: usize = 64;
+
 /// What an item is, without the bytes of its data.
 #[derive(Clone, Copy, Debug, PartialEq, Eq)]
 pub enum ItemKind {
@@ -132,7 +135,25 @@ fn is_hex(digits: &[u8]) -> bool
 fn are_digits(digits: &[u8]) -> bool
     ensures { result ≡ list_all is_hex_digit digits.now }
 {
-    digits.iter().all(|digit| is_digit(*digit))
+    let mut rest = digits;
+    while rest.len() >= BLOCK {
+        if !is_block(&rest[..BLOCK]) {
+            return false;
+        }
+        rest = &rest[BLOCK..];
+    }
+    is_block(rest)
+}
+
+// Whether all of these are digits. It looks at each, so that a processor can look at many at once.
+fn is_block(digits: &[u8]) -> bool
+    ensures { result ≡ list_all is_hex_digit digits.now }
+{
+    let mut are_digits = true;
+    for digit in digits {
+        are_digits &= is_digit(*digit);
+    }
+    are_digits
 }
 
 fn is_digit(code: u8) -> bool

@@ -12,8 +12,8 @@ pub fn node(word: &[u8]) -> Option<NodeId>
     byte_sized(number(word)?)
 }
 
-/// The node of this number, 0 to 255.
-pub fn byte_sized(number: u64) -> Option<NodeId>
+// The node of this number, 0 to 255.
+fn byte_sized(number: u64) -> Option<NodeId>
     ensures { result ≡ byte_sized number }
 {
     if number < 256 {

@@ -1,9 +1,12 @@
-use Rattle.std.proofs.Common.{subst, Bool}
-use Rattle.cast_judge.specs.Judges.{Takes}
-use Rattle.cast_judge.proofs.JudgedLemmas.{judges_kept}
+use Rattle.std.proofs.Common.{sym, ◌∙◌, ap, option_map}
+use Rattle.cast_record.specs.WordLines.{line_said}
+use Rattle.cast_judge.proofs.JudgedLemmas.{judges_broken, judges_kept}
 use Rattle.cast_judge.proofs.lines.judge_line.Goals as goal
 
-pub returns-then-take_delivery : goal.returns-then-take_delivery
-returns-then-take_delivery c past s few =
-    let taken = subst (λ (b : Bool). Takes c.args.bytes.now c.args.kept.now c.take_delivery.new.kept b) c.if-take_delivery.true c.take_delivery.ensures in
-    judges_kept past c.args.bytes.now taken.line c.args.kept.now c.take_delivery.new.kept s few taken.read taken.sound taken.keeps
+pub returns-in-Some-broken_rule : goal.returns-in-Some-broken_rule
+returns-in-Some-broken_rule c past s short =
+    judges_broken past c.args.bytes.now (line_said c.in-Some.line) c.in-Some-broken_rule.rule c.args.kept.now s (sym c.read_words.ensures ∙ ap (option_map line_said) c.in-Some.is) (sym c.in-Some-broken_rule.ensures)
+
+pub returns : goal.returns
+returns c past s short =
+    judges_kept past c.args.bytes.now (line_said c.in-Some.line) c.args.kept.now c.keep.new.self s short (sym c.read_words.ensures ∙ ap (option_map line_said) c.in-Some.is) (sym c.broken_rule.ensures ∙ c.in_default-broken_rule.is) c.in_ok-keep.ensures

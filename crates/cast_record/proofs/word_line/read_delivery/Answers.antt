@@ -1,11 +1,11 @@
-use Rattle.std.proofs.Common.{◌-◌, sym, take, drop, length, arith}
+use Rattle.std.proofs.Common.{◌-◌, take, drop, length, arith}
 use Rattle.std.proofs.lemmas.Grind.{common_steps}
 use Rattle.cast_record.proofs.WordLineLemmas.{delivery_said}
 use Rattle.cast_record.proofs.word_line.read_delivery.Goals as goal
 
 pub returns : goal.returns
-returns c item spelled =
-    delivery_said c.args.bytes.now (take (length c.args.bytes.now - 2) (drop 2 c.args.bytes.now)) c.in_ok-receiver.rest.now c.in_ok-sender.rest.now c.in_ok-number.word.now
-    c.in_ok-receiver.receiver c.in_ok-sender.sender c.in_ok-receiver-2.receiver c.in_ok-sender-2.sender c.in_ok-number.number
+returns c =
+    delivery_said c.args.bytes.now (take (length c.args.bytes.now - 2) (drop 2 c.args.bytes.now)) c.in_ok-node.rest.now c.in_ok-sender.rest.now c.in_ok-number.rest.now
+    c.in_ok-node.node c.in_ok-sender.sender c.in_ok-number.number
     (omega arith) (grind (arith, common_steps)) (grind (arith, common_steps)) (grind (arith, common_steps))
-    c.in_ok-receiver.ensures c.in_ok-sender.ensures c.in_ok-number.ensures (sym c.in_ok-receiver-2.ensures) (sym c.in_ok-sender-2.ensures) item spelled
+    c.in_ok-node.ensures c.in_ok-sender.ensures c.in_ok-number.ensures

@@ -1,34 +1,21 @@
-use Rattle.std.proofs.Common.{◌≡◌, ◌+◌, ◌-◌, ◌++◌, length, take, drop, nat_eq, sym, ◌∙◌, subst, arith, List, ℕ, position, None}
-use Rattle.std.proofs.lemmas.List.Quantifiers.{position-Some}
-use Rattle.std.proofs.lemmas.Grind.{common_steps}
-use Rattle.cast_record.proofs.PartLemmas.{none_before, none_passes}
-use Rattle.cast_judge.proofs.PieceLemmas.{Reads, reads_line, reads_done, line_at}
+use Rattle.std.proofs.Common.{◌≡◌, ◌+◌, ◌∷◌, length, length-append, sym, ap, subst, ◌∙◌, List, ℕ, Option, option_map, Bor, arith}
+use Rattle.cast_judge.specs.Judged.{TakesLine}
+use Rattle.cast_judge.proofs.PieceLemmas.{reads_line, reads_done}
 use Rattle.cast_judge.proofs.judging.Judging.read.Goals as goal
-
-pub end_line-requires-clause-clean : goal.end_line-requires-clause-clean
-end_line-requires-clause-clean c = none_before (λ b. nat_eq b 10) c.loop-at.rest.now c.in-Some.at (sym c.in-Some.ensures)
-
-pub keep_tail-requires-clause-clean : goal.keep_tail-requires-clause-clean
-keep_tail-requires-clause-clean c = let none : position (λ b. nat_eq b 10) c.loop-at.rest.now ≡ None = sym c.find_line_feed.ensures ∙ c.in_default.is in none_passes (λ b. nat_eq b 10) c.loop-at.rest.now none
 
 pub returns-then-not-is_reading-clause-stands : goal.returns-then-not-is_reading-clause-stands
 returns-then-not-is_reading-clause-stands c text st =
-    let rest = c.loop-at.rest.now in
-    let r = c.loop-at.invariant.stands text st in
-    reads_done text c.args.piece.now rest (take c.in-Some.at rest) (drop (c.in-Some.at + 1) rest) c.loop-at.self c.end_line.new.self (line_at rest c.in-Some.at (sym c.in-Some.ensures)) r
-    (sym c.is_reading.ensures ∙ c.if-not-is_reading.true) c.in_ok-end_line.ensures.ok (c.in_ok-end_line.ensures.stands (text ++ r.front) r.stands)
+    let taken = subst (λ (after : Option (Bor (List ℕ))). TakesLine c.loop-after.rest.now c.loop-after.self c.take_line.new.self (option_map (λ rest. rest.now) after)) c.in-Some.is c.in_ok-after.ensures.taken in
+    reads_done text c.args.piece.now c.loop-after.rest.now c.in-Some.after.now c.loop-after.self c.take_line.new.self taken (c.loop-after.invariant.stands text st)
+    (sym c.is_reading.ensures ∙ c.if-not-is_reading.true)
 
-pub loop-at-preserved : goal.loop-at-preserved
-loop-at-preserved c =
-    let rest = c.loop-at.rest.now in
-    let within = (position-Some (λ b. nat_eq b 10) rest c.in-Some.at 0 (sym c.in-Some.ensures)).0 in
-    let after : take (length c.loop-at.rest.now - (c.in-Some.at + 1)) (drop (c.in-Some.at + 1) c.loop-at.rest.now) ≡ drop (c.in-Some.at + 1) c.loop-at.rest.now = grind (arith, common_steps) in
+pub loop-after-preserved : goal.loop-after-preserved
+loop-after-preserved c =
+    let taken = subst (λ (after : Option (Bor (List ℕ))). TakesLine c.loop-after.rest.now c.loop-after.self c.take_line.new.self (option_map (λ rest. rest.now) after)) c.in-Some.is c.in_ok-after.ensures.taken in
+    let shorter : length c.loop-after.rest.now ≡ length taken.line + length (10 ∷ c.in-Some.after.now) = ap length taken.cut ∙ length-append taken.line (10 ∷ c.in-Some.after.now) in
     record {
       reading = sym c.is_reading.ensures ∙ c.if-not-is_reading.false;
-      fed = c.in_ok-end_line.ensures.fed ∙ c.loop-at.invariant.fed;
-      room = grind (arith, common_steps);
-      stands = λ text st.
-          let r = c.loop-at.invariant.stands text st in
-          subst (λ (bytes : List ℕ). Reads text c.args.piece.now bytes c.end_line.new.self) (sym after)
-          (reads_line text c.args.piece.now rest (take c.in-Some.at rest) (drop (c.in-Some.at + 1) rest) c.loop-at.self c.end_line.new.self (line_at rest c.in-Some.at (sym c.in-Some.ensures)) r (c.in_ok-end_line.ensures.stands (text ++ r.front) r.stands));
+      fed = c.in_ok-after.ensures.fed ∙ c.loop-after.invariant.fed;
+      room = omega (arith, shorter, taken.lines, c.loop-after.invariant.room, c.in_ok-after.ensures.fed);
+      stands = λ text st. reads_line text c.args.piece.now c.loop-after.rest.now c.in-Some.after.now c.loop-after.self c.take_line.new.self taken (c.loop-after.invariant.stands text st);
     }

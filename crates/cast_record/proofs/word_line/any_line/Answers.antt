@@ -1,7 +1,7 @@
 use Rattle.std.proofs.Common.{◌∙◌, ◌∷◌, ap, option_map}
 use Rattle.cast_record.specs.Parts.{parts_of}
 use Rattle.cast_record.proofs.ReadLemmas.{line_by_parts, line_by_one_part}
-use Rattle.cast_record.proofs.word_line.read_words.Goals as goal
+use Rattle.cast_record.proofs.word_line.any_line.Goals as goal
 
 pub returns-in-Some : goal.returns-in-Some
 returns-in-Some c =
