@@ -10,6 +10,9 @@ use std::io::Read;
 /// The most bytes of an input.
 pub const INPUT_LIMIT: usize = 67_108_864;
 
+/// How many bytes of an input are asked for at once.
+pub const PIECE: usize = 65_536;
+
 /// All that the reader has left. No byte is asked for past the one that tells that there are too many.
 pub fn read_input<R: Read>(alloc: Global, reader: &mut Meter<R>) -> Result<Vec<u8>, TextFault>
     requires { reader.old.failed ≡ false }
@@ -23,7 +26,7 @@ pub fn read_input<R: Read>(alloc: Global, reader: &mut Meter<R>) -> Result<Vec<u
     ensures told { IfErr result (λ fault. IsTold fault reader.new.failed false) }
 {
     let mut bytes = Vec::new(alloc);
-    let mut chunk = [0; 4096];
+    let mut chunk = [0; PIECE];
     loop {
         let most = chunk.len().min(INPUT_LIMIT + 1 - bytes.len());
         let Ok(count) = reader.read(&mut chunk[..most]) else {

@@ -4,7 +4,7 @@ ghost use Rattle.cast_text.specs.Judging.{JudgesInput, IsOfJudging, SaysVerdict,
 ghost use Rattle.cast_text.specs.Text.{IsTold};
 
 use crate::fault::TextFault;
-use crate::input::INPUT_LIMIT;
+use crate::input::{INPUT_LIMIT, PIECE};
 use cast_judge::{Judging, Verdict};
 use cast_record::write_verdict;
 use cast_words::Meter;
@@ -45,7 +45,7 @@ fn judge_input<R: Read>(alloc: Global, reader: &mut Meter<R>) -> Result<Verdict,
     ensures told { IfErr result (λ fault. IsTold fault reader.new.failed false) }
 {
     let mut judging = Judging::new(alloc);
-    let mut chunk = [0; 16_384];
+    let mut chunk = [0; PIECE];
     let mut length = 0usize;
     loop {
         let most = chunk.len().min(INPUT_LIMIT + 1 - length);

@@ -5,7 +5,7 @@ use Rattle.cast_text.proofs.judge.judge_input.Given as goal
 
 abbrev pub invariant-loop-count : goal.invariant-loop-count
 invariant-loop-count g l = record {
-  room : length l.chunk ≡ 16384;
+  room : length l.chunk ≡ 65536;
   short : l.length ≤ 67108864;
   judging : IsJudging (g.R.Read.remaining l.fn.reader.inner) (g.R.Read.remaining l.reader.inner) l.reader.failed l.length l.judging;
 }
