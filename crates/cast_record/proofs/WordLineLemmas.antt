@@ -153,7 +153,7 @@ delivery_said bytes r r' r'' rest q s n some x y is one two three word more item
     let words : cut front ≡ one.word ∷ two.word ∷ three.word ∷ word ∷ [] =
     cut_at one.word front' (node_word one.word q one.names)
     ∙ ap (λ ws. one.word ∷ ws) (cut_at two.word front'' (node_word two.word s two.names)
-        ∙ ap (λ ws. two.word ∷ ws) (cut_at three.word word (number_word three.word n three.spells) ∙ ap (λ ws. three.word ∷ ws) (one_word word item spelled))) in
+    ∙ ap (λ ws. two.word ∷ ws) (cut_at three.word word (number_word three.word n three.spells) ∙ ap (λ ws. three.word ∷ ws) (one_word word item spelled))) in
     let parts : r ≡ front ++ more =
     one.cut ∙ after_word one.word r' front' more (two.cut ∙ after_word two.word r'' front'' more (three.cut ∙ after_word three.word rest word more cut_word)) in
     record {

@@ -12,7 +12,7 @@ returns c =
     let d = c.args.delivery.now in
     let same : c.args.delivery.now.number ≡ c.count_from.result = grind (arith, nat_tests, common_steps) in
     IfSome_then c.end_of_word.result c.end_of_word.ensures (λ end begins.
-        due c.args.self.now d end c.in-Body.is c.in_ok-node.ensures.0 c.in_ok-node-2.ensures.0
-        (ap (λ (s : Sender). s.crashed) (sym c.in_ok-node.ensures.1) ∙ c.if-node.false)
-        (same ∙ c.count_from.ensures ∙ ap (λ (s : Sender). slice_index s.delivered d.sender) c.in_ok-node.ensures.1)
-        (subst (λ (s : Sender). BeginsWithWord s.items d.number d.rest.now end) c.in_ok-node-2.ensures.1 begins))
+    due c.args.self.now d end c.in-Body.is c.in_ok-node.ensures.0 c.in_ok-node-2.ensures.0
+    (ap (λ (s : Sender). s.crashed) (sym c.in_ok-node.ensures.1) ∙ c.if-node.false)
+    (same ∙ c.count_from.ensures ∙ ap (λ (s : Sender). slice_index s.delivered d.sender) c.in_ok-node.ensures.1)
+    (subst (λ (s : Sender). BeginsWithWord s.items d.number d.rest.now end) c.in_ok-node-2.ensures.1 begins))
