@@ -2,6 +2,7 @@
 use crate::explain::explain_output;
 use crate::source::Failure;
 use crate::status::{Status, refuse};
+use cast_explain::RULES;
 use cast_text::TextFault;
 use clap::error::ErrorKind;
 use clap::{Arg, ArgAction, Command, Error, value_parser};
@@ -23,23 +24,6 @@ const REFUSALS: &str = "Refused events (r EVENT CODE):
   10  a slot that was not taken
   11  a frame that was not made
   12  a node that has made all its frames";
-
-/// What the line `bad LINE RULE` means.
-const RULES: &str = "Rules (bad LINE RULE):
-  0  what is no line of a record, a head or an end that is missing or stands twice, or bytes after the end
-  1  a broadcast or a delivery out of turn, or a delivery of what was not broadcast
-  2  a broadcast after its node's close
-  3  a decided value that was not proposed
-  4  more decided values in an instance than choices, where fewer nodes may crash
-  5  a line of a node that has crashed
-  6  a second proposal of a node in an instance";
-
-/// What breaks the rule, in words.
-pub fn rule_words(rule: u64) -> Option<&'static str> {
-    let line = RULES.lines().skip(1).nth(rule as usize)?;
-    let (_number, words) = line.trim_start().split_once("  ")?;
-    Some(words)
-}
 
 /// What the lines of a summary mean.
 const ENDS: &str =

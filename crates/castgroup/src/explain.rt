@@ -1,23 +1,14 @@
 //! What `--explain` says: one line more on standard error, which tells where a fault is and why it is one. It is made after
 //! the fixed text was written, from the input once more; where there is no memory for it, nothing more is said.
-mod element;
-mod excerpt;
-mod group;
-mod members;
-mod record;
-mod script;
-mod settings;
 mod stream;
 
 ghost use Rattle.cast_live.specs.Live.{IsFinished};
 
 use crate::source::{Failure, Source};
+use cast_explain::{group_words, head_words, script_words, verdict_words};
 use cast_live::{FinishedRun, write_record_of};
 use cast_text::{INPUT_LIMIT, TextFault};
 use cast_words::Meter;
-use group::group_words;
-use record::{head_words, verdict_words};
-use script::script_words;
 use std::alloc::AllocError;
 use std::rt::Runtime;
 use stream::{failure_words, stream_name};

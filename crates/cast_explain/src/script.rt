@@ -1,22 +1,30 @@
 //! What is wrong with a script: where it is no JSON, which member or element is not as it should be, or which limit it breaks.
-use crate::explain::element::{Flaw, event_flaw, fault_flaw, job_flaw};
-use crate::explain::excerpt::cut;
-use crate::explain::members::members_words;
-use crate::explain::settings::settings_words;
+ghost use Rattle.std.specs.Prelude.{IfOk, IfSome};
+ghost use Rattle.cast_explain.specs.Refused.{IsNoScript};
+
+use crate::element::{Flaw, event_flaw, fault_flaw, job_flaw};
+use crate::excerpt::cut;
+use crate::members::members_words;
+use crate::settings::settings_words;
 use cast_script::{ScriptFault, read_script};
 use serde_json::Value;
 use std::alloc::{AllocError, Global};
 
-/// Why these bytes are no script; none where that is not the fault of these bytes.
+/// Why these bytes are no script; none where that is not the fault of these bytes, or out of memory is.
 pub fn script_words(
     alloc: Global,
     name: &str,
     bytes: &[u8],
     fault: ScriptFault,
-) -> Result<Option<String>, AllocError> {
-    match read_script(alloc, bytes) {
-        Err(found) if found == fault => {}
-        _ => return Ok(None),
+) -> Result<Option<String>, AllocError>
+    ensures { IfOk result (λ words. IfSome words (λ _. IsNoScript bytes.now)) }
+{
+    let found = match read_script(alloc, bytes) {
+        Ok(_) | Err(ScriptFault::Memory) => return Ok(None),
+        Err(found) => found,
+    };
+    if found != fault {
+        return Ok(None);
     }
     let words = match Value::from_slice(alloc, bytes) {
         Ok(value) => value_words(alloc, &value, fault)?,

@@ -1,5 +1,5 @@
 //! What is wrong with a script as a whole: it is no object, or a member is unknown, missing or of a wrong kind.
-use crate::explain::excerpt::{cut, quoted};
+use crate::excerpt::{cut, quoted};
 use serde_json::Value;
 use std::alloc::{AllocError, Global};
 

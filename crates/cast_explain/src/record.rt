@@ -1,9 +1,23 @@
 //! What is wrong with a record: the line that offends, and the rule that it breaks in words.
-use crate::command_line::rule_words;
-use crate::explain::excerpt::quoted;
+ghost use Rattle.std.specs.Prelude.{◌≡◌, IfOk, IfSome};
+ghost use Rattle.cast_record.specs.Migration.{HasNoHead};
+ghost use Rattle.cast_record.specs.Verdicts.{verdict};
+ghost use Rattle.cast_record.specs.declared.verdict.Verdict.TheVariants.{Bad};
+
+use crate::excerpt::quoted;
 use cast_judge::{Verdict, judge};
 use cast_record::{MigrateFault, migrate};
 use std::alloc::{AllocError, Global};
+
+/// What the line `bad LINE RULE` means: a line a rule, under a title.
+pub const RULES: &str = "Rules (bad LINE RULE):
+  0  what is no line of a record, a head or an end that is missing or stands twice, or bytes after the end
+  1  a broadcast or a delivery out of turn, or a delivery of what was not broadcast
+  2  a broadcast after its node's close
+  3  a decided value that was not proposed
+  4  more decided values in an instance than choices, where fewer nodes may crash
+  5  a line of a node that has crashed
+  6  a second proposal of a node in an instance";
 
 /// A line of a text.
 #[derive(Clone, Copy)]
@@ -20,10 +34,15 @@ pub fn verdict_words(
     text: &[u8],
     line: u64,
     rule: u64,
-) -> Result<Option<String>, AllocError> {
-    let verdict = judge(alloc, text)?;
-    if verdict != (Verdict::Bad { line, rule }) {
-        return Ok(None);
+) -> Result<Option<String>, AllocError>
+    ensures { IfOk result (λ words. IfSome words (λ _. verdict text.now ≡ Bad line rule)) }
+{
+    match judge(alloc, text)? {
+        Verdict::Bad {
+            line: offending,
+            rule: broken,
+        } if offending == line && broken == rule => {}
+        _ => return Ok(None),
     }
     let (Some(words), Some(offending)) = (rule_words(rule), line_at(text, line)) else {
         return Ok(None);
@@ -33,9 +52,13 @@ pub fn verdict_words(
 }
 
 /// Why a text has no head of the first format; none where these bytes have one.
-pub fn head_words(alloc: Global, name: &str, text: &[u8]) -> Result<Option<String>, AllocError> {
-    let refused = migrate(alloc, text);
-    let (Err(MigrateFault::NotV1), Some(first)) = (refused, line_at(text, 1)) else {
+pub fn head_words(alloc: Global, name: &str, text: &[u8]) -> Result<Option<String>, AllocError>
+    ensures { IfOk result (λ words. IfSome words (λ _. HasNoHead text.now)) }
+{
+    let Err(MigrateFault::NotV1) = migrate(alloc, text) else {
+        return Ok(None);
+    };
+    let Some(first) = line_at(text, 1) else {
         return Ok(None);
     };
     let shown = line_words(alloc, first)?;
@@ -62,4 +85,11 @@ fn line_at(text: &[u8], number: u64) -> Option<TextLine<'_>> {
     let bytes = lines.nth(place)?;
     let is_ended = lines.next().is_some();
     Some(TextLine { bytes, is_ended })
+}
+
+// What breaks the rule, in words.
+fn rule_words(rule: u64) -> Option<&'static str> {
+    let line = RULES.lines().skip(1).nth(rule as usize)?;
+    let (_number, words) = line.trim_start().split_once("  ")?;
+    Some(words)
 }

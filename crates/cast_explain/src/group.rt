@@ -1,7 +1,6 @@
 //! What is wrong with a group that is to run in threads: the job or the fault of the plan that does not fit its nodes.
 use cast_message::NodeId;
-use cast_run::LiveFault;
-use cast_script::{Fault, Script, read_script};
+use cast_script::{Fault, LiveFault, Script, read_script};
 use std::alloc::{AllocError, Global};
 
 /// The most jobs of a node.

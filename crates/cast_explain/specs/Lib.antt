@@ -1,0 +1,2 @@
+-- When there is something to explain.
+pub mod Refused

@@ -1,0 +1,15 @@
+//! Why a script or a record was refused, in words, for the line that `--explain` adds. Each call reads the bytes once more and asks
+//! the call that refused them: where that answers otherwise now, nothing is said.
+#![tactic(auto)]
+
+mod element;
+mod excerpt;
+mod group;
+mod members;
+mod record;
+mod script;
+mod settings;
+
+pub use group::group_words;
+pub use record::{RULES, head_words, verdict_words};
+pub use script::script_words;
