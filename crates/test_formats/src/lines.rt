@@ -137,12 +137,14 @@ const LINES: &[(&str, (char, [u64; 3], &str))] = &[
     ("cast/2 17 16 17 basic", ('2', [17, 16, 17], "basic")),
     ("b 63 4095 close", ('b', [63, 4_095, 0], "close")),
     ("b 1 2 data:", ('b', [1, 2, 0], "data:")),
+    ("b 100 12 close", ('b', [100, 12, 0], "close")),
     ("d 255 7 10 data:0a", ('d', [255, 7, 10], "data:0a")),
     ("d 1 0 0 prop:7:3", ('d', [1, 0, 0], "prop:7:3")),
     (
         "v 2 7 18446744073709551615",
         ('v', [2, 7, 18_446_744_073_709_551_615], ""),
     ),
+    ("v 255 0 10", ('v', [255, 0, 10], "")),
     ("x 0", ('x', [0, 0, 0], "")),
     ("r 10 12", ('r', [10, 12, 0], "")),
     ("end", ('e', [0, 0, 0], "")),
@@ -243,7 +245,8 @@ fn a_cut_line_is_a_line_only_where_the_grammar_has_it(rt: HostRuntime) {
 /// Deliveries, and what is read of them.
 const DELIVERIES: &[(&str, (u8, u8, u64, &str))] = &[
     ("d 0 0 0 data:61", (0, 0, 0, "data:61")),
-    ("d 255 7 10 close", (255, 7, 10, "close")),
+    ("d 99 7 10 close", (99, 7, 10, "close")),
+    ("d 1 2 3 close\nend\n", (1, 2, 3, "close\nend\n")),
     ("d 1 63 4095 ", (1, 63, 4_095, "")),
     ("d 1 2 3 any word", (1, 2, 3, "any word")),
     (
@@ -253,15 +256,15 @@ const DELIVERIES: &[(&str, (u8, u8, u64, &str))] = &[
 ];
 
 #[test]
-fn reads_deliveries_but_for_their_words(rt: HostRuntime) -> Result<(), Fail> {
-    for (text, (node, sender, number, word)) in DELIVERIES {
+fn reads_deliveries_up_to_their_words(rt: HostRuntime) -> Result<(), Fail> {
+    for (text, (node, sender, number, rest)) in DELIVERIES {
         let Some(delivery) = read_delivery(text.as_bytes()) else {
             return Err(Fail::new("no delivery"));
         };
         assert_eq!(rt; delivery.node, NodeId(*node), "{text}");
         assert_eq!(rt; delivery.sender, NodeId(*sender), "{text}");
         assert_eq!(rt; delivery.number, *number, "{text}");
-        assert_eq!(rt; delivery.word, word.as_bytes(), "{text}");
+        assert_eq!(rt; delivery.rest, rest.as_bytes(), "{text}");
     }
     Ok(())
 }
@@ -279,6 +282,8 @@ const NO_DELIVERIES: &[&str] = &[
     "d 00 0 0 data:61",
     "d 0 01 0 data:61",
     "d 0 0 012 data:61",
+    "d 100 0 0 data:61",
+    "d 0 100 0 data:61",
     "d 256 0 0 data:61",
     "d 0 256 0 data:61",
     "d 0 0 18446744073709551616 data:61",
