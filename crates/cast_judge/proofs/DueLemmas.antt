@@ -4,11 +4,11 @@ use Rattle.std.proofs.lemmas.Bool.Decides.{nat_tests}
 use Rattle.std.proofs.lemmas.Option.{slice_get-get_or}
 use Rattle.cast_message.specs.declared.message.Item.{Item}
 use Rattle.cast_message.specs.declared.message.Item.TheVariants.{Close}
-use Rattle.cast_record.specs.declared.word_line.Delivery.{Delivery}
+use Rattle.cast_record.specs.declared.front.Delivery.{Delivery}
 use Rattle.cast_judge.specs.declared.kept.Place.{Place}
 use Rattle.cast_judge.specs.declared.kept.Place.TheVariants.{Body}
 use Rattle.cast_judge.specs.declared.kept.Kept.{Kept}
-use Rattle.cast_record.specs.WordLines.{SaysDelivery}
+use Rattle.cast_record.specs.Fronts.{SaysDelivery}
 use Rattle.cast_judge.specs.Kept.{node_at, is_same, has_item, is_out_at, delivered_as, IsDue, IsTaken}
 use Rattle.cast_judge.specs.Judges.{IsTakenOff}
 use Rattle.cast_judge.specs.ItemList.{BeginsWithWord}

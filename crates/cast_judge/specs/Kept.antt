@@ -10,7 +10,7 @@ use Rattle.cast_message.specs.declared.message.Item.{Item}
 use Rattle.cast_message.specs.declared.message.Item.TheVariants.{Propose}
 use Rattle.cast_record.specs.declared.line.Line.{Line}
 use Rattle.cast_record.specs.declared.line.Line.TheVariants.{Head, Head2, Broadcast, Delivered, Decided, Crashed, End}
-use Rattle.cast_record.specs.declared.word_line.Delivery.{Delivery}
+use Rattle.cast_record.specs.declared.front.Delivery.{Delivery}
 use Rattle.cast_record.specs.Reading.{item_of}
 use Rattle.cast_record.specs.Rules as said
 use Rattle.cast_judge.specs.Candidates.{is_for, is_decided, count_decided, with_candidate, with_decision}

@@ -13,3 +13,4 @@ pub mod Migration
 pub mod VerdictText
 pub mod ItemWords
 pub mod WordLines
+pub mod Fronts

@@ -3,6 +3,7 @@
 #![tactic(auto)]
 
 mod event_lines;
+mod front;
 mod item_word;
 mod laws;
 mod line;
@@ -17,6 +18,7 @@ mod words;
 mod writing;
 
 pub use event_lines::write_lines_of;
+pub use front::{Delivery, read_delivery};
 pub use item_word::{ItemKind, ItemWord};
 pub use laws::has_text_of_its_own;
 pub use line::Line;
@@ -24,5 +26,5 @@ pub use lines::lines_of;
 pub use migration::{MigrateFault, migrate};
 pub use reading::read_line;
 pub use verdict::{Verdict, write_verdict};
-pub use word_line::{Delivery, WordLine, read_delivery, read_words};
+pub use word_line::{WordLine, read_words};
 pub use writing::{write_line, write_record};

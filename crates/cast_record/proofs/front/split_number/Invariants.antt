@@ -1,6 +1,6 @@
 use Rattle.std.proofs.Common.{◌-◌, length}
-use Rattle.cast_record.specs.WordLines.{IsNumberSoFar}
-use Rattle.cast_record.proofs.word_line.split_number.Given as goal
+use Rattle.cast_record.specs.Fronts.{IsNumberSoFar}
+use Rattle.cast_record.proofs.front.split_number.Given as goal
 
 abbrev pub invariant-loop-at : goal.invariant-loop-at
 invariant-loop-at l = IsNumberSoFar l.bytes l.at l.value

@@ -1,6 +1,6 @@
 use Rattle.std.proofs.Common.{sym}
-use Rattle.cast_record.proofs.WordLineLemmas.{decision_said}
-use Rattle.cast_record.proofs.word_line.decision_from.Goals as goal
+use Rattle.cast_record.proofs.FrontLemmas.{decision_said}
+use Rattle.cast_record.proofs.front.decision_from.Goals as goal
 
 pub returns : goal.returns
 returns c =

@@ -1,10 +1,10 @@
 use Rattle.std.proofs.Common.{◌≡◌, ◌-◌, sym, subst, length, take, drop, get_or, true, arith, ℕ}
 use Rattle.std.specs.Char.{is_ascii_digit}
 use Rattle.std.proofs.lemmas.Bool.Decides.{nat_tests}
-use Rattle.cast_record.specs.WordLines.{BeginsWithNode}
-use Rattle.cast_record.proofs.WordLineLemmas.{short_node, long_node}
-use Rattle.cast_record.proofs.word_line.split_node.Goals as goal
-use Rattle.cast_record.proofs.word_line.split_node.Goals.{then-is_short, else-is_short}
+use Rattle.cast_record.specs.Fronts.{BeginsWithNode}
+use Rattle.cast_record.proofs.FrontLemmas.{short_node, long_node}
+use Rattle.cast_record.proofs.front.split_node.Goals as goal
+use Rattle.cast_record.proofs.front.split_node.Goals.{then-is_short, else-is_short}
 
 pub returns : goal.returns
 returns c =

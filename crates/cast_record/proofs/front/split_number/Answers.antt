@@ -2,9 +2,9 @@ use Rattle.std.proofs.Common.{◌≡◌, ◌+◌, ◌-◌, ◌*◌, ◌<◌, ◌
 use Rattle.std.specs.Char.{is_ascii_digit}
 use Rattle.std.proofs.lemmas.Bool.Decides.{nat_tests}
 use Rattle.std.proofs.lemmas.Grind.{common_steps}
-use Rattle.cast_record.specs.WordLines.{IsNumberSoFar}
-use Rattle.cast_record.proofs.WordLineLemmas.{digit_more}
-use Rattle.cast_record.proofs.word_line.split_number.Goals as goal
+use Rattle.cast_record.specs.Fronts.{IsNumberSoFar}
+use Rattle.cast_record.proofs.FrontLemmas.{digit_more}
+use Rattle.cast_record.proofs.front.split_number.Goals as goal
 
 pub loop-at-preserved : goal.loop-at-preserved
 loop-at-preserved c =

@@ -1,9 +1,9 @@
 use Rattle.std.proofs.Common.{◌≡◌, ◌+◌, ◌-◌, ◌<◌, ◌≤◌, sym, subst, length, take, drop, get_or, arith, List, ℕ}
 use Rattle.std.proofs.lemmas.Bool.Decides.{nat_tests}
 use Rattle.std.proofs.lemmas.Grind.{common_steps}
-use Rattle.cast_record.specs.WordLines.{BeginsWithNumber}
-use Rattle.cast_record.proofs.WordLineLemmas.{number_ended}
-use Rattle.cast_record.proofs.word_line.end_number.Goals as goal
+use Rattle.cast_record.specs.Fronts.{BeginsWithNumber}
+use Rattle.cast_record.proofs.FrontLemmas.{number_ended}
+use Rattle.cast_record.proofs.front.end_number.Goals as goal
 
 pub returns : goal.returns
 returns c =

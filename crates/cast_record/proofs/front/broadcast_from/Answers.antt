@@ -1,6 +1,6 @@
 use Rattle.std.proofs.Common.{sym}
-use Rattle.cast_record.proofs.WordLineLemmas.{broadcast_said}
-use Rattle.cast_record.proofs.word_line.broadcast_from.Goals as goal
+use Rattle.cast_record.proofs.FrontLemmas.{broadcast_said}
+use Rattle.cast_record.proofs.front.broadcast_from.Goals as goal
 
 pub returns : goal.returns
 returns c =

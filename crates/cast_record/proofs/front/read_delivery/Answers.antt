@@ -1,7 +1,7 @@
 use Rattle.std.proofs.Common.{◌-◌, take, drop, length, arith}
 use Rattle.std.proofs.lemmas.Grind.{common_steps}
-use Rattle.cast_record.proofs.WordLineLemmas.{delivery_said}
-use Rattle.cast_record.proofs.word_line.read_delivery.Goals as goal
+use Rattle.cast_record.proofs.FrontLemmas.{delivery_said}
+use Rattle.cast_record.proofs.front.read_delivery.Goals as goal
 
 pub returns : goal.returns
 returns c =
