@@ -172,7 +172,8 @@ impl Judging {
         requires reading { is_reading self.old ≡ true }
         requires room { self.old.lines + length bytes.now ≤ self.old.fed }
         ensures fed { self.new.fed ≡ self.old.fed }
-        ensures taken { TakesDelivery bytes.now self.old self.new (option_map (λ after. after.now) result) }
+        ensures taken { TakesDelivery bytes.now self.old self.new
+            (option_map (λ after. after.now) result) }
     {
         if !self.tail.is_empty() {
             return None;
