@@ -166,7 +166,7 @@ impl Judging {
         Ok(Some(&bytes[at + 1..]))
     }
 
-    // Takes a line `d` that breaks no rule, where no line is unfinished, before its end is looked for: nearly all lines are such ones.
+    // Takes a line `d` that breaks no rule, where no line is unfinished, before its end is looked for: most lines are such ones.
     // None changes nothing.
     fn take_delivery<'a>(&mut self, bytes: &'a [u8]) -> Option<&'a [u8]>
         requires reading { is_reading self.old ≡ true }
