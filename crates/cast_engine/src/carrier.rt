@@ -6,25 +6,16 @@ ghost use Rattle.cast_engine.specs.Carriers.{IsSameCarrier, AreUnused, Brings, M
 
 use crate::board::Board;
 use crate::parcel::Parcel;
+use crate::waiting::Waiting;
 use cast_box::{Putter, Taker};
 use cast_message::{FrameBody, NodeId};
 use cast_script::{Fault, FrameKind};
 use std::alloc::{AllocError, Global};
 use std::marker::Model;
 use std::sync::Wait;
-use std::thread;
-use std::thread::Parker;
-use std::time::Duration;
 
-// So often in succession a carrier that finds nothing gives up the processor. Then it sleeps, so many microseconds at a time, to
-// which the system adds some fifty.
-//
-// A thread that gives up the processor again and again is as busy to the scheduler as one that works: carriers with nothing to
-// carry would keep a core for themselves, while engines share the others. Where all cores have work, a few turns of the others
-// are enough until there is something to carry, and a sleep would only hold up frames.
+// So often in succession a carrier that finds nothing gives up the processor.
 const PATIENCE: u64 = 8;
-
-const NAP: u64 = 20;
 
 /// A parcel that is kept until so many more frames were taken for its target.
 #[derive(Drop)]
@@ -128,30 +119,19 @@ impl Carrier {
 pub fn run_carrier<R: Wait>(rt: &R, mut carrier: Carrier, board: &Board, node: usize) -> Carrier
     ensures { IsSameCarrier carrier result }
 {
-    let bed = Parker::new();
-    let mut idle = 0;
+    let mut waiting = Waiting::new(PATIENCE);
     for _ in rt.forever() {
         let last = board.has_ended(node);
         if carrier.carry(rt) {
-            idle = 0;
+            waiting.found();
             continue;
         }
         if last {
             break;
         }
-        wait(rt, &bed, idle);
-        idle = idle.saturating_add(1);
+        waiting.wait(rt);
     }
     carrier
-}
-
-// Lets others run, after so many waits in succession.
-fn wait<R: Wait>(rt: &R, bed: &Parker, waits: u64) {
-    if waits < PATIENCE {
-        thread::yield_now();
-    } else {
-        bed.park_timeout(rt, Duration::from_micros(NAP));
-    }
 }
 
 // What becomes of a parcel by the plan, which counts its frame.

@@ -10,7 +10,8 @@ use crate::feeding::{Place, first_places, notify_all};
 use crate::gate::Gate;
 use crate::journal::Journal;
 use crate::parcel::Parcel;
-use crate::resend::Resend;
+use crate::resend::{LAST_SENT, Resend};
+use crate::waiting::Waiting;
 use cast_box::{Full, Putter, Taker};
 use cast_desk::{Desk, OrderIn};
 use cast_merge::EngineEnd;
@@ -19,7 +20,21 @@ use cast_node::{Entry, EntryKind, Node};
 use std::alloc::{AllocError, Global};
 use std::marker::Model;
 use std::sync::Wait;
-use std::thread;
+
+// So often in succession an engine that finds nothing to do gives up the processor. What it owes it sends again in less, so
+// after so many turns nothing is owed, and it waits for others alone.
+const PATIENCE: u64 = 2 * LAST_SENT as u64;
+
+/// What came of a turn.
+#[derive(Clone, Copy)]
+pub enum Turn {
+    /// Something was done.
+    Moved,
+    /// There was nothing to do.
+    Idle,
+    /// The engine has ended.
+    Ended,
+}
 
 /// The owner of a node, its log and its clock.
 #[derive(Drop)]
@@ -123,7 +138,7 @@ impl Engine {
         })
     }
 
-    /// One turn. Answers whether the engine goes on.
+    /// One turn.
     #[tactic(auto, using(crate::proofs::Again::desk_same))]
     pub fn turn<G: Gate, R: Wait>(
         &mut self,
@@ -131,15 +146,15 @@ impl Engine {
         gate: &mut G,
         board: &Board,
         quiet: &mut Quiet,
-    ) -> bool
+    ) -> Turn
         ensures { IsSameEngine self.old self.new }
     {
         if !self.may_go_on() {
-            return false;
+            return Turn::Ended;
         }
         if !self.count_turn() {
             self.end(EngineEnd::TurnLimit);
-            return false;
+            return Turn::Ended;
         }
         gate.pass(rt);
         let logged = self.journal.log().len();
@@ -149,12 +164,9 @@ impl Engine {
         }
         if quiet.may_stop(board) {
             self.end(EngineEnd::Stopped);
-            return false;
+            return Turn::Ended;
         }
-        if !moved {
-            thread::yield_now();
-        }
-        true
+        if moved { Turn::Moved } else { Turn::Idle }
     }
 
     // Steps 2 to 7. Answers whether 2 to 6 did anything. The jobs are asked before the desk is found empty.
@@ -376,6 +388,7 @@ impl Engine {
             return false;
         };
         self.journal.order(order);
+        self.resend.given();
         true
     }
 }
@@ -447,14 +460,19 @@ pub fn run_engine<G: Gate + Drop, R: Wait>(
 ) -> Engine
     ensures { IsSameEngine engine result }
 {
+    let mut waiting = Waiting::new(PATIENCE);
     for _ in rt.forever() {
         if board.is_stopped() {
             quiet.end(board);
             return engine;
         }
-        if !engine.turn(rt, &mut gate, board, &mut quiet) {
-            quiet.end(board);
-            return engine;
+        match engine.turn(rt, &mut gate, board, &mut quiet) {
+            Turn::Moved => waiting.found(),
+            Turn::Idle => waiting.wait(rt),
+            Turn::Ended => {
+                quiet.end(board);
+                return engine;
+            }
         }
     }
     unreachable!()

@@ -54,7 +54,8 @@ pub fn take_up_own(
     requires group { me < 64 }
     ensures relay { OnOk result (relay.new ≡ with_own relay.old) }
     ensures links { OnOk result (links_of outgoing.new
-        ≡ given_from 0 (with_own relay.old) me (message_of relay.old item) (links_of outgoing.old)) }
+        ≡ given_from 0 (with_own relay.old) me (message_of relay.old item)
+        (links_of outgoing.old)) }
     ensures deliveries { OnOk result (deliveries.new
         ≡ told_in (waiting_in deliveries.old (message_of relay.old item)) me relay.old.own
         (first_members me me me)) }

@@ -1,4 +1,4 @@
-//! The program `castgroup`: the command line, files and exit statuses over the library `cast_text`.
+//! The program `castgroup`: the command line, files and exit statuses over the libraries `cast_text` and `cast_live`.
 #![tactic(auto)]
 
 mod command_line;

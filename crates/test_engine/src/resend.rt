@@ -145,3 +145,35 @@ fn the_next_peer_is_one_to_which_a_slot_is_due(rt: HostRuntime) -> Result<(), Fa
     assert!(&rt; sent_round(rt.alloc()).is_some_and(|sent| sent == expected));
     Ok(())
 }
+
+// Which slots node 0 sends in its first four turns. It owes one, and is told before turn 2 that it has given one more.
+fn sent_once_given(alloc: Global) -> Option<[Option<u64>; 4]> {
+    let config = group(2, 64)?;
+    let mut node = owing(alloc, &config, 1)?;
+    let mut resend = Resend::new(alloc, &config).ok()?;
+    let mut sent = [None; 4];
+    for turn in 0..4 {
+        resend.next_turn(&node);
+        if turn == 2 {
+            let item = Item::Propose {
+                instance: 1,
+                value: 0,
+            };
+            let _ = node.order(item).ok()?;
+            resend.given();
+        }
+        if let Some((to, slot)) = resend.next_due(&node) {
+            resend.note(to, slot);
+            sent[turn] = Some(slot);
+        }
+    }
+    Some(sent)
+}
+
+// A peer to which nothing was due is looked at again once something was given.
+#[test]
+fn a_slot_that_is_given_later_is_sent(rt: HostRuntime) -> Result<(), Fail> {
+    let slots = sent_once_given(rt.alloc());
+    assert!(&rt; slots.is_some_and(|slots| slots == [Some(0), None, Some(1), None]));
+    Ok(())
+}

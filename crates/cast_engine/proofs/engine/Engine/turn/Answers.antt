@@ -7,8 +7,8 @@ returns-then-not-count_turn g c = engine_again c.args.self.now c.count_turn.new.
 pub returns-then-may_stop : goal.returns-then-may_stop
 returns-then-may_stop g c = engine_again c.args.self.now c.work-moved.new.self c.end-then-may_stop.new.self (engine_again c.args.self.now c.count_turn.new.self c.work-moved.new.self (engine_again c.args.self.now c.may_go_on.new.self c.count_turn.new.self c.may_go_on.ensures c.count_turn.ensures) c.work-moved.ensures) c.end-then-may_stop.ensures
 
-pub returns-then-not-moved : goal.returns-then-not-moved
-returns-then-not-moved g c = engine_again c.args.self.now c.count_turn.new.self c.work-moved.new.self (engine_again c.args.self.now c.may_go_on.new.self c.count_turn.new.self c.may_go_on.ensures c.count_turn.ensures) c.work-moved.ensures
+pub returns-then-moved : goal.returns-then-moved
+returns-then-moved g c = engine_again c.args.self.now c.count_turn.new.self c.work-moved.new.self (engine_again c.args.self.now c.may_go_on.new.self c.count_turn.new.self c.may_go_on.ensures c.count_turn.ensures) c.work-moved.ensures
 
-pub returns-else-not-moved : goal.returns-else-not-moved
-returns-else-not-moved g c = engine_again c.args.self.now c.count_turn.new.self c.work-moved.new.self (engine_again c.args.self.now c.may_go_on.new.self c.count_turn.new.self c.may_go_on.ensures c.count_turn.ensures) c.work-moved.ensures
+pub returns-else-moved : goal.returns-else-moved
+returns-else-moved g c = engine_again c.args.self.now c.count_turn.new.self c.work-moved.new.self (engine_again c.args.self.now c.may_go_on.new.self c.count_turn.new.self c.may_go_on.ensures c.count_turn.ensures) c.work-moved.ensures

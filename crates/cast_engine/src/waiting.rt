@@ -1,0 +1,47 @@
+//! How a thread that finds nothing to do lets others run.
+//!
+//! A thread that gives up the processor again and again is as busy to the scheduler as one that works: carriers with nothing to
+//! carry, and engines to which nothing comes, would keep a core for themselves, while others share what is left. Where all cores
+//! have work, a few turns of the others are enough until there is something to do, and a sleep would only hold it up.
+use std::sync::Wait;
+use std::thread;
+use std::thread::Parker;
+use std::time::Duration;
+
+// How long a sleep is, in microseconds, to which the system adds some fifty.
+const NAP: u64 = 20;
+
+/// How a thread waits: so many times in succession it gives up the processor, and then it sleeps, for a moment at a time.
+#[derive(Drop)]
+pub struct Waiting {
+    bed: Parker,
+    patience: u64,
+    // How often in succession there was nothing to do.
+    waits: u64,
+}
+
+impl Waiting {
+    /// A thread that sleeps once it has waited so often.
+    pub fn new(patience: u64) -> Waiting {
+        Waiting {
+            bed: Parker::new(),
+            patience,
+            waits: 0,
+        }
+    }
+
+    /// There was something to do.
+    pub fn found(&mut self) {
+        self.waits = 0;
+    }
+
+    /// There was nothing to do: lets others run.
+    pub fn wait<R: Wait>(&mut self, rt: &R) {
+        if self.waits < self.patience {
+            self.waits += 1;
+            thread::yield_now();
+        } else {
+            self.bed.park_timeout(rt, Duration::from_micros(NAP));
+        }
+    }
+}
