@@ -31,10 +31,13 @@ use Rattle.cast_script.specs.declared.script.Settings.{Settings}
 use Rattle.cast_script.specs.Replay.{script_text, replay, IsReplayIn}
 use Rattle.cast_script.specs.Script.{settings_in, said}
 use Rattle.cast_text.specs.Ranges.{HasEventRange, HasScriptRange}
-use Rattle.cast_text.specs.Rec.{lines_from, record_of}
+use Rattle.cast_text.specs.Played.{played_from}
+use Rattle.cast_text.specs.Recorded.{lines_of, record_of}
 use Rattle.cast_live.specs.Replayed.{lines_told, is_refusal, record_of_accepted, RecordsReplay}
-use Rattle.cast_text.specs.Text.{WritesRecord}
-use Rattle.cast_words.proofs.WritingLemmas.{drop-next}
+use Rattle.cast_text.specs.Text.{WritesRecord, Writes}
+use Rattle.cast_text.specs.declared.fault.TextFault.{TextFault}
+use Rattle.cast_text.specs.RecordLaws.{writes_then}
+use Rattle.cast_words.proofs.WritingLemmas.{IsGoing, drop-next}
 use Rattle.cast_text.proofs.GoodRecords.{record_is_good}
 use Rattle.cast_record.proofs.WritingLemmas.{record_text-append}
 
@@ -82,8 +85,8 @@ same_config a b m n e = one_config (settings_in a m) (settings_in b n) e (within
 
 -- ---- the lines of the script are those of the run
 
-script_lines : (config : Config) (index : ℕ) (past : History) (events : List Event) → lines_from config index past (map Core events) ≡ lines_told index events (replies_from config past events)
-unfolding lines_from lines_told replies_from
+script_lines : (config : Config) (index : ℕ) (past : History) (events : List Event) → lines_of (played_from config index past (map Core events)) ≡ lines_told index events (replies_from config past events)
+unfolding played_from lines_of lines_told replies_from
 script_lines config index past [] = refl
 script_lines config index past (event ∷ events) = ap (λ ls. lines_for index event (reply config past event) ++ ls) (script_lines config (index + 1) (after config past event) events)
 
@@ -91,8 +94,8 @@ pub record_of_replay : (config : Config) (events : List Event) (script : Script)
 record_of_replay config events script e =
     let one = same_config script.config config script.turns 4000000 (ap (λ s. s.settings) e) in
     let happened : script.events ≡ map Core events = ap (λ s. s.events) e in
-    ap (λ c. head_of c ∷ (lines_from c 0 [] script.events ++ End ∷ [])) one
-    ∙ ap (λ es. head_of config ∷ (lines_from config 0 [] es ++ End ∷ [])) happened
+    ap (λ c. head_of c ∷ (lines_of (played_from c 0 [] script.events) ++ End ∷ [])) one
+    ∙ ap (λ es. head_of config ∷ (lines_of (played_from config 0 [] es) ++ End ∷ [])) happened
     ∙ ap (λ ls. head_of config ∷ (ls ++ End ∷ [])) (script_lines config 0 [] events)
 
 replays : (config : Config) (events : List Event) → IsReplayIn (script_text config events) config events → (old new : Option (List ℕ)) → WritesRecord (Some (script_text config events)) old new
@@ -213,6 +216,11 @@ records_replay config events law ranges few = record {
 }
 
 -- ---- the next lines of a run
+
+-- what is left of a text is written, or broke off
+pub writes_last : {old mid : Option (List ℕ)} {f : Bool} {text : List ℕ} (new : Option (List ℕ)) (g : Bool) (result : Result (Unit {0}) TextFault) (rest : List ℕ) → IsGoing old mid f text rest → Writes mid new g result rest → Writes old new g result text
+writes_last {old = old} {mid = mid} {f = f} new g result rest going wrote =
+    subst (Writes old new g result) (sym going.parts) (writes_then old mid new f g result going.front rest (record { appends = going.appends; sound = going.sound }) wrote)
 
 pub told-next : (index : ℕ) (events : List Event) (results : List (Result Answer StepFault)) (event : Event) (result : Result Answer StepFault) → index < length events → length results ≡ length events
     → event ≡ get_or events index event → result ≡ get_or results index result

@@ -7,7 +7,7 @@
 --     summary_text config past ends said   the whole summary
 --     WritesSummary input old new said     the writer has the summary of a run of the script that was read
 --     LiveFails                            what each fault means
-use Rattle.std.specs.Prelude.{◌≡◌, ℕ, ◌+◌, ◌<◌, ◌≤◌, ◌++◌, ◌↔◌, [], ◌∷◌, List, Bool, true, false, IsTrue, length, map, flat_map, codes, decimal, reverse, slice_get, Some, None, Option}
+use Rattle.std.specs.Prelude.{◌≡◌, ℕ, ◌+◌, ◌++◌, ◌↔◌, [], ◌∷◌, List, Bool, true, false, IsTrue, length, map, flat_map, codes, decimal, reverse, slice_get, Some, None, Option}
 use Rattle.std.specs.List.{range_with_len}
 use Rattle.std.specs.Io.KnownBytes.{Appends, Keeps}
 use Rattle.cast_message.specs.declared.config.Config.{Config}
@@ -41,7 +41,7 @@ use Rattle.cast_live.specs.declared.live.FinishedRun.{FinishedRun}
 use Rattle.cast_live.specs.declared.summary.Summary.{Summary}
 use Rattle.cast_text.specs.declared.fault.TextFault.{TextFault}
 use Rattle.cast_text.specs.declared.fault.TextFault.TheVariants as faults
-use Rattle.cast_text.specs.Text.{IsScriptIn, IsOfScript, WroteFront, fault_of_live}
+use Rattle.cast_text.specs.Text.{IsScriptIn, IsOfScript, WroteFront}
 
 -- ---- the run
 

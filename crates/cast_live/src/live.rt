@@ -4,8 +4,7 @@ ghost use Rattle.cast_record.specs.Text.{record_text};
 ghost use Rattle.cast_run.specs.Jobs.{told_job};
 ghost use Rattle.cast_script.specs.Replay.{script_text};
 ghost use Rattle.cast_live.specs.Live.{IsFinished, IsNewJob, AreNewJobs, items_of, IsOfRunning, IsRunOf, WritesSummary, LiveFails};
-ghost use Rattle.cast_text.specs.Recorded.{Writes};
-ghost use Rattle.cast_text.specs.Text.{IsTold};
+ghost use Rattle.cast_text.specs.Text.{IsTold, Writes};
 ghost use Rattle.cast_live.specs.Replayed.{record_of_accepted, RecordsReplay};
 
 use crate::replay::{is_replayed, write_run_record};

@@ -4,7 +4,7 @@ ghost use Rattle.std.specs.List.{All};
 ghost use Rattle.cast_record.specs.Lines.{lines_for};
 ghost use Rattle.cast_record.specs.Text.{record_text};
 ghost use Rattle.cast_text.specs.Ranges.{HasEventRange};
-ghost use Rattle.cast_text.specs.Recorded.{Writes};
+ghost use Rattle.cast_text.specs.Text.{Writes};
 ghost use Rattle.cast_live.specs.Replayed.{run_record, RecordsReplay};
 
 use cast_message::{Config, Event, Reply};

@@ -27,7 +27,9 @@ use Rattle.cast_script.specs.declared.script.Script.{Script}
 use Rattle.cast_script.specs.declared.script.ScriptEvent.{ScriptEvent}
 use Rattle.cast_script.specs.declared.script.ScriptEvent.TheVariants.{Core, Settle}
 use Rattle.cast_text.specs.Ranges.{HasEventRange, HasScriptRange, HaveScriptRanges}
-use Rattle.cast_text.specs.Rec.{Left, tried, tried_by, round_left, settled, left_by, lines_from, record_of}
+use Rattle.cast_text.specs.Played.{Played, Taken, SettleBegun, SettleEnded, Left, tried, tried_by, round_left, joined, settled, left_by, played_from, played}
+use Rattle.cast_text.specs.Recorded.{lines_of, record_of}
+use Rattle.cast_text.specs.RecordLaws.{lines_of-append}
 use Rattle.cast_record.proofs.WritingLemmas.{record_text-append}
 use Rattle.cast_text.proofs.Sayings.{end_sound}
 use Rattle.cast_text.proofs.Tellings.{goes_none, goes_one, goes_then}
@@ -44,10 +46,10 @@ HaveEventRanges [] = Unit {0}
 HaveEventRanges (event ∷ events) = HasEventRange event × HaveEventRanges events
 
 abbrev LeftGrows : Config → List Line → Left → Type 0
-LeftGrows config xs left = Grown config left.past xs left.lines
+LeftGrows config xs left = Grown config left.past xs (lines_of left.took)
 
 tried_grows : (config : Config) (events : List Event) (past : History) (xs : List Line) (index : ℕ) (tries : List Event) → HaveEventRanges tries → index < 2 ^ 64 → Told config events past xs → LeftGrows config xs (tried config index past tries)
-unfolding tried after
+unfolding tried after lines_of
 tried_grows config events past xs index [] ranges fits t = grown_none config events past xs t
 tried_grows config events past xs index (event ∷ tries) ranges fits t =
     by_fault config past xs index event (tried config index (event ∷ past) tries) (fault config past event) refl (event_grows config events past xs index event ranges.0 fits t)
@@ -55,19 +57,19 @@ tried_grows config events past xs index (event ∷ tries) ranges fits t =
   where
     by_fault : (config : Config) (past : History) (xs : List Line) (index : ℕ) (event : Event) (rest : Left) (o : Option StepFault) → fault config past event ≡ o → Grown config (after_by (fault config past event) past event) xs (lines_for index event (reply config past event))
         → ((events' : List Event) (ys : List Line) → Told config events' (event ∷ past) ys → LeftGrows config ys rest)
-        → LeftGrows config xs (tried_by (fault config past event) (lines_for index event (reply config past event)) past rest)
+        → LeftGrows config xs (tried_by (fault config past event) (Taken index event (reply config past event)) past rest)
     by_fault config past xs index event rest None e grown goes_on =
         let one = subst (λ o. Grown config (after_by o past event) xs (lines_for index event (reply config past event))) e grown in
         let others = goes_on one.events one.lines one.told in
-        subst (λ o. LeftGrows config xs (tried_by o (lines_for index event (reply config past event)) past rest)) (sym e) (record {
+        subst (λ o. LeftGrows config xs (tried_by o (Taken index event (reply config past event)) past rest)) (sym e) (record {
           events = others.events;
           lines = others.lines;
-          goes = goes_then xs (lines_for index event (reply config past event)) one.lines rest.lines others.lines one.goes others.goes;
+          goes = goes_then xs (lines_for index event (reply config past event)) one.lines (lines_of rest.took) others.lines one.goes others.goes;
           told = others.told;
         })
     by_fault config past xs index event rest (Some refusal) e grown goes_on =
-        subst (λ o. LeftGrows config xs (tried_by o (lines_for index event (reply config past event)) past rest)) (sym e)
-        (subst (λ o. Grown config (after_by o past event) xs (lines_for index event (reply config past event))) e grown)
+        subst (λ o. LeftGrows config xs (tried_by o (Taken index event (reply config past event)) past rest)) (sym e)
+        (subst (Grown config past xs) (sym (append-nil (lines_for index event (reply config past event)))) (subst (λ o. Grown config (after_by o past event) xs (lines_for index event (reply config past event))) e grown))
 
 -- ---- rounds
 
@@ -85,25 +87,34 @@ round_grows : (config : Config) (events : List Event) (past : History) (xs : Lis
 unfolding plan
 round_grows config events past xs index fits t = tried_grows config events past xs index (plan config past) (plan_ranges past [] (due config past)) fits t
 
-settle_grows : (config : Config) (events : List Event) (past : History) (xs : List Line) (index : ℕ) → index < 2 ^ 64 → Told config events past xs → LeftGrows config xs (settled config index past)
-settle_grows config events past xs index fits t = go (round_left config index past) (round_left config index past).stopped (round_grows config events past xs index fits t)
+rounds_grow : (config : Config) (events : List Event) (past : History) (xs : List Line) (index : ℕ) → index < 2 ^ 64 → Told config events past xs → LeftGrows config xs (settled config index past)
+rounds_grow config events past xs index fits t = go (round_left config index past) (round_left config index past).stopped (round_grows config events past xs index fits t)
   where
-    go : (first : Left) (b : Bool) → LeftGrows config xs first → LeftGrows config xs (cond b first (let left : Left = record { lines = first.lines ++ (round_left config index first.past).lines; past = (round_left config index first.past).past; stopped = (round_left config index first.past).stopped } in left))
+    go : (first : Left) (b : Bool) → LeftGrows config xs first → LeftGrows config xs (cond b first (joined first (round_left config index first.past)))
     go first true one = one
     go first false one =
+        let next = round_left config index first.past in
         let other = round_grows config one.events first.past one.lines index fits one.told in
-        record {
+        subst (Grown config next.past xs) (sym (lines_of-append first.took next.took)) (record {
           events = other.events;
           lines = other.lines;
-          goes = goes_then xs first.lines one.lines (round_left config index first.past).lines other.lines one.goes other.goes;
+          goes = goes_then xs (lines_of first.took) one.lines (lines_of next.took) other.lines one.goes other.goes;
           told = other.told;
-        }
+        })
 
 -- ---- the events of a script
 
+-- where a settle begins and ends no line says
+settle_lines : (index : ℕ) (took : List Played) → lines_of (SettleBegun ∷ (took ++ SettleEnded index ∷ [])) ≡ lines_of took
+unfolding lines_of
+settle_lines index took = lines_of-append took (SettleEnded index ∷ []) ∙ append-nil (lines_of took)
+
 script_event_grows : (config : Config) (events : List Event) (past : History) (xs : List Line) (index : ℕ) (event : ScriptEvent) → HasScriptRange event → index < 2 ^ 64 → Told config events past xs → LeftGrows config xs (left_by config index past event)
-script_event_grows config events past xs index (Core event) range fits t = event_grows config events past xs index event range fits t
-script_event_grows config events past xs index Settle range fits t = settle_grows config events past xs index fits t
+unfolding lines_of
+script_event_grows config events past xs index (Core event) range fits t =
+    subst (Grown config (after config past event) xs) (sym (append-nil (lines_for index event (reply config past event)))) (event_grows config events past xs index event range fits t)
+script_event_grows config events past xs index Settle range fits t =
+    subst (Grown config (settled config index past).past xs) (sym (settle_lines index (settled config index past).took)) (rounds_grow config events past xs index fits t)
 
 at_end : (xs : List Line) → verdict_of (End ∷ xs) [] ≡ Good
 unfolding verdict_after
@@ -111,18 +122,20 @@ at_end xs = refl
 
 -- all of them, and the end
 lines_good : (config : Config) (events : List Event) (past : History) (xs : List Line) (index : ℕ) (list : List ScriptEvent) → AllByRecursion HasScriptRange list → index + length list < 2 ^ 64 → Told config events past xs
-    → verdict_of xs (record_text (lines_from config index past list ++ End ∷ [])) ≡ Good
-unfolding lines_from
+    → verdict_of xs (record_text (lines_of (played_from config index past list) ++ End ∷ [])) ≡ Good
+unfolding played_from lines_of
 lines_good config events past xs index [] ranges fits t = ended xs (end_sound config (stream past) (counts config past) (is_live past) (decided (replies config events)) xs t.says)
   where
     ended : (xs : List Line) → said.broken xs End ≡ None → verdict_of xs (record_text (End ∷ [])) ≡ Good
     ended xs sound = ap (verdict_of xs) (sym (append-nil (record_text (End ∷ [])))) ∙ (goes_one xs End tt sound).goes [] ∙ at_end xs
 lines_good config events past xs index (event ∷ list) ranges fits t =
     let left = left_by config index past event in
+    let rest = lines_of (played_from config (index + 1) left.past list) ++ End ∷ [] in
     let one = script_event_grows config events past xs index event ranges.0 (omega arith) t in
-    ap (λ ls. verdict_of xs (record_text ls)) (append_assoc left.lines (lines_from config (index + 1) left.past list) (End ∷ []))
-    ∙ ap (verdict_of xs) (record_text-append left.lines (lines_from config (index + 1) left.past list ++ End ∷ []))
-    ∙ one.goes.goes (record_text (lines_from config (index + 1) left.past list ++ End ∷ []))
+    ap (λ ls. verdict_of xs (record_text (ls ++ End ∷ []))) (lines_of-append left.took (played_from config (index + 1) left.past list))
+    ∙ ap (λ ls. verdict_of xs (record_text ls)) (append_assoc (lines_of left.took) (lines_of (played_from config (index + 1) left.past list)) (End ∷ []))
+    ∙ ap (verdict_of xs) (record_text-append (lines_of left.took) rest)
+    ∙ one.goes.goes (record_text rest)
     ∙ lines_good config one.events left.past one.lines (index + 1) list ranges.1 (omega arith) one.told
 
 -- ---- the head
@@ -191,6 +204,6 @@ pub record_is_good : (script : Script) → HaveScriptRanges script.events → le
 unfolding verdict
 record_is_good script ranges fits =
     let head = head_is script.config in
-    ap verdict (record_text-append (head_of script.config ∷ []) (lines_from script.config 0 [] script.events ++ End ∷ []))
-    ∙ (goes_one [] (head_of script.config) head.within head.sound).goes (record_text (lines_from script.config 0 [] script.events ++ End ∷ []))
+    ap verdict (record_text-append (head_of script.config ∷ []) (lines_of (played script) ++ End ∷ []))
+    ∙ (goes_one [] (head_of script.config) head.within head.sound).goes (record_text (lines_of (played script) ++ End ∷ []))
     ∙ lines_good script.config [] [] (head_of script.config ∷ []) 0 script.events (recursion_from_All HasScriptRange script.events ranges) (omega arith) head.told

@@ -4,10 +4,9 @@ pub mod Whole
 pub mod JudgingLemmas
 pub mod MigratingLemmas
 pub mod DrawingLemmas
-pub mod Picturing
 pub mod Sayings
 pub mod Tellings
 pub mod Goodness
 pub mod Records
 pub mod GoodRecords
-pub mod Rounds
+pub mod Playing

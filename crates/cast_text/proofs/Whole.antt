@@ -8,9 +8,8 @@ use Rattle.cast_script.specs.declared.script.Script.{Script}
 use Rattle.cast_script.specs.Script.{Reads}
 use Rattle.cast_text.specs.declared.fault.TextFault.{TextFault}
 use Rattle.cast_text.specs.declared.fault.TextFault.TheVariants as faults
-use Rattle.cast_text.specs.Rec.{record_of}
-use Rattle.cast_text.specs.Recorded.{Writes}
-use Rattle.cast_text.specs.Text.{IsScriptIn, input_limit, WritesRecord, Fails}
+use Rattle.cast_text.specs.Recorded.{record_of}
+use Rattle.cast_text.specs.Text.{IsScriptIn, input_limit, WritesRecord, Fails, Writes}
 
 -- the script that was read is the one in the input
 pub script_in : (input : Option (List ℕ)) (bytes : List ℕ) (script : Script) → IfSome input (λ whole. bytes ≡ whole) → length bytes ≤ input_limit → Reads (Ok script) bytes → IsScriptIn input script

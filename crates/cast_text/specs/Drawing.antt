@@ -1,17 +1,11 @@
 -- The picture of a script's run, as it is written.
-use Rattle.std.specs.Prelude.{◌≡◌, ◌<◌, ◌≤◌, List, ℕ, length, Bool, true, not, Option, Result, Ok, Err, IfSome}
+use Rattle.std.specs.Prelude.{◌≡◌, ◌<◌, ◌≤◌, List, ℕ, length, Bool, true, Option, Err, IfSome}
 use Rattle.std.specs.Io.KnownBytes.{Appends, Keeps}
-use Rattle.cast_message.specs.declared.config.Config.{Config}
-use Rattle.cast_model.specs.History.{History}
-use Rattle.cast_world.specs.Group.{State, Stands}
-use Rattle.cast_draw.specs.declared.picture.Picture.{Picture}
 use Rattle.cast_draw.specs.declared.window.Window.{Window}
-use Rattle.cast_draw.specs.Sheet.{Sheet, sheet_of}
 use Rattle.cast_script.specs.declared.script.Script.{Script}
 use Rattle.cast_script.specs.Script.{Reads}
 use Rattle.cast_text.specs.declared.fault.TextFault.{TextFault}
 use Rattle.cast_text.specs.declared.fault.TextFault.TheVariants as faults
-use Rattle.cast_text.specs.Rec.{Left}
 use Rattle.cast_text.specs.Pictured.{picture_of}
 use Rattle.cast_text.specs.Text.{input_limit, IsScriptIn, WroteFront}
 
@@ -27,16 +21,6 @@ pub record DrawingBreaksOff (window : Window) (input old new : Option (List ℕ)
   pub read : IsScriptIn input script
   pub broken : failed ≡ true
   pub front : WroteFront old new (picture_of script window)
-
--- a step of drawing that did not fail leaves these
-abbrev pub Draws : Config → History → Sheet → State → Picture → Result (Unit {0}) TextFault → Type 0
-Draws config past sheet world picture (Ok done) = Stands config past world × (sheet_of picture ≡ sheet)
-Draws config past sheet world picture (Err fault) = Unit {0}
-
--- the same of some events, up to the first that is refused: whether none was
-abbrev pub DrawsTried : Config → Left → Sheet → State → Picture → Result Bool TextFault → Type 0
-DrawsTried config left sheet world picture (Ok all) = (all ≡ not left.stopped) × Stands config left.past world × (sheet_of picture ≡ sheet)
-DrawsTried config left sheet world picture (Err fault) = Unit {0}
 
 -- Each fault has its cause, and nothing was written but where the writing broke off.
 abbrev pub DrawingFails : Window → Option (List ℕ) → Bool → Option (List ℕ) → Option (List ℕ) → Bool → TextFault → Type 0

@@ -1,4 +1,4 @@
-pub mod Rec
+pub mod Played
 pub mod Text
 pub mod Recorded
 pub mod Judging
@@ -6,3 +6,5 @@ pub mod Migrating
 pub mod Ranges
 pub mod Pictured
 pub mod Drawing
+pub mod PictureLaws
+pub mod RecordLaws

@@ -1,5 +1,5 @@
 -- The bytes of a script, and those of its record.
-use Rattle.std.specs.Prelude.{◌≡◌, ℕ, ◌<◌, ◌≤◌, ◌++◌, ◌⊎◌, List, length, Bool, true, false, Option, Ok, Err, IfSome}
+use Rattle.std.specs.Prelude.{◌≡◌, ℕ, ◌<◌, ◌≤◌, ◌++◌, ◌⊎◌, List, length, Bool, true, false, Option, Result, Ok, Err, IfSome}
 use Rattle.std.specs.Io.KnownBytes.{Appends, Keeps}
 use Rattle.cast_record.specs.declared.verdict.Verdict.TheVariants.{Good}
 use Rattle.cast_record.specs.Text.{record_text}
@@ -9,9 +9,10 @@ use Rattle.cast_script.specs.declared.live_fault.LiveFault.TheVariants as lives
 use Rattle.cast_script.specs.declared.script.ScriptFault.TheVariants as scripts
 use Rattle.cast_script.specs.declared.script.Script.{Script}
 use Rattle.cast_script.specs.Script.{Reads}
+use Rattle.cast_words.specs.Written.{WroteAll}
 use Rattle.cast_text.specs.declared.fault.TextFault.{TextFault}
 use Rattle.cast_text.specs.declared.fault.TextFault.TheVariants as faults
-use Rattle.cast_text.specs.Rec.{record_of}
+use Rattle.cast_text.specs.Recorded.{record_of}
 
 -- the most bytes of an input
 abbrev pub input_limit : ℕ
@@ -34,6 +35,11 @@ abbrev pub BreaksOff : TextFault → Option (List ℕ) → Option (List ℕ) →
 BreaksOff faults.Write old new failed text = (failed ≡ true) × WroteFront old new text
 BreaksOff faults.Memory old new failed text = (failed ≡ false) × WroteFront old new text
 BreaksOff _ old new failed text = ⊥
+
+-- a text was written, or broke off
+abbrev pub Writes : Option (List ℕ) → Option (List ℕ) → Bool → Result (Unit {0}) TextFault → List ℕ → Type 0
+Writes old new failed (Ok done) text = WroteAll old new failed text
+Writes old new failed (Err broken) text = BreaksOff broken old new failed text
 
 -- the script is what the bytes say, where they are known
 abbrev pub IsScriptIn : Option (List ℕ) → Script → Type 0

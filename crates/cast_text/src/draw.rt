@@ -1,21 +1,18 @@
 //! Drawing the run of a script, as the world takes its events.
 ghost use Rattle.std.specs.Prelude.{◌≡◌, false, IfErr, IfOk, OnOk};
-ghost use Rattle.cast_message.specs.declared.config.Config.{Config as Settings};
-ghost use Rattle.cast_model.specs.History.{History};
-ghost use Rattle.cast_world.specs.Group.{Stands};
 ghost use Rattle.cast_draw.specs.Sheet.{sheet_of};
-ghost use Rattle.cast_text.specs.Rec.{left_by, one_left, round_left, settled, tried};
-ghost use Rattle.cast_text.specs.Pictured.{drawn_with, event_drawn, round_drawn, rounds_drawn, sheet_of_script, tried_drawn};
-ghost use Rattle.cast_text.specs.Drawing.{Draws, DrawsTried, WritesDrawing, DrawingFails};
+ghost use Rattle.cast_text.specs.Pictured.{sheet_of_script};
+ghost use Rattle.cast_text.specs.Drawing.{WritesDrawing, DrawingFails};
 ghost use Rattle.cast_text.specs.Text.{IsTold};
 
 use crate::fault::TextFault;
+use crate::play::{Observer, play};
 use crate::text::read_script_text;
 use cast_draw::{DrawFault, Picture, Window, write_drawing};
-use cast_message::Event;
-use cast_script::{Script, ScriptEvent};
+use cast_message::{Event, Reply};
+use cast_script::Script;
 use cast_words::Meter;
-use cast_world::{World, is_want_of_memory};
+use cast_world::World;
 use std::alloc::Global;
 use std::io::{Read, Write};
 
@@ -65,107 +62,40 @@ fn draw_script(alloc: Global, script: &Script, window: Window) -> Result<Picture
 {
     let mut world = World::new(alloc, script.config.copy())?;
     let mut picture = Picture::new(alloc, &script.config, window)?;
-    for (index, event) in script.events.as_slice().iter().enumerate() {
-        draw_script_event(&mut world, index as u64, event, &mut picture)?;
-    }
+    play(&mut world, script, &mut picture)?;
     Ok(picture)
 }
 
-fn draw_script_event(
-    world: &mut World,
-    index: u64,
-    event: &ScriptEvent,
-    picture: &mut Picture,
-) -> Result<(), TextFault>
-    ensures drawn { (config : Settings) (past : History) → Stands config past world.old →
-        Draws config (left_by config index past event.now).past
-        (drawn_with config index (sheet_of picture.old) past event.now) world.new picture.new
-        result }
-    ensures err { IfErr result (λ fault. fault ≡ TextFault.Memory) }
-{
-    match event {
-        ScriptEvent::Core(event) => {
-            let _accepted = draw_event(world, index, event, picture)?;
-            Ok(())
-        }
-        ScriptEvent::Settle => {
-            picture.begin_settle();
-            draw_rounds(world, index, picture)?;
-            picture.end_settle(index)?;
-            Ok(())
-        }
-    }
-}
+// What is taken is drawn.
+impl Observer for Picture {
+    ghost use Rattle.cast_text.specs.Pictured.{Shows};
+    ghost use Rattle.cast_text.specs.PictureLaws.{observes};
 
-// Draws two rounds, or one of which an event was refused.
-fn draw_rounds(world: &mut World, index: u64, picture: &mut Picture) -> Result<(), TextFault>
-    ensures drawn { (config : Settings) (past : History) → Stands config past world.old →
-        Draws config (settled config index past).past
-        (rounds_drawn config index (sheet_of picture.old) past) world.new picture.new result }
-    ensures err { IfErr result (λ fault. fault ≡ TextFault.Memory) }
-{
-    if !draw_round(world, index, picture)? {
-        return Ok(());
-    }
-    let _accepted = draw_round(world, index, picture)?;
-    Ok(())
-}
+    ghost saw = { Shows };
 
-// Draws one round, slot by slot of those that are due when it begins. Answers whether no event was refused.
-fn draw_round(world: &mut World, index: u64, picture: &mut Picture) -> Result<bool, TextFault>
-    ensures drawn { (config : Settings) (past : History) → Stands config past world.old →
-        DrawsTried config (round_left config index past)
-        (round_drawn config index (sheet_of picture.old) past) world.new picture.new result }
-    ensures err { IfErr result (λ fault. fault ≡ TextFault.Memory) }
-{
-    let mut due = world.due()?;
-    'slots: while let Some(slot) = due.pop_front() {
-        let events = world.events_for(slot);
-        if !draw_events(world, index, &events, picture)? {
-            return Ok(false);
-        }
-    }
-    Ok(true)
-}
+    ghost ready = { λ _. Unit {0} };
 
-// Draws these events up to the first that is refused. Answers whether none was refused.
-fn draw_events(
-    world: &mut World,
-    index: u64,
-    events: &[Event],
-    picture: &mut Picture,
-) -> Result<bool, TextFault>
-    ensures drawn { (config : Settings) (past : History) → Stands config past world.old →
-        DrawsTried config (tried config index past events.now)
-        (tried_drawn config index (sheet_of picture.old) past events.now) world.new picture.new
-        result }
-    ensures err { IfErr result (λ fault. fault ≡ TextFault.Memory) }
-{
-    for event in events {
-        if !draw_event(world, index, event, picture)? {
-            return Ok(false);
-        }
+    #[tactic(auto, unfolding(crate::specs::Pictured::drawn))]
+    fn see_event(&mut self, index: u64, event: &Event, reply: &Reply) -> Result<(), TextFault> {
+        self.take(index, event, reply)?;
+        Ok(())
     }
-    Ok(true)
-}
 
-// Takes one event, and draws it. Answers whether it was accepted.
-fn draw_event(
-    world: &mut World,
-    index: u64,
-    event: &Event,
-    picture: &mut Picture,
-) -> Result<bool, TextFault>
-    ensures drawn { (config : Settings) (past : History) → Stands config past world.old →
-        DrawsTried config (one_left config index past event.now)
-        (event_drawn config index (sheet_of picture.old) past event.now) world.new picture.new
-        result }
-    ensures err { IfErr result (λ fault. fault ≡ TextFault.Memory) }
-{
-    let reply = world.step(event);
-    if is_want_of_memory(&reply) {
-        return Err(TextFault::Memory);
+    #[tactic(auto, unfolding(crate::specs::Pictured::drawn))]
+    fn see_settle_begin(&mut self) {
+        self.begin_settle();
     }
-    picture.take(index, event, &reply)?;
-    Ok(reply.is_ok())
+
+    #[tactic(auto, unfolding(crate::specs::Pictured::drawn))]
+    fn see_settle_end(&mut self, index: u64) -> Result<(), TextFault> {
+        self.end_settle(index)?;
+        Ok(())
+    }
+
+    // (a frame that is made or arrives is drawn)
+    fn overlooks_silence(&self) -> bool {
+        false
+    }
+
+    ghost laws = { observes };
 }

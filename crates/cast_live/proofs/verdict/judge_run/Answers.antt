@@ -1,6 +1,5 @@
 use Rattle.std.proofs.Common.{◌++◌, ◌∷◌, [], ◌+◌, ◌∙◌, ap, sym, append-nil, drop}
 use Rattle.cast_record.specs.declared.line.Line.TheVariants.{End}
-use Rattle.cast_record.specs.Lines.{lines_for}
 use Rattle.cast_record.specs.Text.{record_text}
 use Rattle.cast_live.specs.Replayed.{lines_told, run_record}
 use Rattle.cast_record.proofs.WritingLemmas.{record_text-append}

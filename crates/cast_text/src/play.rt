@@ -1,0 +1,196 @@
+//! Playing a script: its events are taken one by one, of a settle those of two rounds, and an observer is shown each.
+ghost use Rattle.std.specs.Prelude.{◌≡◌, ℕ, List, [], ◌∷◌, ◌++◌, Result, Ok, Err, OnOk, IsTrue};
+ghost use Rattle.cast_message.specs.declared.config.Config.{Config as Settings};
+ghost use Rattle.cast_message.specs.declared.event.Event.{Event as AnyEvent};
+ghost use Rattle.cast_message.specs.declared.event.Answer.{Answer};
+ghost use Rattle.cast_model.specs.History.{History};
+ghost use Rattle.cast_world.specs.Group.{Stands};
+ghost use Rattle.cast_world.specs.Moves.{IsSilent};
+ghost use Rattle.cast_text.specs.declared.fault.TextFault.{TextFault as AnyFault};
+ghost use Rattle.cast_text.specs.declared.fault.TextFault.TheVariants.{Memory};
+ghost use Rattle.cast_text.specs.Played.{Played, Taken, SettleBegun, SettleEnded, tried, one_left, round_left, settled, left_by, played, played_from, Observes, Plays, PlaysAll, ShowsReply};
+
+use crate::fault::TextFault;
+use cast_message::{Event, Reply};
+use cast_script::{Script, ScriptEvent};
+use cast_world::{World, is_want_of_memory};
+
+/// Is shown what is taken as a script is played. To contracts an observer has seen a list of it (`saw`); what it sees after
+/// that comes to the end of the list (`laws`).
+pub trait Observer {
+    /// What calls came to, from one state to another, that were shown this.
+    ghost saw: { Self → Self → Result (Unit {0}) AnyFault → List Played → Type 0 };
+
+    /// It can be shown more.
+    ghost ready: { Self → Type 0 };
+
+    /// An event was taken, and this is the reply to it.
+    fn see_event(&mut self, index: u64, event: &Event, reply: &Reply) -> Result<(), TextFault>
+        requires { ready self.old }
+        ensures ready { OnOk result (ready self.new) }
+        ensures saw { saw self.old self.new result (Taken index event.now reply.now ∷ []) };
+
+    /// The events from here on are those of a settle.
+    fn see_settle_begin(&mut self)
+        requires { ready self.old }
+        ensures ready { ready self.new }
+        ensures saw { saw self.old self.new (Ok tt) (SettleBegun ∷ []) };
+
+    /// The settle is over, which has this place in the script.
+    fn see_settle_end(&mut self, index: u64) -> Result<(), TextFault>
+        requires { ready self.old }
+        ensures ready { OnOk result (ready self.new) }
+        ensures saw { saw self.old self.new result (SettleEnded index ∷ []) };
+
+    /// Whether it need not be shown an event that is accepted, and at which nothing is ordered, delivered or decided.
+    fn overlooks_silence(&self) -> bool
+        ensures { IsTrue result → (index : ℕ) (event : AnyEvent) (answer : Answer) → ready self.now
+            → IsSilent (Ok answer) → saw self.now self.now (Ok tt) (Taken index event (Ok answer) ∷ []) };
+
+    ghost laws: { Observes saw ready };
+}
+
+/// Plays the events of a script in a new world of its group. Where memory is wanting, or the observer fails, the rest is not
+/// taken.
+pub fn play<O: Observer>(
+    world: &mut World,
+    script: &Script,
+    observer: &mut O,
+) -> Result<(), TextFault>
+    requires ready { O.ready observer.old }
+    requires world { Stands script.now.config [] world.old }
+    ensures ready { OnOk result (O.ready observer.new) }
+    ensures saw { O.saw observer.old observer.new result (played script.now) }
+{
+    for (index, event) in script.events.as_slice().iter().enumerate() {
+        play_script_event(world, index as u64, event, observer)?;
+    }
+    Ok(())
+}
+
+fn play_script_event<O: Observer>(
+    world: &mut World,
+    index: u64,
+    event: &ScriptEvent,
+    observer: &mut O,
+) -> Result<(), TextFault>
+    requires { O.ready observer.old }
+    ensures ready { OnOk result (O.ready observer.new) }
+    ensures plays { (config : Settings) (past : History) → Stands config past world.old →
+        PlaysAll O.saw config (left_by config index past event.now) world.new observer.old
+        observer.new result }
+{
+    match event {
+        ScriptEvent::Core(event) => {
+            let _accepted = play_event(world, index, event, observer)?;
+            Ok(())
+        }
+        ScriptEvent::Settle => {
+            observer.see_settle_begin();
+            play_rounds(world, index, observer)?;
+            observer.see_settle_end(index)
+        }
+    }
+}
+
+// Plays two rounds, or one of which an event was refused.
+fn play_rounds<O: Observer>(
+    world: &mut World,
+    index: u64,
+    observer: &mut O,
+) -> Result<(), TextFault>
+    requires { O.ready observer.old }
+    ensures ready { OnOk result (O.ready observer.new) }
+    ensures plays { (config : Settings) (past : History) → Stands config past world.old →
+        PlaysAll O.saw config (settled config index past) world.new observer.old observer.new
+        result }
+{
+    if play_round(world, index, observer)? {
+        let _accepted = play_round(world, index, observer)?;
+    }
+    Ok(())
+}
+
+// Plays one round, slot by slot of those that are due when it begins. Answers whether no event was refused.
+fn play_round<O: Observer>(
+    world: &mut World,
+    index: u64,
+    observer: &mut O,
+) -> Result<bool, TextFault>
+    requires { O.ready observer.old }
+    ensures ready { OnOk result (O.ready observer.new) }
+    ensures plays { (config : Settings) (past : History) → Stands config past world.old →
+        Plays O.saw config (round_left config index past) world.new observer.old observer.new
+        result }
+{
+    let mut due = world.due()?;
+    'slots: while let Some(slot) = due.pop_front() {
+        let events = world.events_for(slot);
+        if !play_events(world, index, &events, observer)? {
+            return Ok(false);
+        }
+    }
+    Ok(true)
+}
+
+// Plays these events up to the first that is refused. Answers whether none was refused.
+fn play_events<O: Observer>(
+    world: &mut World,
+    index: u64,
+    events: &[Event],
+    observer: &mut O,
+) -> Result<bool, TextFault>
+    requires { O.ready observer.old }
+    ensures ready { OnOk result (O.ready observer.new) }
+    ensures plays { (config : Settings) (past : History) → Stands config past world.old →
+        Plays O.saw config (tried config index past events.now) world.new observer.old
+        observer.new result }
+{
+    for event in events {
+        if !play_event(world, index, event, observer)? {
+            return Ok(false);
+        }
+    }
+    Ok(true)
+}
+
+// Takes one event. Answers whether it was accepted.
+fn play_event<O: Observer>(
+    world: &mut World,
+    index: u64,
+    event: &Event,
+    observer: &mut O,
+) -> Result<bool, TextFault>
+    requires { O.ready observer.old }
+    ensures ready { OnOk result (O.ready observer.new) }
+    ensures plays { (config : Settings) (past : History) → Stands config past world.old →
+        Plays O.saw config (one_left config index past event.now) world.new observer.old
+        observer.new result }
+{
+    // (most events are silent)
+    if observer.overlooks_silence() {
+        if world.step_if_silent(event) {
+            return Ok(true);
+        }
+    }
+    // (the reply is read where it lies, since nothing here keeps it)
+    show_reply(index, event, &world.step(event), observer)
+}
+
+// Shows the reply to an event. Answers whether it was accepted.
+fn show_reply<O: Observer>(
+    index: u64,
+    event: &Event,
+    reply: &Reply,
+    observer: &mut O,
+) -> Result<bool, TextFault>
+    requires { O.ready observer.old }
+    ensures ready { OnOk result (O.ready observer.new) }
+    ensures shows { ShowsReply O.saw index event.now reply.now observer.old observer.new result }
+{
+    if is_want_of_memory(reply) {
+        return Err(TextFault::Memory);
+    }
+    observer.see_event(index, event, reply)?;
+    Ok(reply.is_ok())
+}
