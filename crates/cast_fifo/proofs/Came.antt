@@ -9,7 +9,7 @@ use Rattle.std.proofs.lemmas.Bool.Decides.{nat_tests}
 use Rattle.std.proofs.lemmas.List.Elements.{All-tail, All-same}
 use Rattle.std.proofs.lemmas.Map.Views.{All-keys-insert_entry, All-map-remove_entry}
 use Rattle.cast_message.specs.declared.message.Item.{Item}
-use Rattle.cast_fifo.specs.declared.queue.Waiting.{Waiting}
+use Rattle.cast_fifo.specs.declared.waiting.Waiting.{Waiting}
 use Rattle.cast_fifo.specs.Held.{Held, held_of, waiting_at, came, marked, with_item, without_item, with_mark, run_from, rest_from, known_after, offered_after}
 use Rattle.cast_fifo.proofs.Entries.{Entries, keys_of-marked}
 use Rattle.cast_fifo.proofs.Turns.{found_inserted}

@@ -11,7 +11,7 @@ use Rattle.std.proofs.lemmas.Map.Views.{All-keys-insert_entry}
 use Rattle.std.proofs.lemmas.Bool.Decides.{nat_tests, leb_tells}
 use Rattle.std.proofs.lemmas.List.Elements.{All-head, All-tail, All-weaker, All-same}
 use Rattle.cast_message.specs.declared.message.Item.{Item}
-use Rattle.cast_fifo.specs.declared.queue.Waiting.{Waiting}
+use Rattle.cast_fifo.specs.declared.waiting.Waiting.{Waiting}
 use Rattle.cast_fifo.specs.Held.{Held, waiting_at, marked, with_mark, run_from, rest_from}
 use Rattle.cast_fifo.specs.Windows.{entries_from, entries_of, StartsUnmarked, IsWindow}
 

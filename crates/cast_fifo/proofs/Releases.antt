@@ -15,7 +15,7 @@ use Rattle.std.proofs.lemmas.Map.Views.{All-after_first}
 use Rattle.cast_message.specs.declared.message.Item.{Item}
 use Rattle.cast_message.specs.declared.message.Message.{Message}
 use Rattle.cast_model.specs.History.{numbered}
-use Rattle.cast_fifo.specs.declared.queue.Waiting.{Waiting}
+use Rattle.cast_fifo.specs.declared.waiting.Waiting.{Waiting}
 use Rattle.cast_fifo.specs.Held.{Held, waiting_at, marked, with_mark, item_due, run_from, advanced, known_items, known_after}
 use Rattle.cast_fifo.specs.Windows.{entries_of, due_front, IsWindow}
 use Rattle.cast_fifo.proofs.Entries.{Places, Entries, seen, with_known, seen_marked_near, within_ring, no_run, past_ring, look_up, or_else}

@@ -11,7 +11,7 @@ use Rattle.std.proofs.Math.ListN.{length-set}
 use Rattle.std.proofs.lemmas.Map.Views.{All-map-remove_entry}
 use Rattle.std.proofs.lemmas.List.Elements.{All-same}
 use Rattle.cast_message.specs.declared.message.Item.{Item}
-use Rattle.cast_fifo.specs.declared.queue.Waiting.{Waiting}
+use Rattle.cast_fifo.specs.declared.waiting.Waiting.{Waiting}
 use Rattle.cast_fifo.specs.Held.{Held, held_of, waiting_at, came, with_item, without_item}
 use Rattle.cast_fifo.specs.Windows.{entries_of, StartsUnmarked, IsWindow}
 use Rattle.cast_fifo.proofs.Entries.{Places, Entries, seen, past, none_at, below_ring, near_at, past_ring, at_true, at_false}

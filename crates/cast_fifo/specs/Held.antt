@@ -19,7 +19,7 @@ use Rattle.std.specs.Map.{lookup, keys_of, set_value, remove_entry}
 use Rattle.std.specs.BTreeMap.{insert_entry, is_at}
 use Rattle.cast_message.specs.declared.message.Item.{Item}
 use Rattle.cast_message.specs.declared.message.Item.TheVariants.{Data, Propose, Close}
-use Rattle.cast_fifo.specs.declared.queue.Waiting.{Waiting}
+use Rattle.cast_fifo.specs.declared.waiting.Waiting.{Waiting}
 
 pub record Held : Type 0 where
   pub next : ℕ

@@ -7,7 +7,10 @@ ghost use Rattle.std.specs.Prelude.{[], nat_lt, IsTrue, ◌≡◌, ◌+◌, ◌<
 ghost use Rattle.cast_fifo.specs.Held.{nothing_held, held_of, came, without_item, known_items, known_after, IsNear};
 ghost use Rattle.cast_fifo.specs.Calls.{Hold, Known, Offer, held_after, answer, GivesInOrder};
 
+mod far;
 mod queue;
+mod ring;
+mod waiting;
 
 use cast_message::{Item, Message, NodeId};
 use queue::Queue;

@@ -1,31 +1,23 @@
-//! What is held back of one sender: a ring of places for the numbers from the next on, and an ordered map for those
-//! farther away.
-ghost use Rattle.std.specs.Prelude.{◌≡◌, ◌≢◌, ℕ, ◌+◌, ◌-◌, ◌*◌, ◌<◌, ◌≤◌, ◌^◌, ◌∷◌, ◌++◌, ◌||◌, length, [], replicate, drop, true, false, None, Some, is_some, IsSome, IfOk, OnOk, OnErr, option_map, vec_len, vec_capacity, ◌⊎◌, nat_eq, nat_lt, IsTrue, if◌then◌else◌};
+//! What is held back of one sender: a ring of places for the numbers from the next on (`ring`), and an ordered map for those
+//! farther away (`far`).
+ghost use Rattle.std.specs.Prelude.{◌≡◌, ℕ, ◌+◌, ◌-◌, ◌*◌, ◌<◌, ◌≤◌, ◌^◌, ◌∷◌, ◌++◌, ◌||◌, length, [], drop, true, false, None, Some, is_some, IsSome, IfOk, OnOk, OnErr, vec_len, vec_capacity, ◌⊎◌, nat_eq, nat_lt, IsTrue};
 ghost use Rattle.std.specs.Option.{option_copied};
-ghost use Rattle.std.specs.List.{All, list_any};
-ghost use Rattle.std.specs.Map.{keys_of, set_value, remove_entry};
-ghost use Rattle.std.specs.Ordering.{nat_cmp};
-ghost use Rattle.std.specs.BTreeMap.{insert_entry, is_at, IsOrdered};
-ghost use Rattle.std.specs.VecDeque.{deque_capacity, deque_len};
+ghost use Rattle.std.specs.List.{All};
+ghost use Rattle.std.specs.Map.{keys_of};
+ghost use Rattle.std.specs.VecDeque.{deque_capacity};
 ghost use Rattle.cast_model.specs.History.{numbered};
-ghost use Rattle.cast_fifo.specs.Held.{nothing_held, waiting_at, came, marked, with_item, with_waiting, with_mark, run_from, rest_from, is_close, known_items, known_after, offered_items, offered_after, turned_items, turned_after, advanced, without_item, item_due, IsNear};
-ghost use Rattle.cast_fifo.specs.Windows.{AllFrom, held_in, entries_from, entries_of, is_marked, marked_front, due_front, front_item, HasFront, next_item, next_far, HasNext, IsWindow};
+ghost use Rattle.cast_fifo.specs.Held.{nothing_held, waiting_at, came, marked, with_item, with_waiting, with_mark, run_from, is_close, known_items, known_after, offered_items, offered_after, turned_items, turned_after, advanced, without_item, item_due, IsNear};
+ghost use Rattle.cast_fifo.specs.Windows.{AllFrom, held_in, entries_of, front_item, HasFront, next_item, next_far, HasNext, IsWindow};
 
+use crate::far::{clear_far, mark_far, ready_in_map, take_first};
+use crate::ring::{
+    REACH, add_places, clear_place, make_places, mark_place, ready_in_ring, take_marked,
+};
+use crate::waiting::Waiting;
 use cast_message::{Item, Message, NodeId};
 use std::alloc::{AllocError, Global};
 use std::collections::{BTreeMap, VecDeque};
 use std::marker::Model;
-
-// How many places from the next number on the ring may have.
-const REACH: u64 = 4096;
-
-/// What is kept of a message whose turn has not come.
-#[derive(Debug, Drop)]
-pub struct Waiting {
-    pub item: Item,
-    /// It was marked, so that it goes as soon as its turn comes.
-    pub known: bool,
-}
 
 /// The messages of one sender that wait for their turn.
 #[derive(Debug, Drop)]
@@ -369,19 +361,6 @@ fn release_front(
     }
 }
 
-// The first place goes, where it is marked, and its item.
-fn take_marked(ring: &mut VecDeque<Option<Waiting>>) -> Option<Item>
-    ensures item { result ≡ due_front ring.old.items }
-    ensures ring { ring.new.items
-        ≡ (if is_some result then drop 1 ring.old.items else ring.old.items) }
-{
-    if !is_marked(ring.front()?) {
-        return None;
-    }
-    let waiting = ring.pop_front()??;
-    Some(waiting.item)
-}
-
 // How many numbers have their turn right after the next one.
 fn ready_after(ring: &VecDeque<Option<Waiting>>, far: &BTreeMap<u64, Waiting>, next: u64) -> usize
     requires number { next + 1 < 2 ^ 64 }
@@ -397,43 +376,6 @@ fn ready_after(ring: &VecDeque<Option<Waiting>>, far: &BTreeMap<u64, Waiting>, n
         return near;
     }
     near + ready_in_map(far, next + 1 + near as u64)
-}
-
-// How many places are marked right behind the first.
-fn ready_in_ring(ring: &VecDeque<Option<Waiting>>) -> usize
-    ensures { result ≡ marked_front (drop 1 ring.now.items) }
-{
-    for index in 1..ring.len() {
-        if !is_marked(&ring[index]) {
-            return index - 1;
-        }
-    }
-    ring.len().saturating_sub(1)
-}
-
-fn is_marked(place: &Option<Waiting>) -> bool
-    ensures { result ≡ is_marked place.now }
-{
-    match place {
-        Some(waiting) => waiting.known,
-        None => false,
-    }
-}
-
-// How many entries are marked at a number and right after it.
-fn ready_in_map(far: &BTreeMap<u64, Waiting>, first: u64) -> usize
-    ensures value { result ≡ length (run_from first far.now.entries) }
-    ensures small { result < 2 ^ 63 }
-{
-    let _most = far.len();
-    let mut count = 0;
-    for (number, waiting) in far {
-        if number.checked_sub(first) != Some(count as u64) || !waiting.known {
-            return count;
-        }
-        count += 1;
-    }
-    count
 }
 
 // Room for all places of the ring, where numbers wait that it may reach in time.
@@ -484,18 +426,6 @@ fn take_next(ring: &mut VecDeque<Option<Waiting>>, far: &mut BTreeMap<u64, Waiti
     waiting.item
 }
 
-// The first entry goes.
-fn take_first(far: &mut BTreeMap<u64, Waiting>) -> (u64, Waiting)
-    requires { 0 < length far.old.entries }
-    ensures first { far.old.entries ≡ result ∷ far.new.entries }
-    ensures above { All (λ number. result.0 < number) (keys_of far.new.entries) }
-{
-    match far.pop_first() {
-        Some(entry) => entry,
-        None => unreachable!(),
-    }
-}
-
 // Gives places to the numbers that the ring reaches by now.
 fn gather(next: u64, ring: &mut VecDeque<Option<Waiting>>, far: &mut BTreeMap<u64, Waiting>)
     requires short { length ring.old.items ≤ 4096 }
@@ -519,61 +449,5 @@ fn gather(next: u64, ring: &mut VecDeque<Option<Waiting>>, far: &mut BTreeMap<u6
         add_places(ring, gap);
         let (_, waiting) = take_first(far);
         ring.push_back_reserved(Some(waiting));
-    }
-}
-
-// Marks what waits at a place.
-fn mark_place(place: &mut Option<Waiting>)
-    ensures { place.new ≡ option_map (λ w. record { item = w.item; known = true }) place.old }
-{
-    if let Some(waiting) = place {
-        waiting.known = true;
-    }
-}
-
-// Marks what waits at a number.
-fn mark_far(far: &mut BTreeMap<u64, Waiting>, number: u64)
-    ensures { far.new.entries ≡ marked far.old.entries number (waiting_at far.old.entries number) }
-{
-    if let Some(waiting) = far.get_mut(&number) {
-        waiting.known = true;
-    }
-}
-
-// Takes away what waits at a place.
-fn clear_place(place: &mut Option<Waiting>)
-    ensures { place.new ≡ None }
-{
-    *place = None;
-}
-
-// Takes away what waits at a number.
-fn clear_far(far: &mut BTreeMap<u64, Waiting>, number: u64)
-    ensures { far.new.entries ≡ remove_entry (is_at (nat_cmp number)) far.old.entries }
-{
-    far.remove(&number);
-}
-
-// Places up to this one, the new ones empty.
-fn make_places(ring: &mut VecDeque<Option<Waiting>>, place: usize) -> Result<(), AllocError>
-    requires { place < 4096 }
-    ensures ok { OnOk result (ring.new.items
-        ≡ ring.old.items ++ replicate (place + 1 - length ring.old.items) None) }
-    ensures err { OnErr result (ring.new.items ≡ ring.old.items) }
-{
-    let more = (place + 1).saturating_sub(ring.len());
-    ring.reserve(more)?;
-    add_places(ring, more);
-    Ok(())
-}
-
-// More places, all of them empty.
-fn add_places(ring: &mut VecDeque<Option<Waiting>>, more: usize)
-    requires { length ring.old.items + more ≤ deque_capacity ring.old }
-    ensures places { ring.new.items ≡ ring.old.items ++ replicate more None }
-    ensures room { deque_capacity ring.new ≡ deque_capacity ring.old }
-{
-    for _place in 0..more {
-        ring.push_back_reserved(None);
     }
 }

@@ -12,7 +12,7 @@ use Rattle.cast_message.specs.declared.message.Message.{Message}
 use Rattle.cast_model.specs.Replies.{is_close, proposes}
 use Rattle.cast_link.specs.Links.{Link, link_code}
 use Rattle.cast_relay.specs.Held.{Held, held_code}
-use Rattle.cast_fifo.specs.declared.queue.Waiting.{Waiting}
+use Rattle.cast_fifo.specs.declared.waiting.Waiting.{Waiting}
 use Rattle.cast_fifo.specs.Held.{Held as HeldBack}
 use Rattle.cast_agree.specs.Counted.{Counted, counted_code}
 use Rattle.cast_node.specs.Giving.{OwesOnly, OwesNothing}

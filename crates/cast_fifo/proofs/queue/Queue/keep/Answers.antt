@@ -1,7 +1,7 @@
 use Rattle.std.proofs.Common.{◌≤◌, ◌-◌, List, Option, Some, sym, ap, ◌∙◌, subst, refl, arith}
 use Rattle.std.specs.Prelude.{slice_set}
 use Rattle.std.proofs.lemmas.Bool.Decides.{nat_tests}
-use Rattle.cast_fifo.specs.declared.queue.Waiting.{Waiting}
+use Rattle.cast_fifo.specs.declared.waiting.Waiting.{Waiting}
 use Rattle.cast_fifo.specs.Held.{Held}
 use Rattle.cast_fifo.specs.Windows.{IsWindow}
 use Rattle.cast_fifo.proofs.Entries.{seen, kept_near, seen_near, kept_far, seen_far}

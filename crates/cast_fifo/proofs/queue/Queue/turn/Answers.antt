@@ -5,7 +5,7 @@ use Rattle.std.specs.List.{All}
 use Rattle.std.specs.VecDeque.{deque_capacity}
 use Rattle.std.proofs.lemmas.List.{nil_from_length}
 use Rattle.cast_model.specs.History.{numbered}
-use Rattle.cast_fifo.specs.declared.queue.Waiting.{Waiting}
+use Rattle.cast_fifo.specs.declared.waiting.Waiting.{Waiting}
 use Rattle.cast_fifo.specs.Held.{Held, waiting_at, run_from}
 use Rattle.cast_fifo.specs.Windows.{entries_of, HasFront, next_far}
 use Rattle.cast_fifo.proofs.Entries.{Places, past}

@@ -1,6 +1,6 @@
 use Rattle.std.proofs.Common.{◌≡◌, ◌+◌, ◌++◌, length, replicate, None}
 use Rattle.std.specs.VecDeque.{deque_capacity, deque_len}
-use Rattle.cast_fifo.proofs.queue.add_places.Given as goal
+use Rattle.cast_fifo.proofs.ring.add_places.Given as goal
 
 abbrev pub invariant-loop-place : goal.invariant-loop-place
 invariant-loop-place l =

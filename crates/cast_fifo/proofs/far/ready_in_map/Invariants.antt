@@ -1,6 +1,6 @@
 use Rattle.std.proofs.Common.{◌≡◌, ◌≤◌, ◌+◌, length}
 use Rattle.cast_fifo.specs.Held.{run_from}
-use Rattle.cast_fifo.proofs.queue.ready_in_map.Given as goal
+use Rattle.cast_fifo.proofs.far.ready_in_map.Given as goal
 
 abbrev pub invariant-loop-number : goal.invariant-loop-number
 invariant-loop-number l =
