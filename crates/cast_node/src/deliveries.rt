@@ -41,7 +41,7 @@ impl Model for Deliveries {
     ghost use Rattle.cast_node.specs.Code.{delivering_code, IsSound};
     ghost use Rattle.cast_message.specs.contracts.config.Mode as modes;
     ghost use Rattle.cast_message.specs.contracts.message.Item as items;
-    ghost use Rattle.cast_fifo.specs.contracts.queue.Waiting as waits;
+    ghost use Rattle.cast_fifo.specs.contracts.waiting.Waiting as waits;
 
     ghost Value = { Delivering };
 

@@ -77,7 +77,7 @@ impl Model for Node {
     ghost use Rattle.cast_message.specs.contracts.config.Config as configs;
     ghost use Rattle.cast_message.specs.contracts.message.Item as items;
     ghost use Rattle.cast_message.specs.contracts.message.Message as messages;
-    ghost use Rattle.cast_fifo.specs.contracts.queue.Waiting as waits;
+    ghost use Rattle.cast_fifo.specs.contracts.waiting.Waiting as waits;
 
     ghost Value = { Kept };
 

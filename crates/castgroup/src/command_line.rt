@@ -67,86 +67,112 @@ pub fn refuse_words<R: Runtime + AllocGlobal>(rt: &R, error: &io::Error) -> Stat
     refuse(rt, TextFault::Memory)
 }
 
-/// The commands of the program.
+/// The command line of the program.
 pub fn castgroup_command<'a>(alloc: Global) -> Result<Command<'a>, AllocError> {
-    let script = Arg::new(alloc, "SCRIPT").help("The script; standard input if absent");
-    let run = Command::new(alloc, "run")
-        .about("Writes the record of a script's events")
-        .after_help(REFUSALS)
-        .arg(script)?;
-    let record = Arg::new(alloc, "RECORD").help("The record; standard input if absent");
-    let judge = Command::new(alloc, "judge")
-        .about("Says whether a record is good, or which line breaks which rule")
-        .after_help(RULES)
-        .arg(record)?;
-    let live = live_command(alloc)?;
-    let draw = draw_command(alloc)?;
-    let old_record = Arg::new(alloc, "RECORD").help("The record; standard input if absent");
-    let migrate = Command::new(alloc, "migrate")
-        .about("Writes a cast/1 record with the head of cast/2")
-        .arg(old_record)?;
-    let explain = Arg::new(alloc, "explain")
-        .long("explain")
-        .action(ArgAction::SetTrue)
-        .global(true)
-        .help("Say in one more line on standard error where a fault is, and why");
     Command::new(alloc, "castgroup")
         .about("A FIFO broadcast group with k-set agreement")
         .version("0.1.0")
         .subcommand_required(true)
-        .arg(explain)?
-        .subcommand(run)?
-        .subcommand(judge)?
-        .subcommand(live)?
-        .subcommand(migrate)?
-        .subcommand(draw)
+        .arg(explain_flag(alloc))?
+        .subcommand(run_command(alloc)?)?
+        .subcommand(judge_command(alloc)?)?
+        .subcommand(live_command(alloc)?)?
+        .subcommand(migrate_command(alloc)?)?
+        .subcommand(draw_command(alloc)?)
 }
 
-/// The command that draws the run of a script.
-pub fn draw_command<'a>(alloc: Global) -> Result<Command<'a>, AllocError> {
-    let script = Arg::new(alloc, "SCRIPT").help("The script; standard input if absent");
-    let from = Arg::new(alloc, "from")
-        .long("from")
-        .value_name("A")
-        .value_parser(value_parser!(u64))
-        .help("The first event that is drawn, counted from 0; the first of all if absent");
-    let to = Arg::new(alloc, "to")
-        .long("to")
-        .value_name("B")
-        .value_parser(value_parser!(u64))
-        .help("The last event that is drawn; the last of all if absent");
-    Command::new(alloc, "draw")
-        .about("Writes a picture of a script's events as SVG")
-        .after_help(MARKS)
-        .arg(from)?
-        .arg(to)?
-        .arg(script)
-}
-
-// The command that runs a group in threads.
-fn live_command<'a>(alloc: Global) -> Result<Command<'a>, AllocError> {
-    let script = Arg::new(alloc, "SCRIPT").help("The script; standard input if absent");
-    let kept_record = Arg::new(alloc, "record")
-        .long("record")
-        .value_name("FILE")
-        .help("Also write the record of the run to FILE");
-    let replay = Arg::new(alloc, "replay")
-        .long("replay")
-        .value_name("FILE")
-        .help("Also write to FILE a script that runs the same step by step");
-    let progress = Arg::new(alloc, "progress")
-        .long("progress")
+// The flag that each command takes.
+fn explain_flag<'a>(alloc: Global) -> Arg<'a> {
+    Arg::new(alloc, "explain")
+        .long("explain")
         .action(ArgAction::SetTrue)
-        .help("Say on standard error each second how far the run is, as on a terminal");
+        .global(true)
+        .help("Say in one more line on standard error where a fault is, and why")
+}
+
+fn script<'a>(alloc: Global) -> Arg<'a> {
+    Arg::new(alloc, "SCRIPT").help("The script; standard input if absent")
+}
+
+fn record<'a>(alloc: Global) -> Arg<'a> {
+    Arg::new(alloc, "RECORD").help("The record; standard input if absent")
+}
+
+fn run_command<'a>(alloc: Global) -> Result<Command<'a>, AllocError> {
+    Command::new(alloc, "run")
+        .about("Writes the record of a script's events")
+        .after_help(REFUSALS)
+        .arg(script(alloc))
+}
+
+fn judge_command<'a>(alloc: Global) -> Result<Command<'a>, AllocError> {
+    Command::new(alloc, "judge")
+        .about("Says whether a record is good, or which line breaks which rule")
+        .after_help(RULES)
+        .arg(record(alloc))
+}
+
+fn live_command<'a>(alloc: Global) -> Result<Command<'a>, AllocError> {
     Command::new(alloc, "live")
         .about(
             "Runs a script's group in threads, by its plan and jobs, and writes what became of it",
         )
         .after_help(ENDS)
-        .arg(kept_record)?
-        .arg(replay)?
-        .arg(progress)?
-        .arg(script)
+        .arg(file(alloc, "record", "Also write the record of the run to FILE"))?
+        .arg(file(
+            alloc,
+            "replay",
+            "Also write to FILE a script that runs the same step by step",
+        ))?
+        .arg(progress_flag(alloc))?
+        .arg(script(alloc))
+}
+
+// An option that names a file to be written.
+fn file<'a>(alloc: Global, name: &'static str, help: &'static str) -> Arg<'a> {
+    Arg::new(alloc, name)
+        .long(name)
+        .value_name("FILE")
+        .help(help)
+}
+
+fn progress_flag<'a>(alloc: Global) -> Arg<'a> {
+    Arg::new(alloc, "progress")
+        .long("progress")
+        .action(ArgAction::SetTrue)
+        .help("Say on standard error each second how far the run is, as on a terminal")
+}
+
+fn migrate_command<'a>(alloc: Global) -> Result<Command<'a>, AllocError> {
+    Command::new(alloc, "migrate")
+        .about("Writes a cast/1 record with the head of cast/2")
+        .arg(record(alloc))
+}
+
+/// The command that draws the run of a script.
+pub fn draw_command<'a>(alloc: Global) -> Result<Command<'a>, AllocError> {
+    let from = "The first event that is drawn, counted from 0; the first of all if absent";
+    let to = "The last event that is drawn; the last of all if absent";
+    Command::new(alloc, "draw")
+        .about("Writes a picture of a script's events as SVG")
+        .after_help(MARKS)
+        .arg(place(alloc, "from", "A", from))?
+        .arg(place(alloc, "to", "B", to))?
+        .arg(script(alloc))
+}
+
+// An option that gives the place of an event.
+fn place<'a>(
+    alloc: Global,
+    name: &'static str,
+    value: &'static str,
+    help: &'static str,
+) -> Arg<'a> {
+    Arg::new(alloc, name)
+        .long(name)
+        .value_name(value)
+        .value_parser(value_parser!(u64))
+        .help(help)
 }
 
 /// Shows help or the version on standard output, or a usage fault on standard error.
