@@ -20,7 +20,7 @@ use Rattle.cast_world.specs.Plans.{events_from}
 use Rattle.cast_world.proofs.Running.{settled as settled_step}
 use Rattle.cast_world.proofs.Stepping.{made_count}
 use Rattle.cast_text.specs.declared.fault.TextFault.{TextFault}
-use Rattle.cast_text.specs.Played.{Played, Taken, SettleBegun, SettleEnded, Left, tried, one_left, round_left, joined, settled, left_by, played_from, Saws, Observes, Plays, PlaysAll, ShowsReply}
+use Rattle.cast_text.specs.Played.{Played, Taken, SettleBegun, SettleEnded, Left, tried, one_left, round_left, joined, settled, left_by, played_from, Seeing, Observes, Plays, PlaysAll, ShowsReply}
 
 -- ---- whether an event is refused
 
@@ -131,7 +131,7 @@ module _ (config : Config) (index : ℕ) where
 
 -- ---- what an observer sees
 
-module _ {O : Type 0} {saw : Saws O} {ready : O → Type 0} (laws : Observes saw ready) (config : Config) (index : ℕ) where
+module _ {O : Type 0} {saw : Seeing O} {ready : O → Type 0} (laws : Observes saw ready) (config : Config) (index : ℕ) where
   -- ---- one event
 
   pub event_shown : (past : History) (event : Event) (said : Result Answer StepFault) (world : State) (result : Result Bool TextFault) (old new : O) → Continues config past event said world → ShowsReply saw index event said old new result → Plays saw config (one_left config index past event) world old new result
@@ -325,7 +325,7 @@ module _ {O : Type 0} {saw : Saws O} {ready : O → Type 0} (laws : Observes saw
 
 -- ---- the whole script
 
-module _ {O : Type 0} {saw : Saws O} {ready : O → Type 0} (laws : Observes saw ready) (config : Config) where
+module _ {O : Type 0} {saw : Seeing O} {ready : O → Type 0} (laws : Observes saw ready) (config : Config) where
   -- the events of the script so far were taken, and seen
   pub record IsPlaying (whole : List Played) (index : ℕ) (rest : List ScriptEvent) (world : State) (old new : O) : Type 0 where
     pub now : History

@@ -16,6 +16,7 @@ use Rattle.cast_script.specs.declared.script.ScriptEvent.TheVariants.{Core, Sett
 use Rattle.cast_text.specs.declared.fault.TextFault.{TextFault}
 use Rattle.cast_text.specs.declared.fault.TextFault.TheVariants.{Memory}
 use Rattle.cast_world.specs.Group.{State, Stands}
+use Rattle.cast_world.specs.Moves.{IsSilent}
 
 -- an event with its place in the script and the reply to it, or where a settle begins and ends
 pub data Played : Type 0 where
@@ -72,29 +73,33 @@ played_from config index past (event ∷ events) =
 abbrev pub played : Script → List Played
 played script = played_from script.config 0 [] script.events
 
--- that an observer went from one state to another, with this result, as it was shown this
-abbrev pub Saws : Type 0 → Type 1
-Saws O = O → O → Result (Unit {0}) TextFault → List Played → Type 0
+-- what came of showing these to an observer: its states before and after, and whether it failed
+abbrev pub Seeing : Type 0 → Type 1
+Seeing O = O → O → Result (Unit {0}) TextFault → List Played → Type 0
 
 -- What an observer sees comes to the end of what it saw, and after a failure nothing is seen. Memory may be wanted at any time.
-pub record Observes {O : Type 0} (saw : Saws O) (ready : O → Type 0) : Type 0 where
+pub record Observes {O : Type 0} (saw : Seeing O) (ready : O → Type 0) : Type 0 where
   pub none : (o : O) → ready o → saw o o (Ok tt) []
   pub more : (o p q : O) (result : Result (Unit {0}) TextFault) (first rest : List Played) → saw o p (Ok tt) first → saw p q result rest → saw o q result (first ++ rest)
   pub broken : (o p : O) (why : TextFault) (first rest : List Played) → saw o p (Err why) first → saw o p (Err why) (first ++ rest)
   pub wants : (o : O) (whole : List Played) → ready o → saw o o (Err Memory) whole
 
+-- an event that is accepted, and at which nothing is ordered, delivered or decided, is nothing to it
+abbrev pub Overlooks : {O : Type 0} → Seeing O → (O → Type 0) → O → Type 0
+Overlooks saw ready o = (index : ℕ) (event : Event) (answer : Answer) → ready o → IsSilent (Ok answer) → saw o o (Ok tt) (Taken index event (Ok answer) ∷ [])
+
 -- Some events were taken, up to the first that is refused, and an observer saw them: whether none was, and what they left.
-abbrev pub Plays : {O : Type 0} → Saws O → Config → Left → State → O → O → Result Bool TextFault → Type 0
+abbrev pub Plays : {O : Type 0} → Seeing O → Config → Left → State → O → O → Result Bool TextFault → Type 0
 Plays saw config left world old new (Ok all) = (all ≡ not left.stopped) × Stands config left.past world × saw old new (Ok tt) left.took
 Plays saw config left world old new (Err fault) = saw old new (Err fault) left.took
 
 -- the same of what a script's event leaves
-abbrev pub PlaysAll : {O : Type 0} → Saws O → Config → Left → State → O → O → Result (Unit {0}) TextFault → Type 0
+abbrev pub PlaysAll : {O : Type 0} → Seeing O → Config → Left → State → O → O → Result (Unit {0}) TextFault → Type 0
 PlaysAll saw config left world old new (Ok done) = Stands config left.past world × saw old new (Ok tt) left.took
 PlaysAll saw config left world old new (Err fault) = saw old new (Err fault) left.took
 
 -- An event was taken with this reply, and an observer saw it, unless memory was wanted: whether it was accepted.
-abbrev pub ShowsReply : {O : Type 0} → Saws O → ℕ → Event → Result Answer StepFault → O → O → Result Bool TextFault → Type 0
+abbrev pub ShowsReply : {O : Type 0} → Seeing O → ℕ → Event → Result Answer StepFault → O → O → Result Bool TextFault → Type 0
 ShowsReply saw index event reply old new (Ok accepted) = (is_want_of_memory reply ≡ false) × (accepted ≡ is_ok reply) × saw old new (Ok tt) (Taken index event reply ∷ [])
 ShowsReply saw index event reply old new (Err fault) =
     ((is_want_of_memory reply ≡ false) × saw old new (Err fault) (Taken index event reply ∷ []))

@@ -1,27 +1,24 @@
 //! Playing a script: its events are taken one by one, of a settle those of two rounds, and an observer is shown each.
-ghost use Rattle.std.specs.Prelude.{◌≡◌, ℕ, List, [], ◌∷◌, ◌++◌, Result, Ok, Err, OnOk, IsTrue};
+ghost use Rattle.std.specs.Prelude.{List, [], ◌∷◌, Result, Ok, OnOk, IsTrue};
 ghost use Rattle.cast_message.specs.declared.config.Config.{Config as Settings};
-ghost use Rattle.cast_message.specs.declared.event.Event.{Event as AnyEvent};
-ghost use Rattle.cast_message.specs.declared.event.Answer.{Answer};
 ghost use Rattle.cast_model.specs.History.{History};
 ghost use Rattle.cast_world.specs.Group.{Stands};
-ghost use Rattle.cast_world.specs.Moves.{IsSilent};
 ghost use Rattle.cast_text.specs.declared.fault.TextFault.{TextFault as AnyFault};
-ghost use Rattle.cast_text.specs.declared.fault.TextFault.TheVariants.{Memory};
-ghost use Rattle.cast_text.specs.Played.{Played, Taken, SettleBegun, SettleEnded, tried, one_left, round_left, settled, left_by, played, played_from, Observes, Plays, PlaysAll, ShowsReply};
+ghost use Rattle.cast_text.specs.Played.{Played, Taken, SettleBegun, SettleEnded, tried, one_left, round_left, settled, left_by, played, Observes, Overlooks, Plays, PlaysAll, ShowsReply};
 
 use crate::fault::TextFault;
 use cast_message::{Event, Reply};
 use cast_script::{Script, ScriptEvent};
 use cast_world::{World, is_want_of_memory};
 
-/// Is shown what is taken as a script is played. To contracts an observer has seen a list of it (`saw`); what it sees after
-/// that comes to the end of the list (`laws`).
+/// Is shown what is taken as a script is played. `saw` says what came of calls from one state of it to another: what they
+/// showed, in order, and whether one failed. By the laws of `Observes` what is shown comes to the end of what was, and after a
+/// failure nothing is; so `play` promises of any observer that it was shown all that the script plays, or failed on the way.
 pub trait Observer {
-    /// What calls came to, from one state to another, that were shown this.
+    /// What came of calls that showed this.
     ghost saw: { Self → Self → Result (Unit {0}) AnyFault → List Played → Type 0 };
 
-    /// It can be shown more.
+    /// It has not failed, and can be shown more.
     ghost ready: { Self → Type 0 };
 
     /// An event was taken, and this is the reply to it.
@@ -44,14 +41,13 @@ pub trait Observer {
 
     /// Whether it need not be shown an event that is accepted, and at which nothing is ordered, delivered or decided.
     fn overlooks_silence(&self) -> bool
-        ensures { IsTrue result → (index : ℕ) (event : AnyEvent) (answer : Answer) → ready self.now
-            → IsSilent (Ok answer) → saw self.now self.now (Ok tt) (Taken index event (Ok answer) ∷ []) };
+        ensures { IsTrue result → Overlooks saw ready self.now };
 
     ghost laws: { Observes saw ready };
 }
 
-/// Plays the events of a script in a new world of its group. Where memory is wanting, or the observer fails, the rest is not
-/// taken.
+/// Plays the events of a script in a new world of its group, and shows them to an observer. Where memory is wanting, or the
+/// observer fails, the rest is not taken.
 pub fn play<O: Observer>(
     world: &mut World,
     script: &Script,
