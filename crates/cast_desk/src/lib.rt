@@ -15,4 +15,4 @@ pub use client::{Client, DeskFault};
 pub use desk::{Desk, OrderIn};
 pub use make::{end_desk, make_desk};
 pub use notice::Notice;
-pub use told::feed;
+pub use told::{feed, orders_in, own_reply};

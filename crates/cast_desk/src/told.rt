@@ -1,5 +1,6 @@
 //! What a client is told of a log.
 ghost use Rattle.std.specs.Prelude.{◌≡◌, ◌++◌, IfOk, OnOk};
+ghost use Rattle.std.specs.Option.{option_to_list};
 ghost use Rattle.cast_desk.specs.Feed.{feed as feed_of, told_by, reply_of, refusal_of, news_of, orders_in};
 
 use crate::notice::Notice;
@@ -17,7 +18,7 @@ pub fn feed(alloc: Global, log: &[Entry], client: u64) -> Result<List<Notice>, A
     let mut orders = 0;
     for entry in log {
         tell(&mut notices, client, orders, &entry.kind)?;
-        orders = orders.wrapping_add(orders_of(&entry.kind));
+        orders = orders.wrapping_add(orders_in(&entry.kind));
     }
     Ok(notices)
 }
@@ -53,14 +54,25 @@ fn tell_reply(
     ensures { OnOk result (notices.new ≡ notices.old
         ++ reply_of client event.now origin.now number) }
 {
+    match own_reply(client, event, origin, number) {
+        Some(reply) => notices.push(reply),
+        None => Ok(()),
+    }
+}
+
+/// The reply to a step, where it is an order of the client of this number; so many orders stand before it in the log. It takes
+/// no memory.
+pub fn own_reply(client: u64, event: &Event, origin: &Option<Origin>, number: u64) -> Option<Notice>
+    ensures { option_to_list result ≡ reply_of client event.now origin.now number }
+{
     if let (Event::Order { .. }, Some(origin)) = (event, origin) {
         if origin.client == client {
             let outcome = Ok(number);
             let ticket = origin.ticket;
-            return notices.push(Notice::Reply { ticket, outcome });
+            return Some(Notice::Reply { ticket, outcome });
         }
     }
-    Ok(())
+    None
 }
 
 fn tell_refusal(
@@ -91,7 +103,8 @@ fn tell_news(notices: &mut List<Notice>, outcome: &Outcome) -> Result<(), AllocE
     Ok(())
 }
 
-fn orders_of(kind: &EntryKind) -> u64
+/// How many orders an entry of a log is: 1 where an order was taken, else 0.
+pub fn orders_in(kind: &EntryKind) -> u64
     ensures { result ≡ orders_in kind.now }
 {
     match kind {

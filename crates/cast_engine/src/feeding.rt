@@ -1,14 +1,13 @@
 //! What the clients of a node are told of its log, notice by notice.
 ghost use Rattle.std.specs.Prelude.{◌≡◌, ◌∷◌, replicate, slice_get, None, IfOk, IfSome};
-ghost use Rattle.std.specs.Option.{option_to_list};
 ghost use Rattle.cast_box.specs.Ends.{AreSamePutters};
-ghost use Rattle.cast_desk.specs.Feed.{told_by, reply_of, news_of, orders_in};
+ghost use Rattle.cast_desk.specs.Feed.{told_by, news_of};
 ghost use Rattle.cast_engine.specs.Feeding.{IsNext, AreFed, FedIn, FedAt, IsPlaced, told_to, first_place};
 
 use cast_box::Full;
-use cast_desk::{Desk, Notice};
-use cast_message::{Event, Outcome};
-use cast_node::{Entry, EntryKind, Origin};
+use cast_desk::{Desk, Notice, orders_in, own_reply};
+use cast_message::Outcome;
+use cast_node::{Entry, EntryKind};
 use std::alloc::{AllocError, Global};
 use std::sync::Wait;
 
@@ -116,7 +115,7 @@ fn notice_at(
             event,
             origin,
             outcome,
-        } => match reply(event, origin, client, orders) {
+        } => match own_reply(client, event, origin, orders) {
             Some(reply) => after_reply(reply, outcome, told),
             None => news_at(outcome, told),
         },
@@ -140,20 +139,6 @@ fn after_reply(reply: Notice, outcome: &Outcome, told: usize) -> Result<Option<N
     }
 }
 
-// The reply to a client's own order.
-fn reply(event: &Event, origin: &Option<Origin>, client: u64, orders: u64) -> Option<Notice>
-    ensures { option_to_list result ≡ reply_of client event.now origin.now orders }
-{
-    if let (Event::Order { .. }, Some(origin)) = (event, origin) {
-        if origin.client == client {
-            let outcome = Ok(orders);
-            let ticket = origin.ticket;
-            return Some(Notice::Reply { ticket, outcome });
-        }
-    }
-    None
-}
-
 // The notice of this number of those that a step's outcome brings every client.
 fn news_at(outcome: &Outcome, at: usize) -> Result<Option<Notice>, AllocError>
     ensures { IfOk result (λ found. found ≡ slice_get (news_of outcome.now) at) }
@@ -166,17 +151,5 @@ fn news_at(outcome: &Outcome, at: usize) -> Result<Option<Notice>, AllocError>
     match outcome.decisions.as_slice().get(at - deliveries.len()) {
         Some(decision) => Ok(Some(Notice::Decided(*decision))),
         None => Ok(None),
-    }
-}
-
-fn orders_in(kind: &EntryKind) -> u64
-    ensures { result ≡ orders_in kind.now }
-{
-    match kind {
-        EntryKind::Step {
-            event: Event::Order { .. },
-            ..
-        } => 1,
-        _ => 0,
     }
 }

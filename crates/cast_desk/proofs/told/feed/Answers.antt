@@ -9,7 +9,7 @@ loop-entry-preserved c =
     let log = c.args.log.now in
     let cap : length log < 18446744073709551616 = search rules in (
       fed_more c.args.client log c.loop-entry.entry-index c.entry-item.result c.loop-entry-test.true c.entry-item.is c.loop-entry.notices _ c.loop-entry.orders now.0 now.1 c.in_ok-tell.ensures,
-      counted_more c.args.client log c.loop-entry.entry-index c.entry-item.result c.loop-entry-test.true c.entry-item.is c.loop-entry.orders _ now.1 c.orders_of-orders.ensures cap,
+      counted_more c.args.client log c.loop-entry.entry-index c.entry-item.result c.loop-entry-test.true c.entry-item.is c.loop-entry.orders _ now.1 c.orders_in-orders.ensures cap,
     )
 
 pub returns : goal.returns
