@@ -52,9 +52,6 @@ module _ (all : List ClientState) (orders : TakerEnd OrderIn) (trays : List (Put
         let d = e.as_many in
         omega arith
 
-    pub some_more : (c : ClientState) (rest' : List ClientState) → rest ≡ c ∷ rest' → 0 < length more
-    some_more c rest' h = let a = lengths in let b = ap length h in omega arith
-
     module _ (c : ClientState) (rest' : List ClientState) (h : rest ≡ c ∷ rest') where
       whole : all ≡ seen ++ c ∷ rest'
       whole = e.clients_are ∙ ap (λ l. seen ++ l) h

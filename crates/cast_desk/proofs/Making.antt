@@ -20,9 +20,6 @@ pub record Made (size first : ℕ) (ps : List (PutterEnd OrderIn)) (all : List C
   pub tray : (c : ℕ) (client : ClientState) (t : PutterEnd Notice) → slice_get all c ≡ Some client → slice_get trays c ≡ Some t → IsTray size t client.tray
   pub client : (c : ℕ) (client : ClientState) → slice_get all c ≡ Some client → (client.number ≡ c) × (client.first_ticket ≡ first)
 
-pub made_none : (size first : ℕ) → Made size first [] [] []
-made_none size first = record { orders = refl; width = refl; tray = λ c client t e. absurd cc; client = λ c client e. absurd cc }
-
 pub map_at : {A B : Type 0} (f : A → B) (xs : List A) (i : ℕ) (x : A) → slice_get xs i ≡ Some x → slice_get (map f xs) i ≡ Some (f x)
 map_at f [] i x e = absurd cc
 map_at f (y ∷ ys) zero x e = let h : y ≡ x = cc in ap (λ z. Some (f z)) h

@@ -1,12 +1,12 @@
 -- A message is given to peers one by one.
 use Rattle.std.specs.Prelude.{◌≡◌, ℕ, ◌+◌, ◌≤◌, Bool, true, not, if◌then◌else◌, List, [], ◌∷◌, ◌++◌, length, Result, Ok, Err, OnOk, refl}
 use Rattle.std.proofs.Common.{sym, ap, ◌∙◌, arith}
-use Rattle.std.proofs.lemmas.List.{set_past, get_or_past}
+use Rattle.std.proofs.lemmas.List.{get_or_past}
 use Rattle.std.specs.Ordering.{nat_cmp}
 use Rattle.std.specs.FinSet as set
 use Rattle.std.specs.FinSet.{contains-empty}
 use Rattle.cast_draw.specs.declared.links.Pair.{Pair}
-use Rattle.cast_draw.specs.Gifts.{given_on, goes_on, is_held, with_held, held_of}
+use Rattle.cast_draw.specs.Gifts.{given_on, goes_on, is_held}
 
 none : (rows : List (List Pair)) → length rows ≡ 0 → rows ≡ []
 none [] e = refl
@@ -24,9 +24,6 @@ given_next me pair source peer rows rest more row given goes e g t m =
 -- a sender that has no set
 pub not_held : (held : List (set.FinSet nat_cmp)) (pair : Pair) → length held ≤ pair.sender → true ≡ not (is_held held pair)
 not_held held pair past = ap not (sym (ap (λ s. set.contains s pair.number) (get_or_past held pair.sender set.empty past) ∙ contains-empty nat_cmp pair.number))
-
-pub not_added : (held : List (set.FinSet nat_cmp)) (pair : Pair) → length held ≤ pair.sender → held ≡ with_held held pair
-not_added held pair past = sym (set_past held pair.sender (set.insert (held_of held pair.sender) pair.number) past)
 
 -- what holds of an Ok implies more of it
 pub ok_of : {X E P Q : Type 0} (r : Result X E) → OnOk r P → (P → Q) → OnOk r Q

@@ -5,7 +5,7 @@ use Rattle.cast_box.proofs.Same.{get_set}
 use Rattle.cast_engine.specs.declared.parcel.Parcel.{Parcel}
 use Rattle.cast_engine.specs.declared.carrier.Delayed.{Delayed}
 use Rattle.cast_engine.specs.Runs.{Has}
-use Rattle.cast_engine.specs.Carriers.{IsTaken, Delays, CarrierKeeps, AreUnused, Moves, MovesOn, Puts, Still, StillWith}
+use Rattle.cast_engine.specs.Carriers.{IsTaken, CarrierKeeps, Moves, MovesOn, Puts, Still, StillWith}
 use Rattle.cast_engine.proofs.Lists.{has_left, has_last, has_snoc, has_none}
 
 pub put_either : {F : Type 0} (r : Result (Unit {0}) F) (P Q : Type 0) (A B : F → Type 0) → MatchResult r (λ _. P) (λ f. A f × Q × B f) → P ⊎ Q
@@ -28,9 +28,6 @@ puts_put inboxes x old new was put taken k is q inbox y at has =
     (λ (t : slice_get inboxes q ≡ Some inbox). k q inbox y t has)
     (get_set inboxes x.frame.to q new inbox at)
 
-pub puts_nothing : (inboxes : List (PutterEnd Parcel)) (x : Parcel) → Puts inboxes x inboxes
-puts_nothing inboxes x taken k is = k
-
 pub puts_equal : (inboxes inboxes' : List (PutterEnd Parcel)) (x y : Parcel) → x ≡ y → Puts inboxes x inboxes' → Puts inboxes y inboxes'
 puts_equal inboxes inboxes' x y e p = subst (λ z. Puts inboxes z inboxes') e p
 
@@ -40,9 +37,6 @@ puts_both a b c x p q taken k is = q taken (p taken k is) is
 pub still_with : (old new : List Delayed) (d : Delayed) → new ≡ old ++ d ∷ [] → StillWith old d.parcel new
 still_with old new d e taken k is y has =
     ⊎_elim (λ h. k y h) (λ (w : d ≡ y). let P : Delayed → Type 0 = λ z. IsTaken taken z.parcel in subst P w is) (has_snoc old d y (subst (λ l. Has l y) e has))
-
-pub still_same : (old new : List Delayed) (x : Parcel) → new ≡ old → StillWith old x new
-still_same old new x e taken k is = subst (Delays taken) (sym e) k
 
 pub still_set : (old now : List Delayed) (place : ℕ) (d d' : Delayed) → Still old now → slice_get now place ≡ Some d → d'.parcel ≡ d.parcel → Still old (slice_set now place d')
 still_set old now place d d' s at e taken k y has =
@@ -95,9 +89,3 @@ carried taken taken' a b d e number x k is m =
     let more : (y : Parcel) → IsTaken taken y → IsTaken (taken ++ (number, x) ∷ []) y = λ y h. (h.0, has_left taken ((number, x) ∷ []) (h.0, y) h.1) in
     subst (λ t. CarrierKeeps t b e) (sym is)
     (m (taken ++ (number, x) ∷ []) ((λ q inbox y at has. let it = k.0 q inbox y at has in (it.0, more y it.1)), λ d has. more d.parcel (k.1 d has)) (number, has_last taken (number, x)))
-
-pub carrier_new : (taken : List (ℕ × Parcel)) (a : List (PutterEnd Parcel)) (d : List Delayed) → AreUnused a → d ≡ [] → CarrierKeeps taken a d
-carrier_new taken a d u e = (
-  (λ q inbox x at has. absurd (has_none x (subst (λ l. Has l x) (u q inbox at) has))),
-  λ y has. absurd (has_none y (subst (λ l. Has l y) e has)),
-)

@@ -167,26 +167,6 @@ module _ (client : ℕ) (log : List Entry) (trays : List (PutterEnd Notice)) (ol
           ),
         )
 
-    -- it found the tray full, and waits
-    pub fed_full : (was now : PutterEnd Notice) (new : List (PutterEnd Notice)) (back : Notice) → slice_get trays client ≡ Some was → new ≡ slice_set trays client now → IsSamePutter was now → now.put ≡ was.put
-        → back ≡ notice → FedAt client log trays new (record place { waiting = Some back })
-    fed_full was now new back at set s put is = (
-      was,
-      now,
-      at,
-      set,
-      s,
-      (
-        record {
-          within = p.within;
-          counted = p.counted;
-          begun = p.begun;
-          waits = λ n w. let h : back ≡ n = cc in next ∙ ap (λ (x : Notice). Some x) (sym is ∙ h);
-        },
-        put ∙ the_tray was at,
-      ),
-    )
-
 -- what the loop over the clients keeps
 pub fed_at : (log : List Entry) (trays : List (PutterEnd Notice)) (places : List Place) (client : ℕ) (place : Place) → AreFed log trays places → slice_get places client ≡ Some place → FedIn client log trays place
 fed_at log trays places client place f at =

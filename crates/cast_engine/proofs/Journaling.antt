@@ -30,9 +30,6 @@ unfolding Rises
 rises_more [] first clock e r lt = (omega (arith, r, lt), refl)
 rises_more (x ∷ xs) first clock e r lt = (r.0, rises_more xs x.stamp clock e r.1 lt)
 
-no_end : (ended : Option EngineEnd) (e : EngineEnd) → ended ≡ None → ended ≡ Some e → ⊥
-no_end ended e p q = let h : None ≡ Some e = sym p ∙ q in cc
-
 module _ (limit : ℕ) (crash : Option ℕ) (log : List Entry) (ends : EndsAs limit crash None log) (room : length log < limit) where
   longer : (e : Entry) → length (log ++ e ∷ []) ≡ length log + 1
   longer e = length-append log (e ∷ [])

@@ -60,9 +60,6 @@ module _ (old new : JournalState) (put : List Parcel) (held : Option Parcel) (ar
       λ e. (ap (λ (j : JournalState). j.config) e, ap (λ (j : JournalState). j.node.me) e, ap (λ (j : JournalState). j.crash) e) in
       ⊎_elim only (λ l. same_step Stopped None old.clock l) h
 
-  pub same_order : (order : OrderIn) → LogsOrder old new order → IsSameJournal old new
-  same_order order h = ⊎_elim (λ l. same_step _ _ old.clock l) (λ (l : LogsRefusal old new order). (l.logs.same_config, ap (λ (n : Kept). n.me) l.gives.1, l.logs.same_crash)) h
-
   -- a parcel was taken and dropped
   pub stays_dropped : (arrived' : List (ℕ × Parcel)) (m : ℕ × Parcel) → OnlyEnds old new → arrived' ≡ arrived ++ m ∷ [] → EngineStays new put held arrived' desk places
   stays_dropped arrived' m e is =

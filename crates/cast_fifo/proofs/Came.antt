@@ -10,10 +10,10 @@ use Rattle.std.proofs.lemmas.List.Elements.{All-tail, All-same}
 use Rattle.std.proofs.lemmas.Map.Views.{All-keys-insert_entry, All-map-remove_entry}
 use Rattle.cast_message.specs.declared.message.Item.{Item}
 use Rattle.cast_fifo.specs.declared.waiting.Waiting.{Waiting}
-use Rattle.cast_fifo.specs.Held.{Held, held_of, waiting_at, came, marked, with_item, without_item, with_mark, run_from, rest_from, known_after, offered_after}
+use Rattle.cast_fifo.specs.Held.{Held, held_of, waiting_at, came, marked, with_item, without_item, with_mark, run_from, rest_from, known_after}
 use Rattle.cast_fifo.proofs.Entries.{Entries, keys_of-marked}
 use Rattle.cast_fifo.proofs.Turns.{found_inserted}
-use Rattle.cast_fifo.proofs.Stands.{look_inserted, look_changed, or_true, lt_true}
+use Rattle.cast_fifo.proofs.Stands.{look_changed, or_true, lt_true}
 
 pub held_of-set : (all : List Held) (s : ℕ) (v : Held) → s < length all → held_of (slice_set all s v) s ≡ v
 held_of-set [] s v l = absurd (omega (arith, l))
@@ -31,21 +31,6 @@ came-with_item held k item = go (came held k) refl
 some_or : (b : Bool) (x : Waiting) (o : Option Waiting) → is_some o ≡ true → is_some (cond b (Some x) o) ≡ true
 some_or true x o e = refl
 some_or false x o e = e
-
--- what came before stays so where another is kept
-pub came-with_item_too : (held : Held) (k : ℕ) (item : Item) (i : ℕ) → came held i ≡ true → came (with_item held k item) i ≡ true
-came-with_item_too held k item i h = go (came held k)
-  where
-    kept : Waiting
-    kept = record { item = item; known = false }
-
-    more : (a : Bool) (o : Option Waiting) (b : Bool) → (a || is_some o) ≡ true → (a || is_some (cond b (Some kept) o)) ≡ true
-    more true o b e = refl
-    more false o b e = some_or b kept o e
-
-    go : (b : Bool) → came (if b then held else record held { waiting = insert_entry nat_cmp held.waiting k kept }) i ≡ true
-    go true = h
-    go false = ap (λ o. nat_lt i held.next || is_some o) (look_inserted k i kept held.waiting) ∙ more (nat_lt i held.next) (waiting_at held.waiting i) (i == k) h
 
 some_marked : (es : Entries) (k i : ℕ) → is_some (waiting_at es i) ≡ true → is_some (waiting_at (marked es k (waiting_at es k)) i) ≡ true
 some_marked es k i h = go (waiting_at es k) refl
@@ -95,13 +80,6 @@ came-known_after held k i h = go (nat_lt i held.next) refl h
       | inl a ↦ ap (λ b. nat_lt i next || b) a ∙ or_true (nat_lt i next)
       | inr b ↦ passed b
     ]
-
-pub came-offered_after : (held : Held) (k : ℕ) (item : Item) (i : ℕ) → came held i ≡ true → came (offered_after held k item) i ≡ true
-came-offered_after held k item i h = came-known_after (with_item held k item) k i (came-with_item_too held k item i h)
-
--- a message that is offered came
-pub came-offered : (held : Held) (k : ℕ) (item : Item) → came (offered_after held k item) k ≡ true
-came-offered held k item = came-known_after (with_item held k item) k k (came-with_item held k item)
 
 -- what is true of every number that waits stays so
 pub All-with_item : (P : ℕ → Type 0) (held : Held) (k : ℕ) (item : Item) → All P (keys_of held.waiting) → P k → All P (keys_of (with_item held k item).waiting)

@@ -7,13 +7,12 @@ use Rattle.std.specs.declared.cmp.Ordering.{Ordering}
 use Rattle.std.specs.declared.cmp.Ordering.TheVariants.{Less, Equal, Greater}
 use Rattle.std.specs.BTreeMap.{insert_entry, is_at}
 use Rattle.std.proofs.Common.{sym, ap, ◌∙◌, arith, true≢false}
-use Rattle.std.proofs.Math.ListN.{length-set}
 use Rattle.std.proofs.lemmas.Map.Views.{All-map-remove_entry}
 use Rattle.std.proofs.lemmas.List.Elements.{All-same}
 use Rattle.cast_message.specs.declared.message.Item.{Item}
 use Rattle.cast_fifo.specs.declared.waiting.Waiting.{Waiting}
 use Rattle.cast_fifo.specs.Held.{Held, held_of, waiting_at, came, with_item, without_item}
-use Rattle.cast_fifo.specs.Windows.{entries_of, StartsUnmarked, IsWindow}
+use Rattle.cast_fifo.specs.Windows.{entries_of, IsWindow}
 use Rattle.cast_fifo.proofs.Entries.{Places, Entries, seen, past, none_at, below_ring, near_at, past_ring, at_true, at_false}
 use Rattle.cast_fifo.proofs.Turns.{at_self, at_same, equal_tells, greater_tells}
 use Rattle.cast_fifo.proofs.Came.{held_of-set}
@@ -49,23 +48,6 @@ removed_far n (Some x ∷ ring) far k l =
     let es = entries_of (n + 1) ring far in
     ap (λ b. cond b es ((n, x) ∷ remove_entry (is_at (nat_cmp k)) es)) (at_false k n (omega (arith, l)))
     ∙ ap (λ fs. (n, x) ∷ fs) (removed_far (n + 1) ring far k (omega (arith, l)))
-
-StartsUnmarked-cleared : (ring : Places) (i : ℕ) → StartsUnmarked ring → StartsUnmarked (slice_set ring i None)
-StartsUnmarked-cleared [] i h = tt
-StartsUnmarked-cleared (p ∷ ring) zero h = tt
-StartsUnmarked-cleared (None ∷ ring) (suc i) h = tt
-StartsUnmarked-cleared (Some w ∷ ring) (suc i) h = h
-
--- from the ring
-pub kept_cleared_near : (next : ℕ) (ring : Places) (far : Entries) (i : ℕ) → IsWindow next ring far → IsWindow next (slice_set ring i None) far
-kept_cleared_near next ring far i h =
-    record {
-      short = omega (arith, length-set ring i None, h.short);
-      fits = omega (arith, length-set ring i None, h.fits);
-      starts = StartsUnmarked-cleared ring i h.starts;
-      beyond = h.beyond;
-      below = h.below;
-    }
 
 pub seen_cleared_near : (next : ℕ) (closed : Bool) (ring : Places) (far : Entries) (held : Held) (number i : ℕ) → IsWindow next ring far → seen next closed ring far ≡ held → number ≡ next + i → i < 4096 → i < length ring → seen next closed (slice_set ring i None) far ≡ without_item held number
 seen_cleared_near next closed ring far held number i h is at within l =

@@ -56,9 +56,6 @@ was_reading Refused text kept tail lines e h = absurd (cc)
 
 -- ---- a text with more of it
 
-with_more : (text part more : List ℕ) → (text ++ part) ++ more ≡ text ++ (part ++ more)
-with_more text part more = append_assoc text part more
-
 pub started : (kept : Kept) → IsNew kept → IsReading [] kept [] 0
 unfolding verdict
 started kept new = record { past = []; stands = stands_for_none kept new; count = refl; clean = All-nil (λ b. nat_eq b 10 ≡ false); same = λ more. refl }
@@ -130,16 +127,6 @@ after_end text tail part kept lines h clean some ended = λ more.
     ∙ ended_offends h.past (tail ++ part) more (clean_both tail part h.clean clean) (omega (arith, length-append tail part)) (sym (ended_place h.past) ∙ ap is_ended_at (sym h.stands.place) ∙ ended)
     ∙ ap (λ n. Bad (n + 1) 0) h.count
 
--- more of an unfinished line
-pub tail_kept : (text tail part : List ℕ) (kept : Kept) (lines : ℕ) → IsReading text kept tail lines → HasNone 10 part → IsReading (text ++ part) kept (tail ++ part) lines
-tail_kept text tail part kept lines h clean = record {
-  past = h.past;
-  stands = h.stands;
-  count = h.count;
-  clean = clean_both tail part h.clean clean;
-  same = λ more. ap verdict (append_assoc text part more) ∙ h.same (part ++ more) ∙ ap (verdict_of h.past) (sym (append_assoc tail part more));
-}
-
 -- the end of the text
 pub finished : (text tail : List ℕ) (kept : Kept) (lines : ℕ) → IsReading text kept tail lines → verdict text ≡ cond (is_ended_at kept.place && nat_eq (length tail) 0) Good (Bad (lines + 1) 0)
 finished text tail kept lines h =
@@ -161,12 +148,6 @@ still_offended text more kept tail lines rule h = record {
   empty = h.empty;
   offends = λ rest. ap verdict (append_assoc text more rest) ∙ h.offends (more ++ rest);
 }
-
--- whatever follows, it stays so
-pub offended_on : (state : State) (text more : List ℕ) (kept : Kept) (tail : List ℕ) (lines rule : ℕ) → state ≡ Offended rule → StandsAs state text kept tail lines → StandsAs state (text ++ more) kept tail lines
-offended_on state text more kept tail lines rule is h =
-    let offended = subst (λ s. StandsAs s text kept tail lines) is h in
-    subst (λ s. StandsAs s (text ++ more) kept tail lines) (sym is) (still_offended text more kept tail lines rule offended)
 
 -- a state in which nothing more is read
 pub done_on : (state : State) (text more : List ℕ) (kept : Kept) (tail : List ℕ) (lines : ℕ) → is_reading_state state ≡ false → is_refused_state state ≡ false → StandsAs state text kept tail lines → StandsAs state (text ++ more) kept tail lines

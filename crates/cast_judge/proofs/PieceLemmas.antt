@@ -1,5 +1,5 @@
 -- How much of a piece was read.
-use Rattle.std.proofs.Common.{◌≡◌, ℕ, ◌+◌, false, nat_eq, List, [], ◌∷◌, ◌++◌, append_assoc, append-nil, get_or, take, drop, position, Some, refl, sym, ap, subst, ◌∙◌}
+use Rattle.std.proofs.Common.{◌≡◌, ℕ, ◌+◌, false, nat_eq, List, [], ◌∷◌, ◌++◌, append_assoc, get_or, take, drop, position, Some, sym, ap, subst, ◌∙◌}
 use Rattle.std.proofs.lemmas.List.Quantifiers.{position-Some}
 use Rattle.cast_record.proofs.PartLemmas.{at_place}
 use Rattle.cast_judge.specs.declared.judging.Judging.{Judging}
@@ -13,9 +13,6 @@ pub record Reads (text piece rest : List ℕ) (judging : Judging) : Type 0 where
   pub parts : piece ≡ front ++ rest
   pub stands : Stands (text ++ front) judging
 
-pub reads_none : (text piece : List ℕ) (judging : Judging) → Stands text judging → Reads text piece piece judging
-reads_none text piece judging h = record { front = []; parts = refl; stands = subst (λ t. Stands t judging) (sym (append-nil text)) h }
-
 -- a line and its line feed were read
 pub reads_line : (text piece rest after : List ℕ) (old new : Judging) → IsLineTaken rest after old new → Reads text piece rest old → Reads text piece after new
 reads_line text piece rest after old new taken r = record {
@@ -23,10 +20,6 @@ reads_line text piece rest after old new taken r = record {
   parts = r.parts ∙ ap (λ bytes. r.front ++ bytes) (taken.cut ∙ sym (append_assoc taken.line (10 ∷ []) after)) ∙ sym (append_assoc r.front (taken.line ++ 10 ∷ []) after);
   stands = subst (λ t. Stands t new) (append_assoc text r.front (taken.line ++ 10 ∷ [])) (taken.stands (text ++ r.front) r.stands);
 }
-
--- the rest was read
-pub reads_all : (text piece rest : List ℕ) (old new : Judging) → (r : Reads text piece rest old) → Stands ((text ++ r.front) ++ rest) new → Stands (text ++ piece) new
-reads_all text piece rest old new r h = subst (λ t. Stands t new) (append_assoc text r.front rest ∙ ap (λ bytes. text ++ bytes) (sym r.parts)) h
 
 -- the rest begins with a line and its line feed
 pub line_at : (rest : List ℕ) (at : ℕ) → position (λ b. nat_eq b 10) rest ≡ Some at → rest ≡ take at rest ++ 10 ∷ drop (at + 1) rest

@@ -74,10 +74,6 @@ module _ {X : Type 0} where
   unfolding owed_map
   get-owed_map base places q = get-from_entries nat_cmp_total (owed_from base places) q ∙ find-owed_from base places q
 
-  -- two windows that owe the same
-  pub same_owed : (base other : ℕ) (places after : List (Option X)) → ((q : ℕ) → owed_at base places q ≡ owed_at other after q) → owed_map base places ≡ owed_map other after
-  same_owed base other places after h = same_map nat_cmp_total nat_cmp-IsAntisymmetric _ _ (λ q. get-owed_map base places q ∙ h q ∙ sym (get-owed_map other after q))
-
 suc_zero : (i : ℕ) → nat_eq (suc i) 0 ≡ false
 suc_zero i = grind (arith, nat_tests)
 

@@ -1,6 +1,6 @@
 -- What an accepted event tells of the history before it.
 use Rattle.std.proofs.Common.{◌≡◌, ℕ, ◌<◌, refl, Bool, true, false, cond, List, [], ◌∷◌, length, Some, None}
-use Rattle.std.proofs.lemmas.Bool.{not-false, leb-false, ltb-true, eqb-false}
+use Rattle.std.proofs.lemmas.Bool.{not-false, leb-false, ltb-true}
 use Rattle.cast_message.specs.declared.config.Config.{Config}
 use Rattle.cast_message.specs.declared.event.Event.TheVariants.{Order, Send, Ack}
 use Rattle.cast_message.specs.declared.message.Item.{Item}
@@ -34,7 +34,3 @@ Ack-taken config past p q slot e = not-false _ (no_cause _ (causes config past (
 pub Order-node : (config : Config) (past : History) (p : ℕ) (item : Item) → fault config past (Order p item) ≡ None → p < config.nodes
 unfolding fault causes
 Order-node config past p item e = ltb-true _ _ (not-false _ (no_cause _ (causes config past (Order p item)) e here))
-
-pub Send-apart : (config : Config) (past : History) (p q slot : ℕ) → fault config past (Send p q slot) ≡ None → p ≡ q → ⊥
-unfolding fault causes
-Send-apart config past p q slot e = eqb-false _ _ (no_cause _ (causes config past (Send p q slot)) e (there (there here)))

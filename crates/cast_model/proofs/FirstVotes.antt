@@ -94,8 +94,3 @@ log_votes_once config past accepted q j s =
     let once = proposes_once config past accepted j s in
     let whole = sym (length-append (votes j (filter (is_from s) log)) p.0) ∙ ap length p.1 in
     omega (arith, once, whole)
-
--- a second proposal isn't counted
-second_skipped : first_votes 7 [] (record { sender = 1; number = 0; item = Propose 7 5 } ∷ record { sender = 1; number = 1; item = Propose 7 3 } ∷ record { sender = 0; number = 0; item = Propose 7 4 } ∷ []) ≡ 5 ∷ 4 ∷ []
-unfolding first_votes votes
-second_skipped = refl

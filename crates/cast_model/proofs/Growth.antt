@@ -40,10 +40,6 @@ pub given-more : (event : Event) (past : History) (p q : ℕ) → given (event �
 unfolding given given_of
 given-more event past p q = ap (λ copies. given_of copies q) (first-more event past p) ∙ filter-append _ (first past p) (gained event past p)
 
--- a later history: some events after past
-pub Later : History → History → Type 0
-Later later past = (events : List Event) × (later ≡ events ++ past)
-
 -- what p gave q stays, and more is added at its end alone
 pub given-later : (events : List Event) (past : History) (p q : ℕ) → (rest : List FirstCopy) × (given (events ++ past) p q ≡ given past p q ++ rest)
 given-later [] past p q = ([], sym (append-nil _))

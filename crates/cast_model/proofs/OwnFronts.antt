@@ -154,10 +154,6 @@ module _ (config : Config) (me : ℕ) (step : Step) (steps : Steps) (accepted : 
       ∙ ap (λ k. filter_map (message_at (held me steps) s) (range_with_len 0 k) ++ filter_map (message_at all s) (range_with_len (0 + n) (l - n))) (let e : n ≡ n - 0 = omega arith in e)
       ∙ ap (λ k. filter_map (message_at (held me steps) s) (range_with_len 0 (n - 0)) ++ filter_map (message_at all s) (range_with_len k (l - n))) z
 
-  pub own_delivered_concerned : own_concerned me steps step ≡ Some s → own_delivered config me (step ∷ steps) s ≡ own_delivered config me steps s ++ own_deliveries config me steps step
-  unfolding own_deliveries
-  own_delivered_concerned is = delivered_more ∙ ap (λ more. own_delivered config me steps s ++ more) (sym (ap (own_turns config me steps step) is))
-
   pub own_delivered_other : (own_concerned me steps step ≡ Some s → ⊥) → own_delivered config me (step ∷ steps) s ≡ own_delivered config me steps s
   own_delivered_other apart =
       delivered_more ∙ ap (λ more. own_delivered config me steps s ++ more) (ap (messages_from (held me (step ∷ steps)) s (own_next config me steps s)) (own_next_same apart) ∙ no_messages (held me (step ∷ steps)) s (own_next config me steps s)) ∙ append-nil (own_delivered config me steps s)

@@ -12,32 +12,15 @@ use Rattle.cast_message.specs.declared.config.Mode.TheVariants.{Basic, Uniform}
 use Rattle.cast_message.specs.declared.message.Frame.{Frame}
 use Rattle.cast_message.specs.declared.message.FrameBody.{FrameBody}
 use Rattle.cast_message.specs.declared.message.FrameBody.TheVariants.{Carry, Took}
-use Rattle.cast_model.specs.History.{History, FirstCopy, has_pair, copy_at, is_carry_of, is_took_of}
+use Rattle.cast_model.specs.History.{FirstCopy, has_pair, copy_at, is_carry_of, is_took_of}
 use Rattle.cast_model.specs.Delivery.{nodes_of, is_pair, tells_of, sender_in}
-use Rattle.cast_model.specs.Replies.{IsAccepted}
-use Rattle.cast_model.specs.Steps.{Step, Ordered, Sent, Acknowledged, Arrived, Stopped, Steps, steps_of, own_items, frame_of, frames_in, Held, copy_of, held_by_body, held_by, held}
+use Rattle.cast_model.specs.Steps.{Step, Ordered, Sent, Acknowledged, Arrived, Stopped, Steps, own_items, frame_of, frames_in, Held, copy_of, held_by_body, held_by, held}
 use Rattle.cast_model.specs.OwnSteps.{own_copies, own_given, own_given_copies, own_taken, own_acked, own_knows, own_known_by, own_known_enough, own_is_ready, own_concerned, is_possible, is_possible_body, is_ignored, IsOwnAccepted}
 use Rattle.cast_model.proofs.Members.{Member, Member-append, Member-append_left, Member-one, Member-if_not, list_any-Member, Member-list_any}
 use Rattle.cast_model.proofs.Sound.{Member-has_pair, has_pair-Member}
 use Rattle.cast_model.proofs.Ready.{both_same, count_by-mono}
 use Rattle.cast_model.proofs.Dues.{Member-map_in}
-use Rattle.cast_model.proofs.OwnHeld.{step_cases, steps_after, steps_same}
 use Rattle.cast_model.proofs.OwnTurns.{length-map}
-use Rattle.cast_model.proofs.OwnReplies.{own_fault-steps_of}
-use Rattle.cast_model.proofs.Possible.{not_ignored}
-
--- the steps of a node in a group are such
-pub IsOwnAccepted-steps_of : (config : Config) (past : History) → IsAccepted config past → (me : ℕ) → me < config.nodes → IsOwnAccepted config me (steps_of past me)
-unfolding IsAccepted steps_of IsOwnAccepted
-IsOwnAccepted-steps_of config [] accepted me me_in = tt
-IsOwnAccepted-steps_of config (event ∷ past) accepted me me_in = elim (step_cases past me event) [
-  | inl mine ↦ subst (IsOwnAccepted config me) (sym (steps_after past me event mine.0 mine.1)) (
-    IsOwnAccepted-steps_of config past accepted.0 me me_in,
-    own_fault-steps_of config past me accepted.0 me_in event mine.0 mine.1 ∙ accepted.1,
-    not_ignored config past accepted.0 me event mine.0 mine.1,
-  )
-  | inr elsewhere ↦ subst (IsOwnAccepted config me) (sym (steps_same past me event elsewhere)) (IsOwnAccepted-steps_of config past accepted.0 me me_in)
-]
 
 -- what one more step brings
 abbrev pub brought : ℕ → Steps → Step → List Held

@@ -27,7 +27,7 @@ use Rattle.cast_model.proofs.Ready.{took_in_given}
 use Rattle.cast_model.proofs.Agreement.{pigeonhole, node_in}
 use Rattle.cast_model.proofs.AtRest.{Member-range_with_len}
 use Rattle.cast_model.proofs.Dues.{Once, Once-append, Once-distinct, Member-map_in}
-use Rattle.cast_model.proofs.OwnHeld.{Elsewhere, steps_after, steps_same}
+use Rattle.cast_model.proofs.OwnHeld.{steps_after}
 use Rattle.cast_model.proofs.OwnTurns.{length-map}
 use Rattle.cast_model.proofs.OwnReplies.{frame_ends, given_count, own_fault-steps_of, own_reply-steps_of}
 use Rattle.cast_model.proofs.Closed.{Order-open}
@@ -261,13 +261,4 @@ module _ (config : Config) (past : History) (accepted : IsAccepted config past) 
     where
       by_fault : (o : Option StepFault) → cond (is_some o || false) (steps_of past me) (step ∷ steps_of past me) ≡ steps_of (after_by o past event) me
       by_fault None = sym (steps_after past me event step is)
-      by_fault (Some refusal) = refl
-
-  -- an event that is no step of the node leaves its steps
-  pub steps_elsewhere : (event : Event) → Elsewhere past me event → steps_of (after config past event) me ≡ steps_of past me
-  unfolding after
-  steps_elsewhere event elsewhere = by_fault (fault config past event)
-    where
-      by_fault : (o : Option StepFault) → steps_of (after_by o past event) me ≡ steps_of past me
-      by_fault None = steps_same past me event elsewhere
       by_fault (Some refusal) = refl

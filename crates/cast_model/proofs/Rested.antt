@@ -1,6 +1,6 @@
 -- At rest, in basic mode: the whole stream of a live sender, and the same instances decided.
-use Rattle.std.proofs.Common.{◌≡◌, ℕ, suc, ◌+◌, ◌-◌, ◌<◌, ◌≤◌, refl, sym, ◌∙◌, ap, subst, Bool, true, false, cond, List, [], ◌∷◌, length, Option, Some, None, arith}
-use Rattle.std.specs.Prelude.{IsTrue, is_some, nat_le}
+use Rattle.std.proofs.Common.{◌≡◌, ℕ, suc, ◌+◌, ◌-◌, ◌<◌, ◌≤◌, refl, sym, ◌∙◌, subst, Bool, true, false, cond, List, [], ◌∷◌, length, Option, Some, None, arith}
+use Rattle.std.specs.Prelude.{IsTrue, is_some}
 use Rattle.std.specs.List.{filter, prefix_len, take_while, cons_option}
 use Rattle.std.proofs.lemmas.List.{take_all, append-nil}
 use Rattle.std.proofs.lemmas.Bool.{and_from, eq-eqb}
@@ -10,7 +10,7 @@ use Rattle.cast_message.specs.declared.config.Mode.TheVariants.{Basic, Uniform}
 use Rattle.cast_message.specs.declared.message.Item.{Item}
 use Rattle.cast_message.specs.declared.message.Message.{Message}
 use Rattle.cast_model.specs.History.{History, is_live, stream, numbered, broadcast}
-use Rattle.cast_model.specs.Delivery.{is_ready, is_known_enough, delivered, delivery_log, votes, value_in, decision}
+use Rattle.cast_model.specs.Delivery.{is_ready, is_known_enough, delivered, delivery_log, votes, value_in}
 use Rattle.cast_model.specs.Replies.{IsAccepted, is_from}
 use Rattle.cast_model.specs.Rounds.{Rest}
 use Rattle.cast_model.proofs.Members.{Member, here, there, Member-filter, filter-Member}
@@ -77,12 +77,3 @@ module _ (config : Config) (past : History) (accepted : IsAccepted config past) 
 pub is_some-cond : (b : Bool) (v : ℕ) → is_some (cond b (Some v) None) ≡ b
 is_some-cond true v = refl
 is_some-cond false v = refl
-
--- an instance that one live node decided is decided by every live node
-pub same_instances : (config : Config) (past : History) → IsAccepted config past → Rest config past → config.mode ≡ Basic → (p q j : ℕ) → p < config.nodes → q < config.nodes → IsTrue (is_live past p) → IsTrue (is_live past q) → is_some (decision config past p j) ≡ is_some (decision config past q j)
-unfolding decision
-same_instances config past accepted rest basic p q j p_in q_in p_live q_live =
-    let pq = fewer_votes config past accepted rest basic p q j p_in q_in p_live q_live in
-    let qp = fewer_votes config past accepted rest basic q p j q_in p_in q_live p_live in
-    let same : length (votes j (delivery_log config past p)) ≡ length (votes j (delivery_log config past q)) = omega (arith, pq, qp) in
-    is_some-cond _ _ ∙ ap (λ n. nat_le (config.nodes - config.faults) n) same ∙ sym (is_some-cond _ _)

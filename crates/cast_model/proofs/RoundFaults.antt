@@ -1,10 +1,9 @@
 -- The only refusal in a round is that of a node whose frames are full.
-use Rattle.std.proofs.Common.{◌≡◌, ℕ, ◌+◌, ◌<◌, ◌≤◌, refl, sym, ◌∙◌, ap, subst, Bool, true, false, not, ◌&&◌, ◌||◌, cond, List, [], ◌∷◌, ◌++◌, length, Option, Some, None, inl, inr, ◌⊎◌, arith, append_assoc}
+use Rattle.std.proofs.Common.{◌≡◌, ℕ, ◌+◌, ◌<◌, ◌≤◌, refl, sym, ◌∙◌, ap, subst, Bool, true, false, not, ◌&&◌, ◌||◌, cond, List, [], ◌∷◌, ◌++◌, length, Option, Some, None, inl, inr, ◌⊎◌, arith}
 use Rattle.std.specs.Prelude.{◌==◌, slice_get, nat_le}
 use Rattle.std.specs.List.{list_any}
 use Rattle.std.proofs.lemmas.List.{append-nil}
-use Rattle.std.proofs.lemmas.List.Sums.{sum_by-append}
-use Rattle.std.proofs.lemmas.Bool.{and_from, and_parts, or_left, or_right, eq-eqb, eqb-true, ne_eqb, cond-true, cond-false, lt-ltb, lt-leb, false≢true, false_from_ne_true}
+use Rattle.std.proofs.lemmas.Bool.{and_from, and_parts, eq-eqb, eqb-true, ne_eqb, cond-true, cond-false, lt-ltb, lt-leb, false≢true, false_from_ne_true}
 use Rattle.cast_message.specs.declared.config.Config.{Config}
 use Rattle.cast_message.specs.declared.event.Event.{Event}
 use Rattle.cast_message.specs.declared.event.Event.TheVariants.{Send, Ack, Arrive}
@@ -37,10 +36,6 @@ full_cases past p = by_test (nat_le frame_limit (length (frames past p)))
     by_test : (b : Bool) → (◌≡◌ {A = Option StepFault} (cond b (Some FramesFull) None) None) ⊎ (◌≡◌ {A = Option StepFault} (cond b (Some FramesFull) None) (Some FramesFull))
     by_test true = inr refl
     by_test false = inl refl
-
-not_full : (past : History) (p : ℕ) → length (frames past p) < frame_limit → full past p ≡ None
-unfolding first_fault
-not_full past p h = cond-false _ _ _ (lt-leb frame_limit (length (frames past p)) h)
 
 live-Send : (past : History) (from to slot p : ℕ) → is_live (Send from to slot ∷ past) p ≡ is_live past p
 unfolding is_live
@@ -305,41 +300,6 @@ module _ (config : Config) where
   pub plan_fault : (past : History) (front : List Event) (event : Event) (rest : List Event) → plan config past ≡ front ++ event ∷ rest → IsAccepted config (with_all past front) →
       (fault config (with_all past front) event ≡ None) ⊎ (fault config (with_all past front) event ≡ Some FramesFull)
   plan_fault past front event rest e accepted = only_full_at past (plan config past) (round_only_full past) front event rest e accepted
-
-  -- where the frames of a round fit, all its events are accepted
-  going_fits : (past now : History) (before ds : List Due) → Going past now before ds → ((p : ℕ) → length (frames past p) + frames_for (before ++ ds) p ≤ frame_limit) → IsAccepted config now → IsAccepted config (with_all now (plan_from past before ds))
-  unfolding plan_from events_for IsAccepted frames_for
-  going_fits past now before [] going fits accepted = accepted
-  going_fits past now before (d ∷ ds) going fits accepted =
-      let ok = going.ok d here in
-      let c = going.counted in
-      let next = Going-next past now before d ds going in
-      going_fits past (after_one past now before d) (before ++ d ∷ []) ds next (λ p. subst (λ all. length (frames past p) + frames_for all p ≤ frame_limit) (sym (append_assoc before (d ∷ []) ds)) (fits p))
-      ((((accepted, fault_1 past now before d c ok ∙ not_full now d.from from_room), fault_2 past now before d c ok), fault_3 past now before d c ok ∙ not_full (came past now before d c ok) d.to to_room), fault_4 past now before d c ok)
-    where
-      room : (p : ℕ) → (d.from == p || d.to == p) ≡ true → length (frames past p) + frames_for before p < frame_limit
-      room p e =
-          let all = fits p in
-          let total : frames_for (before ++ d ∷ ds) p ≡ frames_for before p + frames_for (d ∷ ds) p = sum_by-append (λ x. cond (x.from == p || x.to == p) 1 0) before (d ∷ ds) in
-          let step : frames_for (d ∷ ds) p ≡ (0 + cond (d.from == p || d.to == p) 1 0) + frames_for ds p = sum_by-append (λ x. cond (x.from == p || x.to == p) 1 0) (d ∷ []) ds in
-          let one : ◌≡◌ {A = ℕ} (cond (d.from == p || d.to == p) 1 0) 1 = ap (λ (b : Bool). cond {A = ℕ} b 1 0) e in
-          omega (arith, all, total, step, one)
-
-      from_room : length (frames now d.from) < frame_limit
-      from_room =
-          let r = room d.from (or_left (d.from == d.from) (d.to == d.from) (eq-eqb d.from d.from refl)) in
-          let c = k_is past now before d going.counted (going.ok d here) in
-          omega (arith, r, c)
-
-      to_room : length (frames (came past now before d going.counted (going.ok d here)) d.to) < frame_limit
-      to_room =
-          let r = room d.to (or_right (d.from == d.to) (d.to == d.to) (eq-eqb d.to d.to refl)) in
-          let c = l_is past now before d going.counted (going.ok d here) in
-          omega (arith, r, c)
-
-  pub round_fits : (past : History) → IsAccepted config past → ((p : ℕ) → length (frames past p) + frames_for (due config past) p ≤ frame_limit) → IsAccepted config (with_all past (plan config past))
-  unfolding plan
-  round_fits past accepted fits = going_fits past past [] (due config past) (Going-start past) fits accepted
 
   -- what a round in which all events are accepted comes to
   pub history_from-with_all : (now : History) (events : List Event) → IsAccepted config (with_all now events) → history_from config now events ≡ with_all now events

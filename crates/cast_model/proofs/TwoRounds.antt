@@ -95,28 +95,10 @@ module _ (config : Config) (Makers : ℕ → Type 0) where
           let at_x : has_pair (first now x) copy.sender copy.number ≡ true = subst (λ copies. has_pair copies copy.sender copy.number ≡ true) (sym (same x m)) (agree b.0 x copy.sender copy.number b.1 m at_r) in
           false≢true (sym b.3 ∙ at_x))
 
-  AllPass-append : (xs ys : List Event) → AllPass xs → AllPass ys → AllPass (xs ++ ys)
-  unfolding AllPass
-  AllPass-append [] ys a b = b
-  AllPass-append (x ∷ xs) ys a b = (a.0, AllPass-append xs ys a.1 b)
-
-  AllPass-front : (xs ys : List Event) → AllPass (xs ++ ys) → AllPass xs
-  unfolding AllPass
-  AllPass-front [] ys a = tt
-  AllPass-front (x ∷ xs) ys a = (a.0, AllPass-front xs ys a.1)
-
   plan_passes : (past : History) (before ds : List Due) → ((d : Due) → Member d ds → Makers d.from × Makers d.to) → AllPass (plan_from past before ds)
   unfolding plan_from events_for AllPass
   plan_passes past before [] makers = tt
   plan_passes past before (d ∷ ds) makers = (tt, ((makers d here).0, (tt, ((makers d here).1, plan_passes past (before ++ d ∷ []) ds (λ x m. makers x (there m))))))
-
-live_one : (config : Config) (Makers : ℕ → Type 0) (event : Event) (past : History) → Passes Makers event → (p : ℕ) → is_live (event ∷ past) p ≡ is_live past p
-unfolding is_live
-live_one config Makers (Arrive from seq) past passes p = refl
-live_one config Makers (Send from to slot) past passes p = refl
-live_one config Makers (Ack from to slot) past passes p = refl
-live_one config Makers (Order node item) past passes p = absurd passes
-live_one config Makers (Crash node) past passes p = absurd passes
 
 -- a node live after some events was live before them
 live_before : (event : Event) (past : History) (p : ℕ) → IsTrue (is_live (event ∷ past) p) → IsTrue (is_live past p)
@@ -137,16 +119,6 @@ unfolding plan
 passes config past = plan_passes config (Live config past) past [] (due config past) (λ d m.
     let ok = due_ok config past d m in
     (record { in_group = ok.from_in; alive = ok.from_live }, record { in_group = ok.to_in; alive = ok.to_live }))
-
--- after a part of a round, too, a live node holds nothing that no live node held before it
-pub front_adds_nothing : (config : Config) (past : History) (front rest : List Event) → plan config past ≡ front ++ rest → IsAccepted config (with_all past front) → (q s i : ℕ) → Live config past q → has_pair (first (with_all past front) q) s i ≡ true →
-    (p : ℕ) × Live config past p × (has_pair (first past p) s i ≡ true)
-unfolding HeldBefore
-front_adds_nothing config past front rest e accepted q s i live h =
-    elim (held_before config (Live config past) front past (AllPass-front config (Live config past) front rest (subst (AllPass config (Live config past)) e (passes config past))) accepted q s i h) [
-      | inl own ↦ (q, live, own)
-      | inr other ↦ other
-    ]
 
 module _ (config : Config) (past : History) (accepted : IsAccepted config past) (all_accepted : IsAccepted config (with_all past (plan config past))) where
   abbrev now : History
@@ -210,12 +182,6 @@ pub round_frames : (config : Config) (past : History) → count_by makes_frame (
 unfolding plan
 round_frames config past = plan_frames past [] (due config past)
 
--- nobody crashes in a round
-live_passing : (config : Config) (Makers : ℕ → Type 0) (events : List Event) (past : History) → AllPass config Makers events → (p : ℕ) → is_live (with_all past events) p ≡ is_live past p
-unfolding AllPass
-live_passing config Makers [] past allowed p = refl
-live_passing config Makers (event ∷ events) past allowed p = live_passing config Makers events (event ∷ past) allowed.1 p ∙ live_one config Makers event past allowed.0 p
-
 -- The promises on rounds, in their own words.
 module _ (config : Config) (past : History) (accepted : IsAccepted config past) (round_accepted : AreAccepted config past (plan config past)) where
   whole : IsAccepted config (with_all past (plan config past))
@@ -223,10 +189,6 @@ module _ (config : Config) (past : History) (accepted : IsAccepted config past) 
 
   is : after_round config past ≡ with_all past (plan config past)
   is = now_is config past accepted whole
-
-  -- the same nodes are live after the round
-  pub lives_on : (p : ℕ) → is_live (after_round config past) p ≡ is_live past p
-  lives_on p = ap (λ h. is_live h p) is ∙ live_passing config (Live config past) (plan config past) past (passes config past) p
 
   pub after_accepted : IsAccepted config (after_round config past)
   after_accepted = subst (IsAccepted config) (sym is) whole

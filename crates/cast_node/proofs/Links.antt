@@ -26,7 +26,7 @@ use Rattle.cast_relay.specs.Held.{Held as HeldPairs, relays_to}
 use Rattle.cast_node.specs.Turns.{given_from}
 use Rattle.cast_node.specs.Stands.{owed_in, StandsOut}
 use Rattle.cast_node.proofs.Places.{same_number, other_number}
-use Rattle.cast_node.proofs.Booleans.{or_false, and_false, and_true, or_implied}
+use Rattle.cast_node.proofs.Booleans.{or_false, and_false, and_true}
 
 pub length-given_from : (q : ℕ) (relay : HeldPairs) (source : ℕ) (message : Message) (links : List (Link Message)) → length (given_from q relay source message links) ≡ length links
 unfolding given_on
@@ -156,10 +156,6 @@ module _ (me : ℕ) (steps : Steps) (step : Step) (q : ℕ) where
 
   -- where it takes the acknowledgement of a slot that was given
   module _ (slot : ℕ) (same : own_given me (step ∷ steps) q ≡ own_given me steps q) (told : (k : ℕ) → own_acked (step ∷ steps) q k ≡ (own_acked steps q k || (slot == k))) where
-    -- it was acknowledged before
-    pub out_acked_again : (link : Link Message) → own_acked steps q slot ≡ true → StandsOut me steps q link → StandsOut me (step ∷ steps) q link
-    out_acked_again link before h = out_same link same (λ k. told k ∙ or_implied (own_acked steps q k) (slot == k) (λ e. ap (own_acked steps q) (let z : k ≡ slot = grind (arith, nat_tests) in z) ∙ before)) h
-
     fewer : (p t : ℕ → Bool) (a n : ℕ) → a ≤ slot → slot < a + n → p slot ≡ true → ((k : ℕ) → t k ≡ (p k && not (slot == k))) → length (filter t (range_with_len a n)) + 1 ≡ length (filter p (range_with_len a n))
     fewer p t a zero low high e is = absurd (omega (arith, low, high))
     fewer p t a (suc n) low high e is = elim (cases_eq slot a) [

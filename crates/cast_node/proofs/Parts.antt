@@ -1,8 +1,6 @@
 -- Lists by sender, and rows in them.
 use Rattle.std.specs.Prelude.{◌≡◌, ℕ, zero, suc, ◌+◌, ◌<◌, true, List, [], ◌∷◌, ◌++◌, length, take, map, replicate, slice_set, slice_index_or, Result, Ok, Err, OnErr, refl}
 use Rattle.std.specs.Result.{is_err}
-use Rattle.std.specs.List.{All}
-use Rattle.std.specs.Map.{keys_of}
 use Rattle.std.proofs.Common.{sym, ap, ◌∙◌, arith, drop, true≢false}
 use Rattle.cast_message.specs.declared.message.Item.{Item}
 use Rattle.cast_model.specs.History.{numbered}
@@ -59,18 +57,6 @@ changed_rows f g xs place s r x y d at l e same change =
     ∙ ap (slice_set (map f xs) place) (change ∙ ap g (same ∙ ap f e ∙ sym (rows-at f xs place r d l)))
     ∙ ap (λ k. slice_set (map f xs) k (g (slice_index_or (map f xs) k d))) at
 
-rows-append : {X Y : Type 0} (f : X → Y) (xs : List X) (x : X) → map f (xs ++ x ∷ []) ≡ map f xs ++ f x ∷ []
-rows-append f [] x = refl
-rows-append f (y ∷ xs) x = ap (λ ys. f y ∷ ys) (rows-append f xs x)
-
-replicate-end : {Y : Type 0} (n : ℕ) (y : Y) → replicate n y ++ y ∷ [] ≡ replicate (n + 1) y
-replicate-end zero y = refl
-replicate-end (suc n) y = ap (λ ys. y ∷ ys) (replicate-end n y) ∙ ap (λ k. replicate k y) (let e : suc (n + 1) ≡ suc n + 1 = omega arith in e)
-
--- a row more
-pub more_rows : {X Y : Type 0} (f : X → Y) (xs after : List X) (x : X) (n : ℕ) (y : Y) → map f xs ≡ replicate n y → after ≡ xs ++ x ∷ [] → f x ≡ y → map f after ≡ replicate (n + 1) y
-more_rows f xs after x n y h e g = ap (map f) e ∙ rows-append f xs x ∙ (λ i. h i ++ g i ∷ []) ∙ replicate-end n y
-
 -- what is true of what is held of each sender
 pub near_set : (P : HeldBack → Type 0) (all : List HeldBack) (k : ℕ) (v : HeldBack) → ((s : ℕ) → P (held_of all s)) → P v → (s : ℕ) → P (held_of (slice_set all k v) s)
 near_set P [] k v h p s = h s
@@ -83,9 +69,6 @@ nothing_of : (n s : ℕ) → held_of (replicate n nothing_held) s ≡ nothing_he
 nothing_of zero s = refl
 nothing_of (suc n) zero = refl
 nothing_of (suc n) (suc s) = nothing_of n s
-
-pub near_none : (P : ℕ → Type 0) (n s : ℕ) → All P (keys_of (held_of (replicate n nothing_held) s).waiting)
-near_none P n s = Rattle.std.proofs.Common.subst (λ (h : HeldBack). All P (keys_of h.waiting)) (sym (nothing_of n s)) (λ k d l. absurd (omega (arith, l)))
 
 pub length-replicate : {Y : Type 0} (n : ℕ) (y : Y) → length (replicate n y) ≡ n
 length-replicate zero y = refl

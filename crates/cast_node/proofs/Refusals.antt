@@ -25,10 +25,6 @@ skip cause xs ys h = by_test cause.holds refl
     by_test true e = ap (λ c. cond c (Some cause.refusal) (first_fault xs)) e ∙ sym (ap (λ c. cond c (Some cause.refusal) (first_fault ys)) e)
     by_test false e = ap (λ c. cond c (Some cause.refusal) (first_fault xs)) e ∙ h e ∙ sym (ap (λ c. cond c (Some cause.refusal) (first_fault ys)) e)
 
-not_not : (b : Bool) → not (not b) ≡ b
-not_not true = refl
-not_not false = refl
-
 -- the causes by what they look at
 abbrev down_if : Bool → Cause
 down_if live = record { holds = not live; refusal = Crashed }

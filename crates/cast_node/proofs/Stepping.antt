@@ -404,9 +404,6 @@ module _ (config : Config) (me : ℕ) (steps : Steps) (kept : Kept) (st : Stands
         turn : (a b c d : ℕ) → (b == a && d == c) ≡ (a == b && c == d)
         turn a b c d = grind (arith, nat_tests)
 
-    took_new : brought me steps took ≡ []
-    took_new = refl
-
     given_same : (q : ℕ) → own_given me (took ∷ steps) q ≡ own_given me steps q
     given_same q = own_given-more me took steps q ∙ append-nil (own_given me steps q)
 

@@ -159,9 +159,6 @@ take_more [] i within = absurd (omega arith)
 take_more (x ∷ xs) zero within = refl
 take_more (x ∷ xs) (suc i) within = ap (λ ys. x ∷ ys) (take_more xs i (omega arith))
 
-pub none_so_far : (bytes : List ℕ) → IsNumberSoFar bytes 0 0
-none_so_far bytes = record { within = omega arith; digits = refl; value_is = refl; fits = omega arith }
-
 pub digit_more : (bytes : List ℕ) (at value : ℕ) → IsNumberSoFar bytes at value → at < length bytes → is_ascii_digit (get_or bytes at 0) ≡ true → value * 10 + (get_or bytes at 0 - 48) < 2 ^ 64
     → IsNumberSoFar bytes (at + 1) (value * 10 + (get_or bytes at 0 - 48))
 digit_more bytes at value h within digit fits =

@@ -282,13 +282,6 @@ head_missed bytes name rest o cut test e none = λ h.
 head_words : (bytes : List ℕ) (words : List (List ℕ)) → slice_split (λ b. nat_eq b 32) bytes ≡ words → (h : IsHeadIn bytes) → codes "cast/1" ∷ decimal h.nodes ∷ decimal h.faults ∷ decimal h.choices ∷ [] ≡ words
 head_words bytes words cut h = sym (split_line (Head h.nodes h.faults h.choices) h.within) ∙ ap (slice_split (λ b. nat_eq b 32)) h.same ∙ cut
 
-pub other_name : (bytes name : List ℕ) (words : List (List ℕ)) → slice_split (λ b. nat_eq b 32) bytes ≡ name ∷ words → bytes_eq name (codes "cast/1") ≡ false → IsNoHead bytes
-other_name bytes name words cut test = λ h.
-    let row = head_words bytes (name ∷ words) cut h in
-    let is : codes "cast/1" ≡ name = cc (row) in
-    let yes : bytes_eq name (codes "cast/1") ≡ true = ap (λ w. bytes_eq w (codes "cast/1")) (sym is) in
-    absurd (cc (yes, test))
-
 pub one_word : (bytes name : List ℕ) → slice_split (λ b. nat_eq b 32) bytes ≡ name ∷ [] → IsNoHead bytes
 one_word bytes name cut = λ h. let row = head_words bytes (name ∷ []) cut h in absurd (cc (row))
 

@@ -1,11 +1,10 @@
 -- The elements read so far, and those that are left.
-use Rattle.std.proofs.Common.{◌≡◌, ℕ, suc, ◌+◌, ◌<◌, List, [], ◌∷◌, ◌++◌, length, get_or, drop, drop-cons, add-one, add-zero, map, Option, Some, None, Result, Ok, Err, append_assoc, append-nil, ap, sym, ◌∙◌, refl, arith}
+use Rattle.std.proofs.Common.{◌≡◌, ℕ, suc, ◌+◌, ◌<◌, List, [], ◌∷◌, ◌++◌, length, get_or, drop, drop-cons, add-one, add-zero, map, Option, Result, Ok, Err, append-nil, ap, sym, ◌∙◌, refl, arith}
 use Rattle.serde_json.specs.declared.value.Value.{Value}
 use Rattle.serde_json.specs.Data.{Data}
 use Rattle.serde_json.specs.View.{view}
 use Rattle.cast_script.specs.declared.script.ScriptFault.{ScriptFault}
-use Rattle.cast_script.specs.declared.script.ScriptFault.TheVariants.{Shape}
-use Rattle.cast_script.specs.Faults.{onto, at_index, elements_from}
+use Rattle.cast_script.specs.Faults.{at_index, elements_from}
 
 abbrev pub with_front : {A : Type 0} → List A → Result (List A) ScriptFault → Result (List A) ScriptFault
 with_front front (Ok xs) = Ok (front ++ xs)
@@ -14,10 +13,6 @@ with_front front (Err fault) = Err fault
 with_front-nil : {A : Type 0} (r : Result (List A) ScriptFault) → with_front [] r ≡ r
 with_front-nil (Ok xs) = refl
 with_front-nil (Err fault) = refl
-
-with_front-onto : {A : Type 0} (front : List A) (x : A) (r : Result (List A) ScriptFault) → with_front (front ++ x ∷ []) r ≡ with_front front (onto x r)
-with_front-onto front x (Ok xs) = ap Ok (append_assoc front (x ∷ []) xs)
-with_front-onto front x (Err fault) = refl
 
 -- reading stands at i
 pub record IsReading {A : Type 0} (element : Data → Option A) (first : ℕ) (elements : List A) (i : ℕ) (values : List Value) : Type 0 where
@@ -34,16 +29,6 @@ here : {A : Type 0} (element : Data → Option A) (first : ℕ) (elements : List
 here element first elements i values x within is reading =
     let same : first + (i + 1) ≡ first + i + 1 = omega arith in
     rw same (ap (λ vs. with_front elements (elements_from element (first + i) (map view vs))) (sym (next_value values i x within is)) ∙ reading.goes_on)
-
-pub reading_bad : {A : Type 0} {element : Data → Option A} {first : ℕ} {elements : List A} {i : ℕ} {values : List Value} (x : Value) → IsReading element first elements i values → i < length values → x ≡ get_or values i x → element (view x) ≡ None
-    → elements_from element first (map view values) ≡ Err (Shape (first + i))
-reading_bad {element = element} {first = first} {elements = elements} {i = i} {values = values} x reading within is bad = sym (here element first elements i values x within is reading) ∙ rw bad refl
-
-pub reading_good : {A : Type 0} {element : Data → Option A} {first : ℕ} {elements : List A} {i : ℕ} {values : List Value} (x : Value) (y : A) → IsReading element first elements i values → i < length values → x ≡ get_or values i x → element (view x) ≡ Some y
-    → IsReading element first (elements ++ y ∷ []) (i + 1) values
-reading_good {element = element} {first = first} {elements = elements} {i = i} {values = values} x y reading within is good = record {
-  goes_on = with_front-onto elements y _ ∙ (rw good at (here element first elements i values x within is reading));
-}
 
 pub reading_done : {A : Type 0} {element : Data → Option A} {first : ℕ} {elements : List A} {i : ℕ} {values : List Value} → IsReading element first elements i values → drop i values ≡ [] → elements_from element first (map view values) ≡ Ok elements
 reading_done {elements = elements} reading none = sym reading.goes_on ∙ rw none (ap Ok (append-nil elements))

@@ -12,7 +12,7 @@ use Rattle.std.proofs.lemmas.List.Folds.{list_any_none}
 use Rattle.std.proofs.lemmas.Nat.Bits.{bit_at-zero}
 use Rattle.cast_sets.specs.Bits.{is_set}
 use Rattle.cast_sets.specs.Numbers.{is_number, number_set}
-use Rattle.cast_sets.specs.Members.{contains-members_below, members_below-insert, members_below-remove, members_below-same}
+use Rattle.cast_sets.specs.Members.{contains-members_below, members_below-insert, members_below-remove}
 use Rattle.cast_sets.proofs.Places.{is_set-with_place, with_place, is_set-without_place, without_place}
 
 no_bits : (k i : ℕ) → slice_index (replicate k 0) i ≡ 0
@@ -113,9 +113,6 @@ has_word words far s k e near h hit = elim (leb_tells (length words) (k / 64)) [
   | inl l ↦ absurd (true≢false (sym hit ∙ sym (is_number-in words far s e k (omega (arith, near))) ∙ near_number words far k near h ∙ no_bit words k l.1))
   | inr l ↦ l.1
 ]
-
-pub same_words : (words room far : List ℕ) → ((i : ℕ) → slice_index room i ≡ slice_index words i) → number_set room far ≡ number_set words far
-same_words words room far same = members_below-same (2 ^ 64) (is_number room far) (is_number words far) (λ q _. ap (λ w. nat_eq (bit_at w (q % 64)) 1 || list_any (is_at (nat_cmp q)) far) (same (q / 64)))
 
 pub no_number : (q : ℕ) → is_number [] [] q ≡ false
 no_number q = or_false (is_set [] q) ∙ no_bit [] q (omega arith)

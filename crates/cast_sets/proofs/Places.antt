@@ -1,5 +1,5 @@
 -- The bits of a list of words, one of them set.
-use Rattle.std.specs.Prelude.{◌≡◌, ◌≢◌, ℕ, zero, suc, ◌*◌, ◌/◌, ◌%◌, ◌^◌, ◌<◌, nat_eq, Bool, true, false, not, ◌&&◌, ◌||◌, List, [], ◌∷◌, length, slice_index, slice_set, bit_and, bit_or, refl}
+use Rattle.std.specs.Prelude.{◌≡◌, ◌≢◌, ℕ, zero, suc, ◌*◌, ◌/◌, ◌%◌, ◌^◌, ◌<◌, nat_eq, true, false, not, ◌&&◌, ◌||◌, List, [], ◌∷◌, length, slice_index, slice_set, bit_and, bit_or, refl}
 use Rattle.std.specs.Int.{bit_at, bit_not, w64}
 use Rattle.std.proofs.Common.{inl, inr, sym, ap, ◌∙◌, arith}
 use Rattle.std.proofs.lemmas.Bool.Decides.{nat_tests, eqb_tells}
@@ -90,10 +90,6 @@ is_set-without_place words k q l = elim (eqb_tells (q / 64) (k / 64)) [ inl e �
 -- the test `word >> i & 1 == 1`
 pub is_set-test : (words : List ℕ) (q : ℕ) → nat_eq (bit_and (slice_index words (q / 64) / 2 ^ (q % 64)) 1) 1 ≡ is_set words q
 is_set-test words q = ap (λ b. nat_eq b 1) (shr_and_one (slice_index words (q / 64)) (q % 64))
-
-all_zero : List ℕ → Bool
-all_zero [] = true
-all_zero (x ∷ xs) = nat_eq x 0 && all_zero xs
 
 no_words : (i : ℕ) → slice_index (0 ∷ 0 ∷ 0 ∷ 0 ∷ []) i ≡ 0
 no_words zero = refl

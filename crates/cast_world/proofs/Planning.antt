@@ -5,7 +5,7 @@ use Rattle.std.specs.FinMap as finite
 use Rattle.std.specs.FinMap.{get-empty}
 use Rattle.std.specs.Ordering.{nat_cmp}
 use Rattle.std.specs.List.{filter, flat_map, range_with_len}
-use Rattle.std.proofs.lemmas.List.{append-nil, append_assoc, map_push}
+use Rattle.std.proofs.lemmas.List.{append-nil, append_assoc}
 use Rattle.std.proofs.lemmas.List.Elements.{filter-append}
 use Rattle.std.proofs.lemmas.List.Concat.{flat_map-append}
 use Rattle.cast_model.specs.Rounds.{Due}
@@ -25,14 +25,6 @@ filter_kept p n pass = ap (filter p) (range_more n) ∙ filter-append p (range_w
 
 filter_dropped : (p : ℕ → Bool) (n : ℕ) → p n ≡ false → filter p (range_with_len 0 (n + 1)) ≡ filter p (range_with_len 0 n)
 filter_dropped p n out = ap (filter p) (range_more n) ∙ filter-append p (range_with_len 0 n) (n ∷ []) ∙ ap (λ b. filter p (range_with_len 0 n) ++ cond b (n ∷ []) []) out ∙ append-nil _
-
--- what is found for each number that passes, one number on
-pub slots_more : (f : ℕ → Due) (p : ℕ → Bool) (n : ℕ) (old before now : List Due) → p n ≡ true → before ≡ old ++ map f (filter p (range_with_len 0 n)) → now ≡ before ++ f n ∷ [] → now ≡ old ++ map f (filter p (range_with_len 0 (n + 1)))
-slots_more f p n old before now pass so_far one =
-    one ∙ ap (λ ds. ds ++ f n ∷ []) so_far ∙ append_assoc old _ _ ∙ ap (λ ds. old ++ ds) (sym (map_push f (filter p (range_with_len 0 n)) n) ∙ ap (map f) (sym (filter_kept p n pass)))
-
-pub slots_same : (f : ℕ → Due) (p : ℕ → Bool) (n : ℕ) (old before now : List Due) → p n ≡ false → before ≡ old ++ map f (filter p (range_with_len 0 n)) → now ≡ before → now ≡ old ++ map f (filter p (range_with_len 0 (n + 1)))
-slots_same f p n old before now out so_far one = one ∙ so_far ∙ ap (λ xs. old ++ map f xs) (sym (filter_dropped p n out))
 
 pub nodes_more : (f : ℕ → List Due) (p : ℕ → Bool) (n : ℕ) (old before now : List Due) → p n ≡ true → before ≡ old ++ flat_map f (filter p (range_with_len 0 n)) → now ≡ before ++ f n → now ≡ old ++ flat_map f (filter p (range_with_len 0 (n + 1)))
 nodes_more f p n old before now pass so_far one =

@@ -28,9 +28,6 @@ module _ (config : Config) (past : History) where
     pub split : events ≡ front ++ left
     pub stands : Stands config (with_all past front) world
 
-  pub taking_none : (events : List Event) (world : State) → Stands config past world → IsTaking events events world
-  taking_none events world st = record { front = []; split = refl; stands = st }
-
   pub taking_next : (events : List Event) (world : State) (i : ℕ) (event : Event) → i < length events → event ≡ get_or events i event → IsTaking events (drop i events) world → IsTaking events (event ∷ drop (i + 1) events) world
   taking_next events world i event within is taking = subst (λ left. IsTaking events left world) (drop-next events i event within is) taking
 

@@ -121,6 +121,3 @@ module _ (config : Config) (past : History) (world : State) (st : Stands config 
       by_test : (b : Bool) → is_peer (node_at world p) q ≡ b → ShowsOwed config past p q (if b then Some (finite.len (link_to (node_at world p) q).owed) else None)
       by_test true e = inside (sym test_is ∙ e)
       by_test false e = outside (sym test_is ∙ e)
-
-  pub owed_nowhere : (p q : ℕ) → length world.nodes ≤ p → ShowsOwed config past p q None
-  owed_nowhere p q outside = inl (let size = st.size in omega (arith, outside, size))

@@ -5,8 +5,6 @@ use Rattle.std.proofs.lemmas.Bool.{cases_eq, ltb-true}
 use Rattle.std.proofs.lemmas.List.{set-get_or, get_or-set_same, map-set, get_or-map}
 use Rattle.std.proofs.Math.Seq.{map-set_same}
 use Rattle.cast_message.specs.declared.config.Config.{Config}
-use Rattle.cast_message.specs.declared.event.Event.{Event}
-use Rattle.cast_message.specs.declared.event.Event.TheVariants.{Order, Send, Ack, Arrive, Crash}
 use Rattle.cast_message.specs.declared.event.Answer.{Answer}
 use Rattle.cast_message.specs.declared.event.StepFault.{StepFault}
 use Rattle.cast_message.specs.declared.event.StepFault.TheVariants.{NoNode}
@@ -14,7 +12,7 @@ use Rattle.cast_message.specs.declared.message.Message.{Message}
 use Rattle.cast_message.specs.declared.message.Frame.{Frame}
 use Rattle.cast_message.specs.declared.message.FrameBody.{FrameBody}
 use Rattle.cast_message.specs.declared.message.FrameBody.TheVariants.{Carry, Took}
-use Rattle.cast_model.specs.Replies.{Cause, IsRefused, no_node, first_fault}
+use Rattle.cast_model.specs.Replies.{Cause, no_node, first_fault}
 use Rattle.cast_model.specs.Steps.{Step, Ordered, Sent, Acknowledged, Arrived, Stopped}
 use Rattle.std.specs.FinMap as finite
 use Rattle.cast_relay.specs.Held.{holds}
@@ -24,7 +22,7 @@ use Rattle.cast_node.specs.Turns.{told, released, unmoved, own_taken_up, acknowl
 use Rattle.cast_node.proofs.Places.{length-slice_set, at_set, same_number, other_number}
 use Rattle.cast_world.specs.declared.frames.Mark.{Mark}
 use Rattle.cast_world.specs.Group.{State, node_at, marks_at, frame_by}
-use Rattle.cast_world.specs.Moves.{marks_after, Takes, TakesStep, ArrivesBy, StepsTo, IsSound}
+use Rattle.cast_world.specs.Moves.{marks_after, Takes, TakesStep, ArrivesBy, IsSound}
 
 -- a step leaves a node's number and its configuration
 record SamePlace (kept new : Kept) : Type 0 where
@@ -144,18 +142,6 @@ refuses_by world p step made refusal kept frames within rows gives = (
   inl (within, gives.0),
 )
 
--- a refused event leaves the world as it was
-pub refused_same : (world : State) (event : Event) (refusal : StepFault) (new : State) → StepsTo world event (Err refusal) new → new ≡ world
-refused_same world (Order node item) refusal new t = t.0
-refused_same world (Send from to slot) refusal new t = t.0
-refused_same world (Ack from to slot) refusal new t = t.0
-refused_same world (Arrive from seq) refusal new t = by_mark (slice_get (marks_at world from) seq) t
-  where
-    by_mark : (o : Option Mark) → ArrivesBy world from seq o (Err refusal) new → new ≡ world
-    by_mark None h = h.0
-    by_mark (Some mark) h = h.0
-refused_same world (Crash node) refusal new t = t.0
-
 -- what the code found at a place is the node there
 pub found_at : (world : State) (p : ℕ) (before : Kept) → p < length world.nodes → before ≡ get_or world.nodes p before → before ≡ node_at world p
 found_at world p before within found = found ∙ by_list world.nodes p within
@@ -196,9 +182,6 @@ kept_so P (Err refusal) h = h
 
 -- rows of frames as the code keeps them
 module _ {A : Type 0} (items : A → List Mark) (config : Config) (nodes : List Kept) (rows : List A) where
-  abbrev pub world_of : State
-  world_of = record { config = config; nodes = nodes; marks = map items rows }
-
   module _ (p : ℕ) (before : A) (found : before ≡ get_or rows p before) (v : A) where
     pub rows_same : items v ≡ items before → map items (slice_set rows p v) ≡ map items rows
     rows_same same = map-set_same items rows p v before (same ∙ ap items found)
@@ -245,14 +228,6 @@ module _ (world : State) (sound : IsSound world) (from seq : ℕ) (mark : Mark) 
 
   pub arrived_me : kept.me ≡ mark.to
   arrived_me = ap (λ k. k.me) (found_at world p kept target_in found) ∙ sound.places p (subst (λ n. p < n) sound.size target_in) ∙ target
-
-  -- it is refused
-  pub arrival_refused : (refusal : StepFault) → IsRefused (kept_fault kept (Arrived (frame_by world from seq mark))) refusal → (shown : State) → shown ≡ world → ArrivesBy shown from seq (slice_get (marks_at shown from) seq) (Err refusal) shown
-  arrival_refused refusal why shown is =
-      subst (λ w. ArrivesBy w from seq (slice_get (marks_at w from) seq) (Err refusal) w) (sym is)
-      (subst (λ o. ArrivesBy world from seq o (Err refusal) world) (sym found_mark)
-      (subst (λ q. TakesStep world q (Arrived (frame_by world from seq mark)) [] (Err refusal) world) target
-      (refl, inl (target_in, subst (λ k. IsRefused (kept_fault k (Arrived (frame_by world from seq mark))) refusal) (found_at world p kept target_in found) why))))
 
   module _ (frame : Frame) (frame_is : frame ≡ frame_by world from seq mark) (new : Kept) (reply : Result Answer StepFault) (gives : Gives kept (Arrived frame) reply new) where
     pub sound_arrived : IsSound (record { config = world.config; nodes = slice_set world.nodes p new; marks = world.marks })
