@@ -5,7 +5,7 @@
 use Rattle.std.specs.Prelude.{ℕ, ◌+◌, ◌*◌, ◌/◌, ◌==◌, Bool, List, [], ◌∷◌, ◌++◌, map, take, drop, if◌then◌else◌}
 use Rattle.cast_message.specs.declared.message.Message.{Message}
 use Rattle.cast_message.specs.declared.message.Decision.{Decision}
-use Rattle.cast_model.specs.Replies.{proposes}
+use Rattle.cast_model.specs.Refusals.{proposes}
 use Rattle.cast_draw.specs.Places.{place_x, row_of, top_of}
 use Rattle.cast_draw.specs.Marks.{delivery_text, decision_text}
 

@@ -1,7 +1,7 @@
 //! What an event delivered and decided, below its node's line.
 ghost use Rattle.std.specs.Prelude.{◌≡◌, ◌<◌, ◌≤◌, ◌+◌, ◌^◌, ◌++◌, ◌∷◌, [], IfOk, OnOk, if◌then◌else◌, drop, length, map, true};
 ghost use Rattle.cast_draw.specs.Deeds.{Delivers, Decides, brought, deed_text, deeds, deeds_text, width_of};
-ghost use Rattle.cast_model.specs.Replies.{proposes};
+ghost use Rattle.cast_model.specs.Refusals.{proposes};
 
 use crate::cell::{Cell, FOR_VALUES, NARROW, Spot, WIDE};
 use crate::ink::Ink;

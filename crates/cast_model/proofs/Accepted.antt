@@ -5,7 +5,8 @@ use Rattle.cast_message.specs.declared.config.Config.{Config}
 use Rattle.cast_message.specs.declared.event.Event.TheVariants.{Order, Send, Ack}
 use Rattle.cast_message.specs.declared.message.Item.{Item}
 use Rattle.cast_model.specs.History.{History, given, taken}
-use Rattle.cast_model.specs.Replies.{Cause, causes, first_fault, fault}
+use Rattle.cast_model.specs.Refusals.{Cause, first_fault}
+use Rattle.cast_model.specs.Replies.{causes, fault}
 use Rattle.cast_model.proofs.Members.{Member, here, there}
 
 -- where there is no refusal, no cause holds

@@ -13,7 +13,8 @@ use Rattle.cast_message.specs.declared.message.Item.TheVariants.{Data, Propose, 
 use Rattle.cast_message.specs.declared.message.Message.{Message}
 use Rattle.cast_model.specs.History.{History, stream, numbered, broadcast}
 use Rattle.cast_model.specs.Delivery.{nodes_of, is_ready, delivered, delivery_log, votes, value_in, decision}
-use Rattle.cast_model.specs.Replies.{IsAccepted, is_from, proposes}
+use Rattle.cast_model.specs.Refusals.{proposes}
+use Rattle.cast_model.specs.Replies.{IsAccepted, is_from}
 use Rattle.cast_model.specs.Rounds.{Rest, Live, FewCrashedIn, proposers}
 use Rattle.cast_model.proofs.Members.{Member, Member-filter, filter-Member, Member-list_any}
 use Rattle.cast_model.proofs.Ready.{both_same}

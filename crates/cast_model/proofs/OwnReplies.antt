@@ -1,7 +1,7 @@
 -- A node's own steps tell how each of its events is answered, and which frame it makes.
 use Rattle.std.proofs.Common.{◌≡◌, ℕ, zero, suc, ◌<◌, refl, sym, ◌∙◌, ap, subst, Bool, true, false, not, ◌&&◌, cond, List, [], ◌∷◌, ◌++◌, length, map, get_or, Option, Some, None, inl, inr, ◌⊎◌, arith}
-use Rattle.std.specs.Prelude.{◌==◌, ◌-◌, slice_get, nat_le, Ok}
-use Rattle.std.specs.List.{filter, list_any, range_with_len}
+use Rattle.std.specs.Prelude.{◌==◌, slice_get, Ok}
+use Rattle.std.specs.List.{filter, range_with_len}
 use Rattle.std.proofs.lemmas.List.{append-nil}
 use Rattle.std.proofs.lemmas.Bool.{eq-eqb, eqb-true, eqb-false, cond-true, not-false, ltb-true, lt-ltb}
 use Rattle.cast_message.specs.declared.config.Config.{Config}
@@ -9,18 +9,16 @@ use Rattle.cast_message.specs.declared.event.Event.{Event}
 use Rattle.cast_message.specs.declared.event.Event.TheVariants.{Order, Send, Ack, Arrive, Crash}
 use Rattle.cast_message.specs.declared.event.Answer.TheVariants.{Ordered as AnswerOrdered, Sent as AnswerSent, Arrived as AnswerArrived}
 use Rattle.cast_message.specs.declared.event.StepFault.{StepFault}
-use Rattle.cast_message.specs.declared.event.StepFault.TheVariants.{SelfLink, Crashed, Closed, TooLong, AlreadyProposed, StreamFull, NoSlot, Acked, NotTaken, FramesFull}
-use Rattle.cast_message.specs.declared.message.Item.{Item}
 use Rattle.cast_message.specs.declared.message.Item.TheVariants.{Close}
 use Rattle.cast_message.specs.declared.message.Frame.{Frame}
 use Rattle.cast_message.specs.declared.message.FrameBody.TheVariants.{Carry, Took}
-use Rattle.cast_message.specs.Limits.{frame_limit}
-use Rattle.cast_model.specs.History.{History, stream, is_live, first, frames, frames_gained, given, given_of, copy_at, message_of, taken, acked}
+use Rattle.cast_model.specs.History.{History, stream, first, frames, frames_gained, given, given_of, copy_at, message_of, acked}
 use Rattle.cast_model.specs.Delivery.{outcome}
-use Rattle.cast_model.specs.Replies.{Cause, no_node, crashed, is_close, is_too_long, is_second_proposal, causes, causes_of_arrival, first_fault, fault, target_of, answer, reply_by, reply, IsAccepted}
+use Rattle.cast_model.specs.Refusals.{no_node, step_causes, first_fault}
+use Rattle.cast_model.specs.Replies.{view_of, causes, causes_of_arrival, fault, target_of, answer, reply_by, reply, IsAccepted}
 use Rattle.cast_model.specs.Rounds.{owed}
-use Rattle.cast_model.specs.Steps.{Step, Ordered, Sent, Acknowledged, Arrived, steps_of, own_items, frame_count, Held, copy_of, held}
-use Rattle.cast_model.specs.OwnSteps.{own_given, own_taken, own_acked, own_owed, own_outcome, message_in, own_made, own_frames, own_causes, own_fault, own_answer, own_reply, IsStep, orders, sends, acknowledges, takes, stops}
+use Rattle.cast_model.specs.Steps.{Step, Ordered, Sent, Acknowledged, Arrived, Stopped, steps_of, Held, copy_of, held}
+use Rattle.cast_model.specs.OwnSteps.{own_given, own_acked, own_owed, own_outcome, message_in, own_made, own_frames, own_view, own_fault, own_answer, own_reply, IsStep, orders, sends, acknowledges, takes, stops}
 use Rattle.cast_model.proofs.Members.{Member, here, there, Member-append, Member-if, Member-filter, Member-get_or, Member-slice_get}
 use Rattle.cast_model.proofs.Growth.{made}
 use Rattle.cast_model.proofs.Accepted.{no_cause, Send-slot}
@@ -68,38 +66,6 @@ frame_ends config (event ∷ past) accepted p frame m = elim (Member-append fram
   | inr new ↦ Ends-made config past event accepted.1 p frame new
 ]
 
--- the causes by what they look at
-abbrev order_causes : Config → Item → Bool → List Item → List Cause
-order_causes config item live items =
-    record { holds = not live; refusal = Crashed }
-    ∷ record { holds = list_any is_close items; refusal = Closed }
-    ∷ record { holds = is_too_long item; refusal = TooLong }
-    ∷ record { holds = is_second_proposal items item; refusal = AlreadyProposed }
-    ∷ record { holds = not (is_close item) && nat_le (config.item_limit - 1) (length items); refusal = StreamFull }
-    ∷ []
-
-abbrev send_causes : Config → ℕ → ℕ → ℕ → Bool → ℕ → Bool → ℕ → List Cause
-send_causes config me to slot live slots done count =
-    no_node config to
-    ∷ record { holds = me == to; refusal = SelfLink }
-    ∷ record { holds = not live; refusal = Crashed }
-    ∷ record { holds = nat_le slots slot; refusal = NoSlot }
-    ∷ record { holds = done; refusal = Acked }
-    ∷ record { holds = nat_le frame_limit count; refusal = FramesFull }
-    ∷ []
-
-abbrev ack_causes : Config → ℕ → ℕ → Bool → Bool → ℕ → List Cause
-ack_causes config me to live took count =
-    no_node config to
-    ∷ record { holds = me == to; refusal = SelfLink }
-    ∷ record { holds = not live; refusal = Crashed }
-    ∷ record { holds = not took; refusal = NotTaken }
-    ∷ record { holds = nat_le frame_limit count; refusal = FramesFull }
-    ∷ []
-
-abbrev live_causes : Bool → List Cause
-live_causes live = record { holds = not live; refusal = Crashed } ∷ []
-
 get_or-map : {A B : Type 0} (f : A → B) (xs : List A) (i : ℕ) (d : A) → get_or (map f xs) i (f d) ≡ f (get_or xs i d)
 get_or-map f [] i d = refl
 get_or-map f (x ∷ xs) zero d = refl
@@ -109,38 +75,41 @@ module _ (config : Config) (past : History) (me : ℕ) where
   pub given_count : (to : ℕ) → length (own_given me (steps_of past me) to) ≡ length (given past me to)
   given_count to = sym (length-map copy_of (own_given me (steps_of past me) to)) ∙ ap length (own_given-steps_of past me to)
 
+  -- a node shows the same by its own steps
+  view_is : own_view me (steps_of past me) ≡ view_of past me
+  view_is = λ k. record {
+    live = own_live-steps_of past me k;
+    stream = own_items-steps_of past me k;
+    slots = λ to. given_count to k;
+    has_acked = λ to slot. own_acked-steps_of past me to slot k;
+    has_taken = λ to slot. own_taken-steps_of past me to slot k;
+    frames = frame_count-steps_of past me k;
+  }
+
+  by_view : (step : Step) → first_fault (step_causes config me (own_view me (steps_of past me)) step) ≡ first_fault (step_causes config me (view_of past me) step)
+  by_view step = ap (λ view. first_fault (step_causes config me view step)) view_is
+
   module _ (accepted : IsAccepted config past) (me_in : me < config.nodes) where
     here_in : (no_node config me).holds ≡ false
     here_in = ap not (lt-ltb me config.nodes me_in)
 
+    -- the causes of a step are those of the event, behind that its node is none
+    named : (step : Step) → first_fault (step_causes config me (view_of past me) step) ≡ first_fault (no_node config me ∷ step_causes config me (view_of past me) step)
+    named step = sym (quiet (no_node config me) (step_causes config me (view_of past me) step) here_in)
+
     -- the refusal
     pub own_fault-steps_of : (event : Event) (step : Step) → IsStep past me event step → own_fault config me (steps_of past me) step ≡ fault config past event
-    unfolding own_fault own_causes fault causes
-    own_fault-steps_of event step (orders item) =
-        ap (λ live. first_fault (order_causes config item live (own_items (steps_of past me)))) (own_live-steps_of past me)
-        ∙ ap (λ items. first_fault (order_causes config item (is_live past me) items)) (own_items-steps_of past me)
-        ∙ sym (quiet (no_node config me) (order_causes config item (is_live past me) (stream past me)) here_in)
-    own_fault-steps_of event step (sends to slot) =
-        let steps = steps_of past me in
-        ap (λ live. first_fault (send_causes config me to slot live (length (own_given me steps to)) (own_acked steps to slot) (frame_count steps))) (own_live-steps_of past me)
-        ∙ ap (λ slots. first_fault (send_causes config me to slot (is_live past me) slots (own_acked steps to slot) (frame_count steps))) (given_count to)
-        ∙ ap (λ done. first_fault (send_causes config me to slot (is_live past me) (length (given past me to)) done (frame_count steps))) (own_acked-steps_of past me to slot)
-        ∙ ap (λ count. first_fault (send_causes config me to slot (is_live past me) (length (given past me to)) (acked past me to slot) count)) (frame_count-steps_of past me)
-        ∙ sym (quiet (no_node config me) (send_causes config me to slot (is_live past me) (length (given past me to)) (acked past me to slot) (length (frames past me))) here_in)
-    own_fault-steps_of event step (acknowledges to slot) =
-        let steps = steps_of past me in
-        ap (λ live. first_fault (ack_causes config me to live (own_taken steps to slot) (frame_count steps))) (own_live-steps_of past me)
-        ∙ ap (λ took. first_fault (ack_causes config me to (is_live past me) took (frame_count steps))) (own_taken-steps_of past me to slot)
-        ∙ ap (λ count. first_fault (ack_causes config me to (is_live past me) (taken past to me slot) count)) (frame_count-steps_of past me)
-        ∙ sym (quiet (no_node config me) (ack_causes config me to (is_live past me) (taken past to me slot) (length (frames past me))) here_in)
+    unfolding own_fault fault causes
+    own_fault-steps_of event step (orders item) = by_view (Ordered item) ∙ named (Ordered item)
+    own_fault-steps_of event step (sends to slot) = by_view (Sent to slot) ∙ named (Sent to slot)
+    own_fault-steps_of event step (acknowledges to slot) = by_view (Acknowledged to slot) ∙ named (Acknowledged to slot)
     own_fault-steps_of event step (takes from seq frame at to) =
         let ends = frame_ends config past accepted from frame (Member-slice_get (frames past from) seq frame at) in
-        ap (λ live. first_fault (live_causes live)) (own_live-steps_of past me)
-        ∙ ap (λ p. first_fault (crashed past p ∷ [])) (sym to)
-        ∙ sym (ap (λ o. first_fault (causes_of_arrival past o)) at)
-        ∙ sym (quiet (no_node config from) (causes_of_arrival past (slice_get (frames past from) seq)) (ap not (lt-ltb from config.nodes ends.maker_in)))
-    own_fault-steps_of event step stops =
-        ap (λ live. first_fault (live_causes live)) (own_live-steps_of past me) ∙ sym (quiet (no_node config me) (live_causes (is_live past me)) here_in)
+        by_view (Arrived frame)
+        ∙ ap (λ p. first_fault (step_causes config p (view_of past p) (Arrived frame))) (sym to)
+        ∙ sym (ap (λ o. first_fault (causes_of_arrival config past o)) at)
+        ∙ sym (quiet (no_node config from) (causes_of_arrival config past (slice_get (frames past from) seq)) (ap not (lt-ltb from config.nodes ends.maker_in)))
+    own_fault-steps_of event step stops = by_view Stopped ∙ named Stopped
 
     -- the answer, where there is no refusal
     pub own_answer-steps_of : (event : Event) (step : Step) → IsAccepted config (event ∷ past) → IsStep past me event step → own_answer config me (steps_of past me) step ≡ answer config past event

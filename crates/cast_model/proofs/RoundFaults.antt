@@ -1,5 +1,5 @@
 -- The only refusal in a round is that of a node whose frames are full.
-use Rattle.std.proofs.Common.{◌≡◌, ℕ, ◌+◌, ◌<◌, ◌≤◌, refl, sym, ◌∙◌, ap, subst, Bool, true, false, not, ◌&&◌, ◌||◌, cond, List, [], ◌∷◌, ◌++◌, length, Option, Some, None, inl, inr, ◌⊎◌, arith}
+use Rattle.std.proofs.Common.{◌≡◌, ℕ, ◌+◌, ◌<◌, refl, sym, ◌∙◌, ap, subst, Bool, true, false, not, ◌&&◌, cond, List, [], ◌∷◌, ◌++◌, length, Option, Some, None, inl, inr, ◌⊎◌, arith}
 use Rattle.std.specs.Prelude.{◌==◌, slice_get, nat_le}
 use Rattle.std.specs.List.{list_any}
 use Rattle.std.proofs.lemmas.List.{append-nil}
@@ -13,7 +13,8 @@ use Rattle.cast_message.specs.declared.message.Frame.{Frame}
 use Rattle.cast_message.specs.declared.message.FrameBody.TheVariants.{Carry, Took}
 use Rattle.cast_message.specs.Limits.{frame_limit}
 use Rattle.cast_model.specs.History.{History, stream, is_live, first, frames, given, given_of, copy_at, message_of, frames_gained, frame_arriving, frame_at, arrivals, taken, acked, is_carry_of, is_took_of}
-use Rattle.cast_model.specs.Replies.{Cause, no_node, crashed, frames_full, causes, causes_of_arrival, first_fault, fault, after, after_by, history_from, IsAccepted}
+use Rattle.cast_model.specs.Refusals.{Cause, no_node, crashed, frames_full, first_fault}
+use Rattle.cast_model.specs.Replies.{view_of, causes, causes_of_arrival, fault, after, after_by, history_from, IsAccepted}
 use Rattle.cast_model.specs.Rounds.{Due, due, frames_for, events_for, plan_from, plan, AreAccepted, AcceptedUntilFull}
 use Rattle.cast_model.proofs.Members.{Member, here, there, Member-append, Member-append_right, Member-if, list_any-Member, Member-list_any}
 use Rattle.cast_model.proofs.Growth.{arriving, frames-more, arrivals-more, slot_kept}
@@ -27,7 +28,7 @@ quiet cause list e = cond-false _ _ _ e
 
 -- the refusal of a node whose frames are full
 abbrev pub full : History → ℕ → Option StepFault
-full past p = first_fault (frames_full past p ∷ [])
+full past p = first_fault (frames_full (view_of past p) ∷ [])
 
 full_cases : (past : History) (p : ℕ) → (full past p ≡ None) ⊎ (full past p ≡ Some FramesFull)
 unfolding first_fault
@@ -144,9 +145,9 @@ module _ (config : Config) where
   fault-Arrive : (past : History) (from seq : ℕ) (frame : Frame) → from < config.nodes → slice_get (frames past from) seq ≡ Some frame → is_live past frame.to ≡ true → fault config past (Arrive from seq) ≡ None
   unfolding fault causes first_fault
   fault-Arrive past from seq frame from_in at live =
-      quiet (no_node config from) (causes_of_arrival past (slice_get (frames past from) seq)) (ap not (lt-ltb from config.nodes from_in))
-      ∙ ap (λ o. first_fault (causes_of_arrival past o)) at
-      ∙ quiet (crashed past frame.to) [] (ap not live)
+      quiet (no_node config from) (causes_of_arrival config past (slice_get (frames past from) seq)) (ap not (lt-ltb from config.nodes from_in))
+      ∙ ap (λ o. first_fault (causes_of_arrival config past o)) at
+      ∙ quiet (crashed (view_of past frame.to)) [] (ap not live)
 
   -- how far a round has come, with these slots left
   pub record Going (past now : History) (before ds : List Due) : Type 0 where

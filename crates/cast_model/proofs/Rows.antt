@@ -13,7 +13,8 @@ use Rattle.cast_message.specs.declared.message.Item.TheVariants.{Data, Propose, 
 use Rattle.cast_message.specs.declared.message.Message.{Message}
 use Rattle.cast_model.specs.History.{History, stream, is_live, numbered, broadcast, has_pair, given_of, copy_at, message_of, frame_arriving, copies_gained, frames_gained, first, frames, given, arrivals, taken, acked}
 use Rattle.cast_model.specs.Delivery.{knows, known_by, is_known_enough, is_ready, next, delivered, concerned, turns, deliveries, delivery_log, votes, least, decisions_of, outcome}
-use Rattle.cast_model.specs.Replies.{causes, first_fault, fault, answer, reply, after, history_from, history, replies_from, replies}
+use Rattle.cast_model.specs.Refusals.{first_fault}
+use Rattle.cast_model.specs.Replies.{causes, fault, answer, reply, after, history_from, history, replies_from, replies}
 use Rattle.cast_model.specs.Rounds.{Due, owed, due_between, live_nodes, due, frames_for, events_for, plan_from, plan, after_round}
 
 -- what a row unfolds to compute the definitions on its events

@@ -13,7 +13,8 @@ use Rattle.cast_message.specs.declared.message.Item.TheVariants.{Data, Propose, 
 use Rattle.cast_message.specs.declared.message.Message.{Message}
 use Rattle.cast_model.specs.History.{History, items_ordered, stream, numbered, broadcast}
 use Rattle.cast_model.specs.Delivery.{value_in, votes, delivery_log}
-use Rattle.cast_model.specs.Replies.{causes, fault, is_second_proposal, proposes, IsAccepted, is_from, IsPrefixOf}
+use Rattle.cast_model.specs.Refusals.{is_second_proposal, proposes}
+use Rattle.cast_model.specs.Replies.{causes, fault, IsAccepted, is_from, IsPrefixOf}
 use Rattle.cast_model.proofs.Members.{here, there}
 use Rattle.cast_model.proofs.Accepted.{no_cause}
 use Rattle.cast_model.proofs.Prefix.{delivery_log-front, delivered_is_prefix}

@@ -1,5 +1,6 @@
 pub mod History
 pub mod Delivery
+pub mod Refusals
 pub mod Replies
 pub mod Headline
 pub mod Rounds

@@ -20,7 +20,6 @@
 use Rattle.std.specs.Prelude.{◌≡◌, ℕ, ◌-◌, ◌*◌, ◌==◌, is_some, nat_lt, nat_le, take, Bool, true, false, not, ◌&&◌, ◌||◌, if◌then◌else◌, List, [], ◌∷◌, ◌++◌, length, map, slice_get, slice_index_or}
 use Rattle.std.specs.Prelude.{Option, Some, None, Result}
 use Rattle.std.specs.List.{filter, list_any, filter_map, count_by, prefix_len, range_with_len}
-use Rattle.cast_message.specs.Limits.{frame_limit}
 use Rattle.cast_message.specs.declared.config.Config.{Config}
 use Rattle.cast_message.specs.declared.config.Mode.{Mode}
 use Rattle.cast_message.specs.declared.config.Mode.TheVariants.{Basic, Uniform}
@@ -30,7 +29,6 @@ use Rattle.cast_message.specs.declared.event.Outcome.{Outcome}
 use Rattle.cast_message.specs.declared.event.Answer.{Answer}
 use Rattle.cast_message.specs.declared.event.Answer.TheVariants.{Ordered as AnswerOrdered, Sent as AnswerSent, Arrived as AnswerArrived, Down}
 use Rattle.cast_message.specs.declared.event.StepFault.{StepFault}
-use Rattle.cast_message.specs.declared.event.StepFault.TheVariants.{SelfLink, Crashed, Closed, TooLong, AlreadyProposed, StreamFull, NoSlot, Acked, NotTaken, FramesFull}
 use Rattle.cast_message.specs.declared.message.Item.{Item}
 use Rattle.cast_message.specs.declared.message.Item.TheVariants.{Propose, Close}
 use Rattle.cast_message.specs.declared.message.Message.{Message}
@@ -40,7 +38,8 @@ use Rattle.cast_message.specs.declared.message.FrameBody.{FrameBody}
 use Rattle.cast_message.specs.declared.message.FrameBody.TheVariants.{Carry, Took}
 use Rattle.cast_model.specs.History.{History, FirstCopy, has_pair, frames, is_carry_of, is_took_of}
 use Rattle.cast_model.specs.Delivery.{nodes_of, is_pair, tells_of, sender_in, value_in, votes, least, decision_by}
-use Rattle.cast_model.specs.Replies.{Cause, no_node, is_close, is_too_long, is_second_proposal, first_fault, reply_by}
+use Rattle.cast_model.specs.Refusals.{NodeView, step_causes, first_fault}
+use Rattle.cast_model.specs.Replies.{reply_by}
 use Rattle.cast_model.specs.Steps.{Step, Ordered, Sent, Acknowledged, Arrived, Stopped, Steps, own_items, frames_in, frame_count, Held, copy_of, held}
 
 abbrev pub is_stop : Step → Bool
@@ -172,42 +171,20 @@ unfoldable pub own_frames : ℕ → Steps → List Frame
 own_frames me [] = []
 own_frames me (step ∷ steps) = own_frames me steps ++ own_made me steps step
 
-abbrev pub stopped : Steps → Cause
-stopped steps = record { holds = not (own_live steps); refusal = Crashed }
-
-abbrev pub own_full : Steps → Cause
-own_full steps = record { holds = nat_le frame_limit (frame_count steps); refusal = FramesFull }
-
--- the causes for which a step after these is refused, in the order in which they are tried
-unfoldable pub own_causes : Config → ℕ → Steps → Step → List Cause
-own_causes config me steps (Ordered item) =
-    stopped steps
-    ∷ record { holds = list_any is_close (own_items steps); refusal = Closed }
-    ∷ record { holds = is_too_long item; refusal = TooLong }
-    ∷ record { holds = is_second_proposal (own_items steps) item; refusal = AlreadyProposed }
-    ∷ record { holds = not (is_close item) && nat_le (config.item_limit - 1) (length (own_items steps)); refusal = StreamFull }
-    ∷ []
-own_causes config me steps (Sent to slot) =
-    no_node config to
-    ∷ record { holds = me == to; refusal = SelfLink }
-    ∷ stopped steps
-    ∷ record { holds = nat_le (length (own_given me steps to)) slot; refusal = NoSlot }
-    ∷ record { holds = own_acked steps to slot; refusal = Acked }
-    ∷ own_full steps
-    ∷ []
-own_causes config me steps (Acknowledged to slot) =
-    no_node config to
-    ∷ record { holds = me == to; refusal = SelfLink }
-    ∷ stopped steps
-    ∷ record { holds = not (own_taken steps to slot); refusal = NotTaken }
-    ∷ own_full steps
-    ∷ []
-own_causes config me steps (Arrived frame) = stopped steps ∷ []
-own_causes config me steps Stopped = stopped steps ∷ []
+-- what the node shows after these steps
+abbrev pub own_view : ℕ → Steps → NodeView
+own_view me steps = record {
+  live = own_live steps;
+  stream = own_items steps;
+  slots = λ to. length (own_given me steps to);
+  has_acked = own_acked steps;
+  has_taken = own_taken steps;
+  frames = frame_count steps;
+}
 
 -- the refusal of a step after these
 unfoldable pub own_fault : Config → ℕ → Steps → Step → Option StepFault
-own_fault config me steps step = first_fault (own_causes config me steps step)
+own_fault config me steps step = first_fault (step_causes config me (own_view me steps) step)
 
 -- the answer to an accepted step
 unfoldable pub own_answer : Config → ℕ → Steps → Step → Answer

@@ -7,95 +7,49 @@
 --     answered events replies q s  what q delivered from s, by the replies
 --     decided replies j            the values decided in instance j, by the replies
 --     IsPrefixOf, AtMost           the words of the main promise
-use Rattle.std.specs.Prelude.{◌≡◌, ℕ, suc, ◌-◌, ◌==◌, ◌≤◌, nat_lt, nat_le, nat_eq, Bool, true, false, not, ◌&&◌, if◌then◌else◌, List, [], ◌∷◌, ◌++◌, length, reverse, slice_get}
+use Rattle.std.specs.Prelude.{◌≡◌, ℕ, suc, ◌==◌, ◌≤◌, nat_eq, Bool, true, false, if◌then◌else◌, List, [], ◌∷◌, ◌++◌, length, reverse, slice_get}
 use Rattle.std.specs.Prelude.{Option, Some, None, Result, Ok, Err}
-use Rattle.std.specs.List.{list_any, filter, filter_map, All, Contains, IsDistinct}
-use Rattle.cast_message.specs.Limits.{payload_limit, frame_limit}
+use Rattle.std.specs.List.{filter, filter_map, All, Contains, IsDistinct}
 use Rattle.cast_message.specs.declared.config.Config.{Config}
 use Rattle.cast_message.specs.declared.event.Event.{Event}
 use Rattle.cast_message.specs.declared.event.Event.TheVariants.{Order, Send, Ack, Arrive, Crash}
 use Rattle.cast_message.specs.declared.event.Answer.{Answer}
-use Rattle.cast_message.specs.declared.event.Answer.TheVariants.{Ordered, Sent, Arrived, Down}
+use Rattle.cast_message.specs.declared.event.Answer.TheVariants.{Ordered as AnswerOrdered, Sent as AnswerSent, Arrived as AnswerArrived, Down}
 use Rattle.cast_message.specs.declared.event.StepFault.{StepFault}
-use Rattle.cast_message.specs.declared.event.StepFault.TheVariants.{NoNode, SelfLink, Crashed, Closed, TooLong, AlreadyProposed, StreamFull, NoSlot, Acked, NotTaken, NoFrame, FramesFull, Memory}
-use Rattle.cast_message.specs.declared.message.Item.{Item}
-use Rattle.cast_message.specs.declared.message.Item.TheVariants.{Data, Propose, Close}
+use Rattle.cast_message.specs.declared.event.StepFault.TheVariants.{NoFrame, Memory}
+use Rattle.cast_message.specs.declared.message.Item.TheVariants.{Close}
 use Rattle.cast_message.specs.declared.message.Message.{Message}
 use Rattle.cast_message.specs.declared.message.Decision.{Decision}
 use Rattle.cast_message.specs.declared.message.Frame.{Frame}
 use Rattle.cast_model.specs.History.{History, stream, is_live, given, frames, acked, taken}
 use Rattle.cast_model.specs.Delivery.{outcome}
+use Rattle.cast_model.specs.Steps.{Ordered, Sent, Acknowledged, Arrived, Stopped}
+use Rattle.cast_model.specs.Refusals.{Cause, NodeView, no_node, step_causes, first_fault}
 
-abbrev pub is_close : Item → Bool
-is_close Close = true
-is_close _ = false
-
-abbrev pub is_too_long : Item → Bool
-is_too_long (Data bytes) = nat_lt payload_limit (length bytes)
-is_too_long _ = false
-
--- the item proposes in instance j
-abbrev pub proposes : ℕ → Item → Bool
-proposes j (Propose instance value) = instance == j
-proposes j _ = false
-
--- the item proposes in an instance in which one of these does
-abbrev pub is_second_proposal : List Item → Item → Bool
-is_second_proposal items (Propose instance value) = list_any (proposes instance) items
-is_second_proposal items _ = false
-
--- Why an event may be refused: whether the cause holds, and the refusal.
-pub record Cause : Type 0 where
-  pub holds : Bool
-  pub refusal : StepFault
-
-abbrev pub no_node : Config → ℕ → Cause
-no_node config p = record { holds = not (nat_lt p config.nodes); refusal = NoNode }
-
-abbrev pub crashed : History → ℕ → Cause
-crashed past p = record { holds = not (is_live past p); refusal = Crashed }
-
-abbrev pub frames_full : History → ℕ → Cause
-frames_full past p = record { holds = nat_le frame_limit (length (frames past p)); refusal = FramesFull }
+-- what node p shows after past
+abbrev pub view_of : History → ℕ → NodeView
+view_of past p = record {
+  live = is_live past p;
+  stream = stream past p;
+  slots = λ q. length (given past p q);
+  has_acked = acked past p;
+  has_taken = λ q slot. taken past q p slot;
+  frames = length (frames past p);
+}
 
 -- the causes of an arrival, where frame is the one it names
-abbrev pub causes_of_arrival : History → Option Frame → List Cause
-causes_of_arrival past None = record { holds = true; refusal = NoFrame } ∷ []
-causes_of_arrival past (Some frame) = crashed past frame.to ∷ []
+abbrev pub causes_of_arrival : Config → History → Option Frame → List Cause
+causes_of_arrival config past None = record { holds = true; refusal = NoFrame } ∷ []
+causes_of_arrival config past (Some frame) = step_causes config frame.to (view_of past frame.to) (Arrived frame)
 
--- the causes for which an event after past is refused, in the order in which they are tried
+-- the causes for which an event after past is refused, in the order in which they are tried: the node that it names is none, and then
+-- those of the step that it is for that node
 unfoldable pub causes : Config → History → Event → List Cause
-causes config past (Order p item) =
-    no_node config p
-    ∷ crashed past p
-    ∷ record { holds = list_any is_close (stream past p); refusal = Closed }
-    ∷ record { holds = is_too_long item; refusal = TooLong }
-    ∷ record { holds = is_second_proposal (stream past p) item; refusal = AlreadyProposed }
-    ∷ record { holds = not (is_close item) && nat_le (config.item_limit - 1) (length (stream past p)); refusal = StreamFull }
-    ∷ []
-causes config past (Send p q slot) =
-    no_node config p
-    ∷ no_node config q
-    ∷ record { holds = p == q; refusal = SelfLink }
-    ∷ crashed past p
-    ∷ record { holds = nat_le (length (given past p q)) slot; refusal = NoSlot }
-    ∷ record { holds = acked past p q slot; refusal = Acked }
-    ∷ frames_full past p
-    ∷ []
-causes config past (Ack p q slot) =
-    no_node config p
-    ∷ no_node config q
-    ∷ record { holds = p == q; refusal = SelfLink }
-    ∷ crashed past p
-    ∷ record { holds = not (taken past q p slot); refusal = NotTaken }
-    ∷ frames_full past p
-    ∷ []
-causes config past (Arrive from seq) = no_node config from ∷ causes_of_arrival past (slice_get (frames past from) seq)
-causes config past (Crash p) = no_node config p ∷ crashed past p ∷ []
-
-unfoldable pub first_fault : List Cause → Option StepFault
-first_fault [] = None
-first_fault (cause ∷ causes) = if cause.holds then Some cause.refusal else first_fault causes
+causes config past (Order p item) = no_node config p ∷ step_causes config p (view_of past p) (Ordered item)
+causes config past (Send p q slot) = no_node config p ∷ step_causes config p (view_of past p) (Sent q slot)
+causes config past (Ack p q slot) = no_node config p ∷ step_causes config p (view_of past p) (Acknowledged q slot)
+causes config past (Arrive from seq) = no_node config from ∷ causes_of_arrival config past (slice_get (frames past from) seq)
+causes config past (Crash p) = no_node config p ∷ step_causes config p (view_of past p) Stopped
 
 -- the refusal of an event after past
 unfoldable pub fault : Config → History → Event → Option StepFault
@@ -107,10 +61,10 @@ target_of (Some frame) = frame.to
 
 -- the answer to an accepted event
 unfoldable pub answer : Config → History → Event → Answer
-answer config past (Order p item) = Ordered (length (stream past p)) (outcome config past (Order p item))
-answer config past (Send p q slot) = Sent (length (frames past p))
-answer config past (Ack p q slot) = Sent (length (frames past p))
-answer config past (Arrive from seq) = Arrived (target_of (slice_get (frames past from) seq)) (outcome config past (Arrive from seq))
+answer config past (Order p item) = AnswerOrdered (length (stream past p)) (outcome config past (Order p item))
+answer config past (Send p q slot) = AnswerSent (length (frames past p))
+answer config past (Ack p q slot) = AnswerSent (length (frames past p))
+answer config past (Arrive from seq) = AnswerArrived (target_of (slice_get (frames past from) seq)) (outcome config past (Arrive from seq))
 answer config past (Crash p) = Down
 
 abbrev pub reply_by : Option StepFault → Answer → Result Answer StepFault
@@ -156,8 +110,8 @@ IsAccepted config (event ∷ past) = IsAccepted config past × (fault config pas
 
 -- what an answer to an event delivered at q
 abbrev pub deliveries_at : ℕ → Event → Answer → List Message
-deliveries_at q (Order node item) (Ordered number outcome) = if node == q then outcome.deliveries else []
-deliveries_at q event (Arrived node outcome) = if node == q then outcome.deliveries else []
+deliveries_at q (Order node item) (AnswerOrdered number outcome) = if node == q then outcome.deliveries else []
+deliveries_at q event (AnswerArrived node outcome) = if node == q then outcome.deliveries else []
 deliveries_at q event _ = []
 
 abbrev pub deliveries_for : ℕ → Event → Result Answer StepFault → List Message
@@ -174,9 +128,9 @@ answered (event ∷ events) [] q s = []
 answered (event ∷ events) (result ∷ results) q s = filter (is_from s) (deliveries_for q event result) ++ answered events results q s
 
 abbrev pub decisions_in_answer : Answer → List Decision
-decisions_in_answer (Ordered number outcome) = outcome.decisions
-decisions_in_answer (Sent seq) = []
-decisions_in_answer (Arrived node outcome) = outcome.decisions
+decisions_in_answer (AnswerOrdered number outcome) = outcome.decisions
+decisions_in_answer (AnswerSent seq) = []
+decisions_in_answer (AnswerArrived node outcome) = outcome.decisions
 decisions_in_answer Down = []
 
 abbrev pub decisions_in : Result Answer StepFault → List Decision

@@ -16,7 +16,8 @@ use Rattle.cast_model.specs.History.{History, is_live, has_pair, first, given, f
 use Rattle.cast_message.specs.declared.config.Mode.{Mode}
 use Rattle.cast_message.specs.declared.config.Mode.TheVariants.{Basic, Uniform}
 use Rattle.cast_model.specs.Delivery.{nodes_of, delivered}
-use Rattle.cast_model.specs.Replies.{fault, history_from, proposes}
+use Rattle.cast_model.specs.Refusals.{proposes}
+use Rattle.cast_model.specs.Replies.{fault, history_from}
 
 -- the slots given to q that it has not acknowledged to p, ascending
 unfoldable pub owed : History → ℕ → ℕ → List ℕ

@@ -1,19 +1,17 @@
 -- A node refuses what the definitions refuse.
 use Rattle.std.proofs.Common.{◌≡◌, ◌≢◌, ℕ, ◌-◌, ◌<◌, refl, sym, ◌∙◌, ap, Bool, true, false, not, ◌&&◌, cond, List, [], ◌∷◌, length, Some, None, arith}
 use Rattle.std.specs.Prelude.{◌==◌, nat_lt, nat_le, is_some, if◌then◌else◌}
-use Rattle.std.specs.List.{list_any}
 use Rattle.std.specs.FinSet as set
 use Rattle.std.specs.FinMap as finite
 use Rattle.std.proofs.lemmas.Bool.Decides.{nat_tests}
 use Rattle.std.proofs.lemmas.Bool.{not-false, ltb-true, eq-eqb, false≢true}
-use Rattle.cast_message.specs.Limits.{frame_limit}
 use Rattle.cast_message.specs.declared.config.Config.{Config}
-use Rattle.cast_message.specs.declared.event.StepFault.TheVariants.{SelfLink, Crashed, Closed, TooLong, AlreadyProposed, StreamFull, NoSlot, Acked, NotTaken, FramesFull}
-use Rattle.cast_model.specs.Replies.{Cause, no_node, is_close, is_too_long, is_second_proposal, first_fault}
-use Rattle.cast_model.specs.Steps.{Step, Ordered, Sent, Acknowledged, Arrived, Stopped, Steps, frame_count}
-use Rattle.cast_model.specs.OwnSteps.{own_live, own_given, own_acked, message_in, own_causes, own_fault}
-use Rattle.cast_node.specs.Kept.{Kept, link_to, taken_from}
-use Rattle.cast_node.specs.Turns.{kept_causes, kept_fault}
+use Rattle.cast_message.specs.declared.event.StepFault.TheVariants.{NoSlot, Acked, NotTaken}
+use Rattle.cast_model.specs.Refusals.{Cause, NodeView, no_node, self_link, crashed, frames_full, step_causes, first_fault}
+use Rattle.cast_model.specs.Steps.{Step, Ordered, Sent, Acknowledged, Arrived, Stopped, Steps, own_items, frame_count}
+use Rattle.cast_model.specs.OwnSteps.{own_live, own_given, own_acked, message_in, own_fault}
+use Rattle.cast_node.specs.Kept.{Kept, link_to}
+use Rattle.cast_node.specs.Turns.{kept_view, kept_fault}
 use Rattle.cast_node.specs.Stands.{Stands}
 
 -- causes behind one that doesn't hold
@@ -25,13 +23,7 @@ skip cause xs ys h = by_test cause.holds refl
     by_test true e = ap (λ c. cond c (Some cause.refusal) (first_fault xs)) e ∙ sym (ap (λ c. cond c (Some cause.refusal) (first_fault ys)) e)
     by_test false e = ap (λ c. cond c (Some cause.refusal) (first_fault xs)) e ∙ h e ∙ sym (ap (λ c. cond c (Some cause.refusal) (first_fault ys)) e)
 
--- the causes by what they look at
-abbrev down_if : Bool → Cause
-down_if live = record { holds = not live; refusal = Crashed }
-
-abbrev full_at : ℕ → Cause
-full_at count = record { holds = nat_le frame_limit count; refusal = FramesFull }
-
+-- the causes that look at what a node shows of a peer
 abbrev no_slot : ℕ → ℕ → Cause
 no_slot given slot = record { holds = nat_le given slot; refusal = NoSlot }
 
@@ -40,9 +32,6 @@ acked_if done = record { holds = done; refusal = Acked }
 
 abbrev not_taken_if : Bool → Cause
 not_taken_if took = record { holds = not took; refusal = NotTaken }
-
-abbrev self_link : ℕ → ℕ → Cause
-self_link me to = record { holds = me == to; refusal = SelfLink }
 
 module _ (config : Config) (me : ℕ) (steps : Steps) (kept : Kept) (h : Stands config me steps kept) where
   within : (to : ℕ) → not (nat_lt to config.nodes) ≡ false → to < config.nodes
@@ -65,24 +54,33 @@ module _ (config : Config) (me : ℕ) (steps : Steps) (kept : Kept) (h : Stands 
       by_test true t false = refl
       by_test false t c = absurd (false≢true t)
 
+  -- what the node shows by its steps, and of its peers by what it keeps
+  abbrev seen : NodeView
+  seen = record (kept_view kept) { live = own_live steps; stream = own_items steps; frames = frame_count steps }
+
+  seen_is : kept_view kept ≡ seen
+  seen_is = λ k. record (kept_view kept) { live = h.live k; stream = h.stream k; frames = h.frames k }
+
+  by_seen : (step : Step) → kept_fault kept step ≡ first_fault (step_causes config me seen step)
+  unfolding kept_fault
+  by_seen step = λ k. first_fault (step_causes (h.same_config k) (h.same_me k) (seen_is k) step)
+
+  -- causes behind those that no frame for a peer has
+  for_peer : (to : ℕ) (xs ys : List Cause) → (to < config.nodes → to ≢ me → first_fault xs ≡ first_fault ys) →
+      first_fault (no_node config to ∷ self_link me to ∷ crashed seen ∷ xs) ≡ first_fault (no_node config to ∷ self_link me to ∷ crashed seen ∷ ys)
+  for_peer to xs ys same = skip (no_node config to) _ _ (λ in_group. skip (self_link me to) _ _ (λ other. skip (crashed seen) _ _ (λ up. same (within to in_group) (apart to other))))
+
   pub faults_are : (step : Step) → kept_fault kept step ≡ own_fault config me steps step
-  unfolding kept_fault kept_causes own_fault own_causes
-  faults_are (Ordered item) = λ k. first_fault (
-      down_if (h.live k)
-      ∷ record { holds = list_any is_close (h.stream k); refusal = Closed }
-      ∷ record { holds = is_too_long item; refusal = TooLong }
-      ∷ record { holds = is_second_proposal (h.stream k) item; refusal = AlreadyProposed }
-      ∷ record { holds = not (is_close item) && nat_le ((h.same_config k).item_limit - 1) (length (h.stream k)); refusal = StreamFull }
-      ∷ [])
+  unfolding own_fault
+  faults_are (Ordered item) = by_seen (Ordered item)
   faults_are (Sent to slot) =
-      (λ k. first_fault (no_node (h.same_config k) to ∷ self_link (h.same_me k) to ∷ down_if (h.live k) ∷ no_slot (link_to kept to).given slot ∷ acked_if (not (finite.contains_key (link_to kept to).owed slot)) ∷ full_at (h.frames k) ∷ []))
-      ∙ skip (no_node config to) _ _ (λ in_group. skip (self_link me to) _ _ (λ other. skip (down_if (own_live steps)) _ _ (λ up.
-      ap (λ given. first_fault (no_slot given slot ∷ acked_if (not (finite.contains_key (link_to kept to).owed slot)) ∷ full_at (frame_count steps) ∷ [])) (h.out to (within to in_group) (apart to other)).given
-      ∙ skip (no_slot (length (own_given me steps to)) slot) _ _ (λ inside.
-      ap (λ done. first_fault (acked_if done ∷ full_at (frame_count steps) ∷ [])) (owed_test to slot (within to in_group) (apart to other) inside)))))
+      by_seen (Sent to slot)
+      ∙ for_peer to _ _ (λ inside other.
+      ap (λ given. first_fault (no_slot given slot ∷ acked_if (not (finite.contains_key (link_to kept to).owed slot)) ∷ frames_full seen ∷ [])) (h.out to inside other).given
+      ∙ skip (no_slot (length (own_given me steps to)) slot) _ _ (λ given.
+      ap (λ done. first_fault (acked_if done ∷ frames_full seen ∷ [])) (owed_test to slot inside other given)))
   faults_are (Acknowledged to slot) =
-      (λ k. first_fault (no_node (h.same_config k) to ∷ self_link (h.same_me k) to ∷ down_if (h.live k) ∷ not_taken_if (set.contains (taken_from kept to) slot) ∷ full_at (h.frames k) ∷ []))
-      ∙ skip (no_node config to) _ _ (λ in_group. skip (self_link me to) _ _ (λ other. skip (down_if (own_live steps)) _ _ (λ up.
-      ap (λ took. first_fault (not_taken_if took ∷ full_at (frame_count steps) ∷ [])) (h.taken to slot (within to in_group)))))
-  faults_are (Arrived frame) = λ k. first_fault (down_if (h.live k) ∷ [])
-  faults_are Stopped = λ k. first_fault (down_if (h.live k) ∷ [])
+      by_seen (Acknowledged to slot)
+      ∙ for_peer to _ _ (λ inside other. ap (λ took. first_fault (not_taken_if took ∷ frames_full seen ∷ [])) (h.taken to slot inside))
+  faults_are (Arrived frame) = by_seen (Arrived frame)
+  faults_are Stopped = by_seen Stopped

@@ -8,9 +8,9 @@ use Rattle.std.proofs.lemmas.Bool.Decides.{nat_tests}
 use Rattle.cast_message.specs.declared.config.Config.{Config}
 use Rattle.cast_message.specs.declared.message.Item.TheVariants.{Close}
 use Rattle.cast_message.specs.declared.message.FrameBody.TheVariants.{Carry, Took}
-use Rattle.cast_model.specs.Replies.{Cause, first_fault}
+use Rattle.cast_model.specs.Refusals.{Cause, first_fault}
 use Rattle.cast_model.specs.Steps.{Sent, Acknowledged, Steps}
-use Rattle.cast_model.specs.OwnSteps.{own_given, own_acked, own_owed, own_delivered, own_decision, own_known_by, own_made, own_fault, own_causes, message_in}
+use Rattle.cast_model.specs.OwnSteps.{own_given, own_acked, own_owed, own_delivered, own_decision, own_known_by, own_made, own_fault, message_in}
 use Rattle.cast_model.proofs.OwnFronts.{own_log-front}
 use Rattle.cast_agree.specs.Counted.{decision}
 use Rattle.cast_node.specs.Kept.{Kept, link_to, knowers_of}
@@ -49,7 +49,7 @@ module _ (config : Config) (me : ℕ) (steps : Steps) (kept : Kept) (st : Stands
 
   -- the frame of a Send
   pub carries : (to slot : ℕ) → own_fault config me steps (Sent to slot) ≡ None → own_made me steps (Sent to slot) ≡ carry_of kept to slot ∷ []
-  unfolding own_fault own_causes own_made
+  unfolding own_fault own_made
   carries to slot e =
       let a = clear _ _ e in
       let b = clear _ _ a.rest in

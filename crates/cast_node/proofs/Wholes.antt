@@ -11,7 +11,7 @@ use Rattle.std.proofs.lemmas.Bool.Decides.{nat_tests}
 use Rattle.cast_message.specs.declared.config.Config.{Config}
 use Rattle.cast_message.specs.declared.message.Item.{Item}
 use Rattle.cast_message.specs.declared.message.Message.{Message}
-use Rattle.cast_model.specs.Replies.{Cause, is_close, first_fault}
+use Rattle.cast_model.specs.Refusals.{is_close}
 use Rattle.cast_model.specs.Steps.{Ordered, Sent, Acknowledged}
 use Rattle.cast_model.proofs.Accepted.{no_cause}
 use Rattle.cast_model.proofs.Members.{here, there}
@@ -76,23 +76,23 @@ pub peer_below : (kept : Kept) (q : ℕ) → is_peer kept q ≡ true → q < kep
 peer_below kept q e = ltb-true q kept.config.nodes (and_parts (nat_lt q kept.config.nodes) (not (q == kept.me)) e).0
 
 pub send_fine : (kept : Kept) (to slot : ℕ) → kept_fault kept (Sent to slot) ≡ None → (to < kept.config.nodes) × (kept.frames < 1048576)
-unfolding kept_fault kept_causes
+unfolding kept_fault
 send_fine kept to slot e =
     let causes = kept_causes kept (Sent to slot) in
     (below to kept.config.nodes (no_cause _ causes e here), above kept.frames 1048576 (no_cause _ causes e (there (there (there (there (there here)))))))
 
 pub ack_fine : (kept : Kept) (to slot : ℕ) → kept_fault kept (Acknowledged to slot) ≡ None → kept.frames < 1048576
-unfolding kept_fault kept_causes
+unfolding kept_fault
 ack_fine kept to slot e = above kept.frames 1048576 (no_cause _ (kept_causes kept (Acknowledged to slot)) e (there (there (there (there here)))))
 
 -- the causes of an order that don't hold
 pub record OrderFine (kept : Kept) (item : Item) : Type 0 where
   pub unclosed : list_any is_close kept.stream ≡ false
-  pub first : Rattle.cast_model.specs.Replies.is_second_proposal kept.stream item ≡ false
+  pub first : Rattle.cast_model.specs.Refusals.is_second_proposal kept.stream item ≡ false
   pub room : (not (is_close item) && nat_le (kept.config.item_limit - 1) (length kept.stream)) ≡ false
 
 pub order_fine : (kept : Kept) (item : Item) → kept_fault kept (Ordered item) ≡ None → OrderFine kept item
-unfolding kept_fault kept_causes
+unfolding kept_fault
 order_fine kept item e =
     let causes = kept_causes kept (Ordered item) in
     record { unclosed = no_cause _ causes e (there here); first = no_cause _ causes e (there (there (there here))); room = no_cause _ causes e (there (there (there (there here)))) }

@@ -9,7 +9,7 @@ use Rattle.std.specs.Coded.{Coded, code_by, coded×, coded_ℕ, coded_list, code
 use Rattle.cast_message.specs.declared.config.Config.{Config}
 use Rattle.cast_message.specs.declared.message.Item.{Item}
 use Rattle.cast_message.specs.declared.message.Message.{Message}
-use Rattle.cast_model.specs.Replies.{is_close, proposes}
+use Rattle.cast_model.specs.Refusals.{is_close, proposes}
 use Rattle.cast_link.specs.Links.{Link, link_code}
 use Rattle.cast_relay.specs.Held.{Held, held_code}
 use Rattle.cast_fifo.specs.declared.waiting.Waiting.{Waiting}

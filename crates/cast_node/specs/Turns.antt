@@ -5,17 +5,14 @@
 --     kept_fault kept step           why a step is refused
 --     kept_answer, kept_after        else the answer, and what is kept then
 --     Gives kept step reply new      both: a step answered by this reply leaves this
-use Rattle.std.specs.Prelude.{◌≡◌, ℕ, suc, ◌+◌, ◌-◌, ◌*◌, ◌==◌, nat_lt, nat_le, Bool, false, not, ◌&&◌, if◌then◌else◌, List, [], ◌∷◌, ◌++◌, length, replicate, slice_index_or, slice_set, Option, Some, None, unwrap_or, Result, Ok, Err}
-use Rattle.std.specs.List.{list_any}
+use Rattle.std.specs.Prelude.{◌≡◌, ℕ, suc, ◌+◌, ◌-◌, ◌*◌, ◌==◌, nat_lt, Bool, false, not, ◌&&◌, if◌then◌else◌, List, [], ◌∷◌, ◌++◌, length, replicate, slice_index_or, slice_set, Option, Some, None, unwrap_or, Result, Ok, Err}
 use Rattle.std.specs.Ordering.{nat_cmp}
 use Rattle.std.specs.FinSet as set
 use Rattle.std.specs.FinMap as finite
-use Rattle.cast_message.specs.Limits.{frame_limit}
 use Rattle.cast_message.specs.declared.event.Outcome.{Outcome}
 use Rattle.cast_message.specs.declared.event.Answer.{Answer}
 use Rattle.cast_message.specs.declared.event.Answer.TheVariants.{Ordered as AnswerOrdered, Sent as AnswerSent, Arrived as AnswerArrived, Down}
 use Rattle.cast_message.specs.declared.event.StepFault.{StepFault}
-use Rattle.cast_message.specs.declared.event.StepFault.TheVariants.{SelfLink, Crashed, Closed, TooLong, AlreadyProposed, StreamFull, NoSlot, Acked, NotTaken, FramesFull}
 use Rattle.cast_message.specs.declared.message.Item.{Item}
 use Rattle.cast_message.specs.declared.message.Item.TheVariants.{Close}
 use Rattle.cast_message.specs.declared.message.Message.{Message}
@@ -23,7 +20,8 @@ use Rattle.cast_message.specs.declared.message.Frame.{Frame}
 use Rattle.cast_message.specs.declared.message.FrameBody.{FrameBody}
 use Rattle.cast_message.specs.declared.message.FrameBody.TheVariants.{Carry, Took}
 use Rattle.cast_model.specs.History.{numbered}
-use Rattle.cast_model.specs.Replies.{Cause, IsRefused, no_node, is_close, is_too_long, is_second_proposal, first_fault}
+use Rattle.cast_model.specs.Refusals.{Cause, NodeView, step_causes, first_fault}
+use Rattle.cast_model.specs.Replies.{IsRefused}
 use Rattle.cast_model.specs.Steps.{Step, Ordered, Sent, Acknowledged, Arrived, Stopped}
 use Rattle.cast_model.specs.OwnSteps.{nothing}
 use Rattle.cast_link.specs.Links.{Link, with_acknowledged}
@@ -161,42 +159,21 @@ abbrev pub arrived : Kept → Frame → Told
 arrived kept frame =
     if may_arrive kept frame then arrived_body kept frame.from frame.body else unmoved kept
 
-abbrev pub down : Kept → Cause
-down kept = record { holds = not kept.live; refusal = Crashed }
+-- what the node shows
+abbrev pub kept_view : Kept → NodeView
+kept_view kept = record {
+  live = kept.live;
+  stream = kept.stream;
+  slots = λ to. (link_to kept to).given;
+  has_acked = λ to slot. not (finite.contains_key (link_to kept to).owed slot);
+  has_taken = λ to slot. set.contains (taken_from kept to) slot;
+  frames = kept.frames;
+}
 
-abbrev pub full : Kept → Cause
-full kept = record { holds = nat_le frame_limit kept.frames; refusal = FramesFull }
+abbrev pub kept_causes : Kept → Step → List Cause
+kept_causes kept step = step_causes kept.config kept.me (kept_view kept) step
 
--- the causes for which a step is refused, in the order in which they are tried
-unfoldable pub kept_causes : Kept → Step → List Cause
-kept_causes kept (Ordered item) =
-    down kept
-    ∷ record { holds = list_any is_close kept.stream; refusal = Closed }
-    ∷ record { holds = is_too_long item; refusal = TooLong }
-    ∷ record { holds = is_second_proposal kept.stream item; refusal = AlreadyProposed }
-    ∷ record {
-      holds = not (is_close item) && nat_le (kept.config.item_limit - 1) (length kept.stream);
-      refusal = StreamFull;
-    }
-    ∷ []
-kept_causes kept (Sent to slot) =
-    no_node kept.config to
-    ∷ record { holds = kept.me == to; refusal = SelfLink }
-    ∷ down kept
-    ∷ record { holds = nat_le (link_to kept to).given slot; refusal = NoSlot }
-    ∷ record { holds = not (finite.contains_key (link_to kept to).owed slot); refusal = Acked }
-    ∷ full kept
-    ∷ []
-kept_causes kept (Acknowledged to slot) =
-    no_node kept.config to
-    ∷ record { holds = kept.me == to; refusal = SelfLink }
-    ∷ down kept
-    ∷ record { holds = not (set.contains (taken_from kept to) slot); refusal = NotTaken }
-    ∷ full kept
-    ∷ []
-kept_causes kept (Arrived frame) = down kept ∷ []
-kept_causes kept Stopped = down kept ∷ []
-
+-- the refusal of a step
 unfoldable pub kept_fault : Kept → Step → Option StepFault
 kept_fault kept step = first_fault (kept_causes kept step)
 

@@ -4,7 +4,7 @@ ghost use Rattle.std.specs.FinMap as finite;
 ghost use Rattle.std.specs.FinSet as set;
 ghost use Rattle.cast_model.specs.Steps.{Ordered, Sent, Acknowledged, Arrived, Stopped};
 ghost use Rattle.cast_model.specs.OwnSteps.{nothing};
-ghost use Rattle.cast_message.specs.declared.event.StepFault.TheVariants.{NoNode, SelfLink, Memory};
+ghost use Rattle.cast_message.specs.declared.event.StepFault.TheVariants.{NoNode, Memory};
 ghost use Rattle.cast_message.specs.declared.message.Frame.{Frame as Arriving};
 ghost use Rattle.cast_message.specs.declared.message.FrameBody.TheVariants.{Carry, Took};
 ghost use Rattle.cast_message.specs.declared.message.Item.{Item as Carried};
@@ -12,8 +12,8 @@ ghost use Rattle.cast_agree.specs.Counted.{decision};
 ghost use Rattle.cast_link.specs.Links.{IsLeastFrom};
 ghost use Rattle.cast_relay.specs.Held.{holds};
 ghost use Rattle.cast_node.specs.Kept.{nothing_kept, link_to, knowers_of};
-ghost use Rattle.cast_node.specs.Turns.{Gives, down, kept_fault, carry_of, took_of, message_owed, ordered, arrived_body, may_arrive};
-ghost use Rattle.cast_model.specs.Replies.{no_node, first_fault, is_close, is_too_long, is_second_proposal};
+ghost use Rattle.cast_node.specs.Turns.{Gives, kept_fault, kept_view, carry_of, took_of, message_owed, ordered, arrived_body, may_arrive};
+ghost use Rattle.cast_model.specs.Refusals.{no_node, self_link, crashed, first_fault, is_close, is_too_long, is_second_proposal};
 ghost use Rattle.cast_node.specs.Taking.{with_proposal, without_proposal};
 ghost use Rattle.cast_node.specs.Calls.{is_peer, may_carry, carry_slot, carried_frame, took_frame, ordered_reply, sent_reply, number_reply, numbered_reply, arrived_reply, silent_reply, crashed_reply};
 
@@ -203,7 +203,7 @@ impl Node {
     /// Takes a frame that arrives, and answers what is delivered and decided. The frame is for this node. Refused is an arrival
     /// at a crashed node. A frame that no node of the group could have made for this node changes nothing, and nothing comes of
     /// it.
-    #[tactic(auto, using(std::proofs::lemmas::Bool::Decides::nat_tests), unfolding(cast_model::specs::Replies::first_fault, crate::specs::Turns::kept_causes, crate::specs::Turns::kept_fault))]
+    #[tactic(auto, using(std::proofs::lemmas::Bool::Decides::nat_tests), unfolding(cast_model::specs::Refusals::first_fault, crate::specs::Turns::kept_fault))]
     pub fn arrive(&mut self, frame: &Frame) -> Result<Outcome, StepFault>
         requires { frame.now.to ≡ self.old.me }
         ensures exact { Gives self.old (Arrived frame.now)
@@ -225,7 +225,7 @@ impl Node {
     /// Takes a frame that arrives from a peer with a message that the node holds, told by its slot and its numbers, as `arrive`
     /// does whatever the message's item, where nothing is delivered or decided by it. Says whether it did; else nothing changed,
     /// and `arrive` says what comes of the frame.
-    #[tactic(auto, using(std::proofs::lemmas::Bool::Decides::nat_tests), unfolding(cast_model::specs::Replies::first_fault, crate::specs::Turns::kept_causes, crate::specs::Turns::kept_fault))]
+    #[tactic(auto, using(std::proofs::lemmas::Bool::Decides::nat_tests), unfolding(cast_model::specs::Refusals::first_fault, crate::specs::Turns::kept_fault))]
     pub fn arrive_again_silently(
         &mut self,
         from: NodeId,
@@ -250,7 +250,7 @@ impl Node {
 
     /// Takes a frame that arrives from a peer with its word that it took a slot, as `arrive` does, where nothing is delivered or
     /// decided by it. Says whether it did; else nothing changed, and `arrive` says what comes of the frame.
-    #[tactic(auto, using(std::proofs::lemmas::Bool::Decides::nat_tests), unfolding(cast_model::specs::Replies::first_fault, crate::specs::Turns::kept_causes, crate::specs::Turns::kept_fault))]
+    #[tactic(auto, using(std::proofs::lemmas::Bool::Decides::nat_tests), unfolding(cast_model::specs::Refusals::first_fault, crate::specs::Turns::kept_fault))]
     pub fn arrive_took_silently(&mut self, from: NodeId, slot: u64) -> bool
         ensures took { IsTrue result → (seq : ℕ) → Gives self.old
             (Arrived (took_frame self.old.me from seq slot))
@@ -267,7 +267,7 @@ impl Node {
     }
 
     /// Stops for good. Refused is a second crash.
-    #[tactic(auto, using(std::proofs::lemmas::Bool::Decides::nat_tests), unfolding(cast_model::specs::Replies::first_fault, crate::specs::Turns::kept_causes, crate::specs::Turns::kept_fault))]
+    #[tactic(auto, using(std::proofs::lemmas::Bool::Decides::nat_tests), unfolding(cast_model::specs::Refusals::first_fault, crate::specs::Turns::kept_fault))]
     pub fn crash(&mut self) -> Result<(), StepFault>
         ensures exact { Gives self.old Stopped (crashed_reply result) self.new }
         ensures refused { OnErr result (self.old.live ≡ false) }
@@ -589,7 +589,7 @@ impl Node {
     }
 
     /// Why an order of this item is refused, if it is, want of memory aside. It takes no memory.
-    #[tactic(auto, using(std::proofs::lemmas::Bool::Decides::nat_tests), unfolding(cast_model::specs::Replies::first_fault, crate::specs::Turns::kept_causes, crate::specs::Turns::kept_fault))]
+    #[tactic(auto, using(std::proofs::lemmas::Bool::Decides::nat_tests), unfolding(cast_model::specs::Refusals::first_fault, crate::specs::Turns::kept_fault))]
     pub fn order_fault(&self, item: &Item) -> Option<StepFault>
         ensures { result ≡ kept_fault self.now (Ordered item.now) }
     {
@@ -612,12 +612,12 @@ impl Node {
     }
 
     // Why any frame for a peer is refused, if it is.
-    #[tactic(auto, using(std::proofs::lemmas::Bool::Decides::nat_tests), unfolding(cast_model::specs::Replies::first_fault))]
+    #[tactic(auto, using(std::proofs::lemmas::Bool::Decides::nat_tests), unfolding(cast_model::specs::Refusals::first_fault))]
     fn peer_fault(&self, to: NodeId) -> Option<StepFault>
         ensures { result
             ≡ first_fault (no_node self.now.config to
-            ∷ record { holds = self.now.me == to; refusal = SelfLink }
-            ∷ down self.now
+            ∷ self_link self.now.me to
+            ∷ crashed (kept_view self.now)
             ∷ []) }
     {
         if u64::from(to.0) >= self.config.nodes() {
@@ -633,7 +633,7 @@ impl Node {
     }
 
     /// Why a send of this slot to a peer is refused, if it is, want of memory aside. It takes no memory.
-    #[tactic(auto, using(std::proofs::lemmas::Bool::Decides::nat_tests), unfolding(cast_model::specs::Replies::first_fault, crate::specs::Turns::kept_causes, crate::specs::Turns::kept_fault))]
+    #[tactic(auto, using(std::proofs::lemmas::Bool::Decides::nat_tests), unfolding(cast_model::specs::Refusals::first_fault, crate::specs::Turns::kept_fault))]
     pub fn send_fault(&self, to: NodeId, slot: u64) -> Option<StepFault>
         ensures { result ≡ kept_fault self.now (Sent to slot) }
     {
@@ -653,7 +653,7 @@ impl Node {
     }
 
     /// Why an acknowledgement of this slot of a peer is refused, if it is, want of memory aside. It takes no memory.
-    #[tactic(auto, using(std::proofs::lemmas::Bool::Decides::nat_tests), unfolding(cast_model::specs::Replies::first_fault, crate::specs::Turns::kept_causes, crate::specs::Turns::kept_fault))]
+    #[tactic(auto, using(std::proofs::lemmas::Bool::Decides::nat_tests), unfolding(cast_model::specs::Refusals::first_fault, crate::specs::Turns::kept_fault))]
     pub fn ack_fault(&self, to: NodeId, slot: u64) -> Option<StepFault>
         ensures { result ≡ kept_fault self.now (Acknowledged to slot) }
     {
@@ -670,7 +670,7 @@ impl Node {
     }
 
     /// Why the arrival of a frame is refused, if it is, want of memory aside. It takes no memory.
-    #[tactic(auto, using(std::proofs::lemmas::Bool::Decides::nat_tests), unfolding(cast_model::specs::Replies::first_fault, crate::specs::Turns::kept_causes, crate::specs::Turns::kept_fault))]
+    #[tactic(auto, using(std::proofs::lemmas::Bool::Decides::nat_tests), unfolding(cast_model::specs::Refusals::first_fault, crate::specs::Turns::kept_fault))]
     pub fn arrive_fault(&self) -> Option<StepFault>
         ensures { (frame : Arriving) → result ≡ kept_fault self.now (Arrived frame) }
     {

@@ -15,7 +15,8 @@ use Rattle.cast_message.specs.declared.message.Message.{Message}
 use Rattle.cast_message.specs.declared.message.Frame.{Frame}
 use Rattle.cast_model.specs.History.{History, stream, is_live, frames, items_ordered, given}
 use Rattle.cast_model.specs.Delivery.{concerned, concerned_by, sender_in, delivery_log, outcome}
-use Rattle.cast_model.specs.Replies.{Cause, no_node, fault, causes, causes_of_arrival, first_fault, answer, reply, reply_by, after, after_by, replies, IsAccepted, is_from, is_too_long, decided, decisions_in, target_of}
+use Rattle.cast_model.specs.Refusals.{Cause, no_node, first_fault, is_too_long}
+use Rattle.cast_model.specs.Replies.{fault, causes, causes_of_arrival, answer, reply, reply_by, after, after_by, replies, IsAccepted, is_from, decided, decisions_in, target_of}
 use Rattle.cast_message.specs.StepCode.{step_code}
 use Rattle.cast_model.proofs.Members.{Member, here, there, Member-append, Member-slice_get, Member-when, Member-one}
 use Rattle.cast_model.proofs.Accepted.{no_cause, Order-node}
@@ -204,8 +205,8 @@ arrive_leaves config events past xs index from seq e on t = by_frame (slice_get 
     found : (frame : Frame) → slice_get (frames past from) seq ≡ Some frame → Grown config (event ∷ past) xs (outcome_lines (target_of (slice_get (frames past from) seq)) (outcome config past event))
     found frame at =
         let accepted = accepted_of config events past t.is in
-        let list : first_fault (no_node_cause ∷ causes_of_arrival past (Some frame)) ≡ None = subst (λ o. first_fault (no_node_cause ∷ causes_of_arrival past o) ≡ None) at e in
-        let up = not-false (is_live past frame.to) (no_cause _ (no_node_cause ∷ causes_of_arrival past (Some frame)) list (there here)) in
+        let list : first_fault (no_node_cause ∷ causes_of_arrival config past (Some frame)) ≡ None = subst (λ o. first_fault (no_node_cause ∷ causes_of_arrival config past o) ≡ None) at e in
+        let up = not-false (is_live past frame.to) (no_cause _ (no_node_cause ∷ causes_of_arrival config past (Some frame)) list (there here)) in
         let node = (frame_ends config past accepted from frame (Member-slice_get (frames past from) seq frame at)).target_in in
         let v = decided (replies config (events ++ event ∷ [])) in
         let says = says_as config (stream past) (stream (event ∷ past)) (counts config past) (counts config past) (is_live past) (is_live past) (decided (replies config events)) v xs (stream_same past event (λ q. refl)) (λ q s. refl) (λ q. refl) (decided_kept config events past event t.is) t.says in
@@ -223,7 +224,7 @@ arrive_leaves config events past xs index from seq e on t = by_frame (slice_get 
         no_node_cause = no_node config from
 
     by_frame : (o : Option Frame) → slice_get (frames past from) seq ≡ o → Grown config (event ∷ past) xs (outcome_lines (target_of (slice_get (frames past from) seq)) (outcome config past event))
-    by_frame None at = absurd (cc (no_cause (record { holds = true; refusal = refusals.NoFrame }) (no_node config from ∷ causes_of_arrival past None) (subst (λ o. first_fault (no_node config from ∷ causes_of_arrival past o) ≡ None) at e) (there here)))
+    by_frame None at = absurd (cc (no_cause (record { holds = true; refusal = refusals.NoFrame }) (no_node config from ∷ causes_of_arrival config past None) (subst (λ o. first_fault (no_node config from ∷ causes_of_arrival config past o) ≡ None) at e) (there here)))
     by_frame (Some frame) at = found frame at
 
 -- any event

@@ -13,7 +13,8 @@ use Rattle.cast_message.specs.declared.event.StepFault.TheVariants.{FramesFull, 
 use Rattle.cast_message.specs.Limits.{frame_limit}
 use Rattle.cast_model.specs.History.{History, is_live}
 use Rattle.cast_model.specs.Delivery.{nodes_of}
-use Rattle.cast_model.specs.Replies.{first_fault, fault, history_from}
+use Rattle.cast_model.specs.Refusals.{first_fault}
+use Rattle.cast_model.specs.Replies.{fault, history_from}
 use Rattle.cast_model.specs.Rounds.{Due, Rest, AreAccepted, owed, due, due_between, live_nodes, events_for, plan_from, plan}
 use Rattle.cast_model.proofs.AtRest.{Member-range_with_len}
 use Rattle.cast_model.proofs.Members.{Member, here, there, Member-uncons, Member-filter, filter-Member}

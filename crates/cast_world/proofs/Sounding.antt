@@ -12,7 +12,7 @@ use Rattle.cast_message.specs.declared.message.Message.{Message}
 use Rattle.cast_message.specs.declared.message.Frame.{Frame}
 use Rattle.cast_message.specs.declared.message.FrameBody.{FrameBody}
 use Rattle.cast_message.specs.declared.message.FrameBody.TheVariants.{Carry, Took}
-use Rattle.cast_model.specs.Replies.{Cause, no_node, first_fault}
+use Rattle.cast_model.specs.Refusals.{Cause, no_node, first_fault}
 use Rattle.cast_model.specs.Steps.{Step, Ordered, Sent, Acknowledged, Arrived, Stopped}
 use Rattle.std.specs.FinMap as finite
 use Rattle.cast_relay.specs.Held.{holds}
@@ -164,11 +164,11 @@ in_group config to more e = by_test (nat_lt to config.nodes) refl e
     by_test false f g = absurd (cc)
 
 pub sent_in : (kept : Kept) (to slot : ℕ) → kept_fault kept (Sent to slot) ≡ None → to < kept.config.nodes
-unfolding kept_fault kept_causes
+unfolding kept_fault
 sent_in kept to slot e = in_group kept.config to _ e
 
 pub acknowledged_in : (kept : Kept) (to slot : ℕ) → kept_fault kept (Acknowledged to slot) ≡ None → to < kept.config.nodes
-unfolding kept_fault kept_causes
+unfolding kept_fault
 acknowledged_in kept to slot e = in_group kept.config to _ e
 
 -- what holds of a call that answers a frame's number holds of its reply

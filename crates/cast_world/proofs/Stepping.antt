@@ -15,7 +15,8 @@ use Rattle.cast_message.specs.declared.message.Frame.{Frame}
 use Rattle.cast_message.specs.declared.message.FrameBody.{FrameBody}
 use Rattle.cast_message.specs.declared.message.FrameBody.TheVariants.{Carry, Took}
 use Rattle.cast_model.specs.History.{History, stream, frames, frame_arriving}
-use Rattle.cast_model.specs.Replies.{IsAccepted, IsRefused, Cause, no_node, first_fault, causes, causes_of_arrival, fault, answer, reply, reply_by, after, after_by}
+use Rattle.cast_model.specs.Refusals.{Cause, no_node, first_fault}
+use Rattle.cast_model.specs.Replies.{IsAccepted, IsRefused, causes, causes_of_arrival, fault, answer, reply, reply_by, after, after_by}
 use Rattle.cast_model.specs.Steps.{Step, Ordered, Sent, Acknowledged, Arrived, Stopped, step_by, step_of, steps_of}
 use Rattle.cast_model.specs.OwnSteps.{own_fault, own_made, own_frames, node_reply, node_after, IsStep, orders, sends, acknowledges, takes, stops}
 use Rattle.cast_model.proofs.Members.{Member-slice_get}
@@ -28,7 +29,7 @@ use Rattle.cast_model.proofs.OwnHeld.{steps_after}
 use Rattle.cast_model.proofs.OwnReplies.{own_fault-steps_of, own_frames-steps_of, frame_ends}
 use Rattle.cast_model.proofs.Possible.{node_reply-steps_of, node_after-steps_of}
 use Rattle.cast_node.specs.Kept.{nothing_kept}
-use Rattle.cast_node.specs.Turns.{kept_after, kept_fault, kept_causes}
+use Rattle.cast_node.specs.Turns.{kept_after, kept_fault}
 use Rattle.cast_node.specs.Stands.{Stands as NodeStands}
 use Rattle.cast_node.proofs.Places.{length-slice_set, at_set, same_number, other_number}
 use Rattle.cast_node.proofs.Refusals.{faults_are}
@@ -197,7 +198,7 @@ module _ (config : Config) (past : History) (world : State) (st : Stands config 
 
   -- a frame that isn't there, and one that is
   missed : (from seq : ℕ) (o : Option Frame) → slice_get (frames past from) seq ≡ o → (replied : Result Answer StepFault) (new : State) → ArrivesBy world from seq (option_map mark_of o) replied new → Continues config past (Arrive from seq) replied new
-  unfolding fault causes own_made kept_fault kept_causes
+  unfolding fault causes own_made kept_fault
   missed from seq None at (Ok answered) new t = absurd t
   missed from seq None at (Err refusal) new t = (by_place (cases_lt from config.nodes), subst (Stands config past) (sym t.0) st)
     where
@@ -207,10 +208,10 @@ module _ (config : Config) (past : History) (world : State) (st : Stands config 
       by_place : (from < config.nodes) ⊎ (config.nodes ≤ from) → IsRefused (fault config past (Arrive from seq)) refusal
       by_place (inl l) =
           let e : nat_lt from config.nodes ≡ true = grind (arith, nat_tests) in
-          subst (λ o. IsRefused o refusal) (sym (first_not (no_node config from) (causes_of_arrival past (slice_get (frames past from) seq)) (ap not e) ∙ ap (λ o. first_fault (causes_of_arrival past o)) at ∙ first_holds (record { holds = true; refusal = NoFrame }) [] refl)) (is_missed true e)
+          subst (λ o. IsRefused o refusal) (sym (first_not (no_node config from) (causes_of_arrival config past (slice_get (frames past from) seq)) (ap not e) ∙ ap (λ o. first_fault (causes_of_arrival config past o)) at ∙ first_holds (record { holds = true; refusal = NoFrame }) [] refl)) (is_missed true e)
       by_place (inr l) =
           let e : nat_lt from config.nodes ≡ false = grind (arith, nat_tests) in
-          subst (λ o. IsRefused o refusal) (sym (first_holds (no_node config from) (causes_of_arrival past (slice_get (frames past from) seq)) (ap not e))) (is_missed false e)
+          subst (λ o. IsRefused o refusal) (sym (first_holds (no_node config from) (causes_of_arrival config past (slice_get (frames past from) seq)) (ap not e))) (is_missed false e)
   missed from seq (Some frame) at replied new t =
       let member = Member-slice_get (frames past from) seq frame at in
       let ends = frame_ends config past st.accepted from frame member in

@@ -3,7 +3,7 @@ use Rattle.std.specs.FinSet as set
 use Rattle.std.specs.FinSet.{contains-empty}
 use Rattle.std.specs.Ordering.{nat_cmp}
 use Rattle.cast_message.specs.declared.config.Config.{Config}
-use Rattle.cast_model.specs.Replies.{is_close, proposes}
+use Rattle.cast_model.specs.Refusals.{is_close, proposes}
 use Rattle.std.specs.List.{list_any}
 use Rattle.cast_relay.specs.Held.{Held}
 use Rattle.cast_node.specs.Delivering.{Delivering}
