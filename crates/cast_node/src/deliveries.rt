@@ -13,9 +13,9 @@ ghost use Rattle.cast_node.specs.Kept.{knowers_in, is_enough_in};
 ghost use Rattle.cast_node.specs.Turns.{known_row};
 ghost use Rattle.cast_node.specs.Delivering.{BringsNothing, nothing_delivered, told_in, told_with, outcome_in, outcome_with, waiting_in, forgotten_in};
 
+use crate::slot::TakesSlot;
 use cast_agree::{Agree, Counting};
 use cast_fifo::HoldBack;
-use cast_link::LinkIn;
 use cast_message::{Config, Item, List, Message, Mode, NodeId, Outcome};
 use cast_sets::GroupSet;
 use std::alloc::{AllocError, Global};
@@ -114,49 +114,24 @@ impl Deliveries {
         self.agree.decision(instance)
     }
 
-    /// These nodes are known to hold a pair. Where they are enough, what has its turn by it is delivered.
-    pub fn tell(
+    /// These nodes are known to hold a pair, which came in this slot. Where they are enough, what has its turn by it is delivered.
+    pub fn tell<S: TakesSlot>(
         &mut self,
         sender: NodeId,
         number: u64,
         members: GroupSet,
-    ) -> Result<Outcome, AllocError>
-        requires sender { sender < length self.old.hold_back }
-        requires number { number < 4096 }
-        ensures outcome { IfOk result (λ told. told ≡ outcome_in self.old sender number members) }
-        ensures ok { OnOk result (self.new ≡ told_in self.old sender number members) }
-        ensures err { OnErr result (self.new ≡ self.old) }
-    {
-        if self.tell_silently(sender, number, &members)? {
-            return Ok(no_news(self.alloc));
-        }
-        let place = usize::from(sender.0);
-        let row = &mut self.knowers[place];
-        make_place(row, number)?;
-        let items = &mut self.delivered[place];
-        let ready = prepare(&self.hold_back, items, &mut self.agree, sender, number)?;
-        note(row, number, members);
-        Ok(release(&mut self.hold_back, items, sender, number, ready))
-    }
-
-    /// The same, as a peer's slot brings it, which is taken.
-    pub fn tell_carried(
-        &mut self,
-        sender: NodeId,
-        number: u64,
-        members: GroupSet,
-        link: &mut LinkIn,
+        link: &mut S,
         slot: u64,
     ) -> Result<Outcome, AllocError>
         requires sender { sender < length self.old.hold_back }
         requires number { number < 4096 }
         ensures outcome { IfOk result (λ told. told ≡ outcome_in self.old sender number members) }
         ensures ok { OnOk result (self.new ≡ told_in self.old sender number members) }
-        ensures taken { OnOk result (link.new ≡ set.insert link.old slot) }
+        ensures taken { OnOk result (link.new ≡ S.with_slot link.old slot) }
         ensures err { OnErr result (self.new ≡ self.old) }
         ensures as_before { OnErr result (link.new ≡ link.old) }
     {
-        if self.tell_carried_silently(sender, number, &members, link, slot)? {
+        if self.tell_silently(sender, number, &members, link, slot)? {
             return Ok(no_news(self.alloc));
         }
         let place = usize::from(sender.0);
@@ -164,7 +139,7 @@ impl Deliveries {
         make_place(row, number)?;
         let items = &mut self.delivered[place];
         let ready = prepare(&self.hold_back, items, &mut self.agree, sender, number)?;
-        if let Err(refused) = link.take(slot) {
+        if let Err(refused) = link.take_slot(slot) {
             self.agree.take_back(ready.counting);
             return Err(refused);
         }
@@ -172,41 +147,14 @@ impl Deliveries {
         Ok(release(&mut self.hold_back, items, sender, number, ready))
     }
 
-    /// These nodes are known to hold a pair, where no message has its turn by that. Says whether it is so; else they are enough,
-    /// and nothing changed.
-    pub fn tell_silently(
+    /// These nodes are known to hold a pair, which came in this slot, where no message has its turn by that. Says whether it is
+    /// so; else they are enough, and nothing changed.
+    pub fn tell_silently<S: TakesSlot>(
         &mut self,
         sender: NodeId,
         number: u64,
         members: &GroupSet,
-    ) -> Result<bool, AllocError>
-        requires sender { sender < length self.old.hold_back }
-        requires number { number < 4096 }
-        ensures ok { IfOk result (λ silent. IsTrue silent →
-            self.new ≡ told_in self.old sender number members.now) }
-        ensures outcome { IfOk result (λ silent. IsTrue silent →
-            outcome_in self.old sender number members.now ≡ nothing) }
-        ensures enough { IfOk result (λ silent. IsFalse silent →
-            is_enough_in self.old.mode self.old.faults members.now ≡ true) }
-        ensures same { IfOk result (λ silent. IsFalse silent → self.new ≡ self.old) }
-        ensures err { OnErr result (self.new ≡ self.old) }
-    {
-        if !self.brings_nothing(sender, number, members) {
-            return Ok(false);
-        }
-        let row = &mut self.knowers[usize::from(sender.0)];
-        make_place(row, number)?;
-        note(row, number, members.copy());
-        Ok(true)
-    }
-
-    /// The same, as a peer's slot brings it, which is taken where no message has its turn.
-    pub fn tell_carried_silently(
-        &mut self,
-        sender: NodeId,
-        number: u64,
-        members: &GroupSet,
-        link: &mut LinkIn,
+        link: &mut S,
         slot: u64,
     ) -> Result<bool, AllocError>
         requires sender { sender < length self.old.hold_back }
@@ -216,7 +164,7 @@ impl Deliveries {
         ensures outcome { IfOk result (λ silent. IsTrue silent →
             outcome_in self.old sender number members.now ≡ nothing) }
         ensures taken { IfOk result (λ silent. IsTrue silent →
-            link.new ≡ set.insert link.old slot) }
+            link.new ≡ S.with_slot link.old slot) }
         ensures enough { IfOk result (λ silent. IsFalse silent →
             is_enough_in self.old.mode self.old.faults members.now ≡ true) }
         ensures same { IfOk result (λ silent. IsFalse silent → self.new ≡ self.old) }
@@ -229,49 +177,31 @@ impl Deliveries {
         }
         let row = &mut self.knowers[usize::from(sender.0)];
         make_place(row, number)?;
-        link.take(slot)?;
+        link.take_slot(slot)?;
         note(row, number, members.copy());
         Ok(true)
     }
 
-    /// Keeps a message back, and these nodes are known to hold it.
-    pub fn take_up(&mut self, message: Message, members: GroupSet) -> Result<Outcome, AllocError>
-        requires sender { message.sender < length self.old.hold_back }
-        requires number { message.number < 4096 }
-        ensures outcome { IfOk result (λ outcome. outcome ≡ outcome_with self.old message members) }
-        ensures ok { OnOk result (self.new ≡ told_with self.old message members) }
-        ensures err { OnErr result (self.new ≡ self.old) }
-    {
-        let sender = message.sender;
-        let number = message.number;
-        let came = self.hold(message)?;
-        let told = self.tell(sender, number, members);
-        if told.is_err() && !came {
-            self.forget(sender, number);
-        }
-        told
-    }
-
-    /// The same, as a peer's slot brings it, which is taken.
-    pub fn take_up_carried(
+    /// Keeps a message back, which came in this slot, and these nodes are known to hold it.
+    pub fn take_up<S: TakesSlot>(
         &mut self,
         message: Message,
         members: GroupSet,
-        link: &mut LinkIn,
+        link: &mut S,
         slot: u64,
     ) -> Result<Outcome, AllocError>
         requires sender { message.sender < length self.old.hold_back }
         requires number { message.number < 4096 }
         ensures outcome { IfOk result (λ outcome. outcome ≡ outcome_with self.old message members) }
         ensures ok { OnOk result (self.new ≡ told_with self.old message members) }
-        ensures taken { OnOk result (link.new ≡ set.insert link.old slot) }
+        ensures taken { OnOk result (link.new ≡ S.with_slot link.old slot) }
         ensures err { OnErr result (self.new ≡ self.old) }
         ensures as_before { OnErr result (link.new ≡ link.old) }
     {
         let sender = message.sender;
         let number = message.number;
         let came = self.hold(message)?;
-        let told = self.tell_carried(sender, number, members, link, slot);
+        let told = self.tell(sender, number, members, link, slot);
         if told.is_err() && !came {
             self.forget(sender, number);
         }

@@ -8,6 +8,7 @@ mod entry;
 mod giving;
 mod node;
 mod outgoing;
+mod slot;
 mod taking;
 
 pub use deliveries::no_news;

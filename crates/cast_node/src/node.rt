@@ -19,6 +19,7 @@ ghost use Rattle.cast_node.specs.Calls.{is_peer, may_carry, carry_slot, carried_
 
 use crate::deliveries::{Deliveries, no_news};
 use crate::outgoing::Outgoing;
+use crate::slot::NoSlot;
 use crate::taking::{Fresh, first_members, take_up_carried, take_up_own};
 use cast_link::LinkIn;
 use cast_message::{Config, Frame, FrameBody, Item, Message, NodeId, Outcome, StepFault};
@@ -460,7 +461,7 @@ impl Node {
         let mut members = self.deliveries.members(sender, number);
         members.insert(from);
         self.deliveries
-            .tell_carried(sender, number, members, &mut self.incoming[place], slot)
+            .tell(sender, number, members, &mut self.incoming[place], slot)
     }
 
     // Takes a peer's word that it took a slot.
@@ -478,7 +479,9 @@ impl Node {
         let number = message.number;
         let mut members = self.deliveries.members(sender, number);
         members.insert(from);
-        let outcome = self.deliveries.tell(sender, number, members)?;
+        let outcome = self
+            .deliveries
+            .tell(sender, number, members, &mut NoSlot, 0)?;
         self.outgoing.acknowledge(from, slot);
         self.quiet = self.outgoing.owes_nothing();
         Ok(outcome)
@@ -502,7 +505,7 @@ impl Node {
         let link = &mut self.incoming[place];
         let Ok(silent) = self
             .deliveries
-            .tell_carried_silently(sender, number, &members, link, slot)
+            .tell_silently(sender, number, &members, link, slot)
         else {
             return false;
         };
@@ -524,7 +527,10 @@ impl Node {
         let number = message.number;
         let mut members = self.deliveries.members(sender, number);
         members.insert(from);
-        let Ok(silent) = self.deliveries.tell_silently(sender, number, &members) else {
+        let Ok(silent) = self
+            .deliveries
+            .tell_silently(sender, number, &members, &mut NoSlot, 0)
+        else {
             return false;
         };
         if !silent {

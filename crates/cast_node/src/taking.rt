@@ -10,6 +10,7 @@ ghost use Rattle.cast_node.specs.Taking.{with_own, message_of, first_members};
 
 use crate::deliveries::Deliveries;
 use crate::outgoing::Outgoing;
+use crate::slot::{NoSlot, TakesSlot};
 use cast_link::LinkIn;
 use cast_message::{Item, Message, NodeId, Outcome};
 use cast_relay::Relay;
@@ -72,7 +73,7 @@ pub fn take_up_own(
         source: me,
         members: first_members(me, me, me),
     };
-    let told = take_up(relay, outgoing, deliveries, fresh);
+    let told = spread(relay, outgoing, deliveries, &mut NoSlot, 0, fresh);
     if told.is_err() {
         relay.disown();
     }
@@ -112,52 +113,19 @@ pub fn take_up_carried(
     let sender = brought.message.sender;
     let number = brought.message.number;
     relay.arrive(&brought.message, brought.source)?;
-    let told = spread_carried(relay, outgoing, deliveries, link, slot, fresh);
+    let told = spread(relay, outgoing, deliveries, link, slot, fresh);
     if told.is_err() {
         relay.forget(sender, number);
     }
     told
 }
 
-// Gives a message to the peers and keeps it back.
-fn take_up(
+// Gives a message to the peers and keeps it back, as it came in this slot.
+fn spread<S: TakesSlot>(
     relay: &Relay,
     outgoing: &mut Outgoing,
     deliveries: &mut Deliveries,
-    fresh: Fresh,
-) -> Result<Outcome, AllocError>
-    requires peers { length (links_of outgoing.old) ≤ 256 }
-    requires sender { fresh.message.sender < length deliveries.old.hold_back }
-    requires number { fresh.message.number < 4096 }
-    ensures links { OnOk result (links_of outgoing.new
-        ≡ given_from 0 relay.now fresh.source fresh.message (links_of outgoing.old)) }
-    ensures deliveries { OnOk result (deliveries.new
-        ≡ told_with deliveries.old fresh.message fresh.members) }
-    ensures outcome { IfOk result (λ outcome.
-        outcome ≡ outcome_with deliveries.old fresh.message fresh.members) }
-    ensures same_outgoing { OnErr result (outgoing.new ≡ outgoing.old) }
-    ensures same_deliveries { OnErr result (deliveries.new ≡ deliveries.old) }
-{
-    let Fresh {
-        message,
-        source,
-        members,
-    } = fresh;
-    let sender = message.sender;
-    outgoing.give(relay, source, &message)?;
-    let told = deliveries.take_up(message, members);
-    if told.is_err() {
-        outgoing.take_back(relay, source, sender);
-    }
-    told
-}
-
-// The same, as a peer's slot brings it, which is taken.
-fn spread_carried(
-    relay: &Relay,
-    outgoing: &mut Outgoing,
-    deliveries: &mut Deliveries,
-    link: &mut LinkIn,
+    link: &mut S,
     slot: u64,
     fresh: Fresh,
 ) -> Result<Outcome, AllocError>
@@ -170,7 +138,7 @@ fn spread_carried(
         ≡ told_with deliveries.old fresh.message fresh.members) }
     ensures outcome { IfOk result (λ outcome.
         outcome ≡ outcome_with deliveries.old fresh.message fresh.members) }
-    ensures taken { OnOk result (link.new ≡ set.insert link.old slot) }
+    ensures taken { OnOk result (link.new ≡ S.with_slot link.old slot) }
     ensures same_outgoing { OnErr result (outgoing.new ≡ outgoing.old) }
     ensures same_deliveries { OnErr result (deliveries.new ≡ deliveries.old) }
     ensures as_before { OnErr result (link.new ≡ link.old) }
@@ -182,7 +150,7 @@ fn spread_carried(
     } = fresh;
     let sender = message.sender;
     outgoing.give(relay, source, &message)?;
-    let told = deliveries.take_up_carried(message, members, link, slot);
+    let told = deliveries.take_up(message, members, link, slot);
     if told.is_err() {
         outgoing.take_back(relay, source, sender);
     }

@@ -12,7 +12,7 @@ pub returns-clause-outcome : goal.returns-clause-outcome
 returns-clause-outcome c item =
     let message : Message = record { sender = c.args.sender; number = c.args.number; item = item } in
     let sender : message.sender < length c.self.inside.deliveries.knowers = omega (arith, c.self.invariant.rows, peer_below c.args.self.now message.sender c.requires.sender, ap (λ (k : Kept). k.config.nodes) c.self.view_is) in
-    if_ok c.tell_carried.result _ _ c.tell_carried.ensures.outcome
+    if_ok c.tell.result _ _ c.tell.ensures.outcome
     (held_again_gives c.self.inside.config c.self.inside.me c.self.inside.live c.self.inside.frames c.self.inside.stream.items c.self.inside.relay (links_of c.self.inside.outgoing) c.self.inside.incoming.items c.self.inside.deliveries c.args.self.now c.self.view_is c.self.invariant.mode c.self.invariant.faults c.args.from c.args.slot message c.insert.new.self sender (ap (λ (k : Kept). holds k.relay message.sender message.number) c.self.view_is ∙ c.requires.held) (c.insert.ensures ∙ ap (λ members. set.insert members c.args.from) c.members-members.ensures))
 
 pub returns-clause-ok : goal.returns-clause-ok
@@ -22,7 +22,7 @@ returns-clause-ok c item =
     let links = c.self.inside.incoming.items in
     let place : c.from-place.result < length links = omega (arith, at, c.requires.from, c.self.invariant.peers_in, ap (λ (k : Kept). k.config.nodes) c.self.view_is) in
     let sender : message.sender < length c.self.inside.deliveries.knowers = omega (arith, c.self.invariant.rows, peer_below c.args.self.now message.sender c.requires.sender, ap (λ (k : Kept). k.config.nodes) c.self.view_is) in
-    ok_both c.tell_carried.result c.tell_carried.ensures.ok c.tell_carried.ensures.taken
+    ok_both c.tell.result c.tell.ensures.ok c.tell.ensures.taken
     (λ told taken. held_again c.self.inside.config c.self.inside.me c.self.inside.live c.self.inside.frames c.self.inside.stream.items c.self.inside.relay (links_of c.self.inside.outgoing) c.self.inside.incoming.items c.self.inside.deliveries c.args.self.now c.self.view_is c.self.invariant.mode c.self.invariant.faults c.args.from c.args.slot message c.insert.new.self
-    (slice_set links c.from-place.result c.tell_carried.new.link) c.tell_carried.new.self sender (ap (λ (k : Kept). holds k.relay message.sender message.number) c.self.view_is ∙ c.requires.held) (c.insert.ensures ∙ ap (λ members. set.insert members c.args.from) c.members-members.ensures)
+    (slice_set links c.from-place.result c.tell.new.link) c.tell.new.self sender (ap (λ (k : Kept). holds k.relay message.sender message.number) c.self.view_is ∙ c.requires.held) (c.insert.ensures ∙ ap (λ members. set.insert members c.args.from) c.members-members.ensures)
     (ap (slice_set links c.from-place.result) (taken ∙ ap (λ s. set.insert s c.args.slot) (c.index_mut.ensures.value ∙ get_or_default links c.from-place.result _ set.empty place)) ∙ ap (λ p. slice_set links p (set.insert (slice_index_or links p set.empty) c.args.slot)) at) told)
