@@ -6,6 +6,7 @@ use Rattle.std.proofs.KnownBytes.{Keeps-refl}
 use Rattle.cast_model.specs.Replies.{history}
 use Rattle.cast_words.specs.Written.{WroteAll, WrotePrefix}
 use Rattle.cast_run.specs.declared.submit_all.SubmitAll.{SubmitAll}
+use Rattle.cast_message.specs.declared.config.Config.{Config}
 use Rattle.cast_message.specs.declared.message.Item.{Item}
 use Rattle.cast_box.specs.Lists.{of}
 use Rattle.cast_script.specs.declared.live_fault.LiveFault.{LiveFault}
@@ -18,7 +19,7 @@ use Rattle.cast_live.specs.declared.summary.Summary.{Summary}
 use Rattle.cast_text.specs.declared.fault.TextFault.{TextFault}
 use Rattle.cast_text.specs.declared.fault.TextFault.TheVariants as faults
 use Rattle.cast_text.specs.Text.{IsScriptIn, WroteFront, fault_of_live}
-use Rattle.cast_live.specs.Live.{IsNewJob, AreNewJobs, items_of, IsFinished, IsMergedRun, IsRunOf, IsOfRunning, IsSummaryOf, WritesSummary, SummaryBreaksOff, LiveFails, ends_of, summary_text}
+use Rattle.cast_live.specs.Live.{IsNewJob, AreNewJobs, items_of, IsFinished, IsMergedRun, IsRunOf, IsOfRunning, IsSummaryOf, Summarized, WritesSummary, SummaryBreaksOff, LiveFails, ends_of, summary_text}
 
 pub new_more : (all : List (ℕ × SubmitAll)) (x : ℕ × SubmitAll) → AreNewJobs all → IsNewJob x.1 → AreNewJobs (all ++ x ∷ [])
 new_more [] x each new zero a at = let same : x ≡ a = cc in subst (λ (b : ℕ × SubmitAll). IsNewJob b.1) same new
@@ -91,8 +92,8 @@ run_fails input old read_failed failed script faults.NotV1 read is = absurd is
 
 module _ (input old new : Option (List ℕ)) (failed : Bool) (script : Script) (run : FinishedRun) (said : Summary) (read : IsScriptIn input script) (same : run.report.config ≡ script.config)
     (ran : IsRunOf script run.report.reports) (finished : IsFinished run) (told : IsSummaryOf run.report.config run.assembly.events said) where
-  pub summary_done : WroteAll old new failed (summary_text run.report.config (history run.report.config run.assembly.events) (ends_of run.report.reports) said) → WritesSummary input old new said
-  summary_done wrote = record {
+  summarized : Summarized input said
+  summarized = record {
     script = script;
     read = read;
     reports = run.report.reports;
@@ -100,20 +101,18 @@ module _ (input old new : Option (List ℕ)) (failed : Bool) (script : Script) (
     events = run.assembly.events;
     merged = subst (λ config. IsMergedRun config run.report.reports run.assembly.events) same finished.merged;
     told = subst (λ config. IsSummaryOf config run.assembly.events said) same told;
-    appends = subst (λ config. Appends old new (summary_text config (history config run.assembly.events) (ends_of run.report.reports) said)) same wrote.appends;
   }
 
-  pub summary_breaks : WrotePrefix old new failed (summary_text run.report.config (history run.report.config run.assembly.events) (ends_of run.report.reports) said) → SummaryBreaksOff input old new failed
+  abbrev text : Config → List ℕ
+  text config = summary_text config (history config run.assembly.events) (ends_of run.report.reports) said
+
+  pub summary_done : WroteAll old new failed (text run.report.config) → WritesSummary input old new said
+  summary_done wrote = record { run = summarized; appends = subst (λ config. Appends old new (text config)) same wrote.appends }
+
+  pub summary_breaks : WrotePrefix old new failed (text run.report.config) → SummaryBreaksOff input old new failed
   summary_breaks wrote = record {
-    script = script;
-    read = read;
-    reports = run.report.reports;
-    ran = ran;
-    events = run.assembly.events;
-    merged = subst (λ config. IsMergedRun config run.report.reports run.assembly.events) same finished.merged;
     said = said;
-    told = subst (λ config. IsSummaryOf config run.assembly.events said) same told;
+    run = summarized;
     broken = wrote.broken;
-    front = subst (λ config. WroteFront old new (summary_text config (history config run.assembly.events) (ends_of run.report.reports) said)) same
-        (record { front = wrote.front; rest = wrote.rest; parts = wrote.parts; appends = wrote.appends });
+    front = subst (λ config. WroteFront old new (text config)) same (record { front = wrote.front; rest = wrote.rest; parts = wrote.parts; appends = wrote.appends });
   }

@@ -124,8 +124,8 @@ pub record IsSummaryOf (config : Config) (events : List Event) (said : Summary) 
   pub rest : IsTrue said.rest ↔ Rest config (history config events)
   pub good : said.verdict ≡ Good
 
--- the writer has the summary of a run of the script that was read, and nothing else
-pub record WritesSummary (input old new : Option (List ℕ)) (said : Summary) : Type 0 where
+-- the script that was read, reports of a run of it, the events into which their logs merge, and that this is told of them
+pub record Summarized (input : Option (List ℕ)) (said : Summary) : Type 0 where
   pub script : Script
   pub read : IsScriptIn input script
   pub reports : List NodeReport
@@ -133,7 +133,14 @@ pub record WritesSummary (input old new : Option (List ℕ)) (said : Summary) : 
   pub events : List Event
   pub merged : IsMergedRun script.config reports events
   pub told : IsSummaryOf script.config events said
-  pub appends : Appends old new (summary_text script.config (history script.config events) (ends_of reports) said)
+
+abbrev pub text_of_run : {input : Option (List ℕ)} {said : Summary} → Summarized input said → List ℕ
+text_of_run {input} {said} run = summary_text run.script.config (history run.script.config run.events) (ends_of run.reports) said
+
+-- the writer has the summary of a run of the script that was read, and nothing else
+pub record WritesSummary (input old new : Option (List ℕ)) (said : Summary) : Type 0 where
+  pub run : Summarized input said
+  pub appends : Appends old new (text_of_run run)
 
 -- ---- faults
 
@@ -157,16 +164,10 @@ pub record DoesNotRun (input : Option (List ℕ)) (why : LiveFault) : Type 0 whe
 
 -- the summary of a run of the script that was read broke off
 pub record SummaryBreaksOff (input old new : Option (List ℕ)) (failed : Bool) : Type 0 where
-  pub script : Script
-  pub read : IsScriptIn input script
-  pub reports : List NodeReport
-  pub ran : IsRunOf script reports
-  pub events : List Event
-  pub merged : IsMergedRun script.config reports events
   pub said : Summary
-  pub told : IsSummaryOf script.config events said
+  pub run : Summarized input said
   pub broken : failed ≡ true
-  pub front : WroteFront old new (summary_text script.config (history script.config events) (ends_of reports) said)
+  pub front : WroteFront old new (text_of_run run)
 
 -- each fault has its cause, and nothing was written but where the summary broke off
 abbrev pub LiveFails : Option (List ℕ) → Bool → Option (List ℕ) → Option (List ℕ) → Bool → TextFault → Type 0

@@ -17,7 +17,7 @@ use Rattle.cast_model.specs.Refusals.{Cause, no_node, crashed, frames_full, firs
 use Rattle.cast_model.specs.Replies.{view_of, causes, causes_of_arrival, fault, after, after_by, history_from, IsAccepted}
 use Rattle.cast_model.specs.Rounds.{Due, due, frames_for, events_for, plan_from, plan, AreAccepted, AcceptedUntilFull}
 use Rattle.cast_model.proofs.Members.{Member, here, there, Member-append, Member-append_right, Member-if, list_any-Member, Member-list_any}
-use Rattle.cast_model.proofs.Growth.{arriving, frames-more, arrivals-more, slot_kept}
+use Rattle.cast_model.proofs.Growth.{made, arriving, frames-more, arrivals-more, slot_kept}
 use Rattle.cast_model.proofs.Round.{with_all, Counted, after_one, one_counted, frames-Send, frames-Arrive, slice_get_last}
 use Rattle.cast_model.proofs.Dues.{Once, DueOk, due_ok, due_once}
 
@@ -88,19 +88,19 @@ abbrev took_by : History → ℕ → ℕ → ℕ → Frame
 took_by past from to slot = record { from = from; seq = length (frames past from); to = to; body = Took slot }
 
 -- the frame just made
+made_at : (event : Event) (past : History) (from : ℕ) (frame : Frame) (k : ℕ) → made event past from ≡ frame ∷ [] → k ≡ length (frames past from) → slice_get (frames (event ∷ past) from) k ≡ Some frame
+made_at event past from frame k one e =
+    ap (λ frames. slice_get frames k) (frames-more event past from ∙ ap (λ more. frames past from ++ more) one)
+    ∙ ap (slice_get (frames past from ++ frame ∷ [])) e
+    ∙ slice_get_last (frames past from) frame
+
 sent_at : (past : History) (from to slot k : ℕ) → k ≡ length (frames past from) → slice_get (frames (Send from to slot ∷ past) from) k ≡ Some (carry_by past from to slot)
 unfolding frames_gained
-sent_at past from to slot k e =
-    let all : frames (Send from to slot ∷ past) from ≡ frames past from ++ carry_by past from to slot ∷ [] =
-    frames-more (Send from to slot) past from ∙ ap (λ more. frames past from ++ more) (cond-true (from == from) (carry_by past from to slot ∷ []) [] (eq-eqb from from refl)) in
-    ap (λ frames. slice_get frames k) all ∙ ap (slice_get (frames past from ++ carry_by past from to slot ∷ [])) e ∙ slice_get_last (frames past from) (carry_by past from to slot)
+sent_at past from to slot k = made_at (Send from to slot) past from _ k (cond-true (from == from) (carry_by past from to slot ∷ []) [] (eq-eqb from from refl))
 
 took_at : (past : History) (from to slot k : ℕ) → k ≡ length (frames past from) → slice_get (frames (Ack from to slot ∷ past) from) k ≡ Some (took_by past from to slot)
 unfolding frames_gained
-took_at past from to slot k e =
-    let all : frames (Ack from to slot ∷ past) from ≡ frames past from ++ took_by past from to slot ∷ [] =
-    frames-more (Ack from to slot) past from ∙ ap (λ more. frames past from ++ more) (cond-true (from == from) (took_by past from to slot ∷ []) [] (eq-eqb from from refl)) in
-    ap (λ frames. slice_get frames k) all ∙ ap (slice_get (frames past from ++ took_by past from to slot ∷ [])) e ∙ slice_get_last (frames past from) (took_by past from to slot)
+took_at past from to slot k = made_at (Ack from to slot) past from _ k (cond-true (from == from) (took_by past from to slot ∷ []) [] (eq-eqb from from refl))
 
 -- a slot is taken by the arrival of its Carry
 taken_now : (past : History) (from seq : ℕ) (frame : Frame) (p q slot : ℕ) → slice_get (frames past from) seq ≡ Some frame → frame.to ≡ q → (frame.from == p && is_carry_of slot frame.body) ≡ true → taken (Arrive from seq ∷ past) p q slot ≡ true
