@@ -1,7 +1,7 @@
 //! The finished picture: what stands around the marks, and its text.
 ghost use Rattle.std.specs.Prelude.{◌≡◌, ◌≤◌, ◌++◌, IfOk, OnOk, false, flat_map};
 ghost use Rattle.cast_draw.specs.Page.{caption, head_text, life_text, lifeline_text, lane_text, lines_text, name_text, names_text, rest_text, stub_of, stubs_of, style_text, tip_style, tip_text};
-ghost use Rattle.cast_words.specs.Written.{Writes};
+ghost use Rattle.cast_words.specs.Written.{Puts};
 
 use crate::cell::{LINES_FROM, Spot};
 use crate::fault::DrawFault;
@@ -80,8 +80,7 @@ impl Picture {
 /// from then on, and a front of the text stands.
 pub fn write_drawing<W: Write>(drawing: &Drawing, writer: &mut Meter<W>) -> Result<(), WriteFault>
     requires { writer.old.failed ≡ false }
-    ensures { Writes (W.contents writer.old.inner)
-        (W.contents writer.new.inner) writer.new.failed result drawing.now }
+    ensures { Puts W.contents writer.old writer.new result drawing.now }
 {
     write_bytes(drawing.front.as_slice(), writer)?;
     write_bytes(drawing.arrows.as_slice(), writer)?;

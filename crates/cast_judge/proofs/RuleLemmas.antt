@@ -125,7 +125,7 @@ module _ (past : List Line) (k : Kept) (s : StandsFor past k) where
   second_same p Close = refl
 
   -- of a line that names nodes of the group, the least rule is the same, by its kind
-  least_same : (line : Line) → said.names_below (length k.nodes.items) line ≡ true → kept.is_out_of_place k line ≡ said.is_out_of_place past line → kept.rule_by k line ≡ said.first_broken (said.rules past line)
+  least_same : (line : Line) → said.names_below (length k.nodes.items) line ≡ true → kept.is_out_of_place k line ≡ said.is_out_of_place past line → kept.rule_by k line ≡ said.first_broken 0 (said.rules past line)
   least_same (Head n f c) e place = λ i. least_of (place i) false false false false false false
   least_same (Head2 n f c d) e place = λ i. least_of (place i) false false false false false false
   least_same (Broadcast m) e place = λ i. least_of (place i) (numbered_same m e i) ((node m.sender e).closed i) false false (crash_same m.sender e i) (second_same m.sender m.item i)
@@ -142,7 +142,7 @@ pub rule_same : (past : List Line) (k : Kept) (line : Line) → StandsFor past k
 unfolding said.broken
 rule_same past k line s = go (said.is_out_of_place past line) refl
   where
-    go : (b : Bool) → said.is_out_of_place past line ≡ b → kept.rule_by k line ≡ said.first_broken (said.rules past line)
+    go : (b : Bool) → said.is_out_of_place past line ≡ b → kept.rule_by k line ≡ said.first_broken 0 (said.rules past line)
     go true e = let both = place_same past k line s ∙ e in
         ap (λ b. least_of b (kept.breaks_prefix k line) (kept.is_after_close k line) (kept.is_not_proposed k line) (kept.is_of_too_many k line) (kept.is_after_crash k line) (kept.is_proposed_twice k line)) both
         ∙ sym (ap (λ b. least_of b (said.breaks_prefix past line) (said.is_after_close past line) (said.is_not_proposed past line) (said.is_of_too_many past line) (said.is_after_crash past line) (said.is_proposed_twice past line)) e)

@@ -18,7 +18,6 @@ use Rattle.cast_record.specs.Rules as said
 use Rattle.cast_judge.specs.Candidates.{is_for, is_decided, count_decided}
 use Rattle.cast_judge.specs.declared.instances.Instance.{Instance}
 use Rattle.cast_judge.specs.declared.instances.Addition.TheVariants as adds
-use Rattle.cast_judge.specs.declared.kept.Place.TheVariants.{Body, Ended}
 use Rattle.cast_judge.specs.declared.sender.Sender.{Sender}
 use Rattle.cast_judge.specs.declared.kept.Kept.{Kept}
 use Rattle.cast_judge.specs.Kept as kept
@@ -337,20 +336,10 @@ size_on nodes = for_body (λ line. length (kept.nodes_after nodes line) ≡ leng
     (λ i c. refl)
     refl
 
-place_on : (line : Line) → kept.place_after line ≡ cond (said.is_end line) Ended Body
-place_on (Head n f k) = refl
-place_on (Head2 n f k mode) = refl
-place_on (Broadcast m) = refl
-place_on (Delivered q m) = refl
-place_on (Decided q d) = refl
-place_on (Crashed q) = refl
-place_on (Refused i c) = refl
-place_on End = refl
-
 -- a line that is no head
 pub body_on : (past : List Line) (line : Line) (old new : Kept) → said.is_head line ≡ false → length past < 2 ^ 63 → said.breaks_prefix past line ≡ false → said.is_not_proposed past line ≡ false → StandsFor past old → kept.Keeps old new line → StandsFor (line ∷ past) new
 body_on past line old new plain short sound proposed h k = record {
-  place = k.place ∙ place_on line;
+  place = k.place;
   faults = k.faults ∙ faults_on old.faults line plain ∙ h.faults ∙ ap (λ (g : said.Group). g.faults) (sym (group_on past line plain));
   choices = k.choices ∙ choices_on old.choices line plain ∙ h.choices ∙ ap (λ (g : said.Group). g.choices) (sym (group_on past line plain));
   size = same_size ∙ h.size ∙ ap (λ (g : said.Group). g.nodes) (sym (group_on past line plain));
@@ -398,7 +387,7 @@ pub record IsHeadOf (head : Line) (n f k : ℕ) : Type 0 where
 
 opened : (head : Line) (n f k : ℕ) (old new : Kept) → IsHeadOf head n f k → StandsFor [] old → kept.Keeps old new head → StandsFor (head ∷ []) new
 opened head n f k old new h s w = record {
-  place = w.place ∙ place_on head;
+  place = w.place;
   faults = w.faults ∙ h.faults old.faults ∙ ap (λ (g : said.Group). g.faults) (sym h.group);
   choices = w.choices ∙ h.choices old.choices ∙ ap (λ (g : said.Group). g.choices) (sym h.group);
   size = size ∙ ap (λ (g : said.Group). g.nodes) (sym h.group);
@@ -443,13 +432,13 @@ record IsSound (past : List Line) (line : Line) : Type 0 where
 sound_line : (past : List Line) (line : Line) → said.broken past line ≡ None → IsSound past line
 unfolding said.broken
 sound_line past line e =
-    let fourth : List said.Rule = record { number = 4; is_broken = said.is_of_too_many past line } ∷ record { number = 5; is_broken = said.is_after_crash past line } ∷ record { number = 6; is_broken = said.is_proposed_twice past line } ∷ [] in
-    let third : List said.Rule = record { number = 3; is_broken = said.is_not_proposed past line } ∷ fourth in
-    let second : List said.Rule = record { number = 2; is_broken = said.is_after_close past line } ∷ third in
-    let a = chosen (said.is_out_of_place past line) 0 (said.first_broken (record { number = 1; is_broken = said.breaks_prefix past line } ∷ second)) e in
-    let b = chosen (said.breaks_prefix past line) 1 (said.first_broken second) a.1 in
-    let c = chosen (said.is_after_close past line) 2 (said.first_broken third) b.1 in
-    let d = chosen (said.is_not_proposed past line) 3 (said.first_broken fourth) c.1 in
+    let fourth = said.is_of_too_many past line ∷ said.is_after_crash past line ∷ said.is_proposed_twice past line ∷ [] in
+    let third = said.is_not_proposed past line ∷ fourth in
+    let second = said.is_after_close past line ∷ third in
+    let a = chosen (said.is_out_of_place past line) 0 (said.first_broken 1 (said.breaks_prefix past line ∷ second)) e in
+    let b = chosen (said.breaks_prefix past line) 1 (said.first_broken 2 second) a.1 in
+    let c = chosen (said.is_after_close past line) 2 (said.first_broken 3 third) b.1 in
+    let d = chosen (said.is_not_proposed past line) 3 (said.first_broken 4 fourth) c.1 in
     record { placed = a.0; prefix = b.0; proposed = d.0 }
 
 pub stands_on : (past : List Line) (line : Line) (old new : Kept) → StandsFor past old → length past < 2 ^ 63 → IsWithin line → said.broken past line ≡ None → kept.Keeps old new line → StandsFor (line ∷ past) new

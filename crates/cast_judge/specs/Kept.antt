@@ -9,7 +9,7 @@ use Rattle.std.specs.Ordering.{nat_cmp}
 use Rattle.cast_message.specs.declared.message.Item.{Item}
 use Rattle.cast_message.specs.declared.message.Item.TheVariants.{Propose}
 use Rattle.cast_record.specs.declared.line.Line.{Line}
-use Rattle.cast_record.specs.declared.line.Line.TheVariants.{Head, Head2, Broadcast, Delivered, Decided, Crashed, End}
+use Rattle.cast_record.specs.declared.line.Line.TheVariants.{Head, Head2, Broadcast, Delivered, Decided, Crashed}
 use Rattle.cast_record.specs.declared.front.Delivery.{Delivery}
 use Rattle.cast_record.specs.Reading.{item_of}
 use Rattle.cast_record.specs.Rules as said
@@ -104,8 +104,7 @@ nodes_after nodes line = nodes
 -- ---- what is kept after a line
 
 abbrev pub place_after : Line → Place
-place_after End = Ended
-place_after line = Body
+place_after line = if said.is_end line then Ended else Body
 
 abbrev pub faults_after : ℕ → Line → ℕ
 faults_after faults (Head n f k) = f
@@ -179,19 +178,14 @@ abbrev pub is_proposed_twice : Kept → Line → Bool
 is_proposed_twice kept (Broadcast m) = is_second_proposal kept m.sender m.item
 is_proposed_twice kept line = false
 
-abbrev pub rules_by : Kept → Line → List said.Rule
+-- whether each rule is broken, from rule 0 on
+abbrev pub rules_by : Kept → Line → List Bool
 rules_by kept line =
-    record { number = 0; is_broken = is_out_of_place kept line }
-    ∷ record { number = 1; is_broken = breaks_prefix kept line }
-    ∷ record { number = 2; is_broken = is_after_close kept line }
-    ∷ record { number = 3; is_broken = is_not_proposed kept line }
-    ∷ record { number = 4; is_broken = is_of_too_many kept line }
-    ∷ record { number = 5; is_broken = is_after_crash kept line }
-    ∷ record { number = 6; is_broken = is_proposed_twice kept line }
-    ∷ []
+    is_out_of_place kept line ∷ breaks_prefix kept line ∷ is_after_close kept line ∷ is_not_proposed kept line
+    ∷ is_of_too_many kept line ∷ is_after_crash kept line ∷ is_proposed_twice kept line ∷ []
 
 abbrev pub rule_by : Kept → Line → Option ℕ
-rule_by kept line = said.first_broken (rules_by kept line)
+rule_by kept line = said.first_broken 0 (rules_by kept line)
 
 -- ---- a line `d` by its last word
 

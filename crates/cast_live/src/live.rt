@@ -4,7 +4,7 @@ ghost use Rattle.cast_record.specs.Text.{record_text};
 ghost use Rattle.cast_run.specs.Jobs.{told_job};
 ghost use Rattle.cast_script.specs.Replay.{script_text};
 ghost use Rattle.cast_live.specs.Live.{IsFinished, IsNewJob, AreNewJobs, items_of, IsOfRunning, IsRunOf, WritesSummary, LiveFails};
-ghost use Rattle.cast_text.specs.Text.{IsTold, Writes};
+ghost use Rattle.cast_text.specs.Text.{IsTold, Puts};
 ghost use Rattle.cast_live.specs.Replayed.{record_of_accepted, RecordsReplay};
 
 use crate::replay::{is_replayed, write_run_record};
@@ -97,8 +97,7 @@ fn merge_logs(alloc: Global, report: GroupReport) -> Result<FinishedRun, AllocEr
 pub fn write_record_of<W: Write>(run: &FinishedRun, writer: &mut Meter<W>) -> Result<(), TextFault>
     requires run { IsFinished run.now }
     requires writer { writer.old.failed ≡ false }
-    ensures { Writes (W.contents writer.old.inner)
-        (W.contents writer.new.inner) writer.new.failed result
+    ensures { Puts W.contents writer.old writer.new result
         (record_text (record_of_accepted run.now.report.config run.now.assembly.events)) }
 {
     write_run_record(
@@ -114,8 +113,7 @@ pub fn write_record_of<W: Write>(run: &FinishedRun, writer: &mut Meter<W>) -> Re
 pub fn write_replay_of<W: Write>(run: &FinishedRun, writer: &mut Meter<W>) -> Result<(), TextFault>
     requires run { IsFinished run.now }
     requires writer { writer.old.failed ≡ false }
-    ensures text { Writes (W.contents writer.old.inner)
-        (W.contents writer.new.inner) writer.new.failed result
+    ensures text { Puts W.contents writer.old writer.new result
         (script_text run.now.report.config run.now.assembly.events) }
     // Running that script writes the record of the run, and no line of it is a refusal.
     ensures law { RecordsReplay run.now.report.config run.now.assembly.events }

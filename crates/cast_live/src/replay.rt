@@ -4,7 +4,7 @@ ghost use Rattle.std.specs.List.{All};
 ghost use Rattle.cast_record.specs.Lines.{lines_for};
 ghost use Rattle.cast_record.specs.Text.{record_text};
 ghost use Rattle.cast_text.specs.Ranges.{HasEventRange};
-ghost use Rattle.cast_text.specs.Text.{Writes};
+ghost use Rattle.cast_text.specs.Text.{Puts};
 ghost use Rattle.cast_live.specs.Replayed.{run_record, RecordsReplay};
 
 use cast_message::{Config, Event, Reply};
@@ -44,8 +44,7 @@ pub fn write_run_record<W: Write>(
 ) -> Result<(), TextFault>
     requires sound { writer.old.failed ≡ false }
     requires replies { length replies.now ≡ length events.now }
-    ensures { Writes (W.contents writer.old.inner)
-        (W.contents writer.new.inner) writer.new.failed result
+    ensures { Puts W.contents writer.old writer.new result
         (record_text (run_record config.now events.now replies.now)) }
 {
     put_head(config, writer)?;
@@ -62,8 +61,7 @@ fn put_lines<W: Write>(
     writer: &mut Meter<W>,
 ) -> Result<(), TextFault>
     requires { writer.old.failed ≡ false }
-    ensures { Writes (W.contents writer.old.inner)
-        (W.contents writer.new.inner) writer.new.failed result
+    ensures { Puts W.contents writer.old writer.new result
         (record_text (lines_for index event.now reply.now)) }
 {
     write_lines_of(index, event, reply, writer)?;

@@ -6,7 +6,7 @@ ghost use Rattle.cast_model.specs.History.{History};
 ghost use Rattle.cast_model.specs.Delivery.{delivered};
 ghost use Rattle.cast_model.specs.Replies.{history};
 ghost use Rattle.cast_world.specs.Group.{Stands};
-ghost use Rattle.cast_words.specs.Written.{Writes};
+ghost use Rattle.cast_words.specs.Written.{Puts};
 ghost use Rattle.cast_live.specs.Live.{IsFinished, IsSummaryOf, ends_of, end_word, end_text, counts_text, node_text, nodes_text, rest_text, summary_text};
 
 use crate::live::FinishedRun;
@@ -54,8 +54,7 @@ pub fn write_summary<W: Write>(
 ) -> Result<(), WriteFault>
     requires run { IsFinished run.now }
     requires writer { writer.old.failed ≡ false }
-    ensures { Writes (W.contents writer.old.inner)
-        (W.contents writer.new.inner) writer.new.failed result
+    ensures { Puts W.contents writer.old writer.new result
         (summary_text run.now.report.config (history run.now.report.config run.now.assembly.events)
         (ends_of run.now.report.reports) said) }
 {
@@ -81,7 +80,7 @@ fn write_nodes<W: Write>(
     requires writer { writer.old.failed ≡ false }
     ensures sound { OnOk result (writer.new.failed ≡ false) }
     ensures text { (past : History) → Stands config.now past world.now →
-        Writes (W.contents writer.old.inner) (W.contents writer.new.inner) writer.new.failed result
+        Puts W.contents writer.old writer.new result
         (nodes_text config.now past 0 (ends_of reports.now)) }
 {
     for (node, report) in reports.iter().enumerate() {
@@ -101,7 +100,7 @@ fn write_node<W: Write>(
     requires writer { writer.old.failed ≡ false }
     ensures sound { OnOk result (writer.new.failed ≡ false) }
     ensures text { (past : History) → Stands config.now past world.now →
-        Writes (W.contents writer.old.inner) (W.contents writer.new.inner) writer.new.failed result
+        Puts W.contents writer.old writer.new result
         (node_text config.now past node ended) }
 {
     write_end(u64::from(node), ended, writer)?;
@@ -112,8 +111,7 @@ fn write_node<W: Write>(
 // The number of a node, and how it ended.
 fn write_end<W: Write>(node: u64, ended: EngineEnd, writer: &mut Meter<W>) -> Result<(), WriteFault>
     requires { writer.old.failed ≡ false }
-    ensures { Writes (W.contents writer.old.inner)
-        (W.contents writer.new.inner) writer.new.failed result (end_text node ended) }
+    ensures { Puts W.contents writer.old writer.new result (end_text node ended) }
 {
     write_bytes(b"node ", writer)?;
     write_number(node, writer)?;
@@ -132,7 +130,7 @@ fn write_counts<W: Write>(
     requires writer { writer.old.failed ≡ false }
     ensures sound { OnOk result (writer.new.failed ≡ false) }
     ensures text { (past : History) → Stands config.now past world.now →
-        Writes (W.contents writer.old.inner) (W.contents writer.new.inner) writer.new.failed result
+        Puts W.contents writer.old writer.new result
         (counts_text config.now past node (range_with_len 0 config.now.nodes)) }
 {
     let nodes = config.nodes() as u8;
@@ -144,8 +142,7 @@ fn write_counts<W: Write>(
 
 fn write_count<W: Write>(count: u64, writer: &mut Meter<W>) -> Result<(), WriteFault>
     requires { writer.old.failed ≡ false }
-    ensures { Writes (W.contents writer.old.inner)
-        (W.contents writer.new.inner) writer.new.failed result (codes " " ++ decimal count) }
+    ensures { Puts W.contents writer.old writer.new result (codes " " ++ decimal count) }
 {
     write_bytes(b" ", writer)?;
     write_number(count, writer)

@@ -173,10 +173,10 @@ new_within n f k h = ((h.0, wider n h.1, h.2, h.3, h.4), tt)
 -- the verdict on a migrated text is that on the text before
 pub migrated_verdict : (text new : List ℕ) → IsMigrated text new → verdict new ≡ verdict text
 migrated_verdict text new h =
-    ap verdict h.after ∙ first_kept (Head2 h.nodes h.faults h.choices Basic) h.rest (new_within h.nodes h.faults h.choices h.within) (head2_sound h.nodes h.faults h.choices)
-    ∙ sym (verdict_same h.nodes h.faults h.choices [] (slice_split (λ b. nat_eq b 10) h.rest))
-    ∙ sym (first_kept (Head h.nodes h.faults h.choices) h.rest h.within (head_sound h.nodes h.faults h.choices))
-    ∙ sym (ap verdict h.before)
+    ap verdict h.after ∙ first_kept (Head2 h.head.nodes h.head.faults h.head.choices Basic) h.head.rest (new_within h.head.nodes h.head.faults h.head.choices h.head.within) (head2_sound h.head.nodes h.head.faults h.head.choices)
+    ∙ sym (verdict_same h.head.nodes h.head.faults h.head.choices [] (slice_split (λ b. nat_eq b 10) h.head.rest))
+    ∙ sym (first_kept (Head h.head.nodes h.head.faults h.head.choices) h.head.rest h.head.within (head_sound h.head.nodes h.head.faults h.head.choices))
+    ∙ sym (ap verdict h.head.same)
 
 -- ---- the bytes
 
@@ -204,15 +204,8 @@ has_head text first rest cut h = record {
 }
 
 pub is_migrated : (text first rest new : List ℕ) → slice_split (λ b. nat_eq b 10) text ≡ first ∷ slice_split (λ b. nat_eq b 10) rest → IsHeadIn first → new ≡ new_text first rest → IsMigrated text new
-is_migrated text first rest new cut h e = record {
-  nodes = h.nodes;
-  faults = h.faults;
-  choices = h.choices;
-  rest = rest;
-  within = h.within;
-  before = cut_text text first rest cut ∙ ap (λ bytes. bytes ++ 10 ∷ rest) (sym h.same);
-  after = e ∙ new_head h.nodes h.faults h.choices first rest h.same;
-}
+unfolding has_head
+is_migrated text first rest new cut h e = record { head = has_head text first rest cut h; after = e ∙ new_head h.nodes h.faults h.choices first rest h.same }
 
 pub long_enough : (first : List ℕ) → IsHeadIn first → 6 ≤ length first
 long_enough first h = let e = ap length h.same in omega (arith, e)

@@ -21,16 +21,6 @@ pub record IsHeadIn (bytes : List ℕ) : Type 0 where
 abbrev pub IsNoHead : List ℕ → Type 0
 IsNoHead bytes = IsHeadIn bytes → ⊥
 
--- a head `cast/1` and its line feed, and the same with the new head
-pub record IsMigrated (text new : List ℕ) : Type 0 where
-  pub nodes : ℕ
-  pub faults : ℕ
-  pub choices : ℕ
-  pub rest : List ℕ
-  pub within : IsWithin (Head nodes faults choices)
-  pub before : text ≡ line_text (Head nodes faults choices) ++ 10 ∷ rest
-  pub after : new ≡ line_text (Head2 nodes faults choices Basic) ++ 10 ∷ rest
-
 -- the text begins with a head `cast/1` and its line feed
 pub record HasHead (text : List ℕ) : Type 0 where
   pub nodes : ℕ
@@ -40,7 +30,12 @@ pub record HasHead (text : List ℕ) : Type 0 where
   pub within : IsWithin (Head nodes faults choices)
   pub same : text ≡ line_text (Head nodes faults choices) ++ 10 ∷ rest
 
--- it begins with none
+-- the new text is the same with the new head
+pub record IsMigrated (text new : List ℕ) : Type 0 where
+  pub head : HasHead text
+  pub after : new ≡ line_text (Head2 head.nodes head.faults head.choices Basic) ++ 10 ∷ head.rest
+
+-- the text begins with no such head
 abbrev pub HasNoHead : List ℕ → Type 0
 HasNoHead text = (nodes faults choices : ℕ) (rest : List ℕ) → IsWithin (Head nodes faults choices) → text ≡ line_text (Head nodes faults choices) ++ 10 ∷ rest → ⊥
 

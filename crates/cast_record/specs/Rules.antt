@@ -1,7 +1,7 @@
 -- Which rule a line breaks, read off all the lines before it. These stand with the newest first: `line ∷ past` is `past`,
 -- and then `line`.
 --     broken past line     the least rule that the line breaks after those lines, if it breaks one
-use Rattle.std.specs.Prelude.{ℕ, ◌==◌, ◌&&◌, ◌||◌, not, nat_lt, if◌then◌else◌, Bool, true, false, List, [], ◌∷◌, length, Option, Some, None}
+use Rattle.std.specs.Prelude.{ℕ, ◌+◌, ◌==◌, ◌&&◌, ◌||◌, not, nat_lt, if◌then◌else◌, Bool, true, false, List, [], ◌∷◌, length, Option, Some, None}
 use Rattle.std.specs.List.{filter, list_any, filter_map}
 use Rattle.std.specs.Str.{bytes_eq}
 use Rattle.cast_message.specs.declared.message.Item.{Item}
@@ -172,26 +172,17 @@ abbrev pub is_proposed_twice : List Line → Line → Bool
 is_proposed_twice past (Broadcast message) = is_second_proposal past message.sender message.item
 is_proposed_twice past _ = false
 
--- A rule by its number, and whether it is broken.
-pub record Rule : Type 0 where
-  pub number : ℕ
-  pub is_broken : Bool
-
-abbrev pub rules : List Line → Line → List Rule
+-- whether each rule is broken, from rule 0 on
+abbrev pub rules : List Line → Line → List Bool
 rules past line =
-    record { number = 0; is_broken = is_out_of_place past line }
-    ∷ record { number = 1; is_broken = breaks_prefix past line }
-    ∷ record { number = 2; is_broken = is_after_close past line }
-    ∷ record { number = 3; is_broken = is_not_proposed past line }
-    ∷ record { number = 4; is_broken = is_of_too_many past line }
-    ∷ record { number = 5; is_broken = is_after_crash past line }
-    ∷ record { number = 6; is_broken = is_proposed_twice past line }
-    ∷ []
+    is_out_of_place past line ∷ breaks_prefix past line ∷ is_after_close past line ∷ is_not_proposed past line
+    ∷ is_of_too_many past line ∷ is_after_crash past line ∷ is_proposed_twice past line ∷ []
 
-abbrev pub first_broken : List Rule → Option ℕ
-first_broken [] = None
-first_broken (rule ∷ rules) = if rule.is_broken then Some rule.number else first_broken rules
+-- the number of the first that is broken, counted from a number on
+abbrev pub first_broken : ℕ → List Bool → Option ℕ
+first_broken number [] = None
+first_broken number (is_broken ∷ rules) = if is_broken then Some number else first_broken (number + 1) rules
 
 -- the least rule that the line breaks
 unfoldable pub broken : List Line → Line → Option ℕ
-broken past line = first_broken (rules past line)
+broken past line = first_broken 0 (rules past line)

@@ -1,14 +1,13 @@
 //! Writing the lines that an event and its reply leave in a record, from the two of them: no line is made, and no message copied.
-ghost use Rattle.std.specs.Prelude.{◌≡◌, ◌∷◌, [], false, map};
+ghost use Rattle.std.specs.Prelude.{◌≡◌, ◌∷◌, [], false};
 ghost use Rattle.cast_message.specs.StepCode.{step_code};
-ghost use Rattle.cast_words.specs.Written.{Writes};
+ghost use Rattle.cast_words.specs.Written.{Puts};
 ghost use Rattle.cast_record.specs.Lines.{answer_lines, lines_for, outcome_lines, refusal_lines};
 ghost use Rattle.cast_record.specs.Text.{record_text};
-ghost use Rattle.cast_record.specs.declared.line.Line.TheVariants.{Decided, Delivered};
 
 use crate::line::Line;
 use crate::writing::{write_broadcast, write_decided, write_delivered, write_line};
-use cast_message::{Answer, Decision, Event, Message, NodeId, Outcome, Reply, StepFault};
+use cast_message::{Answer, Event, NodeId, Outcome, Reply, StepFault};
 use cast_words::{Meter, WriteFault};
 use std::io::Write;
 
@@ -22,8 +21,7 @@ pub fn write_lines_of<W: Write>(
     writer: &mut Meter<W>,
 ) -> Result<(), WriteFault>
     requires { writer.old.failed ≡ false }
-    ensures { Writes (W.contents writer.old.inner)
-        (W.contents writer.new.inner) writer.new.failed result
+    ensures { Puts W.contents writer.old writer.new result
         (record_text (lines_for index event.now reply.now)) }
 {
     match reply {
@@ -38,8 +36,7 @@ fn write_answer<W: Write>(
     writer: &mut Meter<W>,
 ) -> Result<(), WriteFault>
     requires { writer.old.failed ≡ false }
-    ensures { Writes (W.contents writer.old.inner)
-        (W.contents writer.new.inner) writer.new.failed result
+    ensures { Puts W.contents writer.old writer.new result
         (record_text (answer_lines event.now answer.now)) }
 {
     match (event, answer) {
@@ -63,8 +60,7 @@ fn write_refusal<W: Write>(
     writer: &mut Meter<W>,
 ) -> Result<(), WriteFault>
     requires { writer.old.failed ≡ false }
-    ensures { Writes (W.contents writer.old.inner)
-        (W.contents writer.new.inner) writer.new.failed result
+    ensures { Puts W.contents writer.old writer.new result
         (record_text (refusal_lines index (step_code fault))) }
 {
     let code = fault.code();
@@ -76,8 +72,7 @@ fn write_refusal<W: Write>(
 
 fn write_alone<W: Write>(line: &Line, writer: &mut Meter<W>) -> Result<(), WriteFault>
     requires { writer.old.failed ≡ false }
-    ensures { Writes (W.contents writer.old.inner)
-        (W.contents writer.new.inner) writer.new.failed result (record_text (line.now ∷ [])) }
+    ensures { Puts W.contents writer.old writer.new result (record_text (line.now ∷ [])) }
 {
     write_line(line, writer)
 }
@@ -89,41 +84,13 @@ fn write_outcome<W: Write>(
     writer: &mut Meter<W>,
 ) -> Result<(), WriteFault>
     requires { writer.old.failed ≡ false }
-    ensures { Writes (W.contents writer.old.inner)
-        (W.contents writer.new.inner) writer.new.failed result
+    ensures { Puts W.contents writer.old writer.new result
         (record_text (outcome_lines node outcome.now)) }
 {
-    write_deliveries(node, outcome.deliveries.as_slice(), writer)?;
-    write_decisions(node, outcome.decisions.as_slice(), writer)
-}
-
-fn write_deliveries<W: Write>(
-    node: NodeId,
-    messages: &[Message],
-    writer: &mut Meter<W>,
-) -> Result<(), WriteFault>
-    requires { writer.old.failed ≡ false }
-    ensures { Writes (W.contents writer.old.inner)
-        (W.contents writer.new.inner) writer.new.failed result
-        (record_text (map (Delivered node) messages.now)) }
-{
-    for message in messages {
+    for message in outcome.deliveries.as_slice() {
         write_delivered(node, message, writer)?;
     }
-    Ok(())
-}
-
-fn write_decisions<W: Write>(
-    node: NodeId,
-    decisions: &[Decision],
-    writer: &mut Meter<W>,
-) -> Result<(), WriteFault>
-    requires { writer.old.failed ≡ false }
-    ensures { Writes (W.contents writer.old.inner)
-        (W.contents writer.new.inner) writer.new.failed result
-        (record_text (map (Decided node) decisions.now)) }
-{
-    for decision in decisions {
+    for decision in outcome.decisions.as_slice() {
         write_decided(node, decision, writer)?;
     }
     Ok(())

@@ -1,7 +1,7 @@
 //! What is said of a record.
 ghost use Rattle.std.specs.Prelude.{◌≡◌, ◌++◌, [], ◌∷◌, false};
 ghost use Rattle.cast_record.specs.VerdictText.{verdict_text};
-ghost use Rattle.cast_words.specs.Written.{Writes};
+ghost use Rattle.cast_words.specs.Written.{Puts};
 
 use crate::words::Word::Number;
 use crate::writing::write_words;
@@ -21,8 +21,7 @@ pub enum Verdict {
 /// the writer failed or took no byte; the meter tells so from then on, and a front of the text stands.
 pub fn write_verdict<W: Write>(verdict: Verdict, writer: &mut Meter<W>) -> Result<(), WriteFault>
     requires { writer.old.failed ≡ false }
-    ensures { Writes (W.contents writer.old.inner)
-        (W.contents writer.new.inner) writer.new.failed result (verdict_text verdict ++ 10 ∷ []) }
+    ensures { Puts W.contents writer.old writer.new result (verdict_text verdict ++ 10 ∷ []) }
 {
     match verdict {
         Verdict::Good => write_words(b"good", &[], writer),

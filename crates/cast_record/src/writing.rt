@@ -1,14 +1,14 @@
 //! Writing lines: without memory, each text whole or a front of it.
 ghost use Rattle.std.specs.Prelude.{◌≡◌, ◌++◌, [], ◌∷◌, false, map};
 ghost use Rattle.std.specs.List.{join_with_byte};
-ghost use Rattle.cast_words.specs.Written.{Writes};
+ghost use Rattle.cast_words.specs.Written.{Puts};
 ghost use Rattle.cast_record.specs.Text.{item_word, line_text, record_text};
 ghost use Rattle.cast_record.specs.Words.{word_text};
-ghost use Rattle.cast_record.specs.declared.line.Line.TheVariants.{Broadcast, Decided, Delivered, Head, Head2};
+ghost use Rattle.cast_record.specs.declared.line.Line.TheVariants.{Broadcast, Decided, Delivered};
 
 use crate::line::Line;
 use crate::words::Word::{self, Number};
-use cast_message::{Decision, Item, Message, Mode, NodeId};
+use cast_message::{Decision, Item, Message, NodeId};
 use cast_words::{Meter, WriteFault, mode_name, write_bytes, write_hex, write_number};
 use std::io::Write;
 
@@ -16,8 +16,7 @@ use std::io::Write;
 /// byte; the meter tells so from then on, and a front of the text stands.
 pub fn write_record<W: Write>(lines: &[Line], writer: &mut Meter<W>) -> Result<(), WriteFault>
     requires { writer.old.failed ≡ false }
-    ensures { Writes (W.contents writer.old.inner)
-        (W.contents writer.new.inner) writer.new.failed result (record_text lines.now) }
+    ensures { Puts W.contents writer.old writer.new result (record_text lines.now) }
 {
     for line in lines {
         write_line(line, writer)?;
@@ -29,21 +28,31 @@ pub fn write_record<W: Write>(lines: &[Line], writer: &mut Meter<W>) -> Result<(
 /// the meter tells so from then on, and a front of the text stands.
 pub fn write_line<W: Write>(line: &Line, writer: &mut Meter<W>) -> Result<(), WriteFault>
     requires { writer.old.failed ≡ false }
-    ensures { Writes (W.contents writer.old.inner)
-        (W.contents writer.new.inner) writer.new.failed result (line_text line.now ++ 10 ∷ []) }
+    ensures { Puts W.contents writer.old writer.new result (line_text line.now ++ 10 ∷ []) }
 {
     match line {
         Line::Head {
             nodes,
             faults,
             choices,
-        } => write_head(*nodes, *faults, *choices, writer),
+        } => {
+            let words = [Number(*nodes), Number(*faults), Number(*choices)];
+            write_words(b"cast/1", &words, writer)
+        }
         Line::Head2 {
             nodes,
             faults,
             choices,
             mode,
-        } => write_head_with_mode(*nodes, *faults, *choices, *mode, writer),
+        } => {
+            let words = [
+                Number(*nodes),
+                Number(*faults),
+                Number(*choices),
+                Word::Mode(*mode),
+            ];
+            write_words(b"cast/2", &words, writer)
+        }
         Line::Broadcast(message) => {
             write_broadcast(message.sender, message.number, &message.item, writer)
         }
@@ -57,44 +66,6 @@ pub fn write_line<W: Write>(line: &Line, writer: &mut Meter<W>) -> Result<(), Wr
     }
 }
 
-// The head of the first format.
-fn write_head<W: Write>(
-    nodes: u64,
-    faults: u64,
-    choices: u64,
-    writer: &mut Meter<W>,
-) -> Result<(), WriteFault>
-    requires { writer.old.failed ≡ false }
-    ensures { Writes (W.contents writer.old.inner)
-        (W.contents writer.new.inner) writer.new.failed result
-        (line_text (Head nodes faults choices) ++ 10 ∷ []) }
-{
-    let words = [Number(nodes), Number(faults), Number(choices)];
-    write_words(b"cast/1", &words, writer)
-}
-
-// The head of the second format, which names the mode.
-fn write_head_with_mode<W: Write>(
-    nodes: u64,
-    faults: u64,
-    choices: u64,
-    mode: Mode,
-    writer: &mut Meter<W>,
-) -> Result<(), WriteFault>
-    requires { writer.old.failed ≡ false }
-    ensures { Writes (W.contents writer.old.inner)
-        (W.contents writer.new.inner) writer.new.failed result
-        (line_text (Head2 nodes faults choices mode) ++ 10 ∷ []) }
-{
-    let words = [
-        Number(nodes),
-        Number(faults),
-        Number(choices),
-        Word::Mode(mode),
-    ];
-    write_words(b"cast/2", &words, writer)
-}
-
 /// The line of a broadcast.
 pub fn write_broadcast<W: Write>(
     sender: NodeId,
@@ -103,8 +74,7 @@ pub fn write_broadcast<W: Write>(
     writer: &mut Meter<W>,
 ) -> Result<(), WriteFault>
     requires { writer.old.failed ≡ false }
-    ensures { Writes (W.contents writer.old.inner)
-        (W.contents writer.new.inner) writer.new.failed result
+    ensures { Puts W.contents writer.old writer.new result
         (line_text (Broadcast
         (record { sender = sender; number = number; item = item.now })) ++ 10 ∷ []) }
 {
@@ -123,8 +93,7 @@ pub fn write_delivered<W: Write>(
     writer: &mut Meter<W>,
 ) -> Result<(), WriteFault>
     requires { writer.old.failed ≡ false }
-    ensures { Writes (W.contents writer.old.inner)
-        (W.contents writer.new.inner) writer.new.failed result
+    ensures { Puts W.contents writer.old writer.new result
         (line_text (Delivered node message.now) ++ 10 ∷ []) }
 {
     let words = [
@@ -143,8 +112,7 @@ pub fn write_decided<W: Write>(
     writer: &mut Meter<W>,
 ) -> Result<(), WriteFault>
     requires { writer.old.failed ≡ false }
-    ensures { Writes (W.contents writer.old.inner)
-        (W.contents writer.new.inner) writer.new.failed result
+    ensures { Puts W.contents writer.old writer.new result
         (line_text (Decided node decision.now) ++ 10 ∷ []) }
 {
     let words = [
@@ -162,8 +130,7 @@ pub fn write_words<W: Write>(
     writer: &mut Meter<W>,
 ) -> Result<(), WriteFault>
     requires { writer.old.failed ≡ false }
-    ensures { Writes (W.contents writer.old.inner)
-        (W.contents writer.new.inner) writer.new.failed result
+    ensures { Puts W.contents writer.old writer.new result
         (join_with_byte 32 (name.now ∷ map word_text words.now) ++ 10 ∷ []) }
 {
     write_bytes(name, writer)?;
@@ -176,8 +143,7 @@ pub fn write_words<W: Write>(
 
 fn write_word<W: Write>(word: &Word<'_>, writer: &mut Meter<W>) -> Result<(), WriteFault>
     requires { writer.old.failed ≡ false }
-    ensures { Writes (W.contents writer.old.inner)
-        (W.contents writer.new.inner) writer.new.failed result (word_text word.now) }
+    ensures { Puts W.contents writer.old writer.new result (word_text word.now) }
 {
     match word {
         Number(number) => write_number(*number, writer),
@@ -188,8 +154,7 @@ fn write_word<W: Write>(word: &Word<'_>, writer: &mut Meter<W>) -> Result<(), Wr
 
 fn write_item<W: Write>(item: &Item, writer: &mut Meter<W>) -> Result<(), WriteFault>
     requires { writer.old.failed ≡ false }
-    ensures { Writes (W.contents writer.old.inner)
-        (W.contents writer.new.inner) writer.new.failed result (item_word item.now) }
+    ensures { Puts W.contents writer.old writer.new result (item_word item.now) }
 {
     match item {
         Item::Data(payload) => {

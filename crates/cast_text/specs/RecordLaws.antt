@@ -9,7 +9,7 @@ use Rattle.cast_text.specs.declared.fault.TextFault.{TextFault}
 use Rattle.cast_text.specs.declared.fault.TextFault.TheVariants as faults
 use Rattle.cast_text.specs.Played.{Played, Observes}
 use Rattle.cast_text.specs.Recorded.{lines_at, lines_of}
-use Rattle.cast_text.specs.Text.{WroteFront, BreaksOff, Writes}
+use Rattle.cast_text.specs.Text.{WroteFront, BreaksOff, Writes, Puts}
 
 -- ---- texts
 
@@ -68,7 +68,7 @@ unfolding lines_of
 writes_none old failed sound = record { appends = Appends-nil old; sound = sound }
 
 -- what a writer keeps to as it observes
-pub observes : {W : Type 0} (contents : W → Option (List ℕ)) → Observes (λ (old new : Meter W) result seen. Writes (contents old.inner) (contents new.inner) new.failed result (record_text (lines_of seen))) (λ meter. meter.failed ≡ false)
+pub observes : {W : Type 0} (contents : W → Option (List ℕ)) → Observes (λ (old new : Meter W) result seen. Puts contents old new result (record_text (lines_of seen))) (λ meter. meter.failed ≡ false)
 unfolding text_of
 observes contents = record {
   none = λ o ready. writes_none (contents o.inner) o.failed ready;

@@ -10,6 +10,7 @@ use Rattle.cast_script.specs.declared.script.ScriptFault.TheVariants as scripts
 use Rattle.cast_script.specs.declared.script.Script.{Script}
 use Rattle.cast_script.specs.Script.{Reads}
 use Rattle.cast_words.specs.Written.{WroteAll}
+use Rattle.cast_words.specs.declared.meter.Meter.{Meter}
 use Rattle.cast_text.specs.declared.fault.TextFault.{TextFault}
 use Rattle.cast_text.specs.declared.fault.TextFault.TheVariants as faults
 use Rattle.cast_text.specs.Recorded.{record_of}
@@ -40,6 +41,10 @@ BreaksOff _ old new failed text = ⊥
 abbrev pub Writes : Option (List ℕ) → Option (List ℕ) → Bool → Result (Unit {0}) TextFault → List ℕ → Type 0
 Writes old new failed (Ok done) text = WroteAll old new failed text
 Writes old new failed (Err broken) text = BreaksOff broken old new failed text
+
+-- the same of a meter before and after a call, by what its writer contains
+abbrev pub Puts : {W : Type 0} → (W → Option (List ℕ)) → Meter W → Meter W → Result (Unit {0}) TextFault → List ℕ → Type 0
+Puts contents old new result text = Writes (contents old.inner) (contents new.inner) new.failed result text
 
 -- the script is what the bytes say, where they are known
 abbrev pub IsScriptIn : Option (List ℕ) → Script → Type 0

@@ -3,7 +3,7 @@ ghost use Rattle.std.specs.Prelude.{◌≡◌, ◌++◌, ◌∷◌, [], false};
 ghost use Rattle.cast_record.specs.Lines.{head_of};
 ghost use Rattle.cast_record.specs.Text.{record_text, line_text};
 ghost use Rattle.cast_text.specs.Recorded.{lines_of, record_of};
-ghost use Rattle.cast_text.specs.Text.{Writes};
+ghost use Rattle.cast_text.specs.Text.{Puts};
 
 use crate::fault::TextFault;
 use crate::play::{Observer, play};
@@ -22,9 +22,7 @@ pub fn write_script_record<W: Write>(
     writer: &mut Meter<W>,
 ) -> Result<(), TextFault>
     requires { writer.old.failed ≡ false }
-    ensures { Writes (W.contents writer.old.inner)
-        (W.contents writer.new.inner) writer.new.failed result
-        (record_text (record_of script.now)) }
+    ensures { Puts W.contents writer.old writer.new result (record_text (record_of script.now)) }
 {
     let mut world = World::new(alloc, script.config.copy())?;
     put_head(&script.config, writer)?;
@@ -34,8 +32,7 @@ pub fn write_script_record<W: Write>(
 
 pub fn put_head<W: Write>(config: &Config, writer: &mut Meter<W>) -> Result<(), TextFault>
     requires { writer.old.failed ≡ false }
-    ensures { Writes (W.contents writer.old.inner)
-        (W.contents writer.new.inner) writer.new.failed result
+    ensures { Puts W.contents writer.old writer.new result
         (line_text (head_of config.now) ++ 10 ∷ []) }
 {
     let head = Line::head(config);
@@ -44,8 +41,7 @@ pub fn put_head<W: Write>(config: &Config, writer: &mut Meter<W>) -> Result<(), 
 
 pub fn put_line<W: Write>(line: &Line, writer: &mut Meter<W>) -> Result<(), TextFault>
     requires { writer.old.failed ≡ false }
-    ensures { Writes (W.contents writer.old.inner)
-        (W.contents writer.new.inner) writer.new.failed result (line_text line.now ++ 10 ∷ []) }
+    ensures { Puts W.contents writer.old writer.new result (line_text line.now ++ 10 ∷ []) }
 {
     write_line(line, writer)?;
     Ok(())
@@ -57,10 +53,9 @@ impl<W: Write> Observer for Meter<W> {
     ghost use Rattle.cast_record.specs.Text.{record_text};
     ghost use Rattle.cast_text.specs.Recorded.{lines_of};
     ghost use Rattle.cast_text.specs.RecordLaws.{observes};
-    ghost use Rattle.cast_text.specs.Text.{Writes};
+    ghost use Rattle.cast_text.specs.Text.{Puts};
 
-    ghost saw = { λ old new result seen. Writes (W.contents old.inner) (W.contents new.inner)
-        new.failed result (record_text (lines_of seen)) };
+    ghost saw = { λ old new result seen. Puts W.contents old new result (record_text (lines_of seen)) };
 
     ghost ready = { λ meter. meter.failed ≡ false };
 

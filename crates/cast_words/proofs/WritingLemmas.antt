@@ -1,5 +1,5 @@
 -- How a text that is written in parts comes together.
-use Rattle.std.proofs.Common.{◌≡◌, ℕ, List, [], ◌∷◌, ◌++◌, append-nil, suc, ◌+◌, ◌<◌, length, get_or, add-one, drop-cons, subst, Ok, Err, append_assoc, ap, sym, ◌∙◌, refl, Bool, false, Option, Result, take, drop}
+use Rattle.std.proofs.Common.{◌≡◌, ℕ, List, [], ◌∷◌, ◌++◌, append-nil, suc, ◌+◌, ◌<◌, length, get_or, add-one, drop-cons, subst, Ok, Err, append_assoc, ap, sym, ◌∙◌, refl, Bool, false, Option, Result, IsErrAnd, take, drop}
 use Rattle.std.specs.Io.KnownBytes.{Appends}
 use Rattle.std.proofs.KnownBytes.{Appends-nil, Appends-trans}
 use Rattle.std.proofs.lemmas.List.{take-append-drop}
@@ -46,6 +46,11 @@ going_fails {old = old} {mid = mid} {new = new} {piece = piece} after going wrot
   appends = Appends-trans old mid new going.front wrote.front going.appends wrote.appends;
   broken = wrote.broken;
 }
+
+-- the same, where that is what the call answers
+pub going_breaks : {E : Type 0} {old mid new : Option (List ℕ)} {f g : Bool} {text piece : List ℕ} (Q : E → Type 0) (after : List ℕ) (r : Result (Unit {0}) E) → IsErrAnd r Q → IsGoing old mid f text (piece ++ after) → WrotePrefix mid new g piece → Writes old new g r text
+going_breaks Q after (Ok done) is going wrote = absurd is
+going_breaks Q after (Err fault) is going wrote = going_fails after going wrote
 
 -- nothing is left to write
 pub going_done : {old new : Option (List ℕ)} {f : Bool} {text : List ℕ} → IsGoing old new f text [] → WroteAll old new f text

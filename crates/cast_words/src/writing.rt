@@ -1,7 +1,7 @@
 //! Writing words: without memory, each whole or a prefix of it.
 ghost use Rattle.std.specs.Prelude.{◌≡◌, ℕ, ◌+◌, ◌<◌, ◌++◌, [], ◌∷◌, false, decimal};
 ghost use Rattle.cast_words.specs.Hex.{hex};
-ghost use Rattle.cast_words.specs.Written.{Writes};
+ghost use Rattle.cast_words.specs.Written.{Puts};
 
 use crate::digits::Digits;
 use crate::hex::put_hex;
@@ -22,8 +22,7 @@ pub enum WriteFault {
 /// Writes the number in decimal digits. It takes no memory; a refusal comes as in `write_bytes`.
 pub fn write_number<W: Write>(number: u64, writer: &mut Meter<W>) -> Result<(), WriteFault>
     requires { writer.old.failed ≡ false }
-    ensures { Writes (W.contents writer.old.inner)
-        (W.contents writer.new.inner) writer.new.failed result (decimal number) }
+    ensures { Puts W.contents writer.old writer.new result (decimal number) }
 {
     write_bytes(Digits::new(number).as_slice(), writer)
 }
@@ -31,8 +30,7 @@ pub fn write_number<W: Write>(number: u64, writer: &mut Meter<W>) -> Result<(), 
 /// Writes each byte as two digits. It takes no memory; a refusal comes as in `write_bytes`.
 pub fn write_hex<W: Write>(bytes: &[u8], writer: &mut Meter<W>) -> Result<(), WriteFault>
     requires { writer.old.failed ≡ false }
-    ensures { Writes (W.contents writer.old.inner)
-        (W.contents writer.new.inner) writer.new.failed result (hex bytes.now) }
+    ensures { Puts W.contents writer.old writer.new result (hex bytes.now) }
 {
     let mut room = [0; 2 * BYTES_AT_ONCE];
     let mut rest = bytes;
@@ -50,8 +48,7 @@ pub fn write_hex<W: Write>(bytes: &[u8], writer: &mut Meter<W>) -> Result<(), Wr
 /// so from then on, and a front of the bytes stands.
 pub fn write_bytes<W: Write>(bytes: &[u8], writer: &mut Meter<W>) -> Result<(), WriteFault>
     requires { writer.old.failed ≡ false }
-    ensures { Writes (W.contents writer.old.inner)
-        (W.contents writer.new.inner) writer.new.failed result bytes.now }
+    ensures { Puts W.contents writer.old writer.new result bytes.now }
 {
     let mut rest = bytes;
     while !rest.is_empty() {

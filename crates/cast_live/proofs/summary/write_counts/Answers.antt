@@ -1,6 +1,5 @@
 use Rattle.std.proofs.Common.{rules}
-use Rattle.std.proofs.lemmas.Result.{err_from_is_err_and}
-use Rattle.cast_words.proofs.WritingLemmas.{going_start, going_again, going_more, going_fails, going_done}
+use Rattle.cast_words.proofs.WritingLemmas.{going_start, going_again, going_more, going_breaks, going_done}
 use Rattle.cast_live.proofs.SummaryLemmas.{all_counts, counts-next, counts-end}
 use Rattle.cast_live.proofs.summary.write_counts.Goals as goal
 
@@ -9,9 +8,8 @@ loop-sender-init g c = record { sound = c.requires.writer; going = λ past st. g
 
 pub returns-in_err-write_count-clause-text : goal.returns-in_err-write_count-clause-text
 returns-in_err-write_count-clause-text g c past st =
-    let p = err_from_is_err_and c.from_residual.result c.from_residual.ensures.1 in
     let next = counts-next c.args.config.now past c.args.node c.loop-sender.sender c.args.config.now.nodes c.delivered_count.result (search rules) (c.delivered_count.ensures past st) in
-    rw p.1 (going_fails _ (going_again (c.loop-sender.invariant.going past st) next) c.in_err-write_count.ensures)
+    going_breaks _ _ c.from_residual.result c.from_residual.ensures.1 (going_again (c.loop-sender.invariant.going past st) next) c.in_err-write_count.ensures
 
 pub loop-sender-preserved : goal.loop-sender-preserved
 loop-sender-preserved g c = record {

@@ -1,5 +1,4 @@
-use Rattle.std.proofs.lemmas.Result.{err_from_is_err_and}
-use Rattle.cast_words.proofs.WritingLemmas.{going_start, going_again, going_more, going_fails, going_done}
+use Rattle.cast_words.proofs.WritingLemmas.{going_start, going_again, going_more, going_breaks, going_done}
 use Rattle.cast_live.proofs.SummaryLemmas.{nodes-next, nodes-end}
 use Rattle.cast_live.proofs.summary.write_nodes.Goals as goal
 
@@ -8,9 +7,8 @@ loop-node-init g c = record { sound = c.requires.writer; going = λ past st. goi
 
 pub returns-in_err-write_node-clause-text : goal.returns-in_err-write_node-clause-text
 returns-in_err-write_node-clause-text g c past st =
-    let p = err_from_is_err_and c.from_residual.result c.from_residual.ensures.1 in
     let next = nodes-next c.args.config.now past c.args.reports.now c.loop-node.node c.index-reports-node.result c.loop-node-test.true c.index-reports-node.is in
-    rw p.1 (going_fails _ (going_again (c.loop-node.invariant.going past st) next) (c.in_err-write_node.ensures.text past st))
+    going_breaks _ _ c.from_residual.result c.from_residual.ensures.1 (going_again (c.loop-node.invariant.going past st) next) (c.in_err-write_node.ensures.text past st)
 
 pub loop-node-preserved : goal.loop-node-preserved
 loop-node-preserved g c = record {

@@ -1,14 +1,12 @@
 use Rattle.std.proofs.Common.{arith, ◌∙◌}
-use Rattle.std.proofs.lemmas.Result.{err_from_is_err_and}
 use Rattle.cast_words.proofs.HexLemmas.{hex-parts, room_kept}
-use Rattle.cast_words.proofs.WritingLemmas.{going_again, going_more, going_fails}
+use Rattle.cast_words.proofs.WritingLemmas.{going_again, going_more, going_breaks}
 use Rattle.cast_words.proofs.writing.write_hex.Goals as goal
 
 pub returns-in_err-write_bytes : goal.returns-in_err-write_bytes
 returns-in_err-write_bytes g c =
-    let p = err_from_is_err_and c.from_residual.result c.from_residual.ensures.1 in
     let next = hex-parts c.loop-rest.rest.now _ _ _ _ c.split_at.ensures.front c.split_at.ensures.back c.put_hex.ensures in
-    rw p.1 (going_fails _ (going_again c.loop-rest.invariant.going next) c.in_err-write_bytes.ensures)
+    going_breaks _ _ c.from_residual.result c.from_residual.ensures.1 (going_again c.loop-rest.invariant.going next) c.in_err-write_bytes.ensures
 
 pub loop-rest-preserved : goal.loop-rest-preserved
 loop-rest-preserved g c =
