@@ -11,6 +11,7 @@ use Rattle.cast_message.specs.declared.message.Item.{Item}
 use Rattle.cast_message.specs.declared.message.Item.TheVariants.{Data as Bytes, Propose, Close}
 use Rattle.cast_message.specs.declared.event.Event.{Event}
 use Rattle.cast_message.specs.declared.event.Event.TheVariants.{Order, Send, Ack, Arrive, Crash as Down}
+use Rattle.cast_script.specs.declared.element.LinkSlot.{LinkSlot}
 use Rattle.cast_script.specs.declared.script.ScriptEvent.{ScriptEvent}
 use Rattle.cast_script.specs.declared.script.ScriptEvent.TheVariants.{Core, Settle}
 use Rattle.cast_script.specs.declared.script.Fault.{Fault}
@@ -72,21 +73,20 @@ order_of (p ∷ ds) = do
   item ← item_of ds
   Some (Order node item)
 
-abbrev pub send_of : List Data → Option ScriptEvent
-send_of (p ∷ q ∷ s ∷ []) = do
+-- a link, and a slot of it
+abbrev pub link_slot_of : List Data → Option LinkSlot
+link_slot_of (p ∷ q ∷ s ∷ []) = do
   from ← node_of p
   to ← node_of q
   slot ← number_of s
-  Some (Core (Send from to slot))
-send_of _ = None
+  Some (record { from = from; to = to; slot = slot })
+link_slot_of _ = None
+
+abbrev pub send_of : List Data → Option ScriptEvent
+send_of ds = option_map (λ place. Core (Send place.from place.to place.slot)) (link_slot_of ds)
 
 abbrev pub ack_of : List Data → Option ScriptEvent
-ack_of (p ∷ q ∷ s ∷ []) = do
-  from ← node_of p
-  to ← node_of q
-  slot ← number_of s
-  Some (Core (Ack from to slot))
-ack_of _ = None
+ack_of ds = option_map (λ place. Core (Ack place.from place.to place.slot)) (link_slot_of ds)
 
 abbrev pub arrive_of : List Data → Option ScriptEvent
 arrive_of (p ∷ s ∷ []) = do
@@ -131,35 +131,29 @@ kind_named name =
 abbrev pub kind_of : Data → Option FrameKind
 kind_of d = option_and_then kind_named (as_str d)
 
-abbrev pub lose_of : List Data → Option Fault
-lose_of (k ∷ p ∷ q ∷ o ∷ m ∷ []) = do
+-- what befalls the frames that these places name
+abbrev pub befalls : {A : Type 0} → (FrameKind → ℕ → ℕ → ℕ → ℕ → A) → Data → Data → Data → Data → Data → Option A
+befalls fault k p q o m = do
   kind ← kind_of k
   from ← node_of p
   to ← node_of q
   first ← number_of o
   step ← number_of m
-  Some (Lose kind from to first step)
+  Some (fault kind from to first step)
+
+abbrev pub lose_of : List Data → Option Fault
+lose_of (k ∷ p ∷ q ∷ o ∷ m ∷ []) = befalls Lose k p q o m
 lose_of _ = None
 
 abbrev pub repeat_of : List Data → Option Fault
-repeat_of (k ∷ p ∷ q ∷ o ∷ m ∷ []) = do
-  kind ← kind_of k
-  from ← node_of p
-  to ← node_of q
-  first ← number_of o
-  step ← number_of m
-  Some (Repeat kind from to first step)
+repeat_of (k ∷ p ∷ q ∷ o ∷ m ∷ []) = befalls Repeat k p q o m
 repeat_of _ = None
 
 abbrev pub delay_of : List Data → Option Fault
 delay_of (k ∷ p ∷ q ∷ o ∷ m ∷ c ∷ []) = do
-  kind ← kind_of k
-  from ← node_of p
-  to ← node_of q
-  first ← number_of o
-  step ← number_of m
+  delay ← befalls {A = ℕ → Fault} Delay k p q o m
   count ← number_of c
-  Some (Delay kind from to first step count)
+  Some (delay count)
 delay_of _ = None
 
 abbrev pub engine_crash_of : List Data → Option Fault

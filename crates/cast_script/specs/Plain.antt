@@ -2,12 +2,13 @@
 -- these an array of words and numbers.
 --     IsCell old d rest            the first token is the word or the number d, and these are the others
 --     AreCells old ds rest         the first tokens are these, up to the end of their array
+--     GivesCells said old result rest   where an answer is given, the first tokens are cells that say it
 --     IsEvent old event rest       the first tokens are an array that is this event
 --     AreEvents old events rest    the first tokens are these events, up to the end of their array
 --     IsValueOf old d rest         the first tokens are those of the value d
 --     IsLike found shown events    the members say what `shown` says, but for the events, which are these
 --     SaysMembers old d events rest     the first tokens are those of members that are so like d
-use Rattle.std.specs.Prelude.{◌≡◌, ℕ, ◌≤◌, List, [], ◌∷◌, ◌++◌, codes, false, Some, Ok}
+use Rattle.std.specs.Prelude.{◌≡◌, ℕ, ◌≤◌, List, [], ◌∷◌, ◌++◌, codes, false, Option, Some, Result, Ok, IfOk}
 use Rattle.std.specs.Str.{bytes_eq}
 use Rattle.json.specs.Token.{Token}
 use Rattle.json.specs.Json as json
@@ -15,6 +16,7 @@ use Rattle.json.specs.Tree.{json_tokens, members_tokens, depth, members_depth}
 use Rattle.serde_json.specs.Data.{Data, null, boolean, number, string, array, object, Members, no_members}
 use Rattle.serde_json.specs.Find.{get}
 use Rattle.serde_json.specs.Read as value
+use Rattle.cast_script.specs.declared.element.Unread.{Unread}
 use Rattle.cast_script.specs.declared.script.ScriptEvent.{ScriptEvent}
 use Rattle.cast_script.specs.Element.{event_at, event_of}
 use Rattle.cast_script.specs.Faults.{elements_from}
@@ -32,6 +34,10 @@ IsCell old (object ms) rest = ⊥
 abbrev pub AreCells : List Token → List Data → List Token → Type 0
 AreCells old [] rest = old ≡ Token.end_array ∷ rest
 AreCells old (d ∷ ds) rest = (next : List Token) × IsCell old d next × AreCells next ds rest
+
+-- where an answer is given, the first tokens are cells that say it, up to the end of their array
+abbrev pub GivesCells : {A : Type 0} → (List Data → Option A) → List Token → Result A Unread → List Token → Type 0
+GivesCells said old result rest = IfOk result (λ x. (ds : List Data) × AreCells old ds rest × (said ds ≡ Some x))
 
 abbrev pub IsEvent : List Token → ScriptEvent → List Token → Type 0
 IsEvent old event rest =

@@ -20,6 +20,14 @@ pub enum Unread {
     Memory,
 }
 
+/// A slot of what a node gives another.
+#[derive(Clone, Copy)]
+pub struct LinkSlot {
+    pub from: NodeId,
+    pub to: NodeId,
+    pub slot: u64,
+}
+
 impl From<AllocError> for Unread {
     ghost from_gives = { λ _ unread. unread ≡ Memory };
 

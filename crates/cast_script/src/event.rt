@@ -1,10 +1,10 @@
 //! The events of a script.
 ghost use Rattle.std.specs.Prelude.{◌≡◌, map};
 ghost use Rattle.serde_json.specs.View.{view};
-ghost use Rattle.cast_script.specs.Element.{event_of, event_named, order_of, send_of, ack_of, arrive_of, crash_of, settle_of};
+ghost use Rattle.cast_script.specs.Element.{event_of, event_named, order_of, link_slot_of, send_of, ack_of, arrive_of, crash_of, settle_of};
 ghost use Rattle.cast_script.specs.Unread.{Gives};
 
-use crate::element::{Element, Unread, node, places};
+use crate::element::{Element, LinkSlot, Unread, node, places};
 use crate::item::item;
 use crate::script::ScriptEvent;
 use cast_message::Event;
@@ -49,27 +49,28 @@ fn order(alloc: Global, places: &[Value]) -> Result<Event, Unread>
 fn send(places: &[Value]) -> Option<ScriptEvent>
     ensures { result ≡ send_of (map view places.now) }
 {
-    let [from, to, slot] = places else {
-        return None;
-    };
-    Some(ScriptEvent::Core(Event::Send {
-        from: node(from)?,
-        to: node(to)?,
-        slot: slot.as_u64()?,
-    }))
+    let LinkSlot { from, to, slot } = link_slot(places)?;
+    Some(ScriptEvent::Core(Event::Send { from, to, slot }))
 }
 
 fn ack(places: &[Value]) -> Option<ScriptEvent>
     ensures { result ≡ ack_of (map view places.now) }
 {
+    let LinkSlot { from, to, slot } = link_slot(places)?;
+    Some(ScriptEvent::Core(Event::Ack { from, to, slot }))
+}
+
+fn link_slot(places: &[Value]) -> Option<LinkSlot>
+    ensures { result ≡ link_slot_of (map view places.now) }
+{
     let [from, to, slot] = places else {
         return None;
     };
-    Some(ScriptEvent::Core(Event::Ack {
+    Some(LinkSlot {
         from: node(from)?,
         to: node(to)?,
         slot: slot.as_u64()?,
-    }))
+    })
 }
 
 fn arrive(places: &[Value]) -> Option<ScriptEvent>

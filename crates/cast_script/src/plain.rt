@@ -3,15 +3,15 @@
 //! What isn't so plain is read as a value by `reading`, which also says what is wrong with it.
 ghost use Rattle.std.specs.Prelude.{◌≡◌, ◌∷◌, [], List as Tokens, Some, Ok, IfOk, IfSome, option_map};
 ghost use Rattle.json.specs.Json.{read_key};
-ghost use Rattle.json.specs.Token.{Token as Read, begin_array, end_array};
+ghost use Rattle.json.specs.Token.{Token as Read, begin_array, end_array, string};
 ghost use Rattle.serde_json.specs.Data.{Data, Members, unsigned as unsigned_num, object};
 ghost use Rattle.serde_json.specs.Read.{number_of as number_in};
 ghost use Rattle.serde_json.specs.View.{view};
-ghost use Rattle.cast_script.specs.Element.{number_of, node_of, item_of, item_named, data_of, proposal_of, close_of, order_of, send_of, ack_of, arrive_of, crash_of, settle_of, event_named};
-ghost use Rattle.cast_script.specs.Plain.{IsCell, AreCells, IsEvent, AreEvents, IsValueOf, IsLike, SaysMembers};
+ghost use Rattle.cast_script.specs.Element.{number_of, node_of, item_of, item_named, data_of, proposal_of, close_of, order_of, link_slot_of, send_of, ack_of, arrive_of, crash_of, settle_of, event_named};
+ghost use Rattle.cast_script.specs.Plain.{IsCell, GivesCells, IsEvent, AreEvents, IsValueOf, IsLike, SaysMembers};
 ghost use Rattle.cast_script.specs.Script.{Reads, said, script_of};
 
-use crate::element::Unread;
+use crate::element::{LinkSlot, Unread};
 use crate::members::{has_known_members_only, list, settings};
 use crate::reading::check;
 use crate::script::{FaultPlan, Script, ScriptEvent};
@@ -27,14 +27,6 @@ use std::alloc::Global;
 struct Parts {
     others: Value,
     events: List<ScriptEvent>,
-}
-
-// A slot of what a node gives another.
-#[derive(Clone, Copy)]
-struct LinkSlot {
-    from: NodeId,
-    to: NodeId,
-    slot: u64,
 }
 
 /// The script that the bytes say, where it is plain.
@@ -152,16 +144,13 @@ fn event(alloc: Global, reader: &mut Reader<'_>) -> Result<ScriptEvent, Unread>
     let Some(Token::BeginArray) = reader.next() else {
         return Err(Unread::Shape);
     };
-    let Some(Token::String(name)) = reader.next() else {
-        return Err(Unread::Shape);
-    };
+    let name = word(reader)?;
     event_by(alloc, name, reader)
 }
 
 // The event of this name with the cells after it.
 fn event_by(alloc: Global, name: &str, reader: &mut Reader<'_>) -> Result<ScriptEvent, Unread>
-    ensures { IfOk result (λ event. (ds : Tokens Data)
-        × AreCells reader.old ds reader.new × (event_named name.now ds ≡ Some event)) }
+    ensures { GivesCells (event_named name.now) reader.old result reader.new }
 {
     match name {
         "order" => Ok(ScriptEvent::Core(order(alloc, reader)?)),
@@ -175,8 +164,7 @@ fn event_by(alloc: Global, name: &str, reader: &mut Reader<'_>) -> Result<Script
 }
 
 fn order(alloc: Global, reader: &mut Reader<'_>) -> Result<Event, Unread>
-    ensures { IfOk result (λ event. (ds : Tokens Data)
-        × AreCells reader.old ds reader.new × (order_of ds ≡ Some event)) }
+    ensures { GivesCells order_of reader.old result reader.new }
 {
     let node = node(reader)?;
     let item = item(alloc, reader)?;
@@ -184,16 +172,14 @@ fn order(alloc: Global, reader: &mut Reader<'_>) -> Result<Event, Unread>
 }
 
 fn send(reader: &mut Reader<'_>) -> Result<ScriptEvent, Unread>
-    ensures { IfOk result (λ event. (ds : Tokens Data)
-        × AreCells reader.old ds reader.new × (send_of ds ≡ Some event)) }
+    ensures { GivesCells send_of reader.old result reader.new }
 {
     let LinkSlot { from, to, slot } = link_slot(reader)?;
     Ok(ScriptEvent::Core(Event::Send { from, to, slot }))
 }
 
 fn ack(reader: &mut Reader<'_>) -> Result<ScriptEvent, Unread>
-    ensures { IfOk result (λ event. (ds : Tokens Data)
-        × AreCells reader.old ds reader.new × (ack_of ds ≡ Some event)) }
+    ensures { GivesCells ack_of reader.old result reader.new }
 {
     let LinkSlot { from, to, slot } = link_slot(reader)?;
     Ok(ScriptEvent::Core(Event::Ack { from, to, slot }))
@@ -201,10 +187,7 @@ fn ack(reader: &mut Reader<'_>) -> Result<ScriptEvent, Unread>
 
 // The last cells of an array, which are a link and a slot of it.
 fn link_slot(reader: &mut Reader<'_>) -> Result<LinkSlot, Unread>
-    ensures { IfOk result (λ place. (p : Data) × (q : Data) × (s : Data)
-        × AreCells reader.old (p ∷ q ∷ s ∷ []) reader.new
-        × (node_of p ≡ Some place.from) × (node_of q ≡ Some place.to)
-        × (number_of s ≡ Some place.slot)) }
+    ensures { GivesCells link_slot_of reader.old result reader.new }
 {
     let from = node(reader)?;
     let to = node(reader)?;
@@ -214,8 +197,7 @@ fn link_slot(reader: &mut Reader<'_>) -> Result<LinkSlot, Unread>
 }
 
 fn arrive(reader: &mut Reader<'_>) -> Result<ScriptEvent, Unread>
-    ensures { IfOk result (λ event. (ds : Tokens Data)
-        × AreCells reader.old ds reader.new × (arrive_of ds ≡ Some event)) }
+    ensures { GivesCells arrive_of reader.old result reader.new }
 {
     let from = node(reader)?;
     let seq = number(reader)?;
@@ -224,8 +206,7 @@ fn arrive(reader: &mut Reader<'_>) -> Result<ScriptEvent, Unread>
 }
 
 fn crash(reader: &mut Reader<'_>) -> Result<ScriptEvent, Unread>
-    ensures { IfOk result (λ event. (ds : Tokens Data)
-        × AreCells reader.old ds reader.new × (crash_of ds ≡ Some event)) }
+    ensures { GivesCells crash_of reader.old result reader.new }
 {
     let node = node(reader)?;
     end(reader)?;
@@ -233,27 +214,22 @@ fn crash(reader: &mut Reader<'_>) -> Result<ScriptEvent, Unread>
 }
 
 fn settle(reader: &mut Reader<'_>) -> Result<ScriptEvent, Unread>
-    ensures { IfOk result (λ event. (ds : Tokens Data)
-        × AreCells reader.old ds reader.new × (settle_of ds ≡ Some event)) }
+    ensures { GivesCells settle_of reader.old result reader.new }
 {
     end(reader)?;
     Ok(ScriptEvent::Settle)
 }
 
 fn item(alloc: Global, reader: &mut Reader<'_>) -> Result<Item, Unread>
-    ensures { IfOk result (λ item. (ds : Tokens Data)
-        × AreCells reader.old ds reader.new × (item_of ds ≡ Some item)) }
+    ensures { GivesCells item_of reader.old result reader.new }
 {
-    let Some(Token::String(name)) = reader.next() else {
-        return Err(Unread::Shape);
-    };
+    let name = word(reader)?;
     item_by(alloc, name, reader)
 }
 
 // The item of this name with the cells after it.
 fn item_by(alloc: Global, name: &str, reader: &mut Reader<'_>) -> Result<Item, Unread>
-    ensures { IfOk result (λ item. (ds : Tokens Data)
-        × AreCells reader.old ds reader.new × (item_named name.now ds ≡ Some item)) }
+    ensures { GivesCells (item_named name.now) reader.old result reader.new }
 {
     match name {
         "data" => data(alloc, reader),
@@ -264,20 +240,16 @@ fn item_by(alloc: Global, name: &str, reader: &mut Reader<'_>) -> Result<Item, U
 }
 
 fn data(alloc: Global, reader: &mut Reader<'_>) -> Result<Item, Unread>
-    ensures { IfOk result (λ item. (ds : Tokens Data)
-        × AreCells reader.old ds reader.new × (data_of ds ≡ Some item)) }
+    ensures { GivesCells data_of reader.old result reader.new }
 {
-    let Some(Token::String(digits)) = reader.next() else {
-        return Err(Unread::Shape);
-    };
+    let digits = word(reader)?;
     let bytes = bytes_of(alloc, digits.as_bytes())?.ok_or(Unread::Shape)?;
     end(reader)?;
     Ok(Item::Data(Payload::new(Bytes::from_vec(bytes)?)))
 }
 
 fn proposal(reader: &mut Reader<'_>) -> Result<Item, Unread>
-    ensures { IfOk result (λ item. (ds : Tokens Data)
-        × AreCells reader.old ds reader.new × (proposal_of ds ≡ Some item)) }
+    ensures { GivesCells proposal_of reader.old result reader.new }
 {
     let instance = number(reader)?;
     let value = number(reader)?;
@@ -286,11 +258,19 @@ fn proposal(reader: &mut Reader<'_>) -> Result<Item, Unread>
 }
 
 fn close(reader: &mut Reader<'_>) -> Result<Item, Unread>
-    ensures { IfOk result (λ item. (ds : Tokens Data)
-        × AreCells reader.old ds reader.new × (close_of ds ≡ Some item)) }
+    ensures { GivesCells close_of reader.old result reader.new }
 {
     end(reader)?;
     Ok(Item::Close)
+}
+
+fn word<'a>(reader: &mut Reader<'a>) -> Result<&'a str, Unread>
+    ensures { IfOk result (λ word. reader.old ≡ string word.now ∷ reader.new) }
+{
+    match reader.next() {
+        Some(Token::String(word)) => Ok(word),
+        _ => Err(Unread::Shape),
+    }
 }
 
 // The number of a node, 0 to 255.

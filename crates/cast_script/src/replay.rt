@@ -5,7 +5,7 @@ ghost use Rattle.cast_message.specs.declared.event.Event.TheVariants.{Order};
 ghost use Rattle.cast_words.specs.Hex.{hex};
 ghost use Rattle.cast_words.specs.Written.{Puts};
 ghost use Rattle.cast_script.specs.Replay.{number, word_text, event_text, events_text, others_text, members, member_text, members_text, script_text};
-ghost use Rattle.cast_script.specs.Cells.{cell_text, member_in};
+ghost use Rattle.cast_script.specs.Cells.{atom_in, cell_text, member_in};
 
 use cast_message::{Config, Event, Item, NodeId};
 use cast_words::{Meter, WriteFault, mode_name, write_bytes, write_hex, write_number};
@@ -129,33 +129,26 @@ fn write_event<W: Write>(event: &Event, writer: &mut Meter<W>) -> Result<(), Wri
 {
     match event {
         Event::Order { node, item } => write_order(*node, item, writer),
-        Event::Send { from, to, slot } => write_cells(
-            b"send",
-            &[
-                Cell::Number(u64::from(from.0)),
-                Cell::Number(u64::from(to.0)),
-                Cell::Number(*slot),
-            ],
-            writer,
-        ),
-        Event::Ack { from, to, slot } => write_cells(
-            b"ack",
-            &[
-                Cell::Number(u64::from(from.0)),
-                Cell::Number(u64::from(to.0)),
-                Cell::Number(*slot),
-            ],
-            writer,
-        ),
-        Event::Arrive { from, seq } => write_cells(
-            b"arrive",
-            &[Cell::Number(u64::from(from.0)), Cell::Number(*seq)],
-            writer,
-        ),
-        Event::Crash { node } => {
-            write_cells(b"crash", &[Cell::Number(u64::from(node.0))], writer)
+        Event::Send { from, to, slot } => {
+            let cells = [place(*from), place(*to), Cell::Number(*slot)];
+            write_cells(b"send", &cells, writer)
         }
+        Event::Ack { from, to, slot } => {
+            let cells = [place(*from), place(*to), Cell::Number(*slot)];
+            write_cells(b"ack", &cells, writer)
+        }
+        Event::Arrive { from, seq } => {
+            write_cells(b"arrive", &[place(*from), Cell::Number(*seq)], writer)
+        }
+        Event::Crash { node } => write_cells(b"crash", &[place(*node)], writer),
     }
+}
+
+// The number of the node, at a place.
+fn place<'a>(node: NodeId) -> Cell<'a>
+    ensures { atom_in result ≡ number node }
+{
+    Cell::Number(u64::from(node.0))
 }
 
 fn write_order<W: Write>(node: NodeId, item: &Item, writer: &mut Meter<W>) -> Result<(), WriteFault>
@@ -166,7 +159,7 @@ fn write_order<W: Write>(node: NodeId, item: &Item, writer: &mut Meter<W>) -> Re
         Item::Data(payload) => write_cells(
             b"order",
             &[
-                Cell::Number(u64::from(node.0)),
+                place(node),
                 Cell::Word(b"data"),
                 Cell::Digits(payload.as_slice()),
             ],
@@ -175,18 +168,14 @@ fn write_order<W: Write>(node: NodeId, item: &Item, writer: &mut Meter<W>) -> Re
         Item::Propose { instance, value } => write_cells(
             b"order",
             &[
-                Cell::Number(u64::from(node.0)),
+                place(node),
                 Cell::Word(b"propose"),
                 Cell::Number(*instance),
                 Cell::Number(*value),
             ],
             writer,
         ),
-        Item::Close => write_cells(
-            b"order",
-            &[Cell::Number(u64::from(node.0)), Cell::Word(b"close")],
-            writer,
-        ),
+        Item::Close => write_cells(b"order", &[place(node), Cell::Word(b"close")], writer),
     }
 }
 

@@ -8,5 +8,4 @@ use Rattle.cast_script.proofs.plain.event.Goals as goal
 pub returns : goal.returns
 returns c =
     let opened : c.args.reader.now ≡ Token.begin_array ∷ c.next.new.self = c.in-Some-BeginArray.ensures.value ∙ ap (λ t. token_of t ∷ c.next.new.self) c.in-Some-BeginArray.field-0-is in
-    let first : c.next.new.self ≡ Token.string c.in-Some-String.name.now ∷ c.next-2.new.self = c.in-Some-String.ensures.value ∙ ap (λ t. token_of t ∷ c.next-2.new.self) c.in-Some-String.field-0-is in
-    ok_with c.event_by.result (λ event h. (c.next.new.self, string c.in-Some-String.name.now ∷ h.0, opened, (c.next-2.new.self, first, h.1), h.2)) c.event_by.ensures
+    ok_with c.event_by.result (λ event h. (c.next.new.self, string c.in_ok-name.name.now ∷ h.0, opened, (c.word.new.reader, c.in_ok-name.ensures, h.1), h.2)) c.event_by.ensures

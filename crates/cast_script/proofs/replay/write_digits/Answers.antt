@@ -1,16 +1,11 @@
-use Rattle.std.proofs.lemmas.Result.{err_from_is_err_and}
-use Rattle.cast_words.proofs.WritingLemmas.{going_start, going_more, going_fails, going_last}
+use Rattle.cast_words.proofs.WritingLemmas.{going_start, going_more, going_breaks, going_last}
 use Rattle.cast_script.proofs.replay.write_digits.Goals as goal
 
 pub returns-in_err-write_bytes : goal.returns-in_err-write_bytes
-returns-in_err-write_bytes g c =
-    let p = err_from_is_err_and c.from_residual.result c.from_residual.ensures.1 in
-    rw p.1 (going_fails _ (going_start c.requires) c.in_err-write_bytes.ensures)
+returns-in_err-write_bytes g c = going_breaks _ _ c.from_residual.result c.from_residual.ensures.1 (going_start c.requires) c.in_err-write_bytes.ensures
 
 pub returns-in_err-write_hex : goal.returns-in_err-write_hex
-returns-in_err-write_hex g c =
-    let p = err_from_is_err_and c.from_residual-in_err-write_hex.result c.from_residual-in_err-write_hex.ensures.1 in
-    rw p.1 (going_fails _ (going_more (going_start c.requires) c.in_ok-write_bytes.ensures) c.in_err-write_hex.ensures)
+returns-in_err-write_hex g c = going_breaks _ _ c.from_residual-in_err-write_hex.result c.from_residual-in_err-write_hex.ensures.1 (going_more (going_start c.requires) c.in_ok-write_bytes.ensures) c.in_err-write_hex.ensures
 
 pub returns : goal.returns
 returns g c = going_last _ _ c.write_bytes-2.result (going_more (going_more (going_start c.requires) c.in_ok-write_bytes.ensures) c.in_ok-write_hex.ensures) c.write_bytes-2.ensures

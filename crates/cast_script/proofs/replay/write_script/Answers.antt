@@ -1,26 +1,17 @@
-use Rattle.std.proofs.lemmas.Result.{err_from_is_err_and}
-use Rattle.cast_words.proofs.WritingLemmas.{going_start, going_more, going_fails, going_last}
+use Rattle.cast_words.proofs.WritingLemmas.{going_start, going_more, going_breaks, going_last}
 use Rattle.cast_script.proofs.replay.write_script.Goals as goal
 
 pub returns-in_err-write_bytes : goal.returns-in_err-write_bytes
-returns-in_err-write_bytes g c =
-    let p = err_from_is_err_and c.from_residual.result c.from_residual.ensures.1 in
-    rw p.1 (going_fails _ (going_start c.requires) c.in_err-write_bytes.ensures)
+returns-in_err-write_bytes g c = going_breaks _ _ c.from_residual.result c.from_residual.ensures.1 (going_start c.requires) c.in_err-write_bytes.ensures
 
 pub returns-in_err-write_settings : goal.returns-in_err-write_settings
-returns-in_err-write_settings g c =
-    let p = err_from_is_err_and c.from_residual-in_err-write_settings.result c.from_residual-in_err-write_settings.ensures.1 in
-    rw p.1 (going_fails _ (going_more (going_start c.requires) c.in_ok-write_bytes.ensures) c.in_err-write_settings.ensures)
+returns-in_err-write_settings g c = going_breaks _ _ c.from_residual-in_err-write_settings.result c.from_residual-in_err-write_settings.ensures.1 (going_more (going_start c.requires) c.in_ok-write_bytes.ensures) c.in_err-write_settings.ensures
 
 pub returns-in_err-write_bytes-2 : goal.returns-in_err-write_bytes-2
-returns-in_err-write_bytes-2 g c =
-    let p = err_from_is_err_and c.from_residual-in_err-write_bytes-2.result c.from_residual-in_err-write_bytes-2.ensures.1 in
-    rw p.1 (going_fails _ (going_more (going_more (going_start c.requires) c.in_ok-write_bytes.ensures) c.in_ok-write_settings.ensures) c.in_err-write_bytes-2.ensures)
+returns-in_err-write_bytes-2 g c = going_breaks _ _ c.from_residual-in_err-write_bytes-2.result c.from_residual-in_err-write_bytes-2.ensures.1 (going_more (going_more (going_start c.requires) c.in_ok-write_bytes.ensures) c.in_ok-write_settings.ensures) c.in_err-write_bytes-2.ensures
 
 pub returns-in_err-write_events : goal.returns-in_err-write_events
-returns-in_err-write_events g c =
-    let p = err_from_is_err_and c.from_residual-in_err-write_events.result c.from_residual-in_err-write_events.ensures.1 in
-    rw p.1 (going_fails _ (going_more (going_more (going_more (going_start c.requires) c.in_ok-write_bytes.ensures) c.in_ok-write_settings.ensures) c.in_ok-write_bytes-2.ensures) c.in_err-write_events.ensures)
+returns-in_err-write_events g c = going_breaks _ _ c.from_residual-in_err-write_events.result c.from_residual-in_err-write_events.ensures.1 (going_more (going_more (going_more (going_start c.requires) c.in_ok-write_bytes.ensures) c.in_ok-write_settings.ensures) c.in_ok-write_bytes-2.ensures) c.in_err-write_events.ensures
 
 pub returns : goal.returns
 returns g c = going_last _ _ c.write_bytes-3.result
