@@ -8,42 +8,14 @@ const EVENT: &str =
 const ORDER: &str =
     "[\"order\",NODE,ITEM..], where ITEM.. is \"data\",HEX or \"propose\",INSTANCE,VALUE or \"close\"";
 
-const SEND: &str = "[\"send\",FROM,TO,SLOT]";
-
-const ACK: &str = "[\"ack\",FROM,TO,SLOT]";
-
-const ARRIVE: &str = "[\"arrive\",FROM,SEQ]";
-
-const CRASH: &str = "[\"crash\",NODE]";
-
-const SETTLE: &str = "[\"settle\"]";
-
 const FAULT: &str =
     "a fault: [\"lose\",KIND,FROM,TO,FIRST,STEP], [\"repeat\",KIND,FROM,TO,FIRST,STEP], \
 [\"delay\",KIND,FROM,TO,FIRST,STEP,COUNT] or [\"crash\",NODE,ENTRIES]";
-
-const LOSE: &str = "[\"lose\",KIND,FROM,TO,FIRST,STEP]";
-
-const REPEAT: &str = "[\"repeat\",KIND,FROM,TO,FIRST,STEP]";
-
-const DELAY: &str = "[\"delay\",KIND,FROM,TO,FIRST,STEP,COUNT]";
-
-const ENGINE_CRASH: &str = "[\"crash\",NODE,ENTRIES]";
-
-const JOB: &str = "a job: [NODE,[[ITEM..],[ITEM..],..]]";
 
 const ITEMS: &str =
     "a list of items, each [\"data\",HEX] or [\"propose\",INSTANCE,VALUE] or [\"close\"]";
 
 const ITEM: &str = "an item: [\"data\",HEX] or [\"propose\",INSTANCE,VALUE] or [\"close\"]";
-
-const NODE: &str = "a node, a number from 0 to 255";
-
-const NUMBER: &str = "a number from 0 to 18446744073709551615";
-
-const HEX: &str = "a text with two digits, 0 to 9 and a to f, for each byte";
-
-const KIND: &str = "\"carry\" or \"took\"";
 
 /// A value that stands where something else is expected.
 #[derive(Clone, Copy)]
@@ -54,54 +26,51 @@ pub struct Flaw<'a> {
 
 /// What is wrong with the value as an event.
 pub fn event_flaw(value: &Value) -> Flaw<'_> {
-    let whole = Flaw {
-        value,
-        expected: EVENT,
-    };
-    let Some((name, places)) = name_and_places(value) else {
-        return whole;
-    };
-    let found = match name {
+    let expected = EVENT;
+    flaw_in_event(value).unwrap_or(Flaw { value, expected })
+}
+
+fn flaw_in_event(value: &Value) -> Option<Flaw<'_>> {
+    let (name, places) = name_and_places(value)?;
+    match name {
         "order" => order_flaw(value, places),
-        "send" => link_flaw(value, places, SEND),
-        "ack" => link_flaw(value, places, ACK),
-        "arrive" => count_flaw(value, places, ARRIVE),
+        "send" => link_flaw(value, places, "[\"send\",FROM,TO,SLOT]"),
+        "ack" => link_flaw(value, places, "[\"ack\",FROM,TO,SLOT]"),
+        "arrive" => count_flaw(value, places, "[\"arrive\",FROM,SEQ]"),
         "crash" => crash_flaw(value, places),
-        "settle" => unless(places.is_empty(), value, SETTLE),
+        "settle" => unless(places.is_empty(), value, "[\"settle\"]"),
         _ => None,
-    };
-    found.unwrap_or(whole)
+    }
 }
 
 /// What is wrong with the value as a fault of a plan.
 pub fn fault_flaw(value: &Value) -> Flaw<'_> {
-    let whole = Flaw {
-        value,
-        expected: FAULT,
-    };
-    let Some((name, places)) = name_and_places(value) else {
-        return whole;
-    };
-    let found = match name {
-        "lose" => frames_flaw(value, places, LOSE),
-        "repeat" => frames_flaw(value, places, REPEAT),
+    let expected = FAULT;
+    flaw_in_fault(value).unwrap_or(Flaw { value, expected })
+}
+
+fn flaw_in_fault(value: &Value) -> Option<Flaw<'_>> {
+    let (name, places) = name_and_places(value)?;
+    match name {
+        "lose" => frames_flaw(value, places, "[\"lose\",KIND,FROM,TO,FIRST,STEP]"),
+        "repeat" => frames_flaw(value, places, "[\"repeat\",KIND,FROM,TO,FIRST,STEP]"),
         "delay" => delay_flaw(value, places),
-        "crash" => count_flaw(value, places, ENGINE_CRASH),
+        "crash" => count_flaw(value, places, "[\"crash\",NODE,ENTRIES]"),
         _ => None,
-    };
-    found.unwrap_or(whole)
+    }
 }
 
 /// What is wrong with the value as a job.
 pub fn job_flaw(value: &Value) -> Flaw<'_> {
-    let whole = Flaw {
-        value,
-        expected: JOB,
+    let expected = "a job: [NODE,[[ITEM..],[ITEM..],..]]";
+    flaw_in_job(value).unwrap_or(Flaw { value, expected })
+}
+
+fn flaw_in_job(value: &Value) -> Option<Flaw<'_>> {
+    let [node, items] = places(value)? else {
+        return None;
     };
-    match places(value) {
-        Some([node, items]) => not_node(node).or(items_flaw(items)).unwrap_or(whole),
-        _ => whole,
-    }
+    not_node(node).or(items_flaw(items))
 }
 
 fn places(value: &Value) -> Option<&[Value]> {
@@ -140,7 +109,7 @@ fn count_flaw<'a>(value: &'a Value, places: &'a [Value], form: &'static str) -> 
 fn crash_flaw<'a>(value: &'a Value, places: &'a [Value]) -> Option<Flaw<'a>> {
     match places {
         [node] => not_node(node),
-        _ => unless(false, value, CRASH),
+        _ => unless(false, value, "[\"crash\",NODE]"),
     }
 }
 
@@ -164,7 +133,7 @@ fn delay_flaw<'a>(value: &'a Value, places: &'a [Value]) -> Option<Flaw<'a>> {
             .or(not_number(first))
             .or(not_number(step))
             .or(not_number(count)),
-        _ => unless(false, value, DELAY),
+        _ => unless(false, value, "[\"delay\",KIND,FROM,TO,FIRST,STEP,COUNT]"),
     }
 }
 
@@ -201,18 +170,22 @@ fn items_flaw(value: &Value) -> Option<Flaw<'_>> {
 
 fn not_node(value: &Value) -> Option<Flaw<'_>> {
     let is_node = matches!(value.as_u64(), Some(0..=255));
-    unless(is_node, value, NODE)
+    unless(is_node, value, "a node, a number from 0 to 255")
 }
 
 fn not_number(value: &Value) -> Option<Flaw<'_>> {
-    unless(value.as_u64().is_some(), value, NUMBER)
+    unless(
+        value.as_u64().is_some(),
+        value,
+        "a number from 0 to 18446744073709551615",
+    )
 }
 
 fn not_kind(value: &Value) -> Option<Flaw<'_>> {
     unless(
         matches!(value.as_str(), Some("carry" | "took")),
         value,
-        KIND,
+        "\"carry\" or \"took\"",
     )
 }
 
@@ -221,7 +194,11 @@ fn not_digits(value: &Value) -> Option<Flaw<'_>> {
         Some(text) => text.len() % 2 == 0 && text.as_bytes().iter().all(|byte| is_digit(*byte)),
         None => false,
     };
-    unless(are_digits, value, HEX)
+    unless(
+        are_digits,
+        value,
+        "a text with two digits, 0 to 9 and a to f, for each byte",
+    )
 }
 
 fn is_digit(byte: u8) -> bool {
