@@ -19,7 +19,6 @@ use Rattle.cast_message.specs.declared.config.Mode.{Mode}
 use Rattle.cast_message.specs.declared.config.Mode.TheVariants.{Basic, Uniform}
 use Rattle.cast_message.specs.declared.event.Event.{Event}
 use Rattle.cast_message.specs.declared.event.Event.TheVariants.{Order, Send, Ack, Arrive, Crash}
-use Rattle.cast_message.specs.declared.message.Item.{Item}
 use Rattle.cast_message.specs.declared.message.Item.TheVariants.{Data as Bytes, Propose, Close}
 use Rattle.cast_words.specs.Hex.{hex, hex_digit}
 use Rattle.cast_words.specs.Hex.{AreBytes}
@@ -32,10 +31,10 @@ use Rattle.cast_script.specs.Faults.{elements_from}
 use Rattle.cast_script.specs.Element.{event_of}
 use Rattle.cast_script.specs.Members.{settings_of, mode_named}
 use Rattle.cast_script.specs.Script.{settings_in, checked, script_in, script_of, said}
-use Rattle.cast_script.specs.Replay.{Atom, word, number, digits, word_text, atom_text, item_atoms, event_atoms, event_text, others_text, events_text, members, member_text, members_text, script_text, replay, SaysReplay, IsReplayIn}
+use Rattle.cast_script.specs.Replay.{Atom, word, number, digits, word_text, atom_text, event_atoms, event_text, others_text, events_text, members, member_text, members_text, script_text, replay, SaysReplay, IsReplayIn}
 use Rattle.cast_script.specs.ReplayRanges.{IsAtomWithin, AreAtomsWithin, AreMembersWithin, IsEventWithin}
 use Rattle.cast_script.proofs.ReplayWriting.{cells_text, join-cells}
-use Rattle.cast_script.proofs.ReplayTokens.{atom_json, atoms_json, events_json, members_json, list_json, script_json, text_tokens}
+use Rattle.cast_script.proofs.ReplayTokens.{IsPlainAtom, ArePlain, ArePlainMembers, event_plain, members_plain, atom_json, atoms_json, events_json, members_json, list_json, script_json, text_tokens}
 
 -- ---- the value that the JSON is
 
@@ -129,50 +128,18 @@ hex_ascii : (bytes : List ℕ) → AreBytes bytes → are_ascii (hex bytes) ≡ 
 hex_ascii [] small = refl
 hex_ascii (b ∷ bytes) small = rw (digit_ascii (b / 16) (omega (arith, small.0)), digit_ascii (b % 16) (omega arith)) (hex_ascii bytes small.1)
 
-abbrev IsAsciiAtom : Atom → Type 0
-IsAsciiAtom (word s) = are_ascii s ≡ true
-IsAsciiAtom (number n) = Unit {0}
-IsAsciiAtom (digits bytes) = Unit {0}
-
-abbrev AreAscii : List Atom → Type 0
-AreAscii [] = Unit {0}
-AreAscii (a ∷ more) = IsAsciiAtom a × AreAscii more
-
-abbrev AreAsciiMembers : List (List ℕ × Atom) → Type 0
-AreAsciiMembers [] = Unit {0}
-AreAsciiMembers (m ∷ ms) = (are_ascii m.0 ≡ true) × IsAsciiAtom m.1 × AreAsciiMembers ms
-
-item_ascii : (item : Item) → AreAscii (item_atoms item)
-item_ascii (Bytes payload) = (refl, (tt, tt))
-item_ascii (Propose instance value) = (refl, (tt, (tt, tt)))
-item_ascii Close = (refl, tt)
-
-event_ascii : (event : Event) → AreAscii (event_atoms event)
-event_ascii (Order node item) = (refl, (tt, item_ascii item))
-event_ascii (Send from to slot) = (refl, (tt, (tt, (tt, tt))))
-event_ascii (Ack from to slot) = (refl, (tt, (tt, (tt, tt))))
-event_ascii (Arrive from seq) = (refl, (tt, (tt, tt)))
-event_ascii (Crash node) = (refl, (tt, tt))
-
-mode_ascii : (mode : Mode) → are_ascii (mode_word mode) ≡ true
-mode_ascii Basic = refl
-mode_ascii Uniform = refl
-
-members_ascii : (config : Checked) → AreAsciiMembers (members config)
-members_ascii config = (refl, tt, (refl, tt, (refl, tt, (refl, tt, (refl, tt, (refl, tt, (refl, tt, (refl, mode_ascii config.mode, tt))))))))
-
-atom_utf8 : (a : Atom) → IsAsciiAtom a → IsAtomWithin a → IsUtf8 (atom_text a)
-atom_utf8 (word s) plain within = word_utf8 s (IsUtf8-are_ascii s plain)
+atom_utf8 : (a : Atom) → IsPlainAtom a → IsAtomWithin a → IsUtf8 (atom_text a)
+atom_utf8 (word s) plain within = word_utf8 s (IsUtf8-are_ascii s plain.1)
 atom_utf8 (number n) plain within = IsUtf8-from_ascii (decimal n) (IsAscii-decimal n within)
 atom_utf8 (digits bytes) plain within = word_utf8 (hex bytes) (IsUtf8-are_ascii (hex bytes) (hex_ascii bytes within))
 
-cells_utf8 : (list : List Atom) → AreAscii list → AreAtomsWithin list → IsUtf8 (cells_text (map atom_text list))
+cells_utf8 : (list : List Atom) → ArePlain list → AreAtomsWithin list → IsUtf8 (cells_text (map atom_text list))
 cells_utf8 [] plain within = IsUtf8-nil
 cells_utf8 (a ∷ more) plain within =
     IsUtf8-append (44 ∷ []) (atom_text a ++ cells_text (map atom_text more)) (IsUtf8-are_ascii (44 ∷ []) refl)
     (IsUtf8-append (atom_text a) (cells_text (map atom_text more)) (atom_utf8 a plain.0 within.0) (cells_utf8 more plain.1 within.1))
 
-array_utf8 : (list : List Atom) → AreAscii list → AreAtomsWithin list → IsUtf8 (join_with_byte 44 (map atom_text list))
+array_utf8 : (list : List Atom) → ArePlain list → AreAtomsWithin list → IsUtf8 (join_with_byte 44 (map atom_text list))
 array_utf8 [] plain within = IsUtf8-nil
 array_utf8 (a ∷ more) plain within =
     subst IsUtf8 (sym (join-cells (atom_text a) (map atom_text more)))
@@ -182,7 +149,7 @@ event_utf8 : (event : Event) → IsEventWithin event → IsUtf8 (event_text even
 event_utf8 event within =
     let inner = join_with_byte 44 (map atom_text (event_atoms event)) in
     IsUtf8-append (91 ∷ []) (inner ++ 93 ∷ []) (IsUtf8-are_ascii (91 ∷ []) refl)
-    (IsUtf8-append inner (93 ∷ []) (array_utf8 (event_atoms event) (event_ascii event) within.atoms) (IsUtf8-are_ascii (93 ∷ []) refl))
+    (IsUtf8-append inner (93 ∷ []) (array_utf8 (event_atoms event) (event_plain event) within.atoms) (IsUtf8-are_ascii (93 ∷ []) refl))
 
 others_utf8 : (es : List Event) → AllByRecursion IsEventWithin es → IsUtf8 (others_text es)
 others_utf8 [] within = IsUtf8-nil
@@ -196,11 +163,11 @@ events_utf8 (e ∷ es) within =
     IsUtf8-append (10 ∷ []) (event_text e ++ others_text es) (IsUtf8-are_ascii (10 ∷ []) refl)
     (IsUtf8-append (event_text e) (others_text es) (event_utf8 e within.0) (others_utf8 es within.1))
 
-members_utf8 : (ms : List (List ℕ × Atom)) → AreAsciiMembers ms → AreMembersWithin ms → IsUtf8 (members_text ms)
+members_utf8 : (ms : List (List ℕ × Atom)) → ArePlainMembers ms → AreMembersWithin ms → IsUtf8 (members_text ms)
 members_utf8 [] plain within = IsUtf8-nil
 members_utf8 (m ∷ ms) plain within =
     IsUtf8-append (member_text m) (members_text ms)
-    (IsUtf8-append (word_text m.0) (58 ∷ (atom_text m.1 ++ 44 ∷ [])) (word_utf8 m.0 (IsUtf8-are_ascii m.0 plain.0))
+    (IsUtf8-append (word_text m.0) (58 ∷ (atom_text m.1 ++ 44 ∷ [])) (word_utf8 m.0 (IsUtf8-are_ascii m.0 plain.0.1))
     (IsUtf8-append (58 ∷ []) (atom_text m.1 ++ 44 ∷ []) (IsUtf8-are_ascii (58 ∷ []) refl)
     (IsUtf8-append (atom_text m.1) (44 ∷ []) (atom_utf8 m.1 plain.1 within.0) (IsUtf8-are_ascii (44 ∷ []) refl))))
     (members_utf8 ms plain.2 within.1)
@@ -210,7 +177,7 @@ text_utf8 config events small within =
     let last = codes "\n]}" in
     let list = codes "\"events\":[" in
     IsUtf8-append (123 ∷ []) (members_text (members config) ++ (list ++ (events_text events ++ last))) (IsUtf8-are_ascii (123 ∷ []) refl)
-    (IsUtf8-append (members_text (members config)) (list ++ (events_text events ++ last)) (members_utf8 (members config) (members_ascii config) small)
+    (IsUtf8-append (members_text (members config)) (list ++ (events_text events ++ last)) (members_utf8 (members config) (members_plain config) small)
     (IsUtf8-append list (events_text events ++ last) (IsUtf8-are_ascii list refl)
     (IsUtf8-append (events_text events) last (events_utf8 events within) (IsUtf8-are_ascii last refl))))
 

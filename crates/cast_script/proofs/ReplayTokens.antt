@@ -13,6 +13,7 @@ use Rattle.json.proofs.Printed.Strings.{escape_byte_plain}
 use Rattle.json.proofs.Printed.Tokens.{tokens-print_spaced}
 use Rattle.json.proofs.Printed.Trees.{ArePrintable-json_tokens}
 use Rattle.json.proofs.Printed.Decimals.{IsNumber-decimal}
+use Rattle.json.proofs.Printed.Utf8.{are_ascii}
 use Rattle.cast_message.specs.declared.config.Config.{Config}
 use Rattle.cast_message.specs.declared.config.Mode.{Mode}
 use Rattle.cast_message.specs.declared.config.Mode.TheVariants.{Basic, Uniform}
@@ -58,20 +59,23 @@ list_spaced events = bare Token.begin_array ∷ events_spaced events
 abbrev script_spaced : Config → List Event → Spaced
 script_spaced config events = bare Token.begin_object ∷ members_spaced (members config) (bare (Token.key (codes "events")) ∷ list_spaced events)
 
--- ---- words that need no escape
+-- ---- words of ASCII that need no escape
 
-abbrev IsPlainAtom : Atom → Type 0
-IsPlainAtom (word s) = escape s ≡ s
+abbrev pub IsPlain : List ℕ → Type 0
+IsPlain s = (escape s ≡ s) × (are_ascii s ≡ true)
+
+abbrev pub IsPlainAtom : Atom → Type 0
+IsPlainAtom (word s) = IsPlain s
 IsPlainAtom (number n) = Unit {0}
 IsPlainAtom (digits bytes) = Unit {0}
 
-abbrev ArePlain : List Atom → Type 0
+abbrev pub ArePlain : List Atom → Type 0
 ArePlain [] = Unit {0}
 ArePlain (a ∷ more) = IsPlainAtom a × ArePlain more
 
-abbrev ArePlainMembers : List (List ℕ × Atom) → Type 0
+abbrev pub ArePlainMembers : List (List ℕ × Atom) → Type 0
 ArePlainMembers [] = Unit {0}
-ArePlainMembers (m ∷ ms) = (escape m.0 ≡ m.0) × IsPlainAtom m.1 × ArePlainMembers ms
+ArePlainMembers (m ∷ ms) = IsPlain m.0 × IsPlainAtom m.1 × ArePlainMembers ms
 
 digit_plain : (n : ℕ) → n < 16 → escape_byte (hex_digit n) ≡ hex_digit n ∷ []
 digit_plain n small =
@@ -90,38 +94,38 @@ hex_plain (b ∷ bytes) small =
 
 item_plain : (item : Item) → ArePlain (item_atoms item)
 unfolding escape_byte
-item_plain (Data payload) = (refl, (tt, tt))
-item_plain (Propose instance value) = (refl, (tt, (tt, tt)))
-item_plain Close = (refl, tt)
+item_plain (Data payload) = ((refl, refl), (tt, tt))
+item_plain (Propose instance value) = ((refl, refl), (tt, (tt, tt)))
+item_plain Close = ((refl, refl), tt)
 
-event_plain : (event : Event) → ArePlain (event_atoms event)
+pub event_plain : (event : Event) → ArePlain (event_atoms event)
 unfolding escape_byte
-event_plain (Order node item) = (refl, (tt, item_plain item))
-event_plain (Send from to slot) = (refl, (tt, (tt, (tt, tt))))
-event_plain (Ack from to slot) = (refl, (tt, (tt, (tt, tt))))
-event_plain (Arrive from seq) = (refl, (tt, (tt, tt)))
-event_plain (Crash node) = (refl, (tt, tt))
+event_plain (Order node item) = ((refl, refl), (tt, item_plain item))
+event_plain (Send from to slot) = ((refl, refl), (tt, (tt, (tt, tt))))
+event_plain (Ack from to slot) = ((refl, refl), (tt, (tt, (tt, tt))))
+event_plain (Arrive from seq) = ((refl, refl), (tt, (tt, tt)))
+event_plain (Crash node) = ((refl, refl), (tt, tt))
 
-mode_plain : (mode : Mode) → escape (mode_word mode) ≡ mode_word mode
+mode_plain : (mode : Mode) → IsPlain (mode_word mode)
 unfolding escape_byte
-mode_plain Basic = refl
-mode_plain Uniform = refl
+mode_plain Basic = (refl, refl)
+mode_plain Uniform = (refl, refl)
 
-members_plain : (config : Config) → ArePlainMembers (members config)
+pub members_plain : (config : Config) → ArePlainMembers (members config)
 unfolding escape_byte
-members_plain config = (refl, tt, (refl, tt, (refl, tt, (refl, tt, (refl, tt, (refl, tt, (refl, tt, (refl, mode_plain config.mode, tt))))))))
+members_plain config = ((refl, refl), tt, ((refl, refl), tt, ((refl, refl), tt, ((refl, refl), tt, ((refl, refl), tt, ((refl, refl), tt, ((refl, refl), tt, ((refl, refl), mode_plain config.mode, tt))))))))
 
 -- ---- the text is those tokens, printed
 
 printed_after_colon : (a : Atom) (ps : Spaced) → IsPlainAtom a → IsAtomWithin a → print_spaced false (bare (atom_token a) ∷ ps) ≡ atom_text a ++ print_spaced true ps
 unfolding print_spaced
-printed_after_colon (word s) ps plain within = ap (λ x. (34 ∷ (x ++ 34 ∷ [])) ++ print_spaced true ps) plain
+printed_after_colon (word s) ps plain within = ap (λ x. (34 ∷ (x ++ 34 ∷ [])) ++ print_spaced true ps) plain.0
 printed_after_colon (number n) ps plain within = refl
 printed_after_colon (digits bytes) ps plain within = ap (λ x. (34 ∷ (x ++ 34 ∷ [])) ++ print_spaced true ps) (hex_plain bytes within)
 
 printed_after_comma : (a : Atom) (ps : Spaced) → IsPlainAtom a → IsAtomWithin a → print_spaced true (bare (atom_token a) ∷ ps) ≡ 44 ∷ (atom_text a ++ print_spaced true ps)
 unfolding print_spaced
-printed_after_comma (word s) ps plain within = ap (λ x. 44 ∷ ((34 ∷ (x ++ 34 ∷ [])) ++ print_spaced true ps)) plain
+printed_after_comma (word s) ps plain within = ap (λ x. 44 ∷ ((34 ∷ (x ++ 34 ∷ [])) ++ print_spaced true ps)) plain.0
 printed_after_comma (number n) ps plain within = refl
 printed_after_comma (digits bytes) ps plain within = ap (λ x. 44 ∷ ((34 ∷ (x ++ 34 ∷ [])) ++ print_spaced true ps)) (hex_plain bytes within)
 
@@ -185,7 +189,7 @@ unfolding print_spaced
 members_printed [] k ps plain within = refl
 members_printed (m ∷ ms) k ps plain within =
     let rest = members_spaced ms (bare (Token.key k) ∷ ps) in
-    ap (λ s. ((34 ∷ (s ++ 34 ∷ [])) ++ 58 ∷ []) ++ print_spaced false (bare (atom_token m.1) ∷ rest)) plain.0
+    ap (λ s. ((34 ∷ (s ++ 34 ∷ [])) ++ 58 ∷ []) ++ print_spaced false (bare (atom_token m.1) ∷ rest)) plain.0.0
     ∙ ap (λ r. (word_text m.0 ++ 58 ∷ []) ++ r) (printed_after_colon m.1 rest plain.1 within.0 ∙ ap (λ r. atom_text m.1 ++ r) (with_comma ms k ps))
     ∙ regroup_member m.0 (atom_text m.1) (print_spaced false rest)
     ∙ ap (λ r. member_text m ++ r) (members_printed ms k ps plain.2 within.1)

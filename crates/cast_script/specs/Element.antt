@@ -37,6 +37,11 @@ number_of d = option_and_then as_u64 (as_number d)
 abbrev pub node_of : Data → Option ℕ
 node_of d = option_and_then (λ n. if nat_lt 255 n then None else Some n) (number_of d)
 
+-- what the word in the first place makes of the others
+abbrev pub by_name : {A : Type 0} → (List ℕ → List Data → Option A) → List Data → Option A
+by_name read [] = None
+by_name read (word ∷ ds) = option_and_then (λ name. read name ds) (as_str word)
+
 -- ---- items
 
 abbrev pub data_of : List Data → Option Item
@@ -61,8 +66,7 @@ item_named name ds =
     if bytes_eq name (codes "close") then close_of ds else None))
 
 abbrev pub item_of : List Data → Option Item
-item_of [] = None
-item_of (word ∷ ds) = option_and_then (λ name. item_named name ds) (as_str word)
+item_of ds = by_name item_named ds
 
 -- ---- events
 
@@ -115,8 +119,7 @@ event_named name ds =
     if bytes_eq name (codes "settle") then settle_of ds else None)))))
 
 abbrev pub event_at : List Data → Option ScriptEvent
-event_at [] = None
-event_at (word ∷ ds) = option_and_then (λ name. event_named name ds) (as_str word)
+event_at ds = by_name event_named ds
 
 abbrev pub event_of : Data → Option ScriptEvent
 event_of d = option_and_then event_at (places_of d)
@@ -171,8 +174,7 @@ fault_named name ds =
     if bytes_eq name (codes "crash") then engine_crash_of ds else None)))
 
 abbrev pub fault_at : List Data → Option Fault
-fault_at [] = None
-fault_at (word ∷ ds) = option_and_then (λ name. fault_named name ds) (as_str word)
+fault_at ds = by_name fault_named ds
 
 abbrev pub fault_of : Data → Option Fault
 fault_of d = option_and_then fault_at (places_of d)
