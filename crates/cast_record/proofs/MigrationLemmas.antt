@@ -1,5 +1,5 @@
 -- The verdict does not tell the two heads apart.
-use Rattle.std.proofs.Common.{◌≡◌, ℕ, ◌+◌, ◌≤◌, ◌&&◌, ◌||◌, not, Bool, true, false, cond, nat_eq, nat_lt, List, [], ◌∷◌, ◌++◌, append_assoc, length, length-append, get_or, decimal, codes, Option, Some, None, option_and_then, is_some, Result, Ok, Err, refl, sym, ap, ◌∙◌, arith}
+use Rattle.std.proofs.Common.{◌≡◌, ℕ, ◌+◌, ◌≤◌, ◌&&◌, ◌||◌, not, Bool, true, false, cond, nat_eq, nat_lt, List, [], ◌∷◌, ◌++◌, append_assoc, length, length-append, get_or, decimal, codes, Option, Some, None, option_and_then, is_some, refl, sym, ap, ◌∙◌, arith}
 use Rattle.std.specs.List.{slice_split, list_any, filter, cons_option, join_with_byte}
 use Rattle.std.specs.Str.{bytes_eq}
 use Rattle.std.proofs.lemmas.List.Splits.{slice_split_at, join_with_byte-slice_split}
@@ -11,11 +11,7 @@ use Rattle.cast_message.specs.declared.message.Decision.{Decision}
 use Rattle.cast_record.specs.declared.line.Line.{Line}
 use Rattle.cast_record.specs.declared.line.Line.TheVariants.{Head, Head2, Broadcast, Delivered, Decided, Crashed, Refused, End}
 use Rattle.cast_record.specs.declared.verdict.Verdict.TheVariants.{Good, Bad}
-use Rattle.std.specs.Global.{Vec}
-use Rattle.std.specs.Prelude.{IfOk, IfErr}
-use Rattle.cast_record.specs.declared.migration.MigrateFault.{MigrateFault}
-use Rattle.cast_record.specs.declared.migration.MigrateFault.TheVariants.{NotV1, Memory}
-use Rattle.cast_record.specs.Migration.{IsHeadIn, IsNoHead, IsMigrated, HasHead, HasNoHead, Migrates, new_text}
+use Rattle.cast_record.specs.Migration.{IsHeadIn, IsNoHead, IsMigrated, HasHead, HasNoHead, new_text}
 use Rattle.cast_record.specs.Ranges.{IsWithin}
 use Rattle.cast_record.specs.Reading as read
 use Rattle.cast_record.specs.Reading.{line_of}
@@ -193,7 +189,7 @@ cut_text text first rest cut =
     sym (join_with_byte-slice_split 10 text) ∙ ap (join_with_byte 10) (cut ∙ ap (λ ps. first ∷ ps) parts.2)
     ∙ ap (λ bytes. first ++ 10 ∷ bytes) (ap (join_with_byte 10) (sym parts.2) ∙ join_with_byte-slice_split 10 rest)
 
-has_head : (text first rest : List ℕ) → slice_split (λ b. nat_eq b 10) text ≡ first ∷ slice_split (λ b. nat_eq b 10) rest → IsHeadIn first → HasHead text
+pub has_head : (text first rest : List ℕ) → slice_split (λ b. nat_eq b 10) text ≡ first ∷ slice_split (λ b. nat_eq b 10) rest → IsHeadIn first → HasHead text
 has_head text first rest cut h = record {
   nodes = h.nodes;
   faults = h.faults;
@@ -277,15 +273,3 @@ head_words bytes words cut h = sym (split_line (Head h.nodes h.faults h.choices)
 
 pub one_word : (bytes name : List ℕ) → slice_split (λ b. nat_eq b 32) bytes ≡ name ∷ [] → IsNoHead bytes
 one_word bytes name cut = λ h. let row = head_words bytes (name ∷ []) cut h in absurd (cc (row))
-
--- the migrated text, or want of memory
-pub migrates : (text first rest : List ℕ) (result : Result (Vec ℕ) MigrateFault) → slice_split (λ b. nat_eq b 10) text ≡ first ∷ slice_split (λ b. nat_eq b 10) rest → IsHeadIn first
-    → IfOk result (λ new. new.items ≡ new_text first rest) → IfErr result (λ fault. fault ≡ Memory) → Migrates text result
-migrates text first rest (Ok new) cut h ok err = is_migrated text first rest new.items cut h ok
-migrates text first rest (Err NotV1) cut h ok err = absurd (cc (err))
-migrates text first rest (Err Memory) cut h ok err = has_head text first rest cut h
-
-pub migrates_law : (text first rest : List ℕ) (result : Result (Vec ℕ) MigrateFault) → slice_split (λ b. nat_eq b 10) text ≡ first ∷ slice_split (λ b. nat_eq b 10) rest → IsHeadIn first
-    → IfOk result (λ new. new.items ≡ new_text first rest) → IfOk result (λ new. verdict new.items ≡ verdict text)
-migrates_law text first rest (Ok new) cut h ok = migrated_verdict text new.items (is_migrated text first rest new.items cut h ok)
-migrates_law text first rest (Err fault) cut h ok = tt

@@ -1,5 +1,5 @@
 //! Giving an old record the new head.
-ghost use Rattle.std.specs.Prelude.{◌≡◌, ◌≤◌, length, true, false, IfOk, IfErr};
+ghost use Rattle.std.specs.Prelude.{◌≡◌, ◌≤◌, length, true, false, IfOk};
 ghost use Rattle.cast_record.specs.Migration.{Migrates, IsHeadIn, IsNoHead, new_text};
 ghost use Rattle.cast_record.specs.Verdicts.{verdict};
 
@@ -19,17 +19,6 @@ pub enum MigrateFault {
     Memory,
 }
 
-impl From<AllocError> for MigrateFault {
-    ghost use Rattle.std.specs.Prelude.{◌≡◌};
-    ghost use Rattle.cast_record.specs.declared.migration.MigrateFault.TheVariants.{Memory};
-
-    ghost from_gives = { λ _ fault. fault ≡ Memory };
-
-    fn from(_refused: AllocError) -> MigrateFault {
-        MigrateFault::Memory
-    }
-}
-
 /// The text with its head `cast/1 N F K` changed to `cast/2 N F K basic`, and no other byte. The verdict on it is that on
 /// the text before. Memory is wanting only where there is such a head.
 pub fn migrate(alloc: Global, text: &[u8]) -> Result<Vec<u8>, MigrateFault>
@@ -43,7 +32,10 @@ pub fn migrate(alloc: Global, text: &[u8]) -> Result<Vec<u8>, MigrateFault>
     if !is_head(first) {
         return Err(MigrateFault::NotV1);
     }
-    with_new_head(alloc, first, rest)
+    match with_new_head(alloc, first, rest) {
+        Ok(migrated) => Ok(migrated),
+        Err(_) => Err(MigrateFault::Memory),
+    }
 }
 
 // Whether the bytes spell a head `cast/1` within its ranges.
@@ -59,10 +51,9 @@ fn is_head(bytes: &[u8]) -> bool
 }
 
 // What stands under the new head.
-fn with_new_head(alloc: Global, first: &[u8], rest: &[u8]) -> Result<Vec<u8>, MigrateFault>
+fn with_new_head(alloc: Global, first: &[u8], rest: &[u8]) -> Result<Vec<u8>, AllocError>
     requires { 6 ≤ length first.now }
-    ensures ok { IfOk result (λ new. new.items ≡ new_text first.now rest.now) }
-    ensures err { IfErr result (λ fault. fault ≡ MigrateFault.Memory) }
+    ensures { IfOk result (λ new. new.items ≡ new_text first.now rest.now) }
 {
     let mut new = Vec::new(alloc);
     new.extend_from_slice(b"cast/2".as_slice())?;

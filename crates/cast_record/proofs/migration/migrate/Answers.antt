@@ -1,17 +1,22 @@
 use Rattle.std.proofs.Common.{◌∙◌, ◌∷◌, ap, option_map}
 use Rattle.cast_record.specs.Parts.{parts_of}
-use Rattle.cast_record.proofs.MigrationLemmas.{migrates, migrates_law, no_feed, other_head, long_enough}
+use Rattle.cast_record.proofs.MigrationLemmas.{has_head, is_migrated, migrated_verdict, no_feed, other_head, long_enough}
 use Rattle.cast_record.proofs.migration.migrate.Goals as goal
 
-pub returns-clause-exact : goal.returns-clause-exact
-returns-clause-exact c =
+pub returns-in-Ok-clause-exact : goal.returns-in-Ok-clause-exact
+returns-in-Ok-clause-exact c =
     let cut = c.split_part.ensures ∙ ap (λ rest. c.split_part.result.0.now ∷ parts_of 10 (option_map (λ r. r.now) rest)) c.in-Some.is in
-    migrates c.args.text.now c.split_part.result.0.now c.in-Some.rest.now c.with_new_head.result cut (c.is_head.ensures.yes c.if-not-is_head.false) c.with_new_head.ensures.ok c.with_new_head.ensures.err
+    is_migrated c.args.text.now c.split_part.result.0.now c.in-Some.rest.now c.in-Ok.migrated.items cut (c.is_head.ensures.yes c.if-not-is_head.false) c.in-Ok.ensures
 
-pub returns-clause-law : goal.returns-clause-law
-returns-clause-law c =
+pub returns-in-Ok-clause-law : goal.returns-in-Ok-clause-law
+returns-in-Ok-clause-law c =
     let cut = c.split_part.ensures ∙ ap (λ rest. c.split_part.result.0.now ∷ parts_of 10 (option_map (λ r. r.now) rest)) c.in-Some.is in
-    migrates_law c.args.text.now c.split_part.result.0.now c.in-Some.rest.now c.with_new_head.result cut (c.is_head.ensures.yes c.if-not-is_head.false) c.with_new_head.ensures.ok
+    migrated_verdict c.args.text.now c.in-Ok.migrated.items (is_migrated c.args.text.now c.split_part.result.0.now c.in-Some.rest.now c.in-Ok.migrated.items cut (c.is_head.ensures.yes c.if-not-is_head.false) c.in-Ok.ensures)
+
+pub returns-in-Err-clause-exact : goal.returns-in-Err-clause-exact
+returns-in-Err-clause-exact c =
+    let cut = c.split_part.ensures ∙ ap (λ rest. c.split_part.result.0.now ∷ parts_of 10 (option_map (λ r. r.now) rest)) c.in-Some.is in
+    has_head c.args.text.now c.split_part.result.0.now c.in-Some.rest.now cut (c.is_head.ensures.yes c.if-not-is_head.false)
 
 pub with_new_head-requires : goal.with_new_head-requires
 with_new_head-requires c = long_enough c.split_part.result.0.now (c.is_head.ensures.yes c.if-not-is_head.false)
