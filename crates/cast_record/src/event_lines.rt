@@ -1,13 +1,12 @@
 //! Writing the lines that an event and its reply leave in a record, from the two of them: no line is made, and no message copied.
 ghost use Rattle.std.specs.Prelude.{◌≡◌, ◌∷◌, [], false};
-ghost use Rattle.cast_message.specs.StepCode.{step_code};
 ghost use Rattle.cast_words.specs.Written.{Puts};
-ghost use Rattle.cast_record.specs.Lines.{answer_lines, lines_for, outcome_lines, refusal_lines};
+ghost use Rattle.cast_record.specs.Lines.{answer_lines, lines_for, outcome_lines};
 ghost use Rattle.cast_record.specs.Text.{record_text};
 
 use crate::line::Line;
 use crate::writing::{write_broadcast, write_decided, write_delivered, write_line};
-use cast_message::{Answer, Event, NodeId, Outcome, Reply, StepFault};
+use cast_message::{Answer, Event, NodeId, Outcome, Reply};
 use cast_words::{Meter, WriteFault};
 use std::io::Write;
 
@@ -26,7 +25,13 @@ pub fn write_lines_of<W: Write>(
 {
     match reply {
         Ok(answer) => write_answer(event, answer, writer),
-        Err(fault) => write_refusal(index, *fault, writer),
+        Err(fault) => {
+            let code = fault.code();
+            if code <= 12 {
+                return write_alone(&Line::Refused { index, code }, writer);
+            }
+            Ok(())
+        }
     }
 }
 
@@ -52,22 +57,6 @@ fn write_answer<W: Write>(
         }
         _ => Ok(()),
     }
-}
-
-fn write_refusal<W: Write>(
-    index: u64,
-    fault: StepFault,
-    writer: &mut Meter<W>,
-) -> Result<(), WriteFault>
-    requires { writer.old.failed ≡ false }
-    ensures { Puts W.contents writer.old writer.new result
-        (record_text (refusal_lines index (step_code fault))) }
-{
-    let code = fault.code();
-    if code <= 12 {
-        return write_alone(&Line::Refused { index, code }, writer);
-    }
-    Ok(())
 }
 
 fn write_alone<W: Write>(line: &Line, writer: &mut Meter<W>) -> Result<(), WriteFault>

@@ -1,7 +1,7 @@
 //! The events of a script.
 ghost use Rattle.std.specs.Prelude.{◌≡◌, map};
 ghost use Rattle.serde_json.specs.View.{view};
-ghost use Rattle.cast_script.specs.Element.{event_of, event_named, order_of, link_slot_of, send_of, ack_of, arrive_of, crash_of, settle_of};
+ghost use Rattle.cast_script.specs.Element.{event_of, order_of, link_slot_of, send_of, ack_of, arrive_of, crash_of, settle_of};
 ghost use Rattle.cast_script.specs.Unread.{Gives};
 
 use crate::element::{Element, LinkSlot, Unread, node, places};
@@ -17,23 +17,15 @@ impl Element for ScriptEvent {
     fn read(alloc: Global, value: &Value) -> Result<ScriptEvent, Unread> {
         let places = places(value).ok_or(Unread::Shape)?;
         let (word, others) = places.split_first().ok_or(Unread::Shape)?;
-        let name = word.as_str().ok_or(Unread::Shape)?;
-        event_by(alloc, name, others)
-    }
-}
-
-// The event of this name with these places after it.
-fn event_by(alloc: Global, name: &str, places: &[Value]) -> Result<ScriptEvent, Unread>
-    ensures { Gives result (event_named name.now (map view places.now)) }
-{
-    match name {
-        "order" => Ok(ScriptEvent::Core(order(alloc, places)?)),
-        "send" => send(places).ok_or(Unread::Shape),
-        "ack" => ack(places).ok_or(Unread::Shape),
-        "arrive" => arrive(places).ok_or(Unread::Shape),
-        "crash" => crash(places).ok_or(Unread::Shape),
-        "settle" => settle(places).ok_or(Unread::Shape),
-        _ => Err(Unread::Shape),
+        match word.as_str().ok_or(Unread::Shape)? {
+            "order" => Ok(ScriptEvent::Core(order(alloc, others)?)),
+            "send" => send(others).ok_or(Unread::Shape),
+            "ack" => ack(others).ok_or(Unread::Shape),
+            "arrive" => arrive(others).ok_or(Unread::Shape),
+            "crash" => crash(others).ok_or(Unread::Shape),
+            "settle" => settle(others).ok_or(Unread::Shape),
+            _ => Err(Unread::Shape),
+        }
     }
 }
 

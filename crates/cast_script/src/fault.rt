@@ -1,7 +1,7 @@
 //! The faults of a script's plan.
 ghost use Rattle.std.specs.Prelude.{◌≡◌, map};
 ghost use Rattle.serde_json.specs.View.{view};
-ghost use Rattle.cast_script.specs.Element.{fault_of, fault_at, fault_named, kind_of, kind_named, lose_of, repeat_of, delay_of, engine_crash_of};
+ghost use Rattle.cast_script.specs.Element.{fault_of, fault_at, kind_of, lose_of, repeat_of, delay_of, engine_crash_of};
 ghost use Rattle.cast_script.specs.Unread.{Gives};
 
 use crate::element::{Element, Unread, node, places};
@@ -21,18 +21,11 @@ fn fault(places: &[Value]) -> Option<Fault>
     ensures { result ≡ fault_at (map view places.now) }
 {
     let (word, others) = places.split_first()?;
-    fault_by(word.as_str()?, others)
-}
-
-// The fault of this name with these places after it.
-fn fault_by(name: &str, places: &[Value]) -> Option<Fault>
-    ensures { result ≡ fault_named name.now (map view places.now) }
-{
-    match name {
-        "lose" => lose(places),
-        "repeat" => repeat(places),
-        "delay" => delay(places),
-        "crash" => crash(places),
+    match word.as_str()? {
+        "lose" => lose(others),
+        "repeat" => repeat(others),
+        "delay" => delay(others),
+        "crash" => crash(others),
         _ => None,
     }
 }
@@ -98,13 +91,7 @@ fn crash(places: &[Value]) -> Option<Fault>
 fn kind(value: &Value) -> Option<FrameKind>
     ensures { result ≡ kind_of (view value.now) }
 {
-    kind_by(value.as_str()?)
-}
-
-fn kind_by(name: &str) -> Option<FrameKind>
-    ensures { result ≡ kind_named name.now }
-{
-    match name {
+    match value.as_str()? {
         "carry" => Some(FrameKind::Carry),
         "took" => Some(FrameKind::Took),
         _ => None,

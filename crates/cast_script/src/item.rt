@@ -1,7 +1,7 @@
 //! The items of a script.
 ghost use Rattle.std.specs.Prelude.{◌≡◌, map};
 ghost use Rattle.serde_json.specs.View.{view};
-ghost use Rattle.cast_script.specs.Element.{item_of, item_named, data_of, proposal_of, close_of};
+ghost use Rattle.cast_script.specs.Element.{item_of, data_of, proposal_of, close_of};
 ghost use Rattle.cast_script.specs.Unread.{Gives};
 
 use crate::element::Unread;
@@ -16,18 +16,10 @@ pub fn item(alloc: Global, places: &[Value]) -> Result<Item, Unread>
     ensures { Gives result (item_of (map view places.now)) }
 {
     let (word, others) = places.split_first().ok_or(Unread::Shape)?;
-    let name = word.as_str().ok_or(Unread::Shape)?;
-    item_by(alloc, name, others)
-}
-
-// The item of this name with these places after it.
-fn item_by(alloc: Global, name: &str, places: &[Value]) -> Result<Item, Unread>
-    ensures { Gives result (item_named name.now (map view places.now)) }
-{
-    match name {
-        "data" => data(alloc, places),
-        "propose" => proposal(places).ok_or(Unread::Shape),
-        "close" => close(places).ok_or(Unread::Shape),
+    match word.as_str().ok_or(Unread::Shape)? {
+        "data" => data(alloc, others),
+        "propose" => proposal(others).ok_or(Unread::Shape),
+        "close" => close(others).ok_or(Unread::Shape),
         _ => Err(Unread::Shape),
     }
 }
