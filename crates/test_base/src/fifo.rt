@@ -1,23 +1,29 @@
 //! The hold-back by hand: rows of the worked examples, and the ring's edge.
 ghost use Rattle.std.specs.Prelude.{◌≡◌, ◌+◌, ◌<◌, ◌^◌, length};
-ghost use Rattle.cast_message.specs.declared.message.Item.TheVariants.{Close};
 
 use cast_fifo::HoldBack;
 use cast_message::{Item, Message, NodeId};
 use std::alloc::AllocError;
 use std::test::Fail;
 
-// Offers a message, and counts those whose turn has come.
-fn offer(held: &mut HoldBack, sender: u8, number: u64, item: Item) -> Result<usize, AllocError>
-    requires sender { sender < length held.old }
+// A message of node 0.
+fn message(number: u64, item: Item) -> Message
+    ensures { result ≡ record { sender = 0; number = number; item = item } }
+{
+    Message {
+        sender: NodeId(0),
+        number,
+        item,
+    }
+}
+
+// Offers a message of node 0, and counts those whose turn has come.
+fn offer(held: &mut HoldBack, number: u64, item: Item) -> Result<usize, AllocError>
+    requires sender { 0 < length held.old }
     requires number { number + 1 < 2 ^ 64 }
     ensures { length held.new ≡ length held.old }
 {
-    let messages = held.offer(Message {
-        sender: NodeId(sender),
-        number,
-        item,
-    })?;
+    let messages = held.offer(message(number, item))?;
     Ok(messages.len())
 }
 
@@ -28,7 +34,7 @@ fn offer_below(held: &mut HoldBack, most: u64) -> Result<bool, AllocError>
 {
     let mut one_each = true;
     for number in 0..most {
-        one_each = offer(held, 0, number, Item::Close)? == 1 && one_each;
+        one_each = offer(held, number, Item::Close)? == 1 && one_each;
     }
     Ok(one_each)
 }
@@ -40,7 +46,7 @@ fn offer_backwards(held: &mut HoldBack, most: u64) -> Result<bool, AllocError>
 {
     let mut none_each = true;
     for number in (1..most).rev() {
-        none_each = offer(held, 0, number, Item::Close)? == 0 && none_each;
+        none_each = offer(held, number, Item::Close)? == 0 && none_each;
     }
     Ok(none_each)
 }
@@ -48,16 +54,16 @@ fn offer_backwards(held: &mut HoldBack, most: u64) -> Result<bool, AllocError>
 #[test]
 fn gives_messages_in_order_once(rt: HostRuntime) -> Result<(), Fail> {
     let mut held = HoldBack::new(rt.alloc(), 2)?;
-    assert!(rt; offer(&mut held, 0, 1, Item::Close)? == 0);
+    assert!(rt; offer(&mut held, 1, Item::Close)? == 0);
     assert!(rt; !held.closed(NodeId(0)));
     let propose = Item::Propose {
         instance: 7,
         value: 4,
     };
-    assert!(rt; offer(&mut held, 0, 0, propose)? == 2);
+    assert!(rt; offer(&mut held, 0, propose)? == 2);
     assert!(rt; held.closed(NodeId(0)));
     assert!(rt; !held.closed(NodeId(1)));
-    assert!(rt; offer(&mut held, 0, 0, Item::Close)? == 0);
+    assert!(rt; offer(&mut held, 0, Item::Close)? == 0);
     assert!(rt; held.next(NodeId(0)) == 2);
     assert!(rt; held.next(NodeId(1)) == 0);
     Ok(())
@@ -66,9 +72,9 @@ fn gives_messages_in_order_once(rt: HostRuntime) -> Result<(), Fail> {
 #[test]
 fn reaches_past_the_ring(rt: HostRuntime) -> Result<(), Fail> {
     let mut held = HoldBack::new(rt.alloc(), 1)?;
-    assert!(rt; offer(&mut held, 0, 5000, Item::Close)? == 0);
+    assert!(rt; offer(&mut held, 5000, Item::Close)? == 0);
     assert!(rt; offer_below(&mut held, 4999)?);
-    assert!(rt; offer(&mut held, 0, 4999, Item::Close)? == 2);
+    assert!(rt; offer(&mut held, 4999, Item::Close)? == 2);
     assert!(rt; held.next(NodeId(0)) == 5001);
     Ok(())
 }
@@ -77,7 +83,7 @@ fn reaches_past_the_ring(rt: HostRuntime) -> Result<(), Fail> {
 fn gives_a_run_longer_than_the_ring(rt: HostRuntime) -> Result<(), Fail> {
     let mut held = HoldBack::new(rt.alloc(), 1)?;
     assert!(rt; offer_backwards(&mut held, 6000)?);
-    assert!(rt; offer(&mut held, 0, 0, Item::Close)? == 6000);
+    assert!(rt; offer(&mut held, 0, Item::Close)? == 6000);
     assert!(rt; held.next(NodeId(0)) == 6000);
     Ok(())
 }
@@ -85,11 +91,11 @@ fn gives_a_run_longer_than_the_ring(rt: HostRuntime) -> Result<(), Fail> {
 #[test]
 fn releases_what_it_showed_as_ready(rt: HostRuntime) -> Result<(), Fail> {
     let mut held = HoldBack::new(rt.alloc(), 1)?;
-    held.hold(closing())?;
+    held.hold(message(0, Item::Close))?;
     assert!(rt; held.came(NodeId(0), 0));
     held.take_back(NodeId(0), 0);
     assert!(rt; !held.came(NodeId(0), 0));
-    held.hold(closing())?;
+    held.hold(message(0, Item::Close))?;
     assert!(rt; held.ready(NodeId(0), 0)?.len() == 1);
     assert!(rt; held.next(NodeId(0)) == 0);
     let mut items = Vec::with_capacity(rt.alloc(), 1)?;
@@ -100,21 +106,11 @@ fn releases_what_it_showed_as_ready(rt: HostRuntime) -> Result<(), Fail> {
     Ok(())
 }
 
-fn closing() -> Message
-    ensures { result ≡ record { sender = 0; number = 0; item = Close } }
-{
-    Message {
-        sender: NodeId(0),
-        number: 0,
-        item: Item::Close,
-    }
-}
-
 #[test]
 fn knows_what_had_its_turn(rt: HostRuntime) -> Result<(), Fail> {
     let mut held = HoldBack::new(rt.alloc(), 1)?;
     assert!(rt; !held.had_turn(NodeId(0), 0));
-    assert!(rt; offer(&mut held, 0, 0, Item::Close)? == 1);
+    assert!(rt; offer(&mut held, 0, Item::Close)? == 1);
     assert!(rt; held.had_turn(NodeId(0), 0));
     assert!(rt; !held.had_turn(NodeId(0), 1));
     Ok(())

@@ -6,11 +6,9 @@ use std::test::Fail;
 #[test]
 fn keeps_nodes(rt: HostRuntime) {
     let mut nodes = NodeSet::new();
-    assert!(rt; nodes.insert(NodeId(0)));
-    assert!(rt; nodes.insert(NodeId(63)));
-    assert!(rt; nodes.insert(NodeId(64)));
-    assert!(rt; nodes.insert(NodeId(255)));
-    assert!(rt; !nodes.insert(NodeId(64)));
+    for (node, new) in [(0, true), (63, true), (64, true), (255, true), (64, false)] {
+        assert_eq!(rt; nodes.insert(NodeId(node)), new, "{node}");
+    }
     assert!(rt; nodes.len() == 4);
     assert!(rt; nodes.copy().contains(NodeId(255)));
     assert!(rt; nodes.contains(NodeId(255)));
@@ -28,21 +26,30 @@ fn keeps_nodes_of_a_group(rt: HostRuntime) {
     assert!(rt; nodes.copy().len() == 2);
 }
 
+// Numbers, and whether each is new when it is inserted, was there when it is removed, and is there in the end.
+const INSERTED: &[(u64, bool)] = &[
+    (4095, true),
+    (4096, true),
+    (0, true),
+    (4095, false),
+    (4096, false),
+];
+
+const REMOVED: &[(u64, bool)] = &[(4095, true), (4096, true), (4096, false), (64, false)];
+
+const LEFT: &[(u64, bool)] = &[(4095, false), (0, true), (1, false), (u64::MAX, false)];
+
 #[test]
 fn keeps_numbers(rt: HostRuntime) -> Result<(), Fail> {
     let mut numbers = NumberSet::new(rt.alloc());
-    assert!(rt; numbers.insert(4095)?);
-    assert!(rt; numbers.insert(4096)?);
-    assert!(rt; numbers.insert(0)?);
-    assert!(rt; !numbers.insert(4095)?);
-    assert!(rt; !numbers.insert(4096)?);
-    assert!(rt; numbers.remove(4095));
-    assert!(rt; numbers.remove(4096));
-    assert!(rt; !numbers.remove(4096));
-    assert!(rt; !numbers.remove(64));
-    assert!(rt; !numbers.contains(4095));
-    assert!(rt; numbers.contains(0));
-    assert!(rt; !numbers.contains(1));
-    assert!(rt; !numbers.contains(18446744073709551615));
+    for (number, new) in INSERTED {
+        assert_eq!(rt; numbers.insert(*number)?, *new, "{number}");
+    }
+    for (number, was_there) in REMOVED {
+        assert_eq!(rt; numbers.remove(*number), *was_there, "{number}");
+    }
+    for (number, is_there) in LEFT {
+        assert_eq!(rt; numbers.contains(*number), *is_there, "{number}");
+    }
     Ok(())
 }
