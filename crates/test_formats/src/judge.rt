@@ -97,11 +97,6 @@ const LEAST_RULES: &[(&str, Option<(u64, u64)>)] = &[
     (TWO_VALUES_RECORD, None),
 ];
 
-#[test]
-fn tells_the_least_rule(rt: HostRuntime) -> Result<(), Fail> {
-    expect_verdicts(&rt, "", LEAST_RULES, "")
-}
-
 /// Texts that are no records, and the line that the grammar has not.
 const OUTSIDE_THE_GRAMMAR: &[(&str, Option<(u64, u64)>)] = &[
     ("\n", Some((1, 0))),
@@ -124,11 +119,6 @@ const OUTSIDE_THE_GRAMMAR: &[(&str, Option<(u64, u64)>)] = &[
     ("cast/1 1 0 1\nend\n ", Some((3, 0))),
     ("cast/1 1 0 1\nend", Some((2, 0))),
 ];
-
-#[test]
-fn reads_what_offends_against_the_grammar(rt: HostRuntime) -> Result<(), Fail> {
-    expect_verdicts(&rt, "", OUTSIDE_THE_GRAMMAR, "")
-}
 
 #[test]
 fn nothing_fed_is_no_record(rt: HostRuntime) -> Result<(), Fail> {
@@ -231,11 +221,6 @@ const DELIVERIES: &[(&str, Option<(u64, u64)>)] = &[
     ("d 1 0 18446744073709551616 data:61", Some((3, 0))),
 ];
 
-#[test]
-fn deliveries_are_of_the_words_that_were_broadcast(rt: HostRuntime) -> Result<(), Fail> {
-    expect_verdicts(&rt, "cast/1 2 0 1\nb 0 0 data:61\n", DELIVERIES, "\nend\n")
-}
-
 /// What a group of three does that may have two decided values in an instance, and where it offends.
 const INSTANCES: &[(&str, Option<(u64, u64)>)] = &[
     (
@@ -280,9 +265,20 @@ const INSTANCES: &[(&str, Option<(u64, u64)>)] = &[
     ),
 ];
 
+/// Each table with what stands before its rows, and what after them.
+const TABLES: &[(&str, &[(&str, Option<(u64, u64)>)], &str)] = &[
+    ("", LEAST_RULES, ""),
+    ("", OUTSIDE_THE_GRAMMAR, ""),
+    ("cast/1 2 0 1\nb 0 0 data:61\n", DELIVERIES, "\nend\n"),
+    ("cast/1 3 1 2\n", INSTANCES, "\nend\n"),
+];
+
 #[test]
-fn judges_instances_in_any_order(rt: HostRuntime) -> Result<(), Fail> {
-    expect_verdicts(&rt, "cast/1 3 1 2\n", INSTANCES, "\nend\n")
+fn judges_each_row(rt: HostRuntime) -> Result<(), Fail> {
+    for (front, rows, end) in TABLES {
+        expect_verdicts(&rt, front, rows, end)?;
+    }
+    Ok(())
 }
 
 /// A record of one item that is spelled with so many digits.

@@ -201,10 +201,37 @@ const NO_LINES: &[&str] = &[
     "e",
 ];
 
+/// Texts of which no delivery is read.
+const NO_DELIVERIES: &[&str] = &[
+    "",
+    "d",
+    "d ",
+    "d 0 0 0",
+    "d 0 0  data:61",
+    "d  0 0 0 data:61",
+    "b 0 0 0 data:61",
+    "D 0 0 0 data:61",
+    "d 00 0 0 data:61",
+    "d 0 01 0 data:61",
+    "d 0 0 012 data:61",
+    "d 100 0 0 data:61",
+    "d 0 100 0 data:61",
+    "d 256 0 0 data:61",
+    "d 0 256 0 data:61",
+    "d 0 0 18446744073709551616 data:61",
+    "d 0 0 99999999999999999999 data:61",
+    "d 0 0 -1 data:61",
+    "d 0 0 1a data:61",
+    "end",
+];
+
 #[test]
-fn reads_no_line_outside_the_grammar(rt: HostRuntime) -> Result<(), Fail> {
+fn reads_nothing_outside_the_grammar(rt: HostRuntime) -> Result<(), Fail> {
     for text in NO_LINES {
         assert!(rt; read_words(text.as_bytes()).is_none(), "{text}");
+    }
+    for text in NO_DELIVERIES {
+        assert!(rt; read_delivery(text.as_bytes()).is_none(), "{text}");
     }
     Ok(())
 }
@@ -265,38 +292,6 @@ fn reads_deliveries_up_to_their_words(rt: HostRuntime) -> Result<(), Fail> {
         assert_eq!(rt; delivery.sender, NodeId(*sender), "{text}");
         assert_eq!(rt; delivery.number, *number, "{text}");
         assert_eq!(rt; delivery.rest, rest.as_bytes(), "{text}");
-    }
-    Ok(())
-}
-
-/// Texts of which no delivery is read.
-const NO_DELIVERIES: &[&str] = &[
-    "",
-    "d",
-    "d ",
-    "d 0 0 0",
-    "d 0 0  data:61",
-    "d  0 0 0 data:61",
-    "b 0 0 0 data:61",
-    "D 0 0 0 data:61",
-    "d 00 0 0 data:61",
-    "d 0 01 0 data:61",
-    "d 0 0 012 data:61",
-    "d 100 0 0 data:61",
-    "d 0 100 0 data:61",
-    "d 256 0 0 data:61",
-    "d 0 256 0 data:61",
-    "d 0 0 18446744073709551616 data:61",
-    "d 0 0 99999999999999999999 data:61",
-    "d 0 0 -1 data:61",
-    "d 0 0 1a data:61",
-    "end",
-];
-
-#[test]
-fn reads_no_delivery_of_other_lines(rt: HostRuntime) -> Result<(), Fail> {
-    for text in NO_DELIVERIES {
-        assert!(rt; read_delivery(text.as_bytes()).is_none(), "{text}");
     }
     Ok(())
 }

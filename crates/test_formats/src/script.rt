@@ -157,12 +157,30 @@ fn numbers_of(config: &Config) -> [u64; 7] {
     ]
 }
 
+/// Scripts, and their numbers, mode and turns: those that stand for what is absent, and each of their own.
+const NUMBERS: &[(&str, [u64; 7], Mode, u64)] = &[
+    (
+        NOTHING,
+        [2, 0, 1, 4096, 65536, 64, 0],
+        Mode::Basic,
+        4_000_000,
+    ),
+    (
+        EVERYTHING,
+        [5, 2, 3, 10, 20, 30, u64::MAX],
+        Mode::Uniform,
+        0,
+    ),
+];
+
 #[test]
-fn reads_what_is_absent(rt: HostRuntime) -> Result<(), Fail> {
-    let script = read_script(rt.alloc(), NOTHING.as_bytes())?;
-    assert_eq!(rt; numbers_of(&script.config), [2, 0, 1, 4096, 65536, 64, 0]);
-    assert_eq!(rt; script.config.mode(), Mode::Basic);
-    assert_eq!(rt; script.turns, 4_000_000);
+fn reads_each_number(rt: HostRuntime) -> Result<(), Fail> {
+    for (text, numbers, mode, turns) in NUMBERS {
+        let script = read_script(rt.alloc(), text.as_bytes())?;
+        assert_eq!(rt; numbers_of(&script.config), *numbers, "{text}");
+        assert_eq!(rt; script.config.mode(), *mode, "{text}");
+        assert_eq!(rt; script.turns, *turns, "{text}");
+    }
     Ok(())
 }
 
@@ -172,15 +190,6 @@ fn reads_absent_lists(rt: HostRuntime) -> Result<(), Fail> {
     assert!(rt; script.events.as_slice().is_empty());
     assert!(rt; script.plan.faults.as_slice().is_empty());
     assert!(rt; script.jobs.as_slice().is_empty());
-    Ok(())
-}
-
-#[test]
-fn reads_every_number(rt: HostRuntime) -> Result<(), Fail> {
-    let script = read_script(rt.alloc(), EVERYTHING.as_bytes())?;
-    assert_eq!(rt; numbers_of(&script.config), [5, 2, 3, 10, 20, 30, u64::MAX]);
-    assert_eq!(rt; script.config.mode(), Mode::Uniform);
-    assert_eq!(rt; script.turns, 0);
     Ok(())
 }
 
