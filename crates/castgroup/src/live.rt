@@ -4,8 +4,9 @@ ghost use Rattle.cast_live.specs.Live.{IsFinished};
 
 use crate::explain::{explain_fault, explain_output, explain_run};
 use crate::progress::{Teller, due_deliveries};
-use crate::source::{Call, Failure, Heard, Source, StreamName, open_source};
+use crate::source::{Failure, Heard, Source, StreamName, open_source};
 use crate::status::{Status, refuse};
+use cast_command::{Call, RunFiles};
 use cast_live::{
     Counted, FinishedRun, Summary, run_script, summarize, write_record_of, write_replay_of,
     write_summary,
@@ -13,7 +14,6 @@ use cast_live::{
 use cast_run::Progress;
 use cast_text::{INPUT_LIMIT, TextFault, Verdict, read_script_text};
 use cast_words::Meter;
-use clap::ArgMatches;
 use std::io::{BufWriter, IsTerminal, Stderr, Write};
 use std::rt::Runtime;
 use std::sync::Wait;
@@ -25,11 +25,12 @@ use std::{fs, io};
 /// that is asked for, and where standard error is a terminal.
 pub fn live_script<R: Runtime + AllocGlobal + Threads + Wait + Copy + Send + 'static>(
     rt: &R,
-    matches: &ArgMatches<'_>,
     call: Call<'_>,
+    files: RunFiles<'_>,
+    tells_progress: bool,
     stderr: Stderr,
 ) -> Status {
-    let wanted = matches.get_flag("progress") || stderr.is_terminal();
+    let wanted = tells_progress || stderr.is_terminal();
     let told = if wanted { Some(stderr) } else { None };
     let mut source = open_source(rt, call);
     let run = match run_live_script(rt, &mut source, told) {
@@ -41,7 +42,7 @@ pub fn live_script<R: Runtime + AllocGlobal + Threads + Wait + Copy + Send + 'st
         }
     };
     drop(source);
-    let kept = keep_files(rt, matches, &run);
+    let kept = keep_files(rt, files, &run);
     let told = tell_summary(rt, &run);
     let stop = match (told, kept) {
         (Ok(summary), Ok(())) => return tell_verdict(rt, &run, summary, call.explains),
@@ -121,13 +122,13 @@ enum Kept {
 /// Writes the record and the replay to the files that are named, each whatever became of the other.
 fn keep_files<'a, R: Runtime + AllocGlobal>(
     rt: &R,
-    matches: &ArgMatches<'a>,
+    files: RunFiles<'a>,
     run: &FinishedRun,
 ) -> Result<(), Stop<'a>>
     requires { IsFinished run.now }
 {
-    let record = keep(rt, matches.get_str("record"), run, Kept::Record);
-    let replay = keep(rt, matches.get_str("replay"), run, Kept::Replay);
+    let record = keep(rt, files.record, run, Kept::Record);
+    let replay = keep(rt, files.replay, run, Kept::Replay);
     record?;
     replay
 }

@@ -1,8 +1,8 @@
-//! The program `castgroup`: the command line, files and exit statuses over the libraries `cast_text` and `cast_live`.
+//! The program `castgroup`: files and exit statuses over the libraries `cast_text` and `cast_live`, as `cast_command` reads its
+//! command line.
 #![tactic(auto)]
 
 mod command_line;
-mod draw;
 mod explain;
 mod live;
 mod progress;
@@ -10,13 +10,12 @@ mod source;
 mod status;
 mod texts;
 
-use cast_text::TextFault;
-use clap::ArgMatches;
-use command_line::{asks_to_explain, castgroup_command, command_words, refuse_words, show};
-use draw::draw_script;
+use cast_command::{Request, parse};
+use cast_explain::RULES;
+use cast_text::Window;
+use command_line::{asks_to_explain, command_words, refuse_request, refuse_words};
 use live::live_script;
-use source::Call;
-use status::{Status, refuse};
+use status::Status;
 use std::io::Stderr;
 use std::process::ExitCode;
 use std::rt::Runtime;
@@ -36,33 +35,39 @@ fn run<R: Runtime + AllocGlobal + Threads + Wait + Copy + Send + 'static>(
         Ok(words) => words,
         Err(error) => return refuse_words(rt, &error),
     };
-    let Ok(command) = castgroup_command(rt.alloc()) else {
-        return refuse(rt, TextFault::Memory);
-    };
-    match command.try_get_matches_from(words.as_slice()) {
-        Ok(matches) => run_matches(rt, &matches, stderr),
-        Err(error) => show(rt, &error, asks_to_explain(words.as_slice())),
+    match parse(rt.alloc(), words.as_slice(), RULES) {
+        Ok(request) => perform(rt, request, stderr),
+        Err(refusal) => refuse_request(rt, &refusal, asks_to_explain(words.as_slice())),
     }
 }
 
-fn run_matches<R: Runtime + AllocGlobal + Threads + Wait + Copy + Send + 'static>(
+fn perform<R: Runtime + AllocGlobal + Threads + Wait + Copy + Send + 'static>(
     rt: &R,
-    matches: &ArgMatches<'_>,
+    request: Request<'_>,
     stderr: Stderr,
 ) -> Status {
-    match matches.subcommand() {
-        Some(("run", inner)) => write_text(rt, TextCommand::Run, call_on(inner, "SCRIPT")),
-        Some(("judge", inner)) => write_text(rt, TextCommand::Judge, call_on(inner, "RECORD")),
-        Some(("live", inner)) => live_script(rt, inner, call_on(inner, "SCRIPT"), stderr),
-        Some(("draw", inner)) => draw_script(rt, inner, call_on(inner, "SCRIPT")),
-        Some(("migrate", inner)) => write_text(rt, TextCommand::Migrate, call_on(inner, "RECORD")),
-        _ => Status::Usage,
+    match request {
+        Request::Run(call) => write_text(rt, TextCommand::Run, call),
+        Request::Judge(call) => write_text(rt, TextCommand::Judge, call),
+        Request::Live {
+            call,
+            files,
+            tells_progress,
+        } => live_script(rt, call, files, tells_progress, stderr),
+        Request::Draw { call, from, to } => write_text(
+            rt,
+            TextCommand::Draw(window(from, to)),
+            call,
+        ),
+        Request::Migrate(call) => write_text(rt, TextCommand::Migrate, call),
     }
 }
 
-fn call_on<'a>(matches: &ArgMatches<'a>, input: &str) -> Call<'a> {
-    Call {
-        path: matches.get_str(input),
-        explains: matches.get_flag("explain"),
+// The events from one place to another; all before or behind, where none is named.
+fn window(from: Option<u64>, to: Option<u64>) -> Window {
+    let all = Window::all();
+    Window {
+        from: from.unwrap_or(all.from),
+        to: to.unwrap_or(all.to),
     }
 }

@@ -1,17 +1,10 @@
 //! The streams of a command, which remember what the system said when they failed, and the input once more.
+use cast_command::Call;
 use cast_text::INPUT_LIMIT;
 use std::fs::OpenFile;
 use std::io::{Read, Write};
 use std::rt::Runtime;
 use std::{fs, io};
-
-/// What a command was called on, and whether it explains its faults.
-#[derive(Clone, Copy)]
-pub struct Call<'a> {
-    /// The file that is read; standard input where none is named.
-    pub path: Option<&'a str>,
-    pub explains: bool,
-}
 
 /// How a stream is called.
 #[derive(Clone, Copy)]

@@ -2,8 +2,9 @@
 ghost use Rattle.std.specs.Prelude.{◌≡◌, false};
 
 use crate::explain::{explain_fault, explain_verdict};
-use crate::source::{Call, Failure, Heard, open_source};
+use crate::source::{Failure, Heard, open_source};
 use crate::status::{Status, refuse};
+use cast_command::Call;
 use cast_text::{TextFault, Verdict, Window, draw_text, judge_text, migrate_text, run_text};
 use cast_words::Meter;
 use std::alloc::Global;

@@ -1,0 +1,150 @@
+//! The commands with their arguments and texts.
+use clap::{Arg, ArgAction, Command, value_parser};
+use std::alloc::{AllocError, Global};
+
+/// What the lines `r EVENT CODE` of a record mean.
+const REFUSALS: &str = "Refused events (r EVENT CODE):
+   1  a node that does not exist
+   2  a link from a node to itself
+   3  a node that has crashed
+   4  a stream that is closed
+   5  a payload of more than 1,024 bytes
+   6  a second proposal in an instance
+   7  a stream that is full: its last place is kept for the close
+   8  a slot that was not given
+   9  a slot that was acknowledged
+  10  a slot that was not taken
+  11  a frame that was not made
+  12  a node that has made all its frames";
+
+/// What the lines of a summary mean.
+const ENDS: &str =
+    "A line for each node, with its end and how many items it delivered from each node. Ends:
+  stopped    all clients are done, and nothing is owed to a node that runs
+  crashed    the plan crashed it
+  turnlimit  its turns, or those of a client, were used up
+  logfull    its log has as many entries as it may have
+  clockfull  no greater stamp is left
+rest: whether all that live nodes gave live nodes was acknowledged
+verdict: what the judge says of the record of what happened";
+
+/// What the marks of a picture mean.
+const MARKS: &str = "A line for each node, time to the right, a column for each event. Marks:
+  dot      a broadcast, with the item
+  arrow    a frame that arrives, in the colour of the message's sender; dotted and grey an acknowledgement
+  stub     a frame that never arrives, with a small cross
+  box      a delivery, with sender and number
+  diamond  a decision, with the value
+  cross    a crash
+A pale mark below the lines is a refused event with its code, a pale ground a settle.";
+
+/// The command line of the program. The rules of records stand below the help of `judge`.
+pub fn castgroup_command<'a>(
+    alloc: Global,
+    rules: &'static str,
+) -> Result<Command<'a>, AllocError> {
+    Command::new(alloc, "castgroup")
+        .about("A FIFO broadcast group with k-set agreement")
+        .version("0.1.0")
+        .subcommand_required(true)
+        .arg(explain_flag(alloc))?
+        .subcommand(run_command(alloc)?)?
+        .subcommand(judge_command(alloc, rules)?)?
+        .subcommand(live_command(alloc)?)?
+        .subcommand(migrate_command(alloc)?)?
+        .subcommand(draw_command(alloc)?)
+}
+
+// The flag that each command takes.
+fn explain_flag<'a>(alloc: Global) -> Arg<'a> {
+    Arg::new(alloc, "explain")
+        .long("explain")
+        .action(ArgAction::SetTrue)
+        .global(true)
+        .help("Say in one more line on standard error where a fault is, and why")
+}
+
+fn script<'a>(alloc: Global) -> Arg<'a> {
+    Arg::new(alloc, "SCRIPT").help("The script; standard input if absent")
+}
+
+fn record<'a>(alloc: Global) -> Arg<'a> {
+    Arg::new(alloc, "RECORD").help("The record; standard input if absent")
+}
+
+fn run_command<'a>(alloc: Global) -> Result<Command<'a>, AllocError> {
+    Command::new(alloc, "run")
+        .about("Writes the record of a script's events")
+        .after_help(REFUSALS)
+        .arg(script(alloc))
+}
+
+fn judge_command<'a>(alloc: Global, rules: &'static str) -> Result<Command<'a>, AllocError> {
+    Command::new(alloc, "judge")
+        .about("Says whether a record is good, or which line breaks which rule")
+        .after_help(rules)
+        .arg(record(alloc))
+}
+
+fn live_command<'a>(alloc: Global) -> Result<Command<'a>, AllocError> {
+    Command::new(alloc, "live")
+        .about(
+            "Runs a script's group in threads, by its plan and jobs, and writes what became of it",
+        )
+        .after_help(ENDS)
+        .arg(file(alloc, "record", "Also write the record of the run to FILE"))?
+        .arg(file(
+            alloc,
+            "replay",
+            "Also write to FILE a script that runs the same step by step",
+        ))?
+        .arg(progress_flag(alloc))?
+        .arg(script(alloc))
+}
+
+// An option that names a file to be written.
+fn file<'a>(alloc: Global, name: &'static str, help: &'static str) -> Arg<'a> {
+    Arg::new(alloc, name)
+        .long(name)
+        .value_name("FILE")
+        .help(help)
+}
+
+fn progress_flag<'a>(alloc: Global) -> Arg<'a> {
+    Arg::new(alloc, "progress")
+        .long("progress")
+        .action(ArgAction::SetTrue)
+        .help("Say on standard error each second how far the run is, as on a terminal")
+}
+
+fn migrate_command<'a>(alloc: Global) -> Result<Command<'a>, AllocError> {
+    Command::new(alloc, "migrate")
+        .about("Writes a cast/1 record with the head of cast/2")
+        .arg(record(alloc))
+}
+
+/// The command that draws the run of a script.
+pub fn draw_command<'a>(alloc: Global) -> Result<Command<'a>, AllocError> {
+    let from = "The first event that is drawn, counted from 0; the first of all if absent";
+    let to = "The last event that is drawn; the last of all if absent";
+    Command::new(alloc, "draw")
+        .about("Writes a picture of a script's events as SVG")
+        .after_help(MARKS)
+        .arg(place(alloc, "from", "A", from))?
+        .arg(place(alloc, "to", "B", to))?
+        .arg(script(alloc))
+}
+
+// An option that gives the place of an event.
+fn place<'a>(
+    alloc: Global,
+    name: &'static str,
+    value: &'static str,
+    help: &'static str,
+) -> Arg<'a> {
+    Arg::new(alloc, name)
+        .long(name)
+        .value_name(value)
+        .value_parser(value_parser!(u64))
+        .help(help)
+}

@@ -1,0 +1,8 @@
+//! The command line of the program `castgroup`: its commands with their arguments and help, and what the words of a call ask
+//! for. It stands apart from the program, so that neither is proved over all that the other stands on.
+#![tactic(auto)]
+
+mod commands;
+mod request;
+
+pub use request::{Call, Refusal, Request, RunFiles, Shown, parse};
