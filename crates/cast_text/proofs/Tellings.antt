@@ -59,7 +59,7 @@ chosen false n o e = (refl, e)
 prefix_kept : (xs : List Line) (line : Line) → said.broken xs line ≡ None → said.breaks_prefix xs line ≡ false
 unfolding said.broken
 prefix_kept xs line e =
-    let others = said.first_broken (record { number = 2; is_broken = said.is_after_close xs line } ∷ record { number = 3; is_broken = said.is_not_proposed xs line } ∷ record { number = 4; is_broken = said.is_of_too_many xs line } ∷ record { number = 5; is_broken = said.is_after_crash xs line } ∷ record { number = 6; is_broken = said.is_proposed_twice xs line } ∷ []) in
+    let others = said.first_broken 2 (said.is_after_close xs line ∷ said.is_not_proposed xs line ∷ said.is_of_too_many xs line ∷ said.is_after_crash xs line ∷ said.is_proposed_twice xs line ∷ []) in
     (chosen (said.breaks_prefix xs line) 1 others (chosen (said.is_out_of_place xs line) 0 (cond (said.breaks_prefix xs line) (Some 1) others) e).1).0
 
 -- the same facts in other words
