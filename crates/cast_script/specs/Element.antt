@@ -37,6 +37,11 @@ number_of d = option_and_then as_u64 (as_number d)
 abbrev pub node_of : Data → Option ℕ
 node_of d = option_and_then (λ n. if nat_lt 255 n then None else Some n) (number_of d)
 
+-- what the first reader of this name makes of the places
+abbrev pub among : {A : Type 0} → List (List ℕ × (List Data → Option A)) → List ℕ → List Data → Option A
+among [] name ds = None
+among (reader ∷ others) name ds = if bytes_eq name reader.0 then reader.1 ds else among others name ds
+
 -- what the word in the first place makes of the others
 abbrev pub by_name : {A : Type 0} → (List ℕ → List Data → Option A) → List Data → Option A
 by_name read [] = None
@@ -60,10 +65,7 @@ close_of [] = Some Close
 close_of _ = None
 
 abbrev pub item_named : List ℕ → List Data → Option Item
-item_named name ds =
-    if bytes_eq name (codes "data") then data_of ds else (
-    if bytes_eq name (codes "propose") then proposal_of ds else (
-    if bytes_eq name (codes "close") then close_of ds else None))
+item_named name ds = among ((codes "data", data_of) ∷ (codes "propose", proposal_of) ∷ (codes "close", close_of) ∷ []) name ds
 
 abbrev pub item_of : List Data → Option Item
 item_of ds = by_name item_named ds
@@ -111,12 +113,10 @@ settle_of _ = None
 
 abbrev pub event_named : List ℕ → List Data → Option ScriptEvent
 event_named name ds =
-    if bytes_eq name (codes "order") then option_map Core (order_of ds) else (
-    if bytes_eq name (codes "send") then send_of ds else (
-    if bytes_eq name (codes "ack") then ack_of ds else (
-    if bytes_eq name (codes "arrive") then arrive_of ds else (
-    if bytes_eq name (codes "crash") then crash_of ds else (
-    if bytes_eq name (codes "settle") then settle_of ds else None)))))
+    among (
+    (codes "order", λ places. option_map Core (order_of places)) ∷ (codes "send", send_of) ∷ (codes "ack", ack_of)
+    ∷ (codes "arrive", arrive_of) ∷ (codes "crash", crash_of) ∷ (codes "settle", settle_of) ∷ []
+    ) name ds
 
 abbrev pub event_at : List Data → Option ScriptEvent
 event_at ds = by_name event_named ds
@@ -168,10 +168,7 @@ engine_crash_of _ = None
 
 abbrev pub fault_named : List ℕ → List Data → Option Fault
 fault_named name ds =
-    if bytes_eq name (codes "lose") then lose_of ds else (
-    if bytes_eq name (codes "repeat") then repeat_of ds else (
-    if bytes_eq name (codes "delay") then delay_of ds else (
-    if bytes_eq name (codes "crash") then engine_crash_of ds else None)))
+    among ((codes "lose", lose_of) ∷ (codes "repeat", repeat_of) ∷ (codes "delay", delay_of) ∷ (codes "crash", engine_crash_of) ∷ []) name ds
 
 abbrev pub fault_at : List Data → Option Fault
 fault_at ds = by_name fault_named ds
