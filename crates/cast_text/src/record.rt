@@ -55,7 +55,8 @@ impl<W: Write> Observer for Meter<W> {
     ghost use Rattle.cast_text.specs.RecordLaws.{observes};
     ghost use Rattle.cast_text.specs.Text.{Puts};
 
-    ghost saw = { λ old new result seen. Puts W.contents old new result (record_text (lines_of seen)) };
+    ghost saw = { λ old new result seen.
+        Puts W.contents old new result (record_text (lines_of seen)) };
 
     ghost ready = { λ meter. meter.failed ≡ false };
 
