@@ -92,7 +92,7 @@ run_fails input old read_failed failed script faults.NotV1 read is = absurd is
 
 module _ (input old new : Option (List ℕ)) (failed : Bool) (script : Script) (run : FinishedRun) (said : Summary) (read : IsScriptIn input script) (same : run.report.config ≡ script.config)
     (ran : IsRunOf script run.report.reports) (finished : IsFinished run) (told : IsSummaryOf run.report.config run.assembly.events said) where
-  summarized : Summarized input said
+  abbrev summarized : Summarized input said
   summarized = record {
     script = script;
     read = read;
