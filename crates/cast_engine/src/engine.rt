@@ -278,7 +278,7 @@ impl Engine {
         }
         match self.inbox.take(rt) {
             Some(parcel) => {
-                self.resend.hear(&parcel.frame);
+                self.resend.hear(self.journal.node(), &parcel.frame);
                 take_in(&mut self.journal, parcel)
             }
             None => None,

@@ -1,6 +1,6 @@
 //! Which slots are sent in which turn.
 use cast_engine::Resend;
-use cast_message::{Config, Frame, FrameBody, Item, Mode, NodeId};
+use cast_message::{Config, Frame, FrameBody, Item, Message, Mode, NodeId};
 use cast_node::Node;
 use std::alloc::Global;
 use std::test::*;
@@ -73,7 +73,7 @@ fn sent_past_a_loss(alloc: Global) -> Option<[Option<u64>; 3]> {
     for turn in 0..3 {
         resend.next_turn(&node);
         if turn == 2 {
-            resend.hear(&acknowledging(1, 1));
+            resend.hear(&node, &acknowledging(1, 1));
         }
         if let Some((to, slot)) = resend.next_due(&node) {
             resend.note(to, slot);
@@ -113,11 +113,11 @@ fn sent_round(alloc: Global) -> Option<[Option<(u8, u64)>; 10]> {
     for turn in 0..10 {
         resend.next_turn(&node);
         if turn == 4 {
-            resend.hear(&acknowledging(3, 0));
+            resend.hear(&node, &acknowledging(3, 0));
         }
         if turn == 6 {
-            resend.hear(&acknowledging(1, 0));
-            resend.hear(&acknowledging(2, 0));
+            resend.hear(&node, &acknowledging(1, 0));
+            resend.hear(&node, &acknowledging(2, 0));
         }
         if let Some((NodeId(to), slot)) = resend.next_due(&node) {
             resend.note(NodeId(to), slot);
@@ -175,5 +175,51 @@ fn sent_once_given(alloc: Global) -> Option<[Option<u64>; 4]> {
 fn a_slot_that_is_given_later_is_sent(rt: HostRuntime) -> Result<(), Fail> {
     let slots = sent_once_given(rt.alloc());
     assert!(&rt; slots.is_some_and(|slots| slots == [Some(0), None, Some(1), None]));
+    Ok(())
+}
+
+// A frame from node 1 to node 0 of three that carries the first message of node 1.
+fn carrying() -> Frame {
+    Frame {
+        from: NodeId(1),
+        seq: 0,
+        to: NodeId(0),
+        body: FrameBody::Carry {
+            slot: 0,
+            message: Message {
+                sender: NodeId(1),
+                number: 0,
+                item: Item::Close,
+            },
+        },
+    }
+}
+
+// To whom node 0 of three sends what in its first four turns. A message of node 1 comes before turn 1, and again before turn 2.
+fn sent_on(alloc: Global) -> Option<[Option<(u8, u64)>; 4]> {
+    let config = group(3, 64)?;
+    let mut node = owing(alloc, &config, 0)?;
+    let mut resend = Resend::new(alloc, &config).ok()?;
+    let mut sent = [None; 4];
+    for turn in 0..4 {
+        resend.next_turn(&node);
+        if turn == 1 || turn == 2 {
+            let frame = carrying();
+            resend.hear(&node, &frame);
+            let _ = node.arrive(&frame).ok()?;
+        }
+        if let Some((NodeId(to), slot)) = resend.next_due(&node) {
+            resend.note(NodeId(to), slot);
+            sent[turn] = Some((to, slot));
+        }
+    }
+    Some(sent)
+}
+
+// A message that is new is passed on to the third node, once.
+#[test]
+fn a_message_that_came_is_passed_on(rt: HostRuntime) -> Result<(), Fail> {
+    let expected = [None, Some((2, 0)), None, None];
+    assert!(&rt; sent_on(rt.alloc()).is_some_and(|sent| sent == expected));
     Ok(())
 }
