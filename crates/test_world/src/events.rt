@@ -1,47 +1,71 @@
-//! Items and events, in few words.
+//! What happens in a group, in few words: the rows of the tests' tables, and the events that they stand for.
 use bytes::Bytes;
-use cast_message::{Event, Item, NodeId, Payload};
+use cast_message::{Config, ConfigFault, Event, Item, Mode, NodeId, Payload};
 use std::alloc::{AllocError, Global};
+
+/// An event as a row tells it. Each proposal is one in instance 7.
+#[derive(Clone, Copy)]
+pub enum Act {
+    /// The node orders a payload of one letter.
+    Data(u8, u8),
+    /// The node proposes a value.
+    Propose(u8, u64),
+    /// The node closes its stream.
+    Close(u8),
+    Send(u8, u8, u64),
+    Ack(u8, u8, u64),
+    Arrive(u8, u64),
+    Crash(u8),
+}
+
+/// The limits of a group of so many nodes, faults and choices.
+pub fn config(nodes: u64, faults: u64, choices: u64, mode: Mode) -> Result<Config, ConfigFault> {
+    Config::check(nodes, faults, choices, 4096, 65_536, 16, 0, mode)
+}
 
 pub fn data(alloc: Global, bytes: &[u8]) -> Result<Item, AllocError> {
     let bytes = Bytes::copy_from_slice(alloc, bytes)?;
     Ok(Item::Data(Payload::new(bytes)))
 }
 
+pub fn propose(value: u64) -> Item {
+    Item::Propose { instance: 7, value }
+}
+
 pub fn order(node: u8, item: Item) -> Event {
-    Event::Order {
-        node: NodeId(node),
-        item,
+    let node = NodeId(node);
+    Event::Order { node, item }
+}
+
+/// The event that a row tells.
+pub fn event(alloc: Global, act: Act) -> Result<Event, AllocError> {
+    Ok(match act {
+        Act::Data(node, letter) => order(node, data(alloc, &[letter])?),
+        Act::Propose(node, value) => order(node, propose(value)),
+        Act::Close(node) => order(node, Item::Close),
+        Act::Send(from, to, slot) => Event::Send {
+            from: NodeId(from),
+            to: NodeId(to),
+            slot,
+        },
+        Act::Ack(from, to, slot) => Event::Ack {
+            from: NodeId(from),
+            to: NodeId(to),
+            slot,
+        },
+        Act::Arrive(from, seq) => Event::Arrive {
+            from: NodeId(from),
+            seq,
+        },
+        Act::Crash(node) => Event::Crash { node: NodeId(node) },
+    })
+}
+
+/// The events that these rows tell.
+pub fn events(alloc: Global, acts: &[Act]) -> Result<Vec<Event>, AllocError> {
+    let mut events = Vec::new(alloc);
+    for act in acts {
+        events.push(event(alloc, *act)?)?;
     }
-}
-
-pub fn propose(node: u8, instance: u64, value: u64) -> Event {
-    order(node, Item::Propose { instance, value })
-}
-
-pub fn send(from: u8, to: u8, slot: u64) -> Event {
-    Event::Send {
-        from: NodeId(from),
-        to: NodeId(to),
-        slot,
-    }
-}
-
-pub fn ack(from: u8, to: u8, slot: u64) -> Event {
-    Event::Ack {
-        from: NodeId(from),
-        to: NodeId(to),
-        slot,
-    }
-}
-
-pub fn arrive(from: u8, seq: u64) -> Event {
-    Event::Arrive {
-        from: NodeId(from),
-        seq,
-    }
-}
-
-pub fn crash(node: u8) -> Event {
-    Event::Crash { node: NodeId(node) }
+    Ok(events)
 }

@@ -1,113 +1,96 @@
 //! Nodes by hand: rows of the worked examples, frames that no node could have made, and each refusal; and the same of frames
 //! that are told by their numbers.
-use cast_message::{Config, Frame, FrameBody, Item, Message, Mode, NodeId, StepFault};
+use crate::events::{config, propose};
+use cast_message::{Frame, FrameBody, Item, Message, Mode, NodeId, StepFault};
 use cast_node::Node;
-use std::alloc::{AllocError, Global};
+use std::alloc::Global;
+use std::process::Abort;
 use std::test::Fail;
 
 // How often a node can make a frame.
 const MOST_FRAMES: u64 = 1_048_576;
 
+// What a row asks of a node. Nodes, slots and messages are told by their numbers; each message that is brought is a Close.
+#[derive(Clone, Copy)]
+enum Ask {
+    // The node closes its stream.
+    Close,
+    // The node proposes 4 in instance 7.
+    Propose,
+    Crash,
+    // To a node, of a slot.
+    Send(u8, u64),
+    Ack(u8, u64),
+    SendNumbers(u8, u64),
+    AckNumber(u8, u64),
+    // From a node, of a sender, with the message's number and the slot.
+    Carry(u8, u8, u64, u64),
+    // The same, where the node holds the message.
+    CarryAgain(u8, u8, u64, u64),
+    // From a node, of a slot.
+    Took(u8, u64),
+    MayArrive,
+    See(Sight),
+}
+
+// What a node shows.
+#[derive(Clone, Copy)]
+enum Sight {
+    Stream,
+    // Of a sender.
+    Delivered(u8),
+    Decision(u64),
+    Owed(u8),
+    LeastOwed(u8, u64),
+    Frames,
+    // Of a sender and a number.
+    KnownBy(u8, u64),
+    Holds(u8, u64),
+    OwesNothing,
+}
+
+// What a node answers.
+#[derive(Clone, Copy, Debug, PartialEq, Eq)]
+enum Answer {
+    // An item of this number, by which so many messages were delivered.
+    Ordered(u64, usize),
+    // So many messages were delivered.
+    Delivered(usize),
+    // A frame of this number.
+    Frame(u64),
+    // A frame's number, and the sender and the number of its message.
+    Message(u64, u8, u64),
+    Done,
+    Nothing,
+    Number(u64),
+    Is(bool),
+}
+
 // A node of a group that has decided by the proposals of all but the faults.
-fn node(alloc: Global, nodes: u64, faults: u64, mode: Mode, id: u8) -> Result<Node, StepFault> {
-    match Config::check(nodes, faults, 1, 4096, 65_536, 16, 0, mode) {
-        Ok(config) => Node::new(alloc, &config, NodeId(id)),
-        Err(_) => Err(StepFault::NoFrame),
+fn node(alloc: Global, nodes: u64, faults: u64, mode: Mode, id: u8) -> Result<Node, Fail> {
+    let config = config(nodes, faults, 1, mode)?;
+    Ok(Node::new(alloc, &config, NodeId(id))?)
+}
+
+fn close_of(sender: u8, number: u64) -> Message {
+    Message {
+        sender: NodeId(sender),
+        number,
+        item: Item::Close,
     }
 }
 
-// How many messages a frame brings, which is for this node.
-fn bring(node: &mut Node, frame: &Frame) -> Result<usize, StepFault> {
+// What a frame brings to its node.
+fn bring(node: &mut Node, frame: &Frame) -> Result<Answer, StepFault> {
     if frame.to.0 != node.id().0 {
         return Err(StepFault::NoFrame);
     }
     let outcome = node.arrive(frame)?;
-    Ok(outcome.deliveries.as_slice().len())
+    Ok(Answer::Delivered(outcome.deliveries.as_slice().len()))
 }
 
-// How many messages a Carry of a Close to node 0 brings.
-fn bring_close(
-    node: &mut Node,
-    from: u8,
-    sender: u8,
-    number: u64,
-    slot: u64,
-) -> Result<usize, StepFault> {
-    let message = Message {
-        sender: NodeId(sender),
-        number,
-        item: Item::Close,
-    };
-    let frame = Frame {
-        from: NodeId(from),
-        seq: 0,
-        to: NodeId(0),
-        body: FrameBody::Carry { slot, message },
-    };
-    bring(node, &frame)
-}
-
-// How many messages an order delivers.
-fn order(node: &mut Node, item: Item) -> Result<usize, StepFault> {
-    let (_number, outcome) = node.order(item)?;
-    Ok(outcome.deliveries.as_slice().len())
-}
-
-// Sends a slot and brings the frame to its target: how many messages it brings.
-fn carry(from: &mut Node, to: &mut Node, slot: u64) -> Result<usize, StepFault> {
-    let frame = from.send(to.id(), slot)?;
-    bring(to, &frame)
-}
-
-// Acknowledges a slot and brings the frame to its target.
-fn acknowledge(from: &mut Node, to: &mut Node, slot: u64) -> Result<usize, StepFault> {
-    let frame = from.ack(to.id(), slot)?;
-    bring(to, &frame)
-}
-
-// A frame that carries a slot: its number, and the sender and the number of its message.
-fn send_numbers(node: &mut Node, to: u8, slot: u64) -> Result<(u64, u8, u64), StepFault> {
-    let sent = node.send_numbers(NodeId(to), slot)?;
-    Ok((sent.seq, sent.sender.0, sent.number))
-}
-
-fn ack_number(node: &mut Node, to: u8, slot: u64) -> Result<u64, StepFault> {
-    node.ack_number(NodeId(to), slot)
-}
-
-// How many messages a frame brings that carries a pair which the node holds.
-fn bring_again(
-    node: &mut Node,
-    from: u8,
-    sender: u8,
-    number: u64,
-    slot: u64,
-) -> Result<usize, StepFault> {
-    if !node.holds(NodeId(sender), number) {
-        return Err(StepFault::NoFrame);
-    }
-    let sender = NodeId(sender);
-    if node.arrive_again_silently(NodeId(from), slot, sender, number) {
-        return Ok(0);
-    }
-    let message = Message {
-        sender,
-        number,
-        item: Item::Close,
-    };
-    bring_body(node, from, FrameBody::Carry { slot, message })
-}
-
-// How many messages a peer's word brings that it took a slot.
-fn bring_word(node: &mut Node, from: u8, slot: u64) -> Result<usize, StepFault> {
-    if node.arrive_took_silently(NodeId(from), slot) {
-        return Ok(0);
-    }
-    bring_body(node, from, FrameBody::Took { slot })
-}
-
-// How many messages a frame of a peer brings.
-fn bring_body(node: &mut Node, from: u8, body: FrameBody) -> Result<usize, StepFault> {
+// A frame of a peer comes to the node.
+fn take(node: &mut Node, from: u8, body: FrameBody) -> Result<Answer, StepFault> {
     let frame = Frame {
         from: NodeId(from),
         seq: 0,
@@ -117,295 +100,374 @@ fn bring_body(node: &mut Node, from: u8, body: FrameBody) -> Result<usize, StepF
     bring(node, &frame)
 }
 
-fn send(node: &mut Node, to: u8, slot: u64) -> Option<StepFault> {
-    refusal(node.send(NodeId(to), slot))
+fn carry(node: &mut Node, from: u8, message: Message, slot: u64) -> Result<Answer, StepFault> {
+    take(node, from, FrameBody::Carry { slot, message })
 }
 
-fn ack(node: &mut Node, to: u8, slot: u64) -> Option<StepFault> {
-    refusal(node.ack(NodeId(to), slot))
+fn carry_again(
+    node: &mut Node,
+    from: u8,
+    message: Message,
+    slot: u64,
+) -> Result<Answer, StepFault> {
+    let (sender, number) = (message.sender, message.number);
+    if !node.holds(sender, number) {
+        return Err(StepFault::NoFrame);
+    }
+    if node.arrive_again_silently(NodeId(from), slot, sender, number) {
+        return Ok(Answer::Delivered(0));
+    }
+    carry(node, from, message, slot)
 }
 
-fn crash(node: &mut Node) -> Option<StepFault> {
-    refusal(node.crash())
+fn took(node: &mut Node, from: u8, slot: u64) -> Result<Answer, StepFault> {
+    if node.arrive_took_silently(NodeId(from), slot) {
+        return Ok(Answer::Delivered(0));
+    }
+    take(node, from, FrameBody::Took { slot })
 }
 
-fn delivered(node: &Node, sender: u8) -> usize {
-    match node.delivered(NodeId(sender)) {
-        Some(items) => items.len(),
-        None => 99,
+fn order(node: &mut Node, item: Item) -> Result<Answer, StepFault> {
+    let (number, outcome) = node.order(item)?;
+    Ok(Answer::Ordered(number, outcome.deliveries.as_slice().len()))
+}
+
+fn send_numbers(node: &mut Node, to: u8, slot: u64) -> Result<Answer, StepFault> {
+    let sent = node.send_numbers(NodeId(to), slot)?;
+    Ok(Answer::Message(sent.seq, sent.sender.0, sent.number))
+}
+
+fn frame_number(frame: Frame) -> Answer {
+    Answer::Frame(frame.seq)
+}
+
+fn may_arrive(node: &Node) -> Result<Answer, StepFault> {
+    match node.arrive_fault() {
+        Some(fault) => Err(fault),
+        None => Ok(Answer::Done),
     }
 }
 
-fn refusal<T>(answer: Result<T, StepFault>) -> Option<StepFault>
-where
-    T: Drop,
-{
-    match answer {
-        Ok(_) => None,
-        Err(refusal) => Some(refusal),
+fn number(value: Option<u64>) -> Answer {
+    match value {
+        Some(value) => Answer::Number(value),
+        None => Answer::Nothing,
     }
 }
 
-// Each reader of node 1 of three, which proposed 4 in instance 7.
-fn shows_one_proposal(node: &Node) -> bool {
-    node.stream().len() == 1
-        && delivered(node, 1) == 1
-        && delivered(node, 3) == 99
-        && node.decision(7) == None
-        && node.owed(NodeId(0)) == Some(1)
-        && node.owed(NodeId(1)) == None
-        && node.least_owed(NodeId(0), 0) == Some(0)
-        && node.known_by(NodeId(1), 0) == 1
-        && node.frames() == 0
+fn length(items: Option<&[Item]>) -> Answer {
+    number(items.map(|items| items.len() as u64))
 }
 
-// What node 1 of three refuses, which took nothing.
-fn refuses(node: &mut Node) -> bool {
-    ack(node, 0, 0) == Some(StepFault::NotTaken)
-        && send(node, 1, 0) == Some(StepFault::SelfLink)
-        && send(node, 3, 0) == Some(StepFault::NoNode)
-        && send(node, 0, 2) == Some(StepFault::NoSlot)
+fn see(node: &Node, sight: Sight) -> Answer {
+    match sight {
+        Sight::Stream => length(Some(node.stream())),
+        Sight::Delivered(sender) => length(node.delivered(NodeId(sender))),
+        Sight::Decision(instance) => number(node.decision(instance)),
+        Sight::Owed(to) => number(node.owed(NodeId(to))),
+        Sight::LeastOwed(to, from) => number(node.least_owed(NodeId(to), from)),
+        Sight::Frames => Answer::Number(node.frames()),
+        Sight::KnownBy(sender, number) => Answer::Number(node.known_by(NodeId(sender), number)),
+        Sight::Holds(sender, number) => Answer::Is(node.holds(NodeId(sender), number)),
+        Sight::OwesNothing => Answer::Is(node.owes_nothing()),
+    }
 }
 
-// What node 1 of three does, from its proposal to its crash.
-fn proposes_and_crashes(node: &mut Node, proposal: Item) -> bool {
-    order(node, proposal) == Ok(1)
-        && shows_one_proposal(node)
-        && refuses(node)
-        && crash(node) == None
-        && crash(node) == Some(StepFault::Crashed)
+fn reply_to(node: &mut Node, ask: Ask) -> Result<Answer, StepFault> {
+    match ask {
+        Ask::Close => order(node, Item::Close),
+        Ask::Propose => order(node, propose(4)),
+        Ask::Crash => node.crash().map(|_| Answer::Done),
+        Ask::Send(to, slot) => node.send(NodeId(to), slot).map(frame_number),
+        Ask::Ack(to, slot) => node.ack(NodeId(to), slot).map(frame_number),
+        Ask::SendNumbers(to, slot) => send_numbers(node, to, slot),
+        Ask::AckNumber(to, slot) => node.ack_number(NodeId(to), slot).map(Answer::Frame),
+        Ask::Carry(from, sender, number, slot) => {
+            carry(node, from, close_of(sender, number), slot)
+        }
+        Ask::CarryAgain(from, sender, number, slot) => {
+            carry_again(node, from, close_of(sender, number), slot)
+        }
+        Ask::Took(from, slot) => took(node, from, slot),
+        Ask::MayArrive => may_arrive(node),
+        Ask::See(sight) => Ok(see(node, sight)),
+    }
 }
 
-// Frames that no node of two could have made for node 0.
-fn leaves_alone(node: &mut Node) -> bool {
-    bring_close(node, 0, 1, 0, 0) == Ok(0)
-        && bring_close(node, 2, 1, 0, 0) == Ok(0)
-        && bring_close(node, 1, 0, 0, 0) == Ok(0)
-        && bring_close(node, 1, 2, 0, 0) == Ok(0)
-        && bring_close(node, 1, 1, 4096, 0) == Ok(0)
-        && bring_close(node, 1, 1, 0, 8192) == Ok(0)
+// What a node is asked, row by row, and what it answers.
+type Rows = &'static [(Ask, Result<Answer, StepFault>)];
+
+fn expect_rows(rt: &impl Abort, node: &mut Node, rows: Rows) {
+    for (index, (ask, wanted)) in rows.iter().enumerate() {
+        assert_eq!(rt; reply_to(node, *ask), *wanted, "row {index}");
+    }
 }
 
-// A Close of node 0 that node 1 takes: how many messages the order, the Carry and the acknowledgement deliver.
-fn exchange(
-    first: &mut Node,
-    second: &mut Node,
-    ordered: usize,
-    carried: usize,
-    acknowledged: usize,
-) -> bool {
-    order(first, Item::Close) == Ok(ordered)
-        && carry(first, second, 0) == Ok(carried)
-        && acknowledge(second, first, 0) == Ok(acknowledged)
-        && first.owed(NodeId(1)) == Some(0)
+// A node that was asked these rows, and answered so.
+fn expect_node(
+    rt: &(impl Abort + AllocGlobal),
+    (nodes, faults, mode, id): (u64, u64, Mode, u8),
+    rows: Rows,
+) -> Result<Node, Fail> {
+    let mut node = node(rt.alloc(), nodes, faults, mode, id)?;
+    expect_rows(rt, &mut node, rows);
+    Ok(node)
 }
 
-// Whether an exchange between nodes 0 and 1 of three delivers as many messages.
-fn exchanges(
-    alloc: Global,
-    mode: Mode,
-    ordered: usize,
-    carried: usize,
-    acknowledged: usize,
-) -> Result<bool, StepFault> {
-    let mut first = node(alloc, 3, 1, mode, 0)?;
-    let mut second = node(alloc, 3, 1, mode, 1)?;
-    Ok(exchange(&mut first, &mut second, ordered, carried, acknowledged))
+// Node 1 of three proposes and crashes. It took nothing.
+const PROPOSAL: Rows = &[
+    (Ask::Propose, Ok(Answer::Ordered(0, 1))),
+    (Ask::See(Sight::Stream), Ok(Answer::Number(1))),
+    (Ask::See(Sight::Delivered(1)), Ok(Answer::Number(1))),
+    (Ask::See(Sight::Delivered(3)), Ok(Answer::Nothing)),
+    (Ask::See(Sight::Decision(7)), Ok(Answer::Nothing)),
+    (Ask::See(Sight::Owed(0)), Ok(Answer::Number(1))),
+    (Ask::See(Sight::Owed(1)), Ok(Answer::Nothing)),
+    (Ask::See(Sight::LeastOwed(0, 0)), Ok(Answer::Number(0))),
+    (Ask::See(Sight::KnownBy(1, 0)), Ok(Answer::Number(1))),
+    (Ask::See(Sight::Frames), Ok(Answer::Number(0))),
+    (Ask::Ack(0, 0), Err(StepFault::NotTaken)),
+    (Ask::Send(1, 0), Err(StepFault::SelfLink)),
+    (Ask::Send(3, 0), Err(StepFault::NoNode)),
+    (Ask::Send(0, 2), Err(StepFault::NoSlot)),
+    (Ask::Crash, Ok(Answer::Done)),
+    (Ask::Crash, Err(StepFault::Crashed)),
+];
+
+#[test]
+fn shows_what_it_did(rt: HostRuntime) -> Result<(), Fail> {
+    expect_node(&rt, (3, 1, Mode::Basic, 1), PROPOSAL)?;
+    Ok(())
+}
+
+const STRANGE_FRAMES: Rows = &[
+    // Node 0 took nothing.
+    (Ask::Ack(1, 0), Err(StepFault::NotTaken)),
+    // No node of two could have made these for it.
+    (Ask::Carry(0, 1, 0, 0), Ok(Answer::Delivered(0))),
+    (Ask::Carry(2, 1, 0, 0), Ok(Answer::Delivered(0))),
+    (Ask::Carry(1, 0, 0, 0), Ok(Answer::Delivered(0))),
+    (Ask::Carry(1, 2, 0, 0), Ok(Answer::Delivered(0))),
+    (Ask::Carry(1, 1, 4096, 0), Ok(Answer::Delivered(0))),
+    (Ask::Carry(1, 1, 0, 8192), Ok(Answer::Delivered(0))),
+    // Node 1 could have made this one.
+    (Ask::Carry(1, 1, 0, 8191), Ok(Answer::Delivered(1))),
+];
+
+#[test]
+fn leaves_alone_what_no_node_could_have_made(rt: HostRuntime) -> Result<(), Fail> {
+    expect_node(&rt, (2, 0, Mode::Basic, 0), STRANGE_FRAMES)?;
+    Ok(())
 }
 
 // Node 0 takes a Close of node 1, and orders one of its own.
-fn has_two_to_send(node: &mut Node) -> bool {
-    send_numbers(node, 1, 0) == Err(StepFault::NoSlot)
-        && bring_close(node, 1, 1, 0, 0) == Ok(1)
-        && order(node, Item::Close) == Ok(1)
-}
+const TWO_TO_SEND: Rows = &[
+    (Ask::SendNumbers(1, 0), Err(StepFault::NoSlot)),
+    (Ask::Carry(1, 1, 0, 0), Ok(Answer::Delivered(1))),
+    (Ask::Close, Ok(Answer::Ordered(0, 1))),
+];
 
-// Of three nodes the other two are told of the own Close, and node 2 of that of node 1.
-fn tells_numbers(node: &mut Node) -> bool {
-    send_numbers(node, 2, 0) == Ok((0, 1, 0))
-        && send_numbers(node, 2, 1) == Ok((1, 0, 0))
-        && send_numbers(node, 1, 0) == Ok((2, 0, 0))
-        && node.frames() == 3
-}
+const NUMBERS: Rows = &[
+    // Of three nodes the other two are told of the own Close, and node 2 of that of node 1.
+    (Ask::SendNumbers(2, 0), Ok(Answer::Message(0, 1, 0))),
+    (Ask::SendNumbers(2, 1), Ok(Answer::Message(1, 0, 0))),
+    (Ask::SendNumbers(1, 0), Ok(Answer::Message(2, 0, 0))),
+    (Ask::See(Sight::Frames), Ok(Answer::Number(3))),
+    (Ask::SendNumbers(3, 0), Err(StepFault::NoNode)),
+    (Ask::SendNumbers(0, 0), Err(StepFault::SelfLink)),
+    (Ask::SendNumbers(1, 1), Err(StepFault::NoSlot)),
+    // What was acknowledged is not sent again, and nothing after a crash.
+    (Ask::Took(1, 0), Ok(Answer::Delivered(0))),
+    (Ask::SendNumbers(1, 0), Err(StepFault::Acked)),
+    (Ask::Crash, Ok(Answer::Done)),
+    (Ask::SendNumbers(2, 0), Err(StepFault::Crashed)),
+    (Ask::See(Sight::Frames), Ok(Answer::Number(3))),
+];
 
-fn refuses_numbers(node: &mut Node) -> bool {
-    send_numbers(node, 3, 0) == Err(StepFault::NoNode)
-        && send_numbers(node, 0, 0) == Err(StepFault::SelfLink)
-        && send_numbers(node, 1, 1) == Err(StepFault::NoSlot)
-}
-
-// What was acknowledged is not sent again, and nothing after a crash.
-fn tells_no_more_numbers(node: &mut Node) -> bool {
-    bring_word(node, 1, 0) == Ok(0)
-        && send_numbers(node, 1, 0) == Err(StepFault::Acked)
-        && crash(node) == None
-        && send_numbers(node, 2, 0) == Err(StepFault::Crashed)
-        && node.frames() == 3
+#[test]
+fn sends_by_numbers(rt: HostRuntime) -> Result<(), Fail> {
+    let mut node = expect_node(&rt, (3, 1, Mode::Basic, 0), TWO_TO_SEND)?;
+    expect_rows(&rt, &mut node, NUMBERS);
+    Ok(())
 }
 
 // Node 0 acknowledges slot 0 of node 1 as often as it is asked to.
-fn acknowledges_what_it_took(node: &mut Node) -> bool {
-    ack_number(node, 1, 0) == Err(StepFault::NotTaken)
-        && bring_close(node, 1, 1, 0, 0) == Ok(1)
-        && ack_number(node, 1, 0) == Ok(0)
-        && ack_number(node, 1, 0) == Ok(1)
-}
+const ACKNOWLEDGEMENTS: Rows = &[
+    (Ask::AckNumber(1, 0), Err(StepFault::NotTaken)),
+    (Ask::Carry(1, 1, 0, 0), Ok(Answer::Delivered(1))),
+    (Ask::AckNumber(1, 0), Ok(Answer::Frame(0))),
+    (Ask::AckNumber(1, 0), Ok(Answer::Frame(1))),
+    (Ask::AckNumber(3, 0), Err(StepFault::NoNode)),
+    (Ask::AckNumber(0, 0), Err(StepFault::SelfLink)),
+    (Ask::AckNumber(1, 1), Err(StepFault::NotTaken)),
+    (Ask::Crash, Ok(Answer::Done)),
+    (Ask::AckNumber(1, 0), Err(StepFault::Crashed)),
+    (Ask::See(Sight::Frames), Ok(Answer::Number(2))),
+];
 
-fn refuses_acknowledgements(node: &mut Node) -> bool {
-    ack_number(node, 3, 0) == Err(StepFault::NoNode)
-        && ack_number(node, 0, 0) == Err(StepFault::SelfLink)
-        && ack_number(node, 1, 1) == Err(StepFault::NotTaken)
-        && crash(node) == None
-        && ack_number(node, 1, 0) == Err(StepFault::Crashed)
-        && node.frames() == 2
+#[test]
+fn acknowledges_by_number(rt: HostRuntime) -> Result<(), Fail> {
+    expect_node(&rt, (3, 1, Mode::Basic, 0), ACKNOWLEDGEMENTS)?;
+    Ok(())
 }
 
 fn make_all_frames(node: &mut Node) -> Result<(), StepFault> {
     for _frame in 0..MOST_FRAMES {
-        ack_number(node, 1, 0)?;
+        node.ack_number(NodeId(1), 0)?;
     }
     Ok(())
 }
 
-fn has_made_all_frames(node: &mut Node) -> bool {
-    ack_number(node, 1, 0) == Err(StepFault::FramesFull)
-        && send_numbers(node, 1, 0) == Err(StepFault::FramesFull)
-        && node.frames() == MOST_FRAMES
-}
-
-// Node 0 takes a Close of node 1.
-fn comes_to_hold(node: &mut Node) -> bool {
-    !node.holds(NodeId(1), 0)
-        && bring_close(node, 1, 1, 0, 0) == Ok(0)
-        && node.holds(NodeId(1), 0)
-        && !node.holds(NodeId(1), 1)
-        && !node.holds(NodeId(9), 0)
-}
-
-// None of these could a peer of five have made for node 0.
-fn leaves_pairs_alone(node: &mut Node) -> bool {
-    bring_again(node, 0, 1, 0, 0) == Ok(0)
-        && bring_again(node, 5, 1, 0, 0) == Ok(0)
-        && bring_again(node, 2, 1, 0, 20_480) == Ok(0)
-        && node.known_by(NodeId(1), 0) == 2
-}
-
-fn hears_of_two_more_holders(node: &mut Node) -> bool {
-    bring_again(node, 2, 1, 0, 20_479) == Ok(1)
-        && bring_again(node, 3, 1, 0, 0) == Ok(0)
-        && node.known_by(NodeId(1), 0) == 4
-        && ack_number(node, 2, 20_479) == Ok(0)
-        && ack_number(node, 3, 0) == Ok(1)
-}
-
-// Node 0 orders a Close, which no peer could carry to it.
-fn comes_to_owe(node: &mut Node) -> bool {
-    node.owes_nothing()
-        && order(node, Item::Close) == Ok(0)
-        && !node.owes_nothing()
-        && bring_again(node, 1, 0, 0, 0) == Ok(0)
-}
-
-// These are words of no peer of three, or of a slot that was not given.
-fn leaves_words_alone(node: &mut Node) -> bool {
-    bring_word(node, 0, 0) == Ok(0)
-        && bring_word(node, 3, 0) == Ok(0)
-        && bring_word(node, 1, 1) == Ok(0)
-        && node.known_by(NodeId(0), 0) == 1
-}
-
-fn comes_to_owe_nothing(node: &mut Node) -> bool {
-    bring_word(node, 1, 0) == Ok(1)
-        && bring_word(node, 1, 0) == Ok(0)
-        && !node.owes_nothing()
-        && bring_word(node, 2, 0) == Ok(0)
-        && node.owes_nothing()
-}
-
-fn hears_nothing_when_crashed(node: &mut Node) -> bool {
-    node.arrive_fault() == None
-        && crash(node) == None
-        && node.arrive_fault() == Some(StepFault::Crashed)
-        && bring_word(node, 2, 0) == Err(StepFault::Crashed)
-}
-
-#[test]
-fn carries_from_one_node_to_another(rt: HostRuntime) -> Result<(), Fail> {
-    assert!(rt; exchanges(rt.alloc(), Mode::Basic, 1, 1, 0)?);
-    Ok(())
-}
-
-#[test]
-fn shows_what_it_did(rt: HostRuntime) -> Result<(), Fail> {
-    let mut node = node(rt.alloc(), 3, 1, Mode::Basic, 1)?;
-    let proposal = Item::Propose {
-        instance: 7,
-        value: 4,
-    };
-    assert!(rt; proposes_and_crashes(&mut node, proposal));
-    Ok(())
-}
-
-#[test]
-fn waits_for_a_second_holder_in_uniform_mode(rt: HostRuntime) -> Result<(), Fail> {
-    assert!(rt; exchanges(rt.alloc(), Mode::Uniform, 0, 1, 1)?);
-    Ok(())
-}
-
-#[test]
-fn leaves_alone_what_no_node_could_have_made(rt: HostRuntime) -> Result<(), Fail> {
-    let mut node = node(rt.alloc(), 2, 0, Mode::Basic, 0)?;
-    assert!(rt; leaves_alone(&mut node));
-    assert!(rt; bring_close(&mut node, 1, 1, 0, 8191)? == 1);
-    Ok(())
-}
-
-#[test]
-fn sends_by_numbers(rt: HostRuntime) -> Result<(), Fail> {
-    let mut node = node(rt.alloc(), 3, 1, Mode::Basic, 0)?;
-    assert!(rt; has_two_to_send(&mut node));
-    assert!(rt; tells_numbers(&mut node));
-    assert!(rt; refuses_numbers(&mut node));
-    assert!(rt; tells_no_more_numbers(&mut node));
-    Ok(())
-}
-
-#[test]
-fn acknowledges_by_number(rt: HostRuntime) -> Result<(), Fail> {
-    let mut node = node(rt.alloc(), 3, 1, Mode::Basic, 0)?;
-    assert!(rt; acknowledges_what_it_took(&mut node));
-    assert!(rt; refuses_acknowledgements(&mut node));
-    Ok(())
-}
+const ALL_FRAMES: Rows = &[
+    (Ask::AckNumber(1, 0), Err(StepFault::FramesFull)),
+    (Ask::SendNumbers(1, 0), Err(StepFault::FramesFull)),
+    (Ask::See(Sight::Frames), Ok(Answer::Number(MOST_FRAMES))),
+];
 
 #[test]
 fn makes_no_more_frames_than_it_can(rt: HostRuntime) -> Result<(), Fail> {
-    let mut node = node(rt.alloc(), 2, 0, Mode::Basic, 0)?;
-    assert!(rt; has_two_to_send(&mut node));
+    let mut node = expect_node(&rt, (2, 0, Mode::Basic, 0), TWO_TO_SEND)?;
     make_all_frames(&mut node)?;
-    assert!(rt; has_made_all_frames(&mut node));
+    expect_rows(&rt, &mut node, ALL_FRAMES);
     Ok(())
 }
+
+const HOLDERS: Rows = &[
+    // Node 0 takes a Close of node 1.
+    (Ask::See(Sight::Holds(1, 0)), Ok(Answer::Is(false))),
+    (Ask::Carry(1, 1, 0, 0), Ok(Answer::Delivered(0))),
+    (Ask::See(Sight::Holds(1, 0)), Ok(Answer::Is(true))),
+    (Ask::See(Sight::Holds(1, 1)), Ok(Answer::Is(false))),
+    (Ask::See(Sight::Holds(9, 0)), Ok(Answer::Is(false))),
+    // None of these could a peer of five have made for node 0.
+    (Ask::CarryAgain(0, 1, 0, 0), Ok(Answer::Delivered(0))),
+    (Ask::CarryAgain(5, 1, 0, 0), Ok(Answer::Delivered(0))),
+    (Ask::CarryAgain(2, 1, 0, 20_480), Ok(Answer::Delivered(0))),
+    (Ask::See(Sight::KnownBy(1, 0)), Ok(Answer::Number(2))),
+    // Two more hold it.
+    (Ask::CarryAgain(2, 1, 0, 20_479), Ok(Answer::Delivered(1))),
+    (Ask::CarryAgain(3, 1, 0, 0), Ok(Answer::Delivered(0))),
+    (Ask::See(Sight::KnownBy(1, 0)), Ok(Answer::Number(4))),
+    (Ask::AckNumber(2, 20_479), Ok(Answer::Frame(0))),
+    (Ask::AckNumber(3, 0), Ok(Answer::Frame(1))),
+    (Ask::Crash, Ok(Answer::Done)),
+    (Ask::CarryAgain(4, 1, 0, 0), Err(StepFault::Crashed)),
+];
 
 // In uniform mode, of a group of five that tolerates two faults, the third holder is the last that a delivery waits for.
 #[test]
 fn hears_of_a_pair_again(rt: HostRuntime) -> Result<(), Fail> {
-    let mut node = node(rt.alloc(), 5, 2, Mode::Uniform, 0)?;
-    assert!(rt; comes_to_hold(&mut node));
-    assert!(rt; leaves_pairs_alone(&mut node));
-    assert!(rt; hears_of_two_more_holders(&mut node));
-    assert!(rt;
-        crash(&mut node) == None && bring_again(&mut node, 4, 1, 0, 0) == Err(StepFault::Crashed)
+    expect_node(&rt, (5, 2, Mode::Uniform, 0), HOLDERS)?;
+    Ok(())
+}
+
+const WORDS: Rows = &[
+    // Node 0 orders a Close, which no peer could carry to it.
+    (Ask::See(Sight::OwesNothing), Ok(Answer::Is(true))),
+    (Ask::Close, Ok(Answer::Ordered(0, 0))),
+    (Ask::See(Sight::OwesNothing), Ok(Answer::Is(false))),
+    (Ask::CarryAgain(1, 0, 0, 0), Ok(Answer::Delivered(0))),
+    // These are words of no peer of three, or of a slot that was not given.
+    (Ask::Took(0, 0), Ok(Answer::Delivered(0))),
+    (Ask::Took(3, 0), Ok(Answer::Delivered(0))),
+    (Ask::Took(1, 1), Ok(Answer::Delivered(0))),
+    (Ask::See(Sight::KnownBy(0, 0)), Ok(Answer::Number(1))),
+    // Both peers took it.
+    (Ask::Took(1, 0), Ok(Answer::Delivered(1))),
+    (Ask::Took(1, 0), Ok(Answer::Delivered(0))),
+    (Ask::See(Sight::OwesNothing), Ok(Answer::Is(false))),
+    (Ask::Took(2, 0), Ok(Answer::Delivered(0))),
+    (Ask::See(Sight::OwesNothing), Ok(Answer::Is(true))),
+    // A crashed node hears nothing.
+    (Ask::MayArrive, Ok(Answer::Done)),
+    (Ask::Crash, Ok(Answer::Done)),
+    (Ask::MayArrive, Err(StepFault::Crashed)),
+    (Ask::Took(2, 0), Err(StepFault::Crashed)),
+];
+
+#[test]
+fn hears_that_a_slot_was_taken(rt: HostRuntime) -> Result<(), Fail> {
+    expect_node(&rt, (3, 1, Mode::Uniform, 0), WORDS)?;
+    Ok(())
+}
+
+fn carry_of_close() -> Frame {
+    let message = close_of(0, 0);
+    Frame {
+        from: NodeId(0),
+        seq: 0,
+        to: NodeId(1),
+        body: FrameBody::Carry { slot: 0, message },
+    }
+}
+
+fn took_of_it() -> Frame {
+    Frame {
+        from: NodeId(1),
+        seq: 0,
+        to: NodeId(0),
+        body: FrameBody::Took { slot: 0 },
+    }
+}
+
+// A frame has its form, and brings so much to its node.
+fn expect_frame(rt: &impl Abort, node: &mut Node, frame: &Frame, wanted: &Frame, delivered: usize) {
+    assert_eq!(rt; frame, wanted);
+    assert_eq!(rt; bring(node, frame), Ok(Answer::Delivered(delivered)));
+}
+
+// Node 0 closes its stream, and node 1 takes that: so much is delivered by the order, the Carry and the acknowledgement.
+fn expect_exchange(
+    rt: &impl Abort,
+    first: &mut Node,
+    second: &mut Node,
+    delivered: [usize; 3],
+) -> Result<(), Fail> {
+    let [ordered, carried, acknowledged] = delivered;
+    assert_eq!(rt;
+        reply_to(first, Ask::Close),
+        Ok(Answer::Ordered(0, ordered))
     );
+    let carry = first.send(NodeId(1), 0)?;
+    expect_frame(rt, second, &carry, &carry_of_close(), carried);
+    let took = second.ack(NodeId(0), 0)?;
+    expect_frame(rt, first, &took, &took_of_it(), acknowledged);
+    assert_eq!(rt; first.owed(NodeId(1)), Some(0));
+    Ok(())
+}
+
+fn expect_exchange_of(
+    rt: &(impl Abort + AllocGlobal),
+    (nodes, faults, mode): (u64, u64, Mode),
+    delivered: [usize; 3],
+) -> Result<(), Fail> {
+    let mut first = node(rt.alloc(), nodes, faults, mode, 0)?;
+    let mut second = node(rt.alloc(), nodes, faults, mode, 1)?;
+    expect_exchange(rt, &mut first, &mut second, delivered)
+}
+
+#[test]
+fn carries_from_one_node_to_another(rt: HostRuntime) -> Result<(), Fail> {
+    expect_exchange_of(&rt, (2, 0, Mode::Basic), [1, 1, 0])?;
+    expect_exchange_of(&rt, (3, 1, Mode::Basic), [1, 1, 0])
+}
+
+#[test]
+fn waits_for_a_second_holder_in_uniform_mode(rt: HostRuntime) -> Result<(), Fail> {
+    expect_exchange_of(&rt, (3, 1, Mode::Uniform), [0, 1, 1])
+}
+
+#[test]
+fn is_one_of_its_group(rt: HostRuntime) -> Result<(), Fail> {
+    let config = config(2, 0, 1, Mode::Basic)?;
+    let none = Node::new(rt.alloc(), &config, NodeId(2));
+    assert_eq!(rt; none.err(), Some(StepFault::NoNode));
     Ok(())
 }
 
 #[test]
-fn hears_that_a_slot_was_taken(rt: HostRuntime) -> Result<(), Fail> {
-    let mut node = node(rt.alloc(), 3, 1, Mode::Uniform, 0)?;
-    assert!(rt; comes_to_owe(&mut node));
-    assert!(rt; leaves_words_alone(&mut node));
-    assert!(rt; comes_to_owe_nothing(&mut node));
-    assert!(rt; hears_nothing_when_crashed(&mut node));
+fn copies_a_frame(rt: HostRuntime) -> Result<(), Fail> {
+    let frame = carry_of_close();
+    assert_eq!(rt; frame.copy()?, frame);
     Ok(())
 }

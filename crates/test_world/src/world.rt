@@ -1,80 +1,122 @@
 //! The group as one value, by worked rows: runs, what is owed and due, crashes, and every refusal.
 mod rounds;
 
-use crate::events::{ack, arrive, crash, data, order, propose, send};
-use cast_message::{Config, Event, Item, Mode, NodeId, Reply, StepFault};
-use cast_world::{DueSlot, DueSlots, World, run_events};
+use crate::events::{Act, config, data, event, events, order};
+use cast_message::{Item, Mode, NodeId, Reply};
+use cast_world::{DueSlot, World, run_events};
+use std::alloc::{AllocError, Global};
+use std::process::Abort;
 use std::test::Fail;
 
-fn group(nodes: u64, faults: u64, choices: u64) -> Result<Config, StepFault> {
-    match Config::check(nodes, faults, choices, 4096, 65_536, 16, 0, Mode::Basic) {
-        Ok(config) => Ok(config),
-        Err(_) => Err(StepFault::NoNode),
-    }
+/// A group in basic mode of so many nodes, faults and choices, in which these acts were accepted.
+fn group(alloc: Global, of: (u64, u64, u64), acts: &[Act]) -> Result<World, Fail> {
+    group_of(alloc, of, Mode::Basic, acts)
 }
 
-/// Takes events that are all accepted.
-fn take_all(world: &mut World, events: &[Event]) -> Result<(), StepFault> {
-    for event in events {
-        world.step(event)?;
+fn group_of(alloc: Global, of: (u64, u64, u64), mode: Mode, acts: &[Act]) -> Result<World, Fail> {
+    let mut world = World::new(alloc, config(of.0, of.1, of.2, mode)?)?;
+    take_all(alloc, &mut world, acts)?;
+    Ok(world)
+}
+
+/// Takes acts that are all accepted.
+fn take_all(alloc: Global, world: &mut World, acts: &[Act]) -> Result<(), Fail> {
+    for act in acts {
+        world.step(&event(alloc, *act)?)?;
     }
     Ok(())
+}
+
+// So many of the items, from the first on.
+fn first_of(items: &[Item], count: Option<usize>) -> Option<&[Item]> {
+    items.get(..count?)
+}
+
+// The items of a node, of which it finds so many in the list of a sender.
+fn expect_delivered(
+    rt: &impl Abort,
+    world: &World,
+    items: &[Item],
+    rows: &[(u8, u8, Option<usize>)],
+) {
+    for (node, sender, count) in rows {
+        let delivered = world.delivered(NodeId(*node), NodeId(*sender));
+        assert_eq!(rt; delivered, first_of(items, *count), "{sender}'s at {node}");
+    }
 }
 
 #[test]
 fn answers_first_path(rt: HostRuntime) -> Result<(), Fail> {
     let alloc = rt.alloc();
-    let events = [order(0, data(alloc, b"a")?), send(0, 1, 0), arrive(0, 0)];
-    let (world, replies) = run_events(alloc, group(2, 0, 1)?, &events)?;
-    let a = data(alloc, b"a")?;
+    let acts = [Act::Data(0, b'a'), Act::Send(0, 1, 0), Act::Arrive(0, 0)];
+    let events = events(alloc, &acts)?;
+    let (world, replies) = run_events(alloc, config(2, 0, 1, Mode::Basic)?, events.as_slice())?;
     assert!(rt; replies.as_slice().len() == 3);
     assert!(rt; replies.as_slice().iter().all(|reply| reply.is_ok()));
-    let a = [a];
-    assert!(rt; world.stream(NodeId(0)) == Some(&a[..]));
-    assert!(rt; world.stream(NodeId(1)) == Some(&a[..0]));
-    assert!(rt; world.stream(NodeId(2)).is_none());
-    assert!(rt; world.delivered(NodeId(0), NodeId(0)) == Some(&a[..]));
-    assert!(rt; world.delivered(NodeId(1), NodeId(0)) == Some(&a[..]));
-    assert!(rt; world.delivered(NodeId(1), NodeId(1)) == Some(&a[..0]));
-    assert!(rt; world.delivered(NodeId(0), NodeId(2)).is_none());
+    let items = [data(alloc, b"a")?];
+    for (node, count) in [(0, Some(1)), (1, Some(0)), (2, None)] {
+        let stream = world.stream(NodeId(node));
+        assert_eq!(rt; stream, first_of(&items, count), "of {node}");
+    }
+    let delivered = [
+        (0, 0, Some(1)),
+        (1, 0, Some(1)),
+        (1, 1, Some(0)),
+        (0, 2, None),
+    ];
+    expect_delivered(&rt, &world, &items, &delivered);
     Ok(())
 }
 
 #[test]
 fn decides_at_the_quorum(rt: HostRuntime) -> Result<(), Fail> {
-    let mut world = World::new(rt.alloc(), group(2, 0, 1)?)?;
-    take_all(&mut world, &[propose(0, 7, 4), propose(1, 7, 9)])?;
-    assert!(rt; world.decision(NodeId(0), 7) == None);
-    take_all(&mut world, &[send(1, 0, 0), arrive(1, 0)])?;
-    assert!(rt; world.decision(NodeId(0), 7) == Some(4));
-    assert!(rt; world.decision(NodeId(0), 8) == None);
-    assert!(rt; world.decision(NodeId(2), 7) == None);
+    let proposals = [Act::Propose(0, 4), Act::Propose(1, 9)];
+    let mut world = group(rt.alloc(), (2, 0, 1), &proposals)?;
+    assert_eq!(rt; world.decision(NodeId(0), 7), None);
+    take_all(
+        rt.alloc(),
+        &mut world,
+        &[Act::Send(1, 0, 0), Act::Arrive(1, 0)],
+    )?;
+    for (node, instance, decision) in [(0, 7, Some(4)), (0, 8, None), (2, 7, None)] {
+        assert_eq!(rt;
+            world.decision(NodeId(node), instance),
+            decision,
+            "of {node}"
+        );
+    }
     Ok(())
+}
+
+// Node 1 took slot 1 of node 0, and said so twice.
+const TAKEN: &[Act] = &[
+    Act::Data(0, b'a'),
+    Act::Data(0, b'b'),
+    Act::Send(0, 1, 1),
+    Act::Arrive(0, 0),
+    Act::Ack(1, 0, 1),
+    Act::Ack(1, 0, 1),
+];
+
+fn expect_owed(rt: &impl Abort, world: &World, from: u8, to: u8, owed: Option<u64>) {
+    assert_eq!(rt;
+        world.owed(NodeId(from), NodeId(to)),
+        owed,
+        "by {from} to {to}"
+    );
 }
 
 #[test]
 fn owes_until_acknowledged(rt: HostRuntime) -> Result<(), Fail> {
-    let alloc = rt.alloc();
-    let mut world = World::new(alloc, group(3, 1, 2)?)?;
-    take_all(
-        &mut world,
-        &[
-            order(0, data(alloc, b"a")?),
-            order(0, data(alloc, b"b")?),
-            send(0, 1, 1),
-            arrive(0, 0),
-            ack(1, 0, 1),
-            ack(1, 0, 1),
-        ],
-    )?;
-    assert!(rt; world.owed(NodeId(0), NodeId(1)) == Some(2));
+    let mut world = group(rt.alloc(), (3, 1, 2), TAKEN)?;
+    expect_owed(&rt, &world, 0, 1, Some(2));
     for seq in 0..2 {
-        world.step(&arrive(1, seq))?;
-        assert_eq!(rt; world.owed(NodeId(0), NodeId(1)), Some(1), "after {seq}");
+        take_all(rt.alloc(), &mut world, &[Act::Arrive(1, seq)])?;
+        expect_owed(&rt, &world, 0, 1, Some(1));
     }
-    assert!(rt; world.owed(NodeId(0), NodeId(0)) == None);
-    assert!(rt; world.owed(NodeId(0), NodeId(3)) == None);
-    assert!(rt; world.owed(NodeId(3), NodeId(0)) == None);
+    for (from, to) in [(0, 0), (0, 3), (3, 0)] {
+        expect_owed(&rt, &world, from, to, None);
+    }
     Ok(())
 }
 
@@ -86,114 +128,110 @@ fn due_slot(from: u8, to: u8, slot: u64) -> DueSlot {
     }
 }
 
-fn is_same(found: &DueSlot, slot: &DueSlot) -> bool {
-    found.from == slot.from && found.to == slot.to && found.slot == slot.slot
-}
-
-// Whether these slots are due, in this order, and no others.
-fn are_due(mut due: DueSlots, slots: &[DueSlot]) -> bool {
-    for slot in slots {
-        let Some(found) = due.pop_front() else {
-            return false;
+// The slots that are due, with the nodes that they are owed by and to.
+fn due_in(alloc: Global, world: &World) -> Result<Vec<(u8, u8, u64)>, AllocError> {
+    let mut due = world.due()?;
+    let mut found = Vec::new(alloc);
+    for _slot in 0..due.len() {
+        let Some(slot) = due.pop_front() else {
+            break;
         };
-        if !is_same(&found, slot) {
-            return false;
-        }
+        found.push((slot.from.0, slot.to.0, slot.slot))?;
     }
-    due.len() == 0
+    Ok(found)
 }
 
 #[test]
 fn finds_what_is_due(rt: HostRuntime) -> Result<(), Fail> {
-    let alloc = rt.alloc();
-    let mut world = World::new(alloc, group(3, 1, 2)?)?;
-    assert!(rt; world.due()?.len() == 0);
-    take_all(
-        &mut world,
-        &[
-            order(0, data(alloc, b"a")?),
-            order(2, data(alloc, b"b")?),
-            order(0, data(alloc, b"c")?),
-            crash(2),
-        ],
-    )?;
-    assert!(rt; are_due(world.due()?, &[due_slot(0, 1, 0), due_slot(0, 1, 1)]));
+    let mut world = group(rt.alloc(), (3, 1, 2), &[])?;
+    assert_eq!(rt; world.due()?.len(), 0);
+    let acts = [
+        Act::Data(0, b'a'),
+        Act::Data(2, b'b'),
+        Act::Data(0, b'c'),
+        Act::Crash(2),
+    ];
+    take_all(rt.alloc(), &mut world, &acts)?;
+    let due = due_in(rt.alloc(), &world)?;
+    assert_eq!(rt; due.as_slice(), [(0, 1, 0), (0, 1, 1)].as_slice());
+    Ok(())
+}
+
+// What settles a slot that is due.
+fn settle(world: &mut World, slot: DueSlot) -> Result<(), Fail> {
+    for event in world.events_for(slot).iter() {
+        world.step(event)?;
+    }
     Ok(())
 }
 
 #[test]
 fn finds_what_is_due_round_a_slot_that_is_not(rt: HostRuntime) -> Result<(), Fail> {
-    let alloc = rt.alloc();
-    let mut world = World::new(alloc, group(2, 0, 1)?)?;
-    for byte in b"abc" {
-        world.step(&order(0, data(alloc, &[*byte])?))?;
+    let acts = [Act::Data(0, b'a'), Act::Data(0, b'b'), Act::Data(0, b'c')];
+    let mut world = group(rt.alloc(), (2, 0, 1), &acts)?;
+    settle(&mut world, due_slot(0, 1, 1))?;
+    let due = due_in(rt.alloc(), &world)?;
+    assert_eq!(rt; due.as_slice(), [(0, 1, 0), (0, 1, 2)].as_slice());
+    Ok(())
+}
+
+// Each slot that is due is settled in its turn.
+fn settle_due(alloc: Global, world: &mut World) -> Result<(), Fail> {
+    for (from, to, slot) in due_in(alloc, world)?.iter() {
+        settle(world, due_slot(*from, *to, *slot))?;
     }
-    let events = world.events_for(due_slot(0, 1, 1));
-    take_all(&mut world, &events)?;
-    assert!(rt; are_due(world.due()?, &[due_slot(0, 1, 0), due_slot(0, 1, 2)]));
     Ok(())
 }
 
 #[test]
 fn settles_slot_by_slot(rt: HostRuntime) -> Result<(), Fail> {
-    let alloc = rt.alloc();
-    let mut world = World::new(alloc, group(3, 1, 2)?)?;
-    world.step(&order(0, data(alloc, b"a")?))?;
-    let first = [send(0, 1, 0), arrive(0, 0), ack(1, 0, 0), arrive(1, 0)];
-    assert!(rt; world.events_for(due_slot(0, 1, 0)) == first);
+    let mut world = group(rt.alloc(), (3, 1, 2), &[Act::Data(0, b'a')])?;
+    let first = [
+        Act::Send(0, 1, 0),
+        Act::Arrive(0, 0),
+        Act::Ack(1, 0, 0),
+        Act::Arrive(1, 0),
+    ];
+    let wanted = events(rt.alloc(), &first)?;
+    let settling = world.events_for(due_slot(0, 1, 0));
+    assert_eq!(rt; &settling[..], wanted.as_slice());
     for _round in 0..2 {
-        let mut due = world.due()?;
-        for _slot in 0..due.len() {
-            let Some(slot) = due.pop_front() else {
-                break;
-            };
-            let events = world.events_for(slot);
-            take_all(&mut world, &events)?;
-        }
+        settle_due(rt.alloc(), &mut world)?;
     }
-    assert!(rt; world.due()?.len() == 0);
-    let a = [data(alloc, b"a")?];
-    for node in 0..3 {
-        assert!(rt;
-            world.delivered(NodeId(node), NodeId(0)) == Some(&a[..]),
-            "at {node}"
-        );
-    }
+    assert_eq!(rt; world.due()?.len(), 0);
+    let items = [data(rt.alloc(), b"a")?];
+    let delivered = [(0, 0, Some(1)), (1, 0, Some(1)), (2, 0, Some(1))];
+    expect_delivered(&rt, &world, &items, &delivered);
     Ok(())
 }
 
 #[test]
 fn takes_each_item_from_its_place(rt: HostRuntime) -> Result<(), Fail> {
-    let alloc = rt.alloc();
-    let mut world = World::new(alloc, group(2, 0, 1)?)?;
-    let both = [data(alloc, b"a")?, data(alloc, b"b")?];
-    for item in both.iter() {
-        world.step(&order(0, item.copy()?))?;
-    }
-    take_all(&mut world, &[send(0, 1, 1), send(0, 1, 0)])?;
+    let acts = [
+        Act::Data(0, b'a'),
+        Act::Data(0, b'b'),
+        Act::Send(0, 1, 1),
+        Act::Send(0, 1, 0),
+    ];
+    let mut world = group(rt.alloc(), (2, 0, 1), &acts)?;
+    let both = [data(rt.alloc(), b"a")?, data(rt.alloc(), b"b")?];
 
     // Each frame comes twice, the second item's first.
     for (seq, count) in [(0, 0), (0, 0), (1, 2), (1, 2)] {
-        world.step(&arrive(0, seq))?;
-        let delivered = world.delivered(NodeId(1), NodeId(0));
-        assert_eq!(rt;
-            delivered.map(|items| items.len()),
-            Some(count),
-            "after {seq}"
-        );
+        take_all(rt.alloc(), &mut world, &[Act::Arrive(0, seq)])?;
+        expect_delivered(&rt, &world, &both, &[(1, 0, Some(count))]);
     }
-    assert!(rt; world.delivered(NodeId(1), NodeId(0)) == Some(&both[..]));
     Ok(())
 }
 
 #[test]
 fn stops_at_a_crash(rt: HostRuntime) -> Result<(), Fail> {
-    let mut world = World::new(rt.alloc(), group(2, 1, 2)?)?;
+    let mut world = group(rt.alloc(), (2, 1, 2), &[])?;
     assert!(rt; world.live(NodeId(0)));
-    world.step(&crash(0))?;
-    assert!(rt; !world.live(NodeId(0)));
-    assert!(rt; world.live(NodeId(1)));
-    assert!(rt; !world.live(NodeId(2)));
+    take_all(rt.alloc(), &mut world, &[Act::Crash(0)])?;
+    for (node, live) in [(0, false), (1, true), (2, false)] {
+        assert_eq!(rt; world.live(NodeId(node)), live, "at {node}");
+    }
     Ok(())
 }
 
@@ -208,66 +246,53 @@ fn code_of(reply: Reply) -> u64 {
     }
 }
 
-// Whether the event is answered with this code.
-fn answers(world: &mut World, event: Event, code: u64) -> bool {
-    code_of(world.step(&event)) == code
-}
-
-// What a group of two that took nothing refuses.
-fn refuses_at_first(world: &mut World) -> bool {
-    answers(world, order(2, Item::Close), 1)
-        && answers(world, send(0, 0, 0), 2)
-        && answers(world, send(0, 1, 0), 8)
-        && answers(world, send(0, 1, PAST_MARKS), 8)
-        && answers(world, arrive(0, 0), 11)
-        && answers(world, ack(1, 0, 0), 10)
-        && answers(world, ack(1, 0, PAST_MARKS), 10)
-}
-
-// Node 0 proposes once, and closes once.
-fn orders_once(world: &mut World) -> bool {
-    answers(world, propose(0, 7, 4), 0)
-        && answers(world, propose(0, 7, 5), 6)
-        && answers(world, order(0, Item::Close), 0)
-        && answers(world, order(0, Item::Close), 4)
-}
-
-// The first slot goes to node 1, and is not sent once it was acknowledged.
-fn sends_what_is_owed(world: &mut World) -> bool {
-    answers(world, send(0, 1, 0), 0)
-        && answers(world, arrive(0, 0), 0)
-        && answers(world, ack(1, 0, 0), 0)
-        && answers(world, arrive(1, 0), 0)
-        && answers(world, send(0, 1, 0), 9)
-}
-
-// Node 0 crashes. Its frames still arrive.
-fn stops_where_it_crashed(world: &mut World) -> bool {
-    answers(world, crash(0), 0)
-        && answers(world, order(0, Item::Close), 3)
-        && answers(world, crash(0), 3)
-        && answers(world, arrive(1, 0), 3)
-        && answers(world, arrive(0, 0), 0)
-}
+// What a group of two is asked, and the code of the answer.
+const CODES: &[(Act, u64)] = &[
+    // It took nothing.
+    (Act::Close(2), 1),
+    (Act::Send(0, 0, 0), 2),
+    (Act::Send(0, 1, 0), 8),
+    (Act::Send(0, 1, PAST_MARKS), 8),
+    (Act::Arrive(0, 0), 11),
+    (Act::Ack(1, 0, 0), 10),
+    (Act::Ack(1, 0, PAST_MARKS), 10),
+    // Node 0 proposes once, and closes once.
+    (Act::Propose(0, 4), 0),
+    (Act::Propose(0, 5), 6),
+    (Act::Close(0), 0),
+    (Act::Close(0), 4),
+    // The first slot goes to node 1, and is not sent once it was acknowledged.
+    (Act::Send(0, 1, 0), 0),
+    (Act::Arrive(0, 0), 0),
+    (Act::Ack(1, 0, 0), 0),
+    (Act::Arrive(1, 0), 0),
+    (Act::Send(0, 1, 0), 9),
+    // Node 0 crashes. Its frames still arrive.
+    (Act::Crash(0), 0),
+    (Act::Close(0), 3),
+    (Act::Crash(0), 3),
+    (Act::Arrive(1, 0), 3),
+    (Act::Arrive(0, 0), 0),
+];
 
 #[test]
 fn refuses_with_the_first_cause(rt: HostRuntime) -> Result<(), Fail> {
-    let mut world = World::new(rt.alloc(), group(2, 1, 2)?)?;
-    assert!(rt; refuses_at_first(&mut world));
+    let mut world = group(rt.alloc(), (2, 1, 2), &[])?;
     let long = order(0, data(rt.alloc(), &[0; 1_025])?);
-    assert!(rt; answers(&mut world, long, 5));
-    assert!(rt; orders_once(&mut world));
-    assert!(rt; sends_what_is_owed(&mut world));
-    assert!(rt; stops_where_it_crashed(&mut world));
+    assert_eq!(rt; code_of(world.step(&long)), 5);
+    for (place, (act, code)) in CODES.iter().enumerate() {
+        let event = event(rt.alloc(), *act)?;
+        assert_eq!(rt; code_of(world.step(&event)), *code, "row {place}");
+    }
     Ok(())
 }
 
 #[test]
 fn shows_its_nodes(rt: HostRuntime) -> Result<(), Fail> {
-    let mut world = World::new(rt.alloc(), group(2, 1, 2)?)?;
-    world.step(&crash(1))?;
-    assert!(rt; world.node(NodeId(0)).map(|node| node.live()) == Some(true));
-    assert!(rt; world.node(NodeId(1)).map(|node| node.live()) == Some(false));
-    assert!(rt; world.node(NodeId(2)).is_none());
+    let world = group(rt.alloc(), (2, 1, 2), &[Act::Crash(1)])?;
+    for (node, live) in [(0, Some(true)), (1, Some(false)), (2, None)] {
+        let found = world.node(NodeId(node));
+        assert_eq!(rt; found.map(|node| node.live()), live, "at {node}");
+    }
     Ok(())
 }
