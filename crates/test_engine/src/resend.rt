@@ -195,6 +195,15 @@ fn carrying() -> Frame {
     }
 }
 
+// A frame comes to the node, where it is for it.
+fn bring(node: &mut Node, frame: &Frame) -> Option<()> {
+    if frame.to.0 != node.id().0 {
+        return None;
+    }
+    let _ = node.arrive(frame).ok()?;
+    Some(())
+}
+
 // To whom node 0 of three sends what in its first four turns. A message of node 1 comes before turn 1, and again before turn 2.
 fn sent_on(alloc: Global) -> Option<[Option<(u8, u64)>; 4]> {
     let config = group(3, 64)?;
@@ -206,7 +215,7 @@ fn sent_on(alloc: Global) -> Option<[Option<(u8, u64)>; 4]> {
         if turn == 1 || turn == 2 {
             let frame = carrying();
             resend.hear(&node, &frame);
-            let _ = node.arrive(&frame).ok()?;
+            bring(&mut node, &frame)?;
         }
         if let Some((NodeId(to), slot)) = resend.next_due(&node) {
             resend.note(NodeId(to), slot);
