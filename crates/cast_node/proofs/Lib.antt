@@ -20,3 +20,4 @@ pub mod Wholes
 pub mod Keeping
 pub mod Owing
 pub mod Through
+pub mod Words
