@@ -18,11 +18,13 @@ use Rattle.std.specs.FinMap as finite
 use Rattle.cast_relay.specs.Held.{holds}
 use Rattle.cast_node.specs.Kept.{Kept, nothing_kept, link_to, is_enough}
 use Rattle.cast_node.specs.Calls.{number_reply}
-use Rattle.cast_node.specs.Turns.{told, released, unmoved, own_taken_up, acknowledged, arrived_body, may_arrive, taken_up, with_taken, with_acked, with_knower, kept_causes, kept_fault, kept_after, Gives}
+use Rattle.cast_node.specs.Turns.{told, released, unmoved, own_taken_up, acknowledged, arrived_body, may_arrive, taken_up, with_taken, with_acked, with_knower, kept_fault, kept_after, Gives}
 use Rattle.cast_node.proofs.Places.{length-slice_set, at_set, same_number, other_number}
+use Rattle.cast_world.specs.declared.frames.Making.{Making}
+use Rattle.cast_world.specs.declared.frames.Making.TheVariants.{Carry as CarrySlot, Word}
 use Rattle.cast_world.specs.declared.frames.Mark.{Mark}
 use Rattle.cast_world.specs.Group.{State, node_at, marks_at, frame_by}
-use Rattle.cast_world.specs.Moves.{marks_after, Takes, TakesStep, ArrivesBy, IsSound}
+use Rattle.cast_world.specs.Moves.{marks_after, making_step, making_mark, Takes, TakesStep, ArrivesBy, IsSound}
 
 -- a step leaves a node's number and its configuration
 record SamePlace (kept new : Kept) : Type 0 where
@@ -163,13 +165,10 @@ in_group config to more e = by_test (nat_lt to config.nodes) refl e
     by_test true f g = ltb-true to config.nodes f
     by_test false f g = absurd (cc)
 
-pub sent_in : (kept : Kept) (to slot : ℕ) → kept_fault kept (Sent to slot) ≡ None → to < kept.config.nodes
+pub made_in : (making : Making) (kept : Kept) (to slot : ℕ) → kept_fault kept (making_step making to slot) ≡ None → (making_mark making kept to slot).to < kept.config.nodes
 unfolding kept_fault
-sent_in kept to slot e = in_group kept.config to _ e
-
-pub acknowledged_in : (kept : Kept) (to slot : ℕ) → kept_fault kept (Acknowledged to slot) ≡ None → to < kept.config.nodes
-unfolding kept_fault
-acknowledged_in kept to slot e = in_group kept.config to _ e
+made_in CarrySlot kept to slot e = in_group kept.config to _ e
+made_in Word kept to slot e = in_group kept.config to _ e
 
 -- what holds of a call that answers a frame's number holds of its reply
 pub made_so : (P : Type 0) (r : Result ℕ StepFault) → OnOk r P → OnOk (number_reply r) P

@@ -1,5 +1,6 @@
 -- What a step changes of a world: one node takes a step, and may make a frame.
 --     TakesStep world p step made reply new     node p is asked for the step, and makes frames with these marks where it takes it
+--     making_step, making_mark making ..        the step in which a frame is made for a slot, and the frame's mark
 --     StepsTo world event reply new             the world answers the event so, and is this then
 --     IsSilent reply                            the event was accepted, and nothing was ordered, delivered or decided by it
 --     IsSound world                             the nodes are those of the group, and frames go to them
@@ -15,6 +16,8 @@ use Rattle.cast_model.specs.Replies.{IsRefused}
 use Rattle.cast_model.specs.Steps.{Step, Ordered, Sent, Acknowledged, Arrived, Stopped}
 use Rattle.cast_node.specs.Kept.{Kept}
 use Rattle.cast_node.specs.Turns.{kept_fault, carry_of, took_of, Gives}
+use Rattle.cast_world.specs.declared.frames.Making.{Making}
+use Rattle.cast_world.specs.declared.frames.Making.TheVariants.{Carry, Word}
 use Rattle.cast_world.specs.declared.frames.Mark.{Mark}
 use Rattle.cast_world.specs.Group.{State, node_at, marks_at, mark_of, frame_by}
 
@@ -64,6 +67,15 @@ ArrivesBy world from seq (Some mark) reply new =
 ArrivesBy world from seq None (Ok answer) new = ⊥
 ArrivesBy world from seq None (Err refusal) new =
     (new ≡ world) × (refusal ≡ missing (length world.nodes) from)
+
+-- the step in which a node makes a frame for a slot, and the mark of that frame
+abbrev pub making_step : Making → ℕ → ℕ → Step
+making_step Carry to slot = Sent to slot
+making_step Word to slot = Acknowledged to slot
+
+abbrev pub making_mark : Making → Kept → ℕ → ℕ → Mark
+making_mark Carry kept to slot = mark_of (carry_of kept to slot)
+making_mark Word kept to slot = mark_of (took_of kept to slot)
 
 abbrev pub StepsTo : State → Event → Result Answer StepFault → State → Type 0
 StepsTo world (Order node item) reply new = TakesStep world node (Ordered item) [] reply new

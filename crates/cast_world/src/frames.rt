@@ -2,17 +2,17 @@
 //! is there before its node takes the step, so that a refusal changes neither.
 ghost use Rattle.std.specs.Prelude.{◌≡◌, ℕ, ◌==◌, true, false, IsTrue, IsFalse, List, ◌++◌, ◌∷◌, [], IfOk, OnOk, OnErr, map};
 ghost use Rattle.cast_message.specs.declared.config.Config.{Config as Settings};
-ghost use Rattle.cast_model.specs.Steps.{Sent, Acknowledged, Arrived};
+ghost use Rattle.cast_model.specs.Steps.{Arrived};
 ghost use Rattle.cast_model.specs.Replies.{IsRefused};
 ghost use Rattle.cast_node.specs.Kept.{Kept};
 ghost use Rattle.cast_relay.specs.Held.{holds};
 ghost use Rattle.cast_node.specs.Calls.{number_reply, silent_reply};
-ghost use Rattle.cast_node.specs.Turns.{Gives, kept_fault, carry_of, took_of};
-ghost use Rattle.cast_world.specs.Group.{mark_of, item_in, body_in, frame_in};
-ghost use Rattle.cast_world.specs.Moves.{FindsMark};
+ghost use Rattle.cast_node.specs.Turns.{Gives};
+ghost use Rattle.cast_world.specs.Group.{item_in, body_in, frame_in};
+ghost use Rattle.cast_world.specs.Moves.{FindsMark, making_step, making_mark};
 
 use cast_message::{Answer, Frame, FrameBody, Item, Message, NodeId, Reply, StepFault};
-use cast_node::Node;
+use cast_node::{Node, Numbers};
 use std::alloc::AllocError;
 
 // The sender of an acknowledgement's mark, which is no node's number.
@@ -32,17 +32,40 @@ pub struct Mark {
     pub sender: NodeId,
 }
 
-/// The frame that carries a slot. It is answered by its number.
-pub fn send(node: &mut Node, made: &mut Vec<Mark>, to: NodeId, slot: u64) -> Result<u64, StepFault>
-    ensures gives { Gives node.old (Sent to slot) (number_reply result) node.new }
+/// What a node makes a frame for: to carry a slot, or to acknowledge one.
+#[derive(Clone, Copy, Debug)]
+pub enum Making {
+    Carry,
+    Word,
+}
+
+/// A frame for a slot. It is answered by its number.
+pub fn make(
+    node: &mut Node,
+    made: &mut Vec<Mark>,
+    making: Making,
+    to: NodeId,
+    slot: u64,
+) -> Result<u64, StepFault>
+    ensures gives { Gives node.old (making_step making to slot) (number_reply result) node.new }
     ensures made { OnOk result (made.new.items
-        ≡ made.old.items ++ mark_of (carry_of node.old to slot) ∷ []) }
+        ≡ made.old.items ++ making_mark making node.old to slot ∷ []) }
     ensures same { OnErr result (made.new.items ≡ made.old.items) }
 {
     if slot > LAST_SLOT || made.reserve(1).is_err() {
-        return Err(or_memory(node.send_fault(to, slot)));
+        return Err(or_memory(match making {
+            Making::Carry => node.send_fault(to, slot),
+            Making::Word => node.ack_fault(to, slot),
+        }));
     }
-    let sent = node.send_numbers(to, slot)?;
+    let sent = match making {
+        Making::Carry => node.send_numbers(to, slot)?,
+        Making::Word => Numbers {
+            seq: node.ack_number(to, slot)?,
+            sender: NodeId(NOBODY),
+            number: 0,
+        },
+    };
     made.push_reserved(Mark {
         slot: slot as u32,
         number: sent.number as u16,
@@ -50,31 +73,6 @@ pub fn send(node: &mut Node, made: &mut Vec<Mark>, to: NodeId, slot: u64) -> Res
         sender: sent.sender,
     });
     Ok(sent.seq)
-}
-
-/// The frame that acknowledges a slot. It is answered by its number.
-pub fn acknowledge(
-    node: &mut Node,
-    made: &mut Vec<Mark>,
-    to: NodeId,
-    slot: u64,
-) -> Result<u64, StepFault>
-    ensures gives { Gives node.old (Acknowledged to slot) (number_reply result) node.new }
-    ensures made { OnOk result (made.new.items
-        ≡ made.old.items ++ mark_of (took_of node.old to slot) ∷ []) }
-    ensures same { OnErr result (made.new.items ≡ made.old.items) }
-{
-    if slot > LAST_SLOT || made.reserve(1).is_err() {
-        return Err(or_memory(node.ack_fault(to, slot)));
-    }
-    let seq = node.ack_number(to, slot)?;
-    made.push_reserved(Mark {
-        slot: slot as u32,
-        number: 0,
-        to,
-        sender: NodeId(NOBODY),
-    });
-    Ok(seq)
 }
 
 /// The mark of the frame of this number that a node made, or why there is none.

@@ -8,9 +8,9 @@ ghost use Rattle.cast_model.specs.Delivery.{decision};
 ghost use Rattle.cast_model.specs.Shown.{ShowsDelivered, ShowsStream, ShowsOwed};
 ghost use Rattle.cast_world.specs.Group.{Stands, StandingFor, Continues, FindsNode, IsFar, IsRefusedForCause, node_at, marks_at};
 ghost use Rattle.cast_node.specs.Calls.{number_reply, silent_reply};
-ghost use Rattle.cast_world.specs.Moves.{IsSilent, StepsTo};
+ghost use Rattle.cast_world.specs.Moves.{IsSilent, StepsTo, TakesStep, making_step, making_mark};
 
-use crate::frames::{self, Mark};
+use crate::frames::{self, Making, Mark};
 use cast_message::{Answer, Config, Event, Item, NodeId, Reply, StepFault};
 use cast_node::{Node, no_news};
 use std::alloc::{AllocError, Global};
@@ -80,8 +80,8 @@ impl World {
     {
         match event {
             Event::Order { node, item } => self.order(*node, item),
-            Event::Send { from, to, slot } => sent(self.send(*from, *to, *slot)),
-            Event::Ack { from, to, slot } => sent(self.ack(*from, *to, *slot)),
+            Event::Send { from, to, slot } => sent(self.make(Making::Carry, *from, *to, *slot)),
+            Event::Ack { from, to, slot } => sent(self.make(Making::Word, *from, *to, *slot)),
             Event::Arrive { from, seq } => self.arrive(*from, *seq),
             Event::Crash { node } => self.crash(*node),
         }
@@ -96,8 +96,8 @@ impl World {
         ensures not { IsFalse result → self.new ≡ self.old }
     {
         match event {
-            Event::Send { from, to, slot } => self.send(*from, *to, *slot).is_ok(),
-            Event::Ack { from, to, slot } => self.ack(*from, *to, *slot).is_ok(),
+            Event::Send { from, to, slot } => self.make(Making::Carry, *from, *to, *slot).is_ok(),
+            Event::Ack { from, to, slot } => self.make(Making::Word, *from, *to, *slot).is_ok(),
             Event::Arrive { from, seq } => self.arrive_silently(*from, *seq).is_some(),
             Event::Order { .. } | Event::Crash { .. } => false,
         }
@@ -118,24 +118,29 @@ impl World {
         Ok(Answer::Ordered { number, outcome })
     }
 
-    fn send(&mut self, from: NodeId, to: NodeId, slot: u64) -> Result<u64, StepFault>
-        ensures { StepsTo self.old (Event.Send from to slot) (number_reply result) self.new }
+    // A node makes a frame for a slot.
+    fn make(
+        &mut self,
+        making: Making,
+        from: NodeId,
+        to: NodeId,
+        slot: u64,
+    ) -> Result<u64, StepFault>
+        ensures { TakesStep self.old from (making_step making to slot)
+            (making_mark making (node_at self.old from) to slot ∷ [])
+            (number_reply result) self.new }
     {
         let place = usize::from(from.0);
         if place >= self.nodes.len() {
             return Err(StepFault::NoNode);
         }
-        frames::send(&mut self.nodes[place], &mut self.marks[place], to, slot)
-    }
-
-    fn ack(&mut self, from: NodeId, to: NodeId, slot: u64) -> Result<u64, StepFault>
-        ensures { StepsTo self.old (Event.Ack from to slot) (number_reply result) self.new }
-    {
-        let place = usize::from(from.0);
-        if place >= self.nodes.len() {
-            return Err(StepFault::NoNode);
-        }
-        frames::acknowledge(&mut self.nodes[place], &mut self.marks[place], to, slot)
+        frames::make(
+            &mut self.nodes[place],
+            &mut self.marks[place],
+            making,
+            to,
+            slot,
+        )
     }
 
     fn arrive(&mut self, from: NodeId, seq: u64) -> Reply

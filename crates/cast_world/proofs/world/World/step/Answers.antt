@@ -9,10 +9,10 @@ pub returns-in-Order-clause-stands : goal.returns-in-Order-clause-stands
 returns-in-Order-clause-stands c config past st = rw c.in-Order.is (continues_to config past c.args.self.now st (Order c.in-Order.node c.in-Order.item) c.order.result c.order.new.self c.order.ensures)
 
 pub returns-in-Send-clause-stands : goal.returns-in-Send-clause-stands
-returns-in-Send-clause-stands c config past st = rw c.in-Send.is (continues_to config past c.args.self.now st (Send c.in-Send.from c.in-Send.to c.in-Send.slot) c.sent.result c.send.new.self (subst (λ r. StepsTo c.args.self.now (Send c.in-Send.from c.in-Send.to c.in-Send.slot) r c.send.new.self) (sym c.sent.ensures) c.send.ensures))
+returns-in-Send-clause-stands c config past st = rw c.in-Send.is (continues_to config past c.args.self.now st (Send c.in-Send.from c.in-Send.to c.in-Send.slot) c.sent.result c.make.new.self (subst (λ r. StepsTo c.args.self.now (Send c.in-Send.from c.in-Send.to c.in-Send.slot) r c.make.new.self) (sym c.sent.ensures) c.make.ensures))
 
 pub returns-in-Ack-clause-stands : goal.returns-in-Ack-clause-stands
-returns-in-Ack-clause-stands c config past st = rw c.in-Ack.is (continues_to config past c.args.self.now st (Ack c.in-Ack.from c.in-Ack.to c.in-Ack.slot) c.sent-in-Ack.result c.ack.new.self (subst (λ r. StepsTo c.args.self.now (Ack c.in-Ack.from c.in-Ack.to c.in-Ack.slot) r c.ack.new.self) (sym c.sent-in-Ack.ensures) c.ack.ensures))
+returns-in-Ack-clause-stands c config past st = rw c.in-Ack.is (continues_to config past c.args.self.now st (Ack c.in-Ack.from c.in-Ack.to c.in-Ack.slot) c.sent-in-Ack.result c.make-in-Ack.new.self (subst (λ r. StepsTo c.args.self.now (Ack c.in-Ack.from c.in-Ack.to c.in-Ack.slot) r c.make-in-Ack.new.self) (sym c.sent-in-Ack.ensures) c.make-in-Ack.ensures))
 
 pub returns-in-Arrive-clause-stands : goal.returns-in-Arrive-clause-stands
 returns-in-Arrive-clause-stands c config past st = rw c.in-Arrive.is (continues_to config past c.args.self.now st (Arrive c.in-Arrive.from c.in-Arrive.seq) c.arrive.result c.arrive.new.self c.arrive.ensures)
@@ -24,10 +24,10 @@ pub returns-in-Order-clause-far : goal.returns-in-Order-clause-far
 returns-in-Order-clause-far c config past st far = refused_far config past st.accepted c.args.event.now c.order.result c.order.new.self far (returns-in-Order-clause-stands c config past st)
 
 pub returns-in-Send-clause-far : goal.returns-in-Send-clause-far
-returns-in-Send-clause-far c config past st far = refused_far config past st.accepted c.args.event.now c.sent.result c.send.new.self far (returns-in-Send-clause-stands c config past st)
+returns-in-Send-clause-far c config past st far = refused_far config past st.accepted c.args.event.now c.sent.result c.make.new.self far (returns-in-Send-clause-stands c config past st)
 
 pub returns-in-Ack-clause-far : goal.returns-in-Ack-clause-far
-returns-in-Ack-clause-far c config past st far = refused_far config past st.accepted c.args.event.now c.sent-in-Ack.result c.ack.new.self far (returns-in-Ack-clause-stands c config past st)
+returns-in-Ack-clause-far c config past st far = refused_far config past st.accepted c.args.event.now c.sent-in-Ack.result c.make-in-Ack.new.self far (returns-in-Ack-clause-stands c config past st)
 
 pub returns-in-Arrive-clause-far : goal.returns-in-Arrive-clause-far
 returns-in-Arrive-clause-far c config past st far = refused_far config past st.accepted c.args.event.now c.arrive.result c.arrive.new.self far (returns-in-Arrive-clause-stands c config past st)
