@@ -41,12 +41,16 @@ unfolding plan_from
 plan_none past events none = none
 
 -- they are no more than the slots
-pub counted_few : (ds : List Due) (made : List ℕ) → length ds < 2 ^ 63 → AreCounted ds made → (p : ℕ) → slice_index_or made p 0 < 2 ^ 63
+counted_few : (ds : List Due) (made : List ℕ) → length ds < 2 ^ 63 → AreCounted ds made → (p : ℕ) → slice_index_or made p 0 < 2 ^ 63
 unfolding frames_for
 counted_few ds made few count p = elim (cases_lt p 256) [
   | inl l ↦ (let h = count.counted p l in let k = count_by-le-length (λ d. d.from == p || d.to == p) ds in omega (arith, h, k, few))
   | inr l ↦ (let h = none_past made p (let size = count.size in omega (arith, l, size)) in omega (arith, h))
 ]
+
+-- nor as a slice of the counts shows them
+pub seen_few : (ds : List Due) (made seen : List ℕ) → length ds < 2 ^ 63 → AreCounted ds made → seen ≡ made → (p : ℕ) → slice_index_or seen p 0 < 2 ^ 63
+seen_few ds made seen few count same p = subst (λ counts. slice_index_or counts p 0 < 2 ^ 63) (sym same) (counted_few ds made few count p)
 
 pub counted_more : (ds : List Due) (d : Due) (made new : List ℕ) → AreCounted ds made → length new ≡ 256 → ((p : ℕ) → p < 256 → slice_index_or new p 0 ≡ slice_index_or made p 0 + cond (d.from == p || d.to == p) 1 0) → AreCounted (ds ++ d ∷ []) new
 counted_more ds d made new count size one = record {

@@ -1,7 +1,7 @@
 use Rattle.std.proofs.Common.{◌∙◌, ◌+◌, ◌∷◌, ◌++◌, [], ap, sym, subst, length, length-append, append_assoc, arith}
-use Rattle.std.specs.Prelude.{slice_index_or, ◌<◌, ◌^◌, ◌==◌, ◌||◌, cond}
+use Rattle.std.specs.Prelude.{slice_index_or, ◌==◌, ◌||◌, cond}
 use Rattle.cast_world.specs.Rounds.{events_after}
-use Rattle.cast_world.proofs.Numbering.{AreCounted, counted_none, plan_none, counted_few, counted_more, written_back, plan_more, plan_made}
+use Rattle.cast_world.proofs.Numbering.{AreCounted, counted_none, plan_none, seen_few, counted_more, written_back, plan_more, plan_made}
 use Rattle.cast_world.proofs.world.World.round_plan.Goals as goal
 
 pub slots-init : goal.slots-init
@@ -12,25 +12,15 @@ slots-init c = record {
   plan = λ config past st. (c.in_ok-due.ensures config past st, plan_none past c.in_ok-events.events.items c.in_ok-events.ensures.items);
 }
 
-pub add_events-requires-clause-from : goal.add_events-requires-clause-from
-add_events-requires-clause-from c =
-    subst (λ made. slice_index_or made c.in-Some.slot.from 0 < 2 ^ 63) (sym c.as_slice.ensures.value)
-    (counted_few c.slots.invariant.before c.slots.made.items (omega (arith, c.slots.invariant.few)) c.slots.invariant.counted c.in-Some.slot.from)
+pub add_events-requires : goal.add_events-requires
+add_events-requires c =
+    let few = seen_few c.slots.invariant.before c.slots.made.items _ (omega (arith, c.slots.invariant.few)) c.slots.invariant.counted c.as_slice.ensures.value in
+    record { size = ap length c.as_slice.ensures.value ∙ c.slots.invariant.counted.size; from = few c.in-Some.slot.from; to = few c.in-Some.slot.to }
 
-pub add_events-requires-clause-to : goal.add_events-requires-clause-to
-add_events-requires-clause-to c =
-    subst (λ made. slice_index_or made c.in-Some.slot.to 0 < 2 ^ 63) (sym c.as_slice.ensures.value)
-    (counted_few c.slots.invariant.before c.slots.made.items (omega (arith, c.slots.invariant.few)) c.slots.invariant.counted c.in-Some.slot.to)
-
-pub count_frames-requires-clause-from : goal.count_frames-requires-clause-from
-count_frames-requires-clause-from c =
-    subst (λ made. slice_index_or made c.in-Some.slot.from 0 < 2 ^ 63) (sym c.as_mut_slice.ensures.value)
-    (counted_few c.slots.invariant.before c.slots.made.items (omega (arith, c.slots.invariant.few)) c.slots.invariant.counted c.in-Some.slot.from)
-
-pub count_frames-requires-clause-to : goal.count_frames-requires-clause-to
-count_frames-requires-clause-to c =
-    subst (λ made. slice_index_or made c.in-Some.slot.to 0 < 2 ^ 63) (sym c.as_mut_slice.ensures.value)
-    (counted_few c.slots.invariant.before c.slots.made.items (omega (arith, c.slots.invariant.few)) c.slots.invariant.counted c.in-Some.slot.to)
+pub count_frames-requires : goal.count_frames-requires
+count_frames-requires c =
+    let few = seen_few c.slots.invariant.before c.slots.made.items _ (omega (arith, c.slots.invariant.few)) c.slots.invariant.counted c.as_mut_slice.ensures.value in
+    record { size = ap length c.as_mut_slice.ensures.value ∙ c.slots.invariant.counted.size; from = few c.in-Some.slot.from; to = few c.in-Some.slot.to }
 
 pub slots-preserved : goal.slots-preserved
 slots-preserved c =
