@@ -1,4 +1,4 @@
-use Rattle.std.proofs.Common.{◌<◌, ◌∙◌, ◌++◌, ◌∷◌, [], ap, sym, subst, length, arith}
+use Rattle.std.proofs.Common.{◌<◌, ◌∙◌, ◌++◌, ◌∷◌, [], ap, sym, subst, length, arith, rules}
 use Rattle.cast_relay.specs.Held.{Held}
 use Rattle.cast_node.specs.Delivering.{Delivering, waiting_in}
 use Rattle.cast_node.specs.Taking.{with_own, message_of, first_members, with_proposal, without_proposal}
@@ -40,25 +40,12 @@ invariant_of-self-in-Ok c =
     (ap (λ (d : Delivering). length d.knowers) done.deliveries ∙ told.3)
     (subst (Owes c.self.inside.config.nodes c.self.inside.config.item_limit) (sym links) (owes_given (IsWithin c.self.inside.config.nodes c.self.inside.config.item_limit) 0 (with_own relay) c.self.inside.me relay.me (message_of relay c.args.item) (links_of c.self.inside.outgoing) within c.self.invariant.owes))
 
-pub returns-in-Ok-clause-outcome : goal.returns-in-Ok-clause-outcome
-returns-in-Ok-clause-outcome c =
+pub returns-in-Ok : goal.returns-in-Ok
+returns-in-Ok c =
     let done = c.in-Ok.ensures in
-    let me = c.self.inside.me in
-    let relay = c.self.inside.relay in
-    let place : me < length c.self.inside.deliveries.knowers = omega (arith, c.self.invariant.place, c.self.invariant.rows) in
-    let links = done.links in
-    let whole = own_item c.self.inside.config c.self.inside.me c.self.inside.live c.self.inside.frames c.self.inside.stream.items c.self.inside.relay (links_of c.self.inside.outgoing) c.self.inside.incoming.items c.self.inside.deliveries c.args.self.now c.self.view_is c.self.invariant.mode c.self.invariant.faults c.args.item c.take_up_own.new.relay _ c.take_up_own.new.deliveries c.push_reserved.new.self.items place c.self.invariant.relay_me c.self.invariant.relay_own done.relay links done.deliveries (c.push_reserved.ensures.items ∙ (λ k. c.reserve.ensures.items k ++ c.in_ok-kept.ensures k ∷ [])) in
-    done.outcome ∙ whole.1
-
-pub returns-in-Ok-clause-ok : goal.returns-in-Ok-clause-ok
-returns-in-Ok-clause-ok c =
-    let done = c.in-Ok.ensures in
-    let me = c.self.inside.me in
-    let relay = c.self.inside.relay in
-    let place : me < length c.self.inside.deliveries.knowers = omega (arith, c.self.invariant.place, c.self.invariant.rows) in
-    let links = done.links in
-    let whole = own_item c.self.inside.config c.self.inside.me c.self.inside.live c.self.inside.frames c.self.inside.stream.items c.self.inside.relay (links_of c.self.inside.outgoing) c.self.inside.incoming.items c.self.inside.deliveries c.args.self.now c.self.view_is c.self.invariant.mode c.self.invariant.faults c.args.item c.take_up_own.new.relay _ c.take_up_own.new.deliveries c.push_reserved.new.self.items place c.self.invariant.relay_me c.self.invariant.relay_own done.relay links done.deliveries (c.push_reserved.ensures.items ∙ (λ k. c.reserve.ensures.items k ++ c.in_ok-kept.ensures k ∷ [])) in
-    whole.0
+    let place : c.self.inside.me < length c.self.inside.deliveries.knowers = omega (arith, c.self.invariant.place, c.self.invariant.rows) in
+    let whole = own_item c.self.inside.config c.self.inside.me c.self.inside.live c.self.inside.frames c.self.inside.stream.items c.self.inside.relay (links_of c.self.inside.outgoing) c.self.inside.incoming.items c.self.inside.deliveries c.args.self.now c.self.view_is c.self.invariant.mode c.self.invariant.faults c.args.item c.take_up_own.new.relay _ c.take_up_own.new.deliveries c.push_reserved.new.self.items place c.self.invariant.relay_me c.self.invariant.relay_own done.relay done.links done.deliveries (c.push_reserved.ensures.items ∙ (λ k. c.reserve.ensures.items k ++ c.in_ok-kept.ensures k ∷ [])) in
+    record { outcome = done.outcome ∙ whole.1; ok = whole.0; err = search rules }
 
 pub invariant_of-self-in-Err : goal.invariant_of-self-in-Err
 invariant_of-self-in-Err c =
