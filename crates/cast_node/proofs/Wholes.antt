@@ -21,7 +21,7 @@ use Rattle.cast_node.proofs.Gifts.{length_given}
 use Rattle.cast_relay.specs.Held.{Held, holds, with_pair}
 use Rattle.cast_node.specs.Kept.{Kept, link_to, knowers_in, is_enough_in}
 use Rattle.cast_node.specs.Turns.{told, released, unmoved, with_knowers, with_knower, known_row, given_from, taken_up, carried, with_taken, with_acked, acknowledged, ordered, kept_causes, kept_fault}
-use Rattle.cast_node.specs.Delivering.{Delivering, noted, let_go, told_in, outcome_in, waiting_in}
+use Rattle.cast_node.specs.Delivering.{Delivering, noted, let_go, told_in, told_with, outcome_in, outcome_with, waiting_in}
 use Rattle.cast_node.specs.Calls.{is_peer}
 use Rattle.cast_node.specs.Taking.{with_own, message_of, first_members}
 
@@ -238,9 +238,9 @@ module _ (config : Config) (me : ℕ) (live : Bool) (frames : ℕ) (stream : Lis
   -- an item of its own
   pub own_item : (item : Item) (relay' : Held) (outgoing' : List (Link Message)) (ds' : Delivering) (stream' : List Item) →
       me < length ds.knowers → relay.me ≡ me → relay.own ≡ length stream →
-      relay' ≡ with_own relay → outgoing' ≡ given_from 0 (with_own relay) me (message_of relay item) outgoing → ds' ≡ told_in (waiting_in ds (message_of relay item)) me relay.own (first_members me me me) → stream' ≡ stream ++ item ∷ [] →
+      relay' ≡ with_own relay → outgoing' ≡ given_from 0 (with_own relay) me (message_of relay item) outgoing → ds' ≡ told_with ds (message_of relay item) (first_members me me me) → stream' ≡ stream ++ item ∷ [] →
       (whole config me live frames stream' relay' outgoing' incoming ds' ≡ (ordered now item).kept)
-      × (outcome_in (waiting_in ds (message_of relay item)) me relay.own (first_members me me me) ≡ (ordered now item).outcome)
+      × (outcome_with ds (message_of relay item) (first_members me me me) ≡ (ordered now item).outcome)
   own_item item relay' outgoing' ds' stream' l rm ro r o d st =
       let n = length stream in
       let message : Message = record { sender = me; number = n; item = item } in
@@ -248,10 +248,10 @@ module _ (config : Config) (me : ℕ) (live : Bool) (frames : ℕ) (stream : Lis
       let holding : Held = record (with_pair relay me n) { own = relay.own + 1 } in
       let held : with_own relay ≡ holding = λ k. record (with_pair relay (rm k) (ro k)) { own = relay.own + 1 } in
       let given : Kept = record node { stream = stream ++ item ∷ []; relay = holding; outgoing = given_from 0 holding me message outgoing } in (
-        (λ k. whole config me live frames (st k) ((r ∙ held) k) ((o ∙ (λ j. given_from 0 (held j) me (said j) outgoing)) k) incoming ((d ∙ (λ j. told_in (waiting_in ds (said j)) me (ro j) (first_members me me me))) k))
+        (λ k. whole config me live frames (st k) ((r ∙ held) k) ((o ∙ (λ j. given_from 0 (held j) me (said j) outgoing)) k) incoming ((d ∙ (λ j. told_with ds (said j) (first_members me me me))) k))
             ∙ (told_is given (waiting_in ds message) me n (first_members me me me) mode faults l).0
             ∙ ap (λ kept. (ordered kept item).kept) is,
-        (λ j. outcome_in (waiting_in ds (said j)) me (ro j) (first_members me me me))
+        (λ j. outcome_with ds (said j) (first_members me me me))
             ∙ (told_is given (waiting_in ds message) me n (first_members me me me) mode faults l).1
             ∙ ap (λ kept. (ordered kept item).outcome) is,
       )

@@ -1,12 +1,10 @@
 //! A message that a node did not hold: it goes to the peers, waits for its turn, and is known to be held. All of it is done, or
 //! none where memory is wanting.
-ghost use Rattle.std.specs.Prelude.{◌≡◌, ◌≢◌, ◌≤◌, ◌<◌, ◌+◌, false, length, IfOk, OnOk, OnErr};
+ghost use Rattle.std.specs.Prelude.{◌≡◌, ◌≢◌, ◌≤◌, ◌<◌, ◌+◌, false, length, OnOk, OnErr};
 ghost use Rattle.std.specs.FinSet as set;
 ghost use Rattle.cast_relay.specs.Held.{with_pair, holds};
-ghost use Rattle.cast_node.specs.Turns.{given_from};
 ghost use Rattle.cast_node.specs.Outgoing.{links_of};
-ghost use Rattle.cast_node.specs.Delivering.{told_in, told_with, outcome_in, outcome_with, waiting_in};
-ghost use Rattle.cast_node.specs.Taking.{with_own, message_of, first_members};
+ghost use Rattle.cast_node.specs.Taking.{IsSpread, with_own, message_of, first_members};
 
 use crate::deliveries::Deliveries;
 use crate::outgoing::Outgoing;
@@ -54,18 +52,9 @@ pub fn take_up_own(
     requires sender { me < length deliveries.old.hold_back }
     requires group { me < 64 }
     ensures relay { OnOk result (relay.new ≡ with_own relay.old) }
-    ensures links { OnOk result (links_of outgoing.new
-        ≡ given_from 0 (with_own relay.old) me (message_of relay.old item)
-        (links_of outgoing.old)) }
-    ensures deliveries { OnOk result (deliveries.new
-        ≡ told_in (waiting_in deliveries.old (message_of relay.old item)) me relay.old.own
-        (first_members me me me)) }
-    ensures outcome { IfOk result (λ outcome. outcome
-        ≡ outcome_in (waiting_in deliveries.old (message_of relay.old item)) me relay.old.own
-        (first_members me me me)) }
+    ensures spread { IsSpread (with_own relay.old) me (message_of relay.old item)
+        (first_members me me me) outgoing.old outgoing.new deliveries.old deliveries.new result }
     ensures err { OnErr result (relay.new ≡ relay.old) }
-    ensures same_outgoing { OnErr result (outgoing.new ≡ outgoing.old) }
-    ensures same_deliveries { OnErr result (deliveries.new ≡ deliveries.old) }
 {
     let message = relay.own(item)?;
     let fresh = Fresh {
@@ -96,17 +85,11 @@ pub fn take_up_carried(
     requires number { fresh.message.number < 4096 }
     ensures relay { OnOk result (relay.new
         ≡ with_pair relay.old fresh.message.sender fresh.message.number) }
-    ensures links { OnOk result (links_of outgoing.new
-        ≡ given_from 0 (with_pair relay.old fresh.message.sender fresh.message.number)
-        fresh.source fresh.message (links_of outgoing.old)) }
-    ensures deliveries { OnOk result (deliveries.new
-        ≡ told_with deliveries.old fresh.message fresh.members) }
-    ensures outcome { IfOk result (λ outcome.
-        outcome ≡ outcome_with deliveries.old fresh.message fresh.members) }
+    ensures spread { IsSpread (with_pair relay.old fresh.message.sender fresh.message.number)
+        fresh.source fresh.message fresh.members outgoing.old outgoing.new deliveries.old
+        deliveries.new result }
     ensures taken { OnOk result (link.new ≡ set.insert link.old slot) }
     ensures err { OnErr result (relay.new ≡ relay.old) }
-    ensures same_outgoing { OnErr result (outgoing.new ≡ outgoing.old) }
-    ensures same_deliveries { OnErr result (deliveries.new ≡ deliveries.old) }
     ensures as_before { OnErr result (link.new ≡ link.old) }
 {
     let brought = &fresh;
@@ -132,15 +115,9 @@ fn spread<S: TakesSlot>(
     requires peers { length (links_of outgoing.old) ≤ 256 }
     requires sender { fresh.message.sender < length deliveries.old.hold_back }
     requires number { fresh.message.number < 4096 }
-    ensures links { OnOk result (links_of outgoing.new
-        ≡ given_from 0 relay.now fresh.source fresh.message (links_of outgoing.old)) }
-    ensures deliveries { OnOk result (deliveries.new
-        ≡ told_with deliveries.old fresh.message fresh.members) }
-    ensures outcome { IfOk result (λ outcome.
-        outcome ≡ outcome_with deliveries.old fresh.message fresh.members) }
+    ensures spread { IsSpread relay.now fresh.source fresh.message fresh.members outgoing.old
+        outgoing.new deliveries.old deliveries.new result }
     ensures taken { OnOk result (link.new ≡ S.with_slot link.old slot) }
-    ensures same_outgoing { OnErr result (outgoing.new ≡ outgoing.old) }
-    ensures same_deliveries { OnErr result (deliveries.new ≡ deliveries.old) }
     ensures as_before { OnErr result (link.new ≡ link.old) }
 {
     let Fresh {
