@@ -11,10 +11,11 @@ use Rattle.cast_message.specs.declared.event.Answer.TheVariants.{Ordered as Answ
 use Rattle.cast_message.specs.declared.event.StepFault.{StepFault}
 use Rattle.cast_message.specs.declared.message.Item.TheVariants.{Close}
 use Rattle.cast_message.specs.declared.message.Frame.{Frame}
+use Rattle.cast_message.specs.declared.message.FrameBody.{FrameBody}
 use Rattle.cast_message.specs.declared.message.FrameBody.TheVariants.{Carry, Took}
 use Rattle.cast_model.specs.History.{History, stream, first, frames, frames_gained, given, given_of, copy_at, message_of, acked}
 use Rattle.cast_model.specs.Delivery.{outcome}
-use Rattle.cast_model.specs.Refusals.{no_node, step_causes, first_fault}
+use Rattle.cast_model.specs.Refusals.{Cause, no_node, self_link, step_causes, first_fault}
 use Rattle.cast_model.specs.Replies.{view_of, causes, causes_of_arrival, fault, target_of, answer, reply_by, reply, IsAccepted}
 use Rattle.cast_model.specs.Rounds.{owed}
 use Rattle.cast_model.specs.Steps.{Step, Ordered, Sent, Acknowledged, Arrived, Stopped, steps_of, Held, copy_of, held}
@@ -36,24 +37,22 @@ pub record Ends (config : Config) (p : ℕ) (frame : Frame) : Type 0 where
 in_group : (config : Config) (p : ℕ) → (no_node config p).holds ≡ false → p < config.nodes
 in_group config p e = ltb-true p config.nodes (not-false _ e)
 
+-- those of a frame whose step has these causes of refusal first
+Ends-first : (config : Config) (from to p seq : ℕ) (body : FrameBody) (more : List Cause) (frame : Frame) → first_fault (no_node config from ∷ no_node config to ∷ self_link from to ∷ more) ≡ None →
+    Member frame (cond (from == p) (record { from = p; seq = seq; to = to; body = body } ∷ []) []) → Ends config p frame
+Ends-first config from to p seq body more frame e m =
+    let all = no_node config from ∷ no_node config to ∷ self_link from to ∷ more in
+    let r = Member-if (from == p) frame _ m in
+    subst (λ x. Ends config x frame) (eqb-true from p r.0) (subst (λ f. Ends config from f) (sym r.1) (record {
+      maker_in = in_group config from (no_cause _ all e here);
+      target_in = in_group config to (no_cause _ all e (there here));
+      apart = eqb-false from to (no_cause _ all e (there (there here)));
+    }))
+
 Ends-made : (config : Config) (past : History) (event : Event) → fault config past event ≡ None → (p : ℕ) (frame : Frame) → Member frame (made event past p) → Ends config p frame
 unfolding frames_gained fault causes
-Ends-made config past (Send from to slot) e p frame m =
-    let r = Member-if (from == p) frame _ m in
-    let same : from ≡ p = eqb-true from p r.0 in
-    subst (λ x. Ends config x frame) same (subst (λ f. Ends config from f) (sym r.1) (record {
-      maker_in = in_group config from (no_cause _ (causes config past (Send from to slot)) e here);
-      target_in = in_group config to (no_cause _ (causes config past (Send from to slot)) e (there here));
-      apart = eqb-false from to (no_cause _ (causes config past (Send from to slot)) e (there (there here)));
-    }))
-Ends-made config past (Ack from to slot) e p frame m =
-    let r = Member-if (from == p) frame _ m in
-    let same : from ≡ p = eqb-true from p r.0 in
-    subst (λ x. Ends config x frame) same (subst (λ f. Ends config from f) (sym r.1) (record {
-      maker_in = in_group config from (no_cause _ (causes config past (Ack from to slot)) e here);
-      target_in = in_group config to (no_cause _ (causes config past (Ack from to slot)) e (there here));
-      apart = eqb-false from to (no_cause _ (causes config past (Ack from to slot)) e (there (there here)));
-    }))
+Ends-made config past (Send from to slot) e p frame m = Ends-first config from to p _ _ _ frame e m
+Ends-made config past (Ack from to slot) e p frame m = Ends-first config from to p _ _ _ frame e m
 Ends-made config past (Order node item) e p frame m = elim m [ ]
 Ends-made config past (Arrive from seq) e p frame m = elim m [ ]
 Ends-made config past (Crash node) e p frame m = elim m [ ]
