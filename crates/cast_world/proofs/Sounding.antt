@@ -21,7 +21,7 @@ use Rattle.cast_node.specs.Calls.{number_reply}
 use Rattle.cast_node.specs.Turns.{told, released, unmoved, own_taken_up, acknowledged, arrived_body, may_arrive, taken_up, with_taken, with_acked, with_knower, kept_fault, kept_after, Gives}
 use Rattle.cast_node.proofs.Places.{length-slice_set, at_set, same_number, other_number}
 use Rattle.cast_world.specs.declared.frames.Making.{Making}
-use Rattle.cast_world.specs.declared.frames.Making.TheVariants.{Carry as CarrySlot, Word}
+use Rattle.cast_world.specs.declared.frames.Making.TheVariants.{Carry as CarrySlot, Took as TookSlot}
 use Rattle.cast_world.specs.declared.frames.Mark.{Mark}
 use Rattle.cast_world.specs.Group.{State, node_at, marks_at, frame_by}
 use Rattle.cast_world.specs.Moves.{marks_after, making_step, making_mark, Takes, TakesStep, ArrivesBy, IsSound}
@@ -168,7 +168,7 @@ in_group config to more e = by_test (nat_lt to config.nodes) refl e
 pub made_in : (making : Making) (kept : Kept) (to slot : ℕ) → kept_fault kept (making_step making to slot) ≡ None → (making_mark making kept to slot).to < kept.config.nodes
 unfolding kept_fault
 made_in CarrySlot kept to slot e = in_group kept.config to _ e
-made_in Word kept to slot e = in_group kept.config to _ e
+made_in TookSlot kept to slot e = in_group kept.config to _ e
 
 -- what holds of a call that answers a frame's number holds of its reply
 pub made_so : (P : Type 0) (r : Result ℕ StepFault) → OnOk r P → OnOk (number_reply r) P

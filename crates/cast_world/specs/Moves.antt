@@ -17,7 +17,7 @@ use Rattle.cast_model.specs.Steps.{Step, Ordered, Sent, Acknowledged, Arrived, S
 use Rattle.cast_node.specs.Kept.{Kept}
 use Rattle.cast_node.specs.Turns.{kept_fault, carry_of, took_of, Gives}
 use Rattle.cast_world.specs.declared.frames.Making.{Making}
-use Rattle.cast_world.specs.declared.frames.Making.TheVariants.{Carry, Word}
+use Rattle.cast_world.specs.declared.frames.Making.TheVariants.{Carry, Took}
 use Rattle.cast_world.specs.declared.frames.Mark.{Mark}
 use Rattle.cast_world.specs.Group.{State, node_at, marks_at, mark_of, frame_by}
 
@@ -71,11 +71,11 @@ ArrivesBy world from seq None (Err refusal) new =
 -- the step in which a node makes a frame for a slot, and the mark of that frame
 abbrev pub making_step : Making → ℕ → ℕ → Step
 making_step Carry to slot = Sent to slot
-making_step Word to slot = Acknowledged to slot
+making_step Took to slot = Acknowledged to slot
 
 abbrev pub making_mark : Making → Kept → ℕ → ℕ → Mark
 making_mark Carry kept to slot = mark_of (carry_of kept to slot)
-making_mark Word kept to slot = mark_of (took_of kept to slot)
+making_mark Took kept to slot = mark_of (took_of kept to slot)
 
 abbrev pub StepsTo : State → Event → Result Answer StepFault → State → Type 0
 StepsTo world (Order node item) reply new = TakesStep world node (Ordered item) [] reply new

@@ -36,7 +36,7 @@ pub struct Mark {
 #[derive(Clone, Copy, Debug)]
 pub enum Making {
     Carry,
-    Word,
+    Took,
 }
 
 /// A frame for a slot. It is answered by its number.
@@ -55,12 +55,12 @@ pub fn make(
     if slot > LAST_SLOT || made.reserve(1).is_err() {
         return Err(or_memory(match making {
             Making::Carry => node.send_fault(to, slot),
-            Making::Word => node.ack_fault(to, slot),
+            Making::Took => node.ack_fault(to, slot),
         }));
     }
     let sent = match making {
         Making::Carry => node.send_numbers(to, slot)?,
-        Making::Word => Numbers {
+        Making::Took => Numbers {
             seq: node.ack_number(to, slot)?,
             sender: NodeId(NOBODY),
             number: 0,

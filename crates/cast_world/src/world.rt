@@ -81,7 +81,7 @@ impl World {
         match event {
             Event::Order { node, item } => self.order(*node, item),
             Event::Send { from, to, slot } => sent(self.make(Making::Carry, *from, *to, *slot)),
-            Event::Ack { from, to, slot } => sent(self.make(Making::Word, *from, *to, *slot)),
+            Event::Ack { from, to, slot } => sent(self.make(Making::Took, *from, *to, *slot)),
             Event::Arrive { from, seq } => self.arrive(*from, *seq),
             Event::Crash { node } => self.crash(*node),
         }
@@ -97,7 +97,7 @@ impl World {
     {
         match event {
             Event::Send { from, to, slot } => self.make(Making::Carry, *from, *to, *slot).is_ok(),
-            Event::Ack { from, to, slot } => self.make(Making::Word, *from, *to, *slot).is_ok(),
+            Event::Ack { from, to, slot } => self.make(Making::Took, *from, *to, *slot).is_ok(),
             Event::Arrive { from, seq } => self.arrive_silently(*from, *seq).is_some(),
             Event::Order { .. } | Event::Crash { .. } => false,
         }
