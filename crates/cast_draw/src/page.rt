@@ -15,7 +15,7 @@ use crate::rows::crash_of;
 use crate::side::Side;
 use crate::style::{COLOUR_STYLE, STYLE, TIPS};
 use cast_message::{Config, NodeId};
-use cast_words::{Meter, WriteFault, mode_name, write_bytes};
+use cast_words::{Meter, Written, mode_name, write_bytes};
 use std::alloc::AllocError;
 use std::io::Write;
 use std::marker::Model;
@@ -78,7 +78,7 @@ impl Picture {
 
 /// Writes the picture. It takes no memory. A refusal comes only where the writer failed or took no byte; the meter tells so
 /// from then on, and a front of the text stands.
-pub fn write_drawing<W: Write>(drawing: &Drawing, writer: &mut Meter<W>) -> Result<(), WriteFault>
+pub fn write_drawing<W: Write>(drawing: &Drawing, writer: &mut Meter<W>) -> Written
     requires { writer.old.failed ≡ false }
     ensures { Puts W.contents writer.old writer.new result drawing.now }
 {

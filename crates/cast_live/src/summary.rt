@@ -16,7 +16,7 @@ use cast_judge::Verdict;
 use cast_merge::{EngineEnd, NodeReport};
 use cast_message::{Config, NodeId};
 use cast_record::write_verdict;
-use cast_words::{Meter, WriteFault, write_bytes, write_number};
+use cast_words::{Meter, Written, write_bytes, write_number};
 use cast_world::World;
 use std::alloc::{AllocError, Global};
 use std::io::Write;
@@ -47,11 +47,7 @@ pub fn summarize(alloc: Global, run: &FinishedRun) -> Result<Summary, AllocError
 
 /// Writes the summary of the run. It takes no memory. A refusal comes only where the writer failed or took no byte; a front of
 /// the text stands then.
-pub fn write_summary<W: Write>(
-    run: &FinishedRun,
-    said: Summary,
-    writer: &mut Meter<W>,
-) -> Result<(), WriteFault>
+pub fn write_summary<W: Write>(run: &FinishedRun, said: Summary, writer: &mut Meter<W>) -> Written
     requires run { IsFinished run.now }
     requires writer { writer.old.failed ≡ false }
     ensures { Puts W.contents writer.old writer.new result
@@ -75,7 +71,7 @@ fn write_nodes<W: Write>(
     world: &World,
     reports: &[NodeReport],
     writer: &mut Meter<W>,
-) -> Result<(), WriteFault>
+) -> Written
     requires size { length reports.now ≡ config.now.nodes }
     requires writer { writer.old.failed ≡ false }
     ensures sound { OnOk result (writer.new.failed ≡ false) }
@@ -95,7 +91,7 @@ fn write_node<W: Write>(
     node: u8,
     ended: EngineEnd,
     writer: &mut Meter<W>,
-) -> Result<(), WriteFault>
+) -> Written
     requires node { node < config.now.nodes }
     requires writer { writer.old.failed ≡ false }
     ensures sound { OnOk result (writer.new.failed ≡ false) }
@@ -109,7 +105,7 @@ fn write_node<W: Write>(
 }
 
 // The number of a node, and how it ended.
-fn write_end<W: Write>(node: u64, ended: EngineEnd, writer: &mut Meter<W>) -> Result<(), WriteFault>
+fn write_end<W: Write>(node: u64, ended: EngineEnd, writer: &mut Meter<W>) -> Written
     requires { writer.old.failed ≡ false }
     ensures { Puts W.contents writer.old writer.new result (end_text node ended) }
 {
@@ -125,7 +121,7 @@ fn write_counts<W: Write>(
     world: &World,
     node: u8,
     writer: &mut Meter<W>,
-) -> Result<(), WriteFault>
+) -> Written
     requires node { node < config.now.nodes }
     requires writer { writer.old.failed ≡ false }
     ensures sound { OnOk result (writer.new.failed ≡ false) }
@@ -140,7 +136,7 @@ fn write_counts<W: Write>(
     Ok(())
 }
 
-fn write_count<W: Write>(count: u64, writer: &mut Meter<W>) -> Result<(), WriteFault>
+fn write_count<W: Write>(count: u64, writer: &mut Meter<W>) -> Written
     requires { writer.old.failed ≡ false }
     ensures { Puts W.contents writer.old writer.new result (codes " " ++ decimal count) }
 {

@@ -7,7 +7,7 @@ ghost use Rattle.cast_record.specs.Text.{record_text};
 use crate::line::Line;
 use crate::writing::{write_broadcast, write_decided, write_delivered, write_line};
 use cast_message::{Answer, Event, NodeId, Outcome, Reply};
-use cast_words::{Meter, WriteFault};
+use cast_words::{Meter, Written};
 use std::io::Write;
 
 /// Writes the lines of the event, which has this index in its script, and its reply, each with its line feed: those that
@@ -18,7 +18,7 @@ pub fn write_lines_of<W: Write>(
     event: &Event,
     reply: &Reply,
     writer: &mut Meter<W>,
-) -> Result<(), WriteFault>
+) -> Written
     requires { writer.old.failed ≡ false }
     ensures { Puts W.contents writer.old writer.new result
         (record_text (lines_for index event.now reply.now)) }
@@ -35,11 +35,7 @@ pub fn write_lines_of<W: Write>(
     }
 }
 
-fn write_answer<W: Write>(
-    event: &Event,
-    answer: &Answer,
-    writer: &mut Meter<W>,
-) -> Result<(), WriteFault>
+fn write_answer<W: Write>(event: &Event, answer: &Answer, writer: &mut Meter<W>) -> Written
     requires { writer.old.failed ≡ false }
     ensures { Puts W.contents writer.old writer.new result
         (record_text (answer_lines event.now answer.now)) }
@@ -59,7 +55,7 @@ fn write_answer<W: Write>(
     }
 }
 
-fn write_alone<W: Write>(line: &Line, writer: &mut Meter<W>) -> Result<(), WriteFault>
+fn write_alone<W: Write>(line: &Line, writer: &mut Meter<W>) -> Written
     requires { writer.old.failed ≡ false }
     ensures { Puts W.contents writer.old writer.new result (record_text (line.now ∷ [])) }
 {
@@ -67,11 +63,7 @@ fn write_alone<W: Write>(line: &Line, writer: &mut Meter<W>) -> Result<(), Write
 }
 
 // What was delivered at the node, and then what was decided there.
-fn write_outcome<W: Write>(
-    node: NodeId,
-    outcome: &Outcome,
-    writer: &mut Meter<W>,
-) -> Result<(), WriteFault>
+fn write_outcome<W: Write>(node: NodeId, outcome: &Outcome, writer: &mut Meter<W>) -> Written
     requires { writer.old.failed ≡ false }
     ensures { Puts W.contents writer.old writer.new result
         (record_text (outcome_lines node outcome.now)) }

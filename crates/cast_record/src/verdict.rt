@@ -5,7 +5,7 @@ ghost use Rattle.cast_words.specs.Written.{Puts};
 
 use crate::words::Word::Number;
 use crate::writing::write_words;
-use cast_words::{Meter, WriteFault};
+use cast_words::{Meter, Written};
 use std::io::Write;
 
 /// What a judge says of a text.
@@ -19,7 +19,7 @@ pub enum Verdict {
 
 /// Writes the verdict as a line: `good`, or `bad` with the line and the rule. It takes no memory. A refusal comes only where
 /// the writer failed or took no byte; the meter tells so from then on, and a front of the text stands.
-pub fn write_verdict<W: Write>(verdict: Verdict, writer: &mut Meter<W>) -> Result<(), WriteFault>
+pub fn write_verdict<W: Write>(verdict: Verdict, writer: &mut Meter<W>) -> Written
     requires { writer.old.failed ≡ false }
     ensures { Puts W.contents writer.old writer.new result (verdict_text verdict ++ 10 ∷ []) }
 {

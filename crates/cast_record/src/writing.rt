@@ -9,12 +9,12 @@ ghost use Rattle.cast_record.specs.declared.line.Line.TheVariants.{Broadcast, De
 use crate::line::Line;
 use crate::words::Word::{self, Number};
 use cast_message::{Decision, Item, Message, NodeId};
-use cast_words::{Meter, WriteFault, mode_name, write_bytes, write_hex, write_number};
+use cast_words::{Meter, Written, mode_name, write_bytes, write_hex, write_number};
 use std::io::Write;
 
 /// Writes the lines, each with a line feed. It takes no memory. A refusal comes only where the writer failed or took no
 /// byte; the meter tells so from then on, and a front of the text stands.
-pub fn write_record<W: Write>(lines: &[Line], writer: &mut Meter<W>) -> Result<(), WriteFault>
+pub fn write_record<W: Write>(lines: &[Line], writer: &mut Meter<W>) -> Written
     requires { writer.old.failed ≡ false }
     ensures { Puts W.contents writer.old writer.new result (record_text lines.now) }
 {
@@ -26,7 +26,7 @@ pub fn write_record<W: Write>(lines: &[Line], writer: &mut Meter<W>) -> Result<(
 
 /// Writes the line with its line feed. It takes no memory. A refusal comes only where the writer failed or took no byte;
 /// the meter tells so from then on, and a front of the text stands.
-pub fn write_line<W: Write>(line: &Line, writer: &mut Meter<W>) -> Result<(), WriteFault>
+pub fn write_line<W: Write>(line: &Line, writer: &mut Meter<W>) -> Written
     requires { writer.old.failed ≡ false }
     ensures { Puts W.contents writer.old writer.new result (line_text line.now ++ 10 ∷ []) }
 {
@@ -72,7 +72,7 @@ pub fn write_broadcast<W: Write>(
     number: u64,
     item: &Item,
     writer: &mut Meter<W>,
-) -> Result<(), WriteFault>
+) -> Written
     requires { writer.old.failed ≡ false }
     ensures { Puts W.contents writer.old writer.new result
         (line_text (Broadcast
@@ -87,11 +87,7 @@ pub fn write_broadcast<W: Write>(
 }
 
 /// The line of a delivery.
-pub fn write_delivered<W: Write>(
-    node: NodeId,
-    message: &Message,
-    writer: &mut Meter<W>,
-) -> Result<(), WriteFault>
+pub fn write_delivered<W: Write>(node: NodeId, message: &Message, writer: &mut Meter<W>) -> Written
     requires { writer.old.failed ≡ false }
     ensures { Puts W.contents writer.old writer.new result
         (line_text (Delivered node message.now) ++ 10 ∷ []) }
@@ -106,11 +102,7 @@ pub fn write_delivered<W: Write>(
 }
 
 /// The line of a decision.
-pub fn write_decided<W: Write>(
-    node: NodeId,
-    decision: &Decision,
-    writer: &mut Meter<W>,
-) -> Result<(), WriteFault>
+pub fn write_decided<W: Write>(node: NodeId, decision: &Decision, writer: &mut Meter<W>) -> Written
     requires { writer.old.failed ≡ false }
     ensures { Puts W.contents writer.old writer.new result
         (line_text (Decided node decision.now) ++ 10 ∷ []) }
@@ -124,11 +116,7 @@ pub fn write_decided<W: Write>(
 }
 
 // Writes the name and the words, parted by one blank, and a line feed.
-pub fn write_words<W: Write>(
-    name: &[u8],
-    words: &[Word<'_>],
-    writer: &mut Meter<W>,
-) -> Result<(), WriteFault>
+pub fn write_words<W: Write>(name: &[u8], words: &[Word<'_>], writer: &mut Meter<W>) -> Written
     requires { writer.old.failed ≡ false }
     ensures { Puts W.contents writer.old writer.new result
         (join_with_byte 32 (name.now ∷ map word_text words.now) ++ 10 ∷ []) }
@@ -141,7 +129,7 @@ pub fn write_words<W: Write>(
     write_bytes(b"\n", writer)
 }
 
-fn write_word<W: Write>(word: &Word<'_>, writer: &mut Meter<W>) -> Result<(), WriteFault>
+fn write_word<W: Write>(word: &Word<'_>, writer: &mut Meter<W>) -> Written
     requires { writer.old.failed ≡ false }
     ensures { Puts W.contents writer.old writer.new result (word_text word.now) }
 {
@@ -152,7 +140,7 @@ fn write_word<W: Write>(word: &Word<'_>, writer: &mut Meter<W>) -> Result<(), Wr
     }
 }
 
-fn write_item<W: Write>(item: &Item, writer: &mut Meter<W>) -> Result<(), WriteFault>
+fn write_item<W: Write>(item: &Item, writer: &mut Meter<W>) -> Written
     requires { writer.old.failed ≡ false }
     ensures { Puts W.contents writer.old writer.new result (item_word item.now) }
 {

@@ -8,7 +8,7 @@ ghost use Rattle.cast_script.specs.Replay.{number, word_text, event_text, events
 ghost use Rattle.cast_script.specs.Cells.{atom_in, cell_text, member_in};
 
 use cast_message::{Config, Event, Item, NodeId};
-use cast_words::{Meter, WriteFault, mode_name, write_bytes, write_hex, write_number};
+use cast_words::{Meter, Written, mode_name, write_bytes, write_hex, write_number};
 use std::io::Write;
 
 /// What stands at a place of an array, or is the value of a member.
@@ -28,11 +28,7 @@ pub struct Member<'a> {
 
 /// Writes the script with this configuration, in which these events happen. It takes no memory. A refusal comes only where
 /// the writer failed or took no byte; the meter tells so from then on, and a front of the text stands.
-pub fn write_script<W: Write>(
-    config: &Config,
-    events: &[Event],
-    writer: &mut Meter<W>,
-) -> Result<(), WriteFault>
+pub fn write_script<W: Write>(config: &Config, events: &[Event], writer: &mut Meter<W>) -> Written
     requires { writer.old.failed ≡ false }
     ensures { Puts W.contents writer.old writer.new result (script_text config.now events.now) }
 {
@@ -44,7 +40,7 @@ pub fn write_script<W: Write>(
 }
 
 // Writes the members of the configuration, each with a comma.
-fn write_settings<W: Write>(config: &Config, writer: &mut Meter<W>) -> Result<(), WriteFault>
+fn write_settings<W: Write>(config: &Config, writer: &mut Meter<W>) -> Written
     requires { writer.old.failed ≡ false }
     ensures { Puts W.contents writer.old writer.new result (members_text (members config.now)) }
 {
@@ -77,7 +73,7 @@ fn number_member(name: &[u8], value: u64) -> Member<'_>
 }
 
 // Writes the members, each with a comma.
-fn write_members<W: Write>(members: &[Member<'_>], writer: &mut Meter<W>) -> Result<(), WriteFault>
+fn write_members<W: Write>(members: &[Member<'_>], writer: &mut Meter<W>) -> Written
     requires { writer.old.failed ≡ false }
     ensures { Puts W.contents writer.old writer.new result
         (members_text (map member_in members.now)) }
@@ -88,7 +84,7 @@ fn write_members<W: Write>(members: &[Member<'_>], writer: &mut Meter<W>) -> Res
     Ok(())
 }
 
-fn write_member<W: Write>(member: &Member<'_>, writer: &mut Meter<W>) -> Result<(), WriteFault>
+fn write_member<W: Write>(member: &Member<'_>, writer: &mut Meter<W>) -> Written
     requires { writer.old.failed ≡ false }
     ensures { Puts W.contents writer.old writer.new result (member_text (member_in member.now)) }
 {
@@ -99,7 +95,7 @@ fn write_member<W: Write>(member: &Member<'_>, writer: &mut Meter<W>) -> Result<
 }
 
 // Writes the events, each on a line of its own, parted by commas.
-fn write_events<W: Write>(events: &[Event], writer: &mut Meter<W>) -> Result<(), WriteFault>
+fn write_events<W: Write>(events: &[Event], writer: &mut Meter<W>) -> Written
     requires { writer.old.failed ≡ false }
     ensures { Puts W.contents writer.old writer.new result (events_text events.now) }
 {
@@ -112,7 +108,7 @@ fn write_events<W: Write>(events: &[Event], writer: &mut Meter<W>) -> Result<(),
 }
 
 // Writes the events, each with a comma before its line.
-fn write_other_events<W: Write>(events: &[Event], writer: &mut Meter<W>) -> Result<(), WriteFault>
+fn write_other_events<W: Write>(events: &[Event], writer: &mut Meter<W>) -> Written
     requires { writer.old.failed ≡ false }
     ensures { Puts W.contents writer.old writer.new result (others_text events.now) }
 {
@@ -123,7 +119,7 @@ fn write_other_events<W: Write>(events: &[Event], writer: &mut Meter<W>) -> Resu
     Ok(())
 }
 
-fn write_event<W: Write>(event: &Event, writer: &mut Meter<W>) -> Result<(), WriteFault>
+fn write_event<W: Write>(event: &Event, writer: &mut Meter<W>) -> Written
     requires { writer.old.failed ≡ false }
     ensures { Puts W.contents writer.old writer.new result (event_text event.now) }
 {
@@ -151,7 +147,7 @@ fn place<'a>(node: NodeId) -> Cell<'a>
     Cell::Number(u64::from(node.0))
 }
 
-fn write_order<W: Write>(node: NodeId, item: &Item, writer: &mut Meter<W>) -> Result<(), WriteFault>
+fn write_order<W: Write>(node: NodeId, item: &Item, writer: &mut Meter<W>) -> Written
     requires { writer.old.failed ≡ false }
     ensures { Puts W.contents writer.old writer.new result (event_text (Order node item.now)) }
 {
@@ -180,11 +176,7 @@ fn write_order<W: Write>(node: NodeId, item: &Item, writer: &mut Meter<W>) -> Re
 }
 
 // Writes an array of the name and these places.
-fn write_cells<W: Write>(
-    name: &[u8],
-    cells: &[Cell<'_>],
-    writer: &mut Meter<W>,
-) -> Result<(), WriteFault>
+fn write_cells<W: Write>(name: &[u8], cells: &[Cell<'_>], writer: &mut Meter<W>) -> Written
     requires { writer.old.failed ≡ false }
     ensures { Puts W.contents writer.old writer.new result
         (91 ∷ join_with_byte 44 (word_text name.now ∷ map cell_text cells.now) ++ 93 ∷ []) }
@@ -198,7 +190,7 @@ fn write_cells<W: Write>(
     write_bytes(b"]", writer)
 }
 
-fn write_cell<W: Write>(cell: &Cell<'_>, writer: &mut Meter<W>) -> Result<(), WriteFault>
+fn write_cell<W: Write>(cell: &Cell<'_>, writer: &mut Meter<W>) -> Written
     requires { writer.old.failed ≡ false }
     ensures { Puts W.contents writer.old writer.new result (cell_text cell.now) }
 {
@@ -209,7 +201,7 @@ fn write_cell<W: Write>(cell: &Cell<'_>, writer: &mut Meter<W>) -> Result<(), Wr
     }
 }
 
-fn write_word<W: Write>(word: &[u8], writer: &mut Meter<W>) -> Result<(), WriteFault>
+fn write_word<W: Write>(word: &[u8], writer: &mut Meter<W>) -> Written
     requires { writer.old.failed ≡ false }
     ensures { Puts W.contents writer.old writer.new result (word_text word.now) }
 {
@@ -218,7 +210,7 @@ fn write_word<W: Write>(word: &[u8], writer: &mut Meter<W>) -> Result<(), WriteF
     write_bytes(b"\"", writer)
 }
 
-fn write_digits<W: Write>(bytes: &[u8], writer: &mut Meter<W>) -> Result<(), WriteFault>
+fn write_digits<W: Write>(bytes: &[u8], writer: &mut Meter<W>) -> Written
     requires { writer.old.failed ≡ false }
     ensures { Puts W.contents writer.old writer.new result (word_text (hex bytes.now)) }
 {

@@ -17,4 +17,4 @@ pub use mode::mode_name;
 pub use numbers::number;
 pub use shown::escaped;
 pub use unhex::bytes_of;
-pub use writing::{WriteFault, write_bytes, write_hex, write_number};
+pub use writing::{WriteFault, Written, write_bytes, write_hex, write_number};

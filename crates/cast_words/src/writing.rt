@@ -19,8 +19,11 @@ pub enum WriteFault {
     Write,
 }
 
+/// What comes of writing a text.
+pub type Written = Result<(), WriteFault>;
+
 /// Writes the number in decimal digits. It takes no memory; a refusal comes as in `write_bytes`.
-pub fn write_number<W: Write>(number: u64, writer: &mut Meter<W>) -> Result<(), WriteFault>
+pub fn write_number<W: Write>(number: u64, writer: &mut Meter<W>) -> Written
     requires { writer.old.failed ≡ false }
     ensures { Puts W.contents writer.old writer.new result (decimal number) }
 {
@@ -28,7 +31,7 @@ pub fn write_number<W: Write>(number: u64, writer: &mut Meter<W>) -> Result<(), 
 }
 
 /// Writes each byte as two digits. It takes no memory; a refusal comes as in `write_bytes`.
-pub fn write_hex<W: Write>(bytes: &[u8], writer: &mut Meter<W>) -> Result<(), WriteFault>
+pub fn write_hex<W: Write>(bytes: &[u8], writer: &mut Meter<W>) -> Written
     requires { writer.old.failed ≡ false }
     ensures { Puts W.contents writer.old writer.new result (hex bytes.now) }
 {
@@ -46,7 +49,7 @@ pub fn write_hex<W: Write>(bytes: &[u8], writer: &mut Meter<W>) -> Result<(), Wr
 
 /// Writes all the bytes. It takes no memory. A refusal comes only where the writer failed or took no byte; the meter tells
 /// so from then on, and a front of the bytes stands.
-pub fn write_bytes<W: Write>(bytes: &[u8], writer: &mut Meter<W>) -> Result<(), WriteFault>
+pub fn write_bytes<W: Write>(bytes: &[u8], writer: &mut Meter<W>) -> Written
     requires { writer.old.failed ≡ false }
     ensures { Puts W.contents writer.old writer.new result bytes.now }
 {
