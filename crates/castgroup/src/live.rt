@@ -110,13 +110,15 @@ fn run_live_script<R: Runtime + AllocGlobal + Threads + Wait + Copy + Send + 'st
     run
 }
 
-/// What is kept of a run in a file.
+/// What is written of a run.
 #[derive(Clone, Copy)]
-enum Kept {
+enum Output {
     /// The record of what happened.
     Record,
     /// The script that says what happened.
     Replay,
+    /// What became of it.
+    Summary(Summary),
 }
 
 /// Writes the record and the replay to the files that are named, each whatever became of the other.
@@ -127,8 +129,8 @@ fn keep_files<'a, R: Runtime + AllocGlobal>(
 ) -> Result<(), Stop<'a>>
     requires { IsFinished run.now }
 {
-    let record = keep(rt, files.record, run, Kept::Record);
-    let replay = keep(rt, files.replay, run, Kept::Replay);
+    let record = keep(rt, files.record, run, Output::Record);
+    let replay = keep(rt, files.replay, run, Output::Replay);
     record?;
     replay
 }
@@ -138,7 +140,7 @@ fn keep<'a, R: Runtime + AllocGlobal>(
     rt: &R,
     path: Option<&'a str>,
     run: &FinishedRun,
-    kept: Kept,
+    kept: Output,
 ) -> Result<(), Stop<'a>>
     requires { IsFinished run.now }
 {
@@ -159,41 +161,17 @@ fn keep<'a, R: Runtime + AllocGlobal>(
         Err(error) => return stop(TextFault::Write, Some(error)),
     };
     let mut heard = Heard::new(Counted::new(file));
-    match write_kept(rt, &mut heard, run, kept) {
+    match write_output(rt, &mut heard, run, kept) {
         Ok(()) => {}
         Err(fault) => return stop(fault, heard.error()),
     }
     if heard.inner().count() > INPUT_LIMIT as u64 {
         let said = match kept {
-            Kept::Record => eprintln!(rt; "castgroup: record longer than judge reads"),
-            Kept::Replay => eprintln!(rt; "castgroup: replay longer than run reads"),
+            Output::Replay => eprintln!(rt; "castgroup: replay longer than run reads"),
+            _ => eprintln!(rt; "castgroup: record longer than judge reads"),
         };
         // Where standard error fails there is nowhere left to say so.
         let _ = said;
-    }
-    Ok(())
-}
-
-fn write_kept<R: AllocGlobal, W: Write + Drop>(
-    rt: &R,
-    file: &mut W,
-    run: &FinishedRun,
-    kept: Kept,
-) -> Result<(), TextFault>
-    requires { IsFinished run.now }
-{
-    let Ok(mut output) = BufWriter::new(rt.alloc(), file) else {
-        return Err(TextFault::Memory);
-    };
-    let mut writer = Meter::new(&mut output);
-    let outcome = match kept {
-        Kept::Record => write_record_of(run, &mut writer),
-        Kept::Replay => write_replay_of(run, &mut writer),
-    };
-    let flushed = output.flush();
-    outcome?;
-    if flushed.is_err() {
-        return Err(TextFault::Write);
     }
     Ok(())
 }
@@ -204,30 +182,45 @@ fn tell_summary<'a, R: Runtime + AllocGlobal>(
 ) -> Result<Summary, Stop<'a>>
     requires { IsFinished run.now }
 {
-    let mut heard = Heard::new(io::writer(rt));
-    match write_summary_of(rt, &mut heard, run) {
-        Ok(summary) => Ok(summary),
-        Err(fault) => Err(Stop {
+    let stop = |fault, error| {
+        Err(Stop {
             fault,
-            output: Failure::of_output(heard.error()),
-        }),
+            output: Failure::of_output(error),
+        })
+    };
+    let Ok(summary) = summarize(rt.alloc(), run) else {
+        return stop(TextFault::Memory, None);
+    };
+    let mut heard = Heard::new(io::writer(rt));
+    match write_output(rt, &mut heard, run, Output::Summary(summary)) {
+        Ok(()) => Ok(summary),
+        Err(fault) => stop(fault, heard.error()),
     }
 }
 
-fn write_summary_of<R: AllocGlobal, W: Write + Drop>(
+fn write_output<R: AllocGlobal, W: Write + Drop>(
     rt: &R,
     writer: &mut W,
     run: &FinishedRun,
-) -> Result<Summary, TextFault>
+    output: Output,
+) -> Result<(), TextFault>
     requires { IsFinished run.now }
 {
-    let summary = summarize(rt.alloc(), run)?;
-    let Ok(mut output) = BufWriter::new(rt.alloc(), writer) else {
+    let Ok(mut buffer) = BufWriter::new(rt.alloc(), writer) else {
         return Err(TextFault::Memory);
     };
-    write_summary(run, summary, &mut Meter::new(&mut output))?;
-    if output.flush().is_err() {
+    let mut meter = Meter::new(&mut buffer);
+    let outcome = match output {
+        Output::Record => write_record_of(run, &mut meter),
+        Output::Replay => write_replay_of(run, &mut meter),
+        Output::Summary(summary) => write_summary(run, summary, &mut meter).map_err(
+            TextFault::from,
+        ),
+    };
+    let flushed = buffer.flush();
+    outcome?;
+    if flushed.is_err() {
         return Err(TextFault::Write);
     }
-    Ok(summary)
+    Ok(())
 }
