@@ -34,19 +34,7 @@ use Rattle.cast_text.proofs.Goodness.{counts, Told, Grown, accepted_of, history_
 -- ---- what a refused event leaves
 
 code_above : (refusal : StepFault) → 1 ≤ step_code refusal
-code_above refusals.NoNode = omega arith
-code_above refusals.SelfLink = omega arith
-code_above refusals.Crashed = omega arith
-code_above refusals.Closed = omega arith
-code_above refusals.TooLong = omega arith
-code_above refusals.AlreadyProposed = omega arith
-code_above refusals.StreamFull = omega arith
-code_above refusals.NoSlot = omega arith
-code_above refusals.Acked = omega arith
-code_above refusals.NotTaken = omega arith
-code_above refusals.NoFrame = omega arith
-code_above refusals.FramesFull = omega arith
-code_above refusals.Memory = omega arith
+code_above refusal = grind (arith, step_code)
 
 -- the same facts after one more event that changes nothing
 told_still : (config : Config) (events : List Event) (past : History) (event : Event) (xs : List Line) → after config past event ≡ past → Told config events past xs → Told config (events ++ event ∷ []) past xs
