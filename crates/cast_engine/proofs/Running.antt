@@ -127,26 +127,21 @@ module _ (old new : JournalState) (put : List Parcel) (held : Option Parcel) (ar
   abbrev KeepsOf' : JournalState → List (ℕ × OrderIn) → Type 0
   KeepsOf' j orders' = KeepsOf j put held arrived orders'
 
-  at_new' : {orders' : List (ℕ × OrderIn)} (steps : Steps) → Stands old.config old.node.me steps new.node → new.config ≡ old.config
+  -- the node is the same
+  at_new : {orders' : List (ℕ × OrderIn)} (steps : Steps) → Stands old.config old.node.me steps new.node → new.config ≡ old.config
       → EngineKeeps old.config old.node.me new.node new.log put held arrived orders' → KeepsOf new put held arrived orders'
-  at_new' {orders' = orders'} steps st c e =
+  at_new {orders' = orders'} steps st c e =
       let P : Config → ℕ → Type 0 = λ config p. EngineKeeps config p new.node new.log put held arrived orders' in
       subst (λ config. P config new.node.me) (sym c) (subst (P old.config) (sym st.same_me) e)
 
-  -- the node is the same
-  at_new : (steps : Steps) → Stands old.config old.node.me steps new.node → new.config ≡ old.config
-      → EngineKeeps old.config old.node.me new.node new.log put held arrived orders → KeepsOf new put held arrived orders
-  at_new steps st c e =
-      let P : Config → ℕ → Type 0 = λ config p. EngineKeeps config p new.node new.log put held arrived orders in
-      subst (λ config. P config new.node.me) (sym c) (subst (P old.config) (sym st.same_me) e)
-
-  pub step_kept : (step : Step) (above : ℕ) → LogsStep old new step None above → is_order step ≡ false → IsFor old.node.me step → ((stamp : ℕ) → above < stamp → IsReceivedBy arrived stamp step)
-      → KeepsOf new put held arrived orders
+  -- a step that is no order is one more of the run
+  abbrev moved : (step : Step) (above : ℕ) → LogsStep old new step None above → is_order step ≡ false → IsFor old.node.me step
+      → ((stamp : ℕ) → above < stamp → IsReceivedBy arrived stamp step) → EngineKeeps old.config old.node.me new.node new.log put held arrived orders
   unfolding trail_of log_of orders_of IsRun AreReceived steps_in kept_in
-  step_kept step above l quiet for_me received =
+  moved step above l quiet for_me received =
       let go = continues old.config old.node.me steps_now old.node k.stands step (Ok l.answer) new.node l.gives in
       let none = sym (faults_are old.config old.node.me steps_now old.node k.stands step) ∙ l.gives.0 in
-      at_new _ go.1 l.logs.same_config (record {
+      record {
         run = Moved l.stamp step ∷ k.run;
         runs = (k.runs, (none, for_me, quiet));
         is_log = l.logs.log ∙ (λ i. k.is_log i ++ record { stamp = l.stamp; kind = StepEntry (event_of old.node.me step) None (outcome_in (sym go.0 i)) } ∷ []);
@@ -156,7 +151,13 @@ module _ (old new : JournalState) (put : List Parcel) (held : Option Parcel) (ar
         waits = λ x h. made_still old.config old.node.me k.run (Moved l.stamp step) x (k.waits x h);
         received = (k.received, received l.stamp l.later);
         ordered = append-nil (orders_of k.run) ∙ k.ordered;
-      })
+      }
+
+  pub step_kept : (step : Step) (above : ℕ) → LogsStep old new step None above → is_order step ≡ false → IsFor old.node.me step → ((stamp : ℕ) → above < stamp → IsReceivedBy arrived stamp step)
+      → KeepsOf new put held arrived orders
+  step_kept step above l quiet for_me received =
+      let e = moved step above l quiet for_me received in
+      at_new _ e.stands l.logs.same_config e
 
   pub same_me : (step : Step) (origin : Option Origin) (above : ℕ) → LogsStep old new step origin above → new.node.me ≡ old.node.me
   same_me step origin above l = (continues old.config old.node.me steps_now old.node k.stands step (Ok l.answer) new.node l.gives).1.same_me
@@ -172,7 +173,7 @@ module _ (old new : JournalState) (put : List Parcel) (held : Option Parcel) (ar
       let go = continues old.config old.node.me steps_now old.node k.stands step (Ok l.answer) new.node l.gives in
       let none = sym (faults_are old.config old.node.me steps_now old.node k.stands step) ∙ l.gives.0 in
       let snd : ℕ × OrderIn → OrderIn = λ m. m.1 in
-      at_new' _ go.1 l.logs.same_config (record {
+      at_new _ go.1 l.logs.same_config (record {
         run = Served l.stamp order ∷ k.run;
         runs = (k.runs, none);
         is_log = l.logs.log ∙ (λ i. k.is_log i ++ record { stamp = l.stamp; kind = StepEntry (event_of old.node.me step) (Some (origin_of order)) (outcome_in (sym go.0 i)) } ∷ []);
@@ -190,7 +191,7 @@ module _ (old new : JournalState) (put : List Parcel) (held : Option Parcel) (ar
       let step : Step = Ordered order.item in
       let go = continues old.config old.node.me steps_now old.node k.stands step (Err l.fault) new.node l.gives in
       let snd : ℕ × OrderIn → OrderIn = λ m. m.1 in
-      at_new' _ go.1 l.logs.same_config (record {
+      at_new _ go.1 l.logs.same_config (record {
         run = Denied l.stamp order l.fault ∷ k.run;
         runs = (k.runs, go.0);
         is_log = l.logs.log ∙ ap (λ g. g ++ record { stamp = l.stamp; kind = Refused (origin_of order) l.fault } ∷ []) k.is_log;
@@ -211,23 +212,11 @@ module _ (old new : JournalState) (put : List Parcel) (held : Option Parcel) (ar
       → (e : KeepsOf new put held arrived orders) × IsMade new.config new.node.me e.run x
   unfolding trail_of log_of orders_of IsRun AreReceived steps_in kept_in
   made_now step above f l quiet for_me received made seq x is time =
-      let go = continues old.config old.node.me steps_now old.node k.stands step (Ok l.answer) new.node l.gives in
-      let none = sym (faults_are old.config old.node.me steps_now old.node k.stands step) ∙ l.gives.0 in
+      let e = moved step above l quiet for_me (λ stamp lt. received stamp) in
       let counted = frames_counted old.config old.node.me k.run k.runs ∙ sym k.stands.frames ∙ sym seq in
-      let e : EngineKeeps old.config old.node.me new.node new.log put held arrived orders = record {
-        run = Moved l.stamp step ∷ k.run;
-        runs = (k.runs, (none, for_me, quiet));
-        is_log = l.logs.log ∙ (λ i. k.is_log i ++ record { stamp = l.stamp; kind = StepEntry (event_of old.node.me step) None (outcome_in (sym go.0 i)) } ∷ []);
-        stands = go.1;
-        reached = l.gives.2 ∙ ap (λ n. kept_after n step) k.reached;
-        sent = λ x h. made_still old.config old.node.me k.run (Moved l.stamp step) x (k.sent x h);
-        waits = λ x h. made_still old.config old.node.me k.run (Moved l.stamp step) x (k.waits x h);
-        received = (k.received, received l.stamp);
-        ordered = append-nil (orders_of k.run) ∙ k.ordered;
-      } in
       let P : Config → ℕ → Type 0 = λ config p. (e : EngineKeeps config p new.node new.log put held arrived orders) × IsMade config p e.run x in
       subst (λ config. P config new.node.me) (sym l.logs.same_config)
-      (subst (P old.config) (sym go.1.same_me) (e, made_last old.config old.node.me k.run l.stamp step f made counted x is (time ∙ l.logs.clock)))
+      (subst (P old.config) (sym e.stands.same_me) (e, made_last old.config old.node.me k.run l.stamp step f made counted x is (time ∙ l.logs.clock)))
 
 pub hand_kept : (j : JournalState) (put put' : List Parcel) (held held' : Option Parcel) (arrived : List (ℕ × Parcel)) (orders : List (ℕ × OrderIn)) (x : Parcel)
     → (e : KeepsOf j put held arrived orders) → IsMade j.config j.node.me e.run x → Handed put put' held' x → KeepsOf j put' held' arrived orders
