@@ -54,15 +54,6 @@ returns-clause-notices g c =
     let done : length c.loop-client.client-iterator.rest.items ≡ 0 = search rules in
     all_took c.args.clients.items c.args.desk.orders c.args.desk.trays.items c.requires c.loop-client.yielded _ _ c.loop-client.orders c.loop-client.invariant.2 done
 
-pub returns-clause-fair : goal.returns-clause-fair
-returns-clause-fair g c =
-    let done : length c.loop-client.client-iterator.rest.items ≡ 0 = search rules in
-    let b = c.gather in
-    let t = b.ensures.taken ∙ same_taken c.args.clients.items c.args.desk.orders c.args.desk.trays.items c.requires c.loop-client.yielded _ _ c.loop-client.orders c.loop-client.invariant.2 done in
-    let p = b.ensures.put ∙ put_all c.args.clients.items c.args.desk.orders c.args.desk.trays.items c.requires c.loop-client.yielded _ _ c.loop-client.orders c.loop-client.invariant.2 done in
-    let P : List (List OrderIn) → List (ℕ × OrderIn) → Type 0 = λ l t. IsFair l t b.result.left in
-    subst (P _) t (subst (λ l. P l b.result.taken) p b.ensures.fair)
-
 pub returns-clause-gathered : goal.returns-clause-gathered
 returns-clause-gathered g c =
     let done : length c.loop-client.client-iterator.rest.items ≡ 0 = search rules in
@@ -70,6 +61,13 @@ returns-clause-gathered g c =
       b.ensures.taken ∙ same_taken c.args.clients.items c.args.desk.orders c.args.desk.trays.items c.requires c.loop-client.yielded _ _ c.loop-client.orders c.loop-client.invariant.2 done,
       b.ensures.put ∙ put_all c.args.clients.items c.args.desk.orders c.args.desk.trays.items c.requires c.loop-client.yielded _ _ c.loop-client.orders c.loop-client.invariant.2 done,
     )
+
+pub returns-clause-fair : goal.returns-clause-fair
+returns-clause-fair g c =
+    let b = c.gather in
+    let are = returns-clause-gathered g c in
+    let P : List (List OrderIn) → List (ℕ × OrderIn) → Type 0 = λ l t. IsFair l t b.result.left in
+    subst (P _) are.0 (subst (λ l. P l b.result.taken) are.1 b.ensures.fair)
 
 pub returns-clause-room : goal.returns-clause-room
 returns-clause-room g c =
