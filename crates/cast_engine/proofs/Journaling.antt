@@ -20,7 +20,10 @@ use Rattle.cast_node.specs.Kept.{Kept, link_to, is_enough}
 use Rattle.cast_node.specs.Turns.{Told, told, released, unmoved, kept_after, arrived_body, carried, acknowledged, may_arrive, with_taken, with_knower, taken_up, Gives}
 use Rattle.cast_merge.specs.declared.report.EngineEnd.{EngineEnd}
 use Rattle.cast_merge.specs.declared.report.EngineEnd.TheVariants.{Crashed}
-use Rattle.cast_engine.specs.Journals.{Rises, is_crash, EndsAs, JournalKeeps, JournalState, MayLog}
+use Rattle.cast_merge.specs.Linked.{event_of}
+use Rattle.cast_script.specs.declared.script.FrameKind.{FrameKind}
+use Rattle.cast_script.specs.declared.script.FrameKind.TheVariants as kinds
+use Rattle.cast_engine.specs.Journals.{Rises, is_crash, is_crash_event, EndsAs, JournalKeeps, JournalState, MayLog, making}
 
 abbrev pub entry : ℕ → EntryKind → Entry
 entry stamp kind = record { stamp = stamp; kind = kind }
@@ -110,6 +113,11 @@ gives_live kept new step answer g h = ap (λ (k : Kept). k.live) g.2 ∙ live_af
 
 abbrev pub state : Config → Kept → List Entry → ℕ → Option ℕ → Option EngineEnd → JournalState
 state config node log clock crash ended = record { config = config; node = node; log = log; clock = clock; crash = crash; ended = ended }
+
+-- a node that makes a frame goes on
+pub making_goes_on : (p : ℕ) (kind : FrameKind) (to slot : ℕ) → (is_crash_event (event_of p (making kind to slot)) ≡ false) × (is_stop (making kind to slot) ≡ false)
+making_goes_on p kinds.Carry to slot = (refl, refl)
+making_goes_on p kinds.Took to slot = (refl, refl)
 
 -- the same, as the functions need it
 pub logged : (config : Config) (room room' : ℕ) (node node' : Kept) (log log' : List Entry) (clock stamp : ℕ) (crash : Option ℕ) (ended : Option EngineEnd) (kind : EntryKind) (j : JournalState)

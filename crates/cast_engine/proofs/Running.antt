@@ -17,7 +17,9 @@ use Rattle.cast_desk.specs.declared.desk.OrderIn.{OrderIn}
 use Rattle.cast_engine.specs.declared.parcel.Parcel.{Parcel}
 use Rattle.cast_merge.specs.Linked.{Made, event_of, outcome_in, steps_in, made_in, kept_in, stamped, IsFor}
 use Rattle.cast_engine.specs.Runs.{Has, Read, Moved, Served, Denied, Run, trail_of, log_of, orders_of, IsRun, AreReceived, IsReceived, IsReceivedBy, IsMade, parcel, is_order, origin_of, EngineKeeps}
-use Rattle.cast_engine.specs.Journals.{JournalState, LogsStep, LogsRefusal, LogsOrder, OnlyEnds, Halts}
+use Rattle.cast_engine.specs.Journals.{JournalState, LogsStep, LogsRefusal, LogsOrder, OnlyEnds, Halts, making, frame_made}
+use Rattle.cast_script.specs.declared.script.FrameKind.{FrameKind}
+use Rattle.cast_script.specs.declared.script.FrameKind.TheVariants.{Carry, Took}
 use Rattle.cast_engine.specs.Engines.{KeepsOf, Handed}
 use Rattle.cast_engine.proofs.Lists.{get_left, get_last, has_left, has_snoc}
 
@@ -250,15 +252,13 @@ flush_kept j put put' held held' arrived orders x k is h = hand_kept j put put' 
 
 module _ (old new : JournalState) (put put' : List Parcel) (held held' : Option Parcel) (arrived : List (ℕ × Parcel)) (orders : List (ℕ × OrderIn)) (k : KeepsOf old put held arrived orders)
     (x : Parcel) (above : ℕ) (time : x.stamp ≡ new.clock) (h : Handed put put' held' x) where
-  pub send_kept : (to slot : ℕ) → LogsStep old new (Sent to slot) None above → x.frame ≡ carry_of old.node to slot → KeepsOf new put' held' arrived orders
-  send_kept to slot l is =
+  pub made_kept : (kind : FrameKind) (to slot : ℕ) → LogsStep old new (making kind to slot) None above → x.frame ≡ frame_made kind old.node to slot → KeepsOf new put' held' arrived orders
+  made_kept Carry to slot l is =
       let steps = steps_in old.config old.node.me (trail_of k.run) in
       let none = sym (faults_are old.config old.node.me steps old.node k.stands (Sent to slot)) ∙ l.gives.0 in
       let it = made_now old new put held arrived orders k (Sent to slot) above (carry_of old.node to slot) l refl tt (λ stamp. tt) (carries old.config old.node.me steps old.node k.stands to slot none) refl x is time in
       hand_kept new put put' held held' arrived orders x it.0 it.1 h
-
-  pub ack_kept : (to slot : ℕ) → LogsStep old new (Acknowledged to slot) None above → x.frame ≡ took_of old.node to slot → KeepsOf new put' held' arrived orders
-  ack_kept to slot l is =
+  made_kept Took to slot l is =
       let steps = steps_in old.config old.node.me (trail_of k.run) in
       let it = made_now old new put held arrived orders k (Acknowledged to slot) above (took_of old.node to slot) l refl tt (λ stamp. tt) (tells_taken old.config old.node.me steps old.node k.stands to slot) refl x is time in
       hand_kept new put put' held held' arrived orders x it.0 it.1 h

@@ -4,11 +4,10 @@ use Rattle.std.specs.Prelude.{IsTrue, IsFalse, replicate}
 use Rattle.std.proofs.lemmas.List.{length-replicate}
 use Rattle.cast_message.specs.declared.config.Config.{Config}
 use Rattle.cast_node.proofs.Beginning.{stands_for_nothing}
-use Rattle.cast_model.specs.Steps.{Step, Sent, Acknowledged, Arrived, Stopped}
+use Rattle.cast_model.specs.Steps.{Step, Arrived, Stopped}
 use Rattle.cast_node.specs.declared.entry.Origin.{Origin}
 use Rattle.cast_node.specs.declared.entry.Entry.{Entry}
 use Rattle.cast_node.specs.Kept.{Kept, nothing_kept}
-use Rattle.cast_node.specs.Turns.{carry_of, took_of}
 use Rattle.cast_box.specs.Ends.{PutterEnd}
 use Rattle.cast_desk.specs.declared.desk.Desk.{Desk}
 use Rattle.cast_desk.specs.declared.desk.OrderIn.{OrderIn}
@@ -17,12 +16,13 @@ use Rattle.cast_engine.specs.declared.parcel.Parcel.{Parcel}
 use Rattle.cast_engine.specs.declared.feeding.Place.{Place}
 use Rattle.cast_merge.specs.Linked.{steps_in, kept_in}
 use Rattle.cast_engine.specs.Runs.{EngineKeeps, trail_of, log_of, orders_of, IsRun, AreReceived}
-use Rattle.cast_engine.specs.Journals.{JournalState, LogsStep, LogsRefusal, LogsOrder, OnlyEnds, Halts, MayLog, Rises, EndsAs}
+use Rattle.cast_engine.specs.Journals.{JournalState, LogsStep, LogsRefusal, LogsOrder, OnlyEnds, Halts, MayLog, Rises, EndsAs, making, frame_made}
+use Rattle.cast_script.specs.declared.script.FrameKind.{FrameKind}
 use Rattle.cast_engine.specs.Feeding.{AreFed, IsFed, first_place}
 use Rattle.cast_engine.specs.Engines.{taken_at, trays_at, KeepsOf, EngineStays, Handed, TakesOrder, TakesIn, IsUnused, EngineState, Leaves}
 use Rattle.cast_merge.specs.declared.report.EngineEnd.{EngineEnd}
 use Rattle.cast_engine.proofs.Lists.{has_last, has_none}
-use Rattle.cast_engine.proofs.Running.{taken_kept, ends_kept, step_kept, halt_kept, same_me, order_kept, flush_kept, send_kept, ack_kept}
+use Rattle.cast_engine.proofs.Running.{taken_kept, ends_kept, step_kept, halt_kept, same_me, order_kept, flush_kept, made_kept}
 use Rattle.cast_engine.proofs.Fed.{fed_more}
 
 abbrev pub IsSameJournal : JournalState → JournalState → Type 0
@@ -86,16 +86,11 @@ module _ (old new : JournalState) (put : List Parcel) (held : Option Parcel) (ar
   same_taken x t = ⊎_elim (λ (e : OnlyEnds old new). same_halt (inl e)) (λ (l : LogsStep old new (Arrived x.frame) None x.stamp × (x.frame.to ≡ old.node.me)). same_step (Arrived x.frame) None x.stamp l.0) t
 
   module _ (put' : List Parcel) (held' : Option Parcel) (x : Parcel) (above : ℕ) (time : x.stamp ≡ new.clock) (h : Handed put put' held' x) where
-    pub stays_sent : (to slot : ℕ) → LogsStep old new (Sent to slot) None above → x.frame ≡ carry_of old.node to slot → EngineStays new put' held' arrived desk places
-    stays_sent to slot l is = record {
-      keeps = send_kept old new put put' held held' arrived (taken_at desk) k.keeps x above time h to slot l is;
-      fed = fed_step old new (Sent to slot) None above (trays_at desk) places l k.fed;
-    }
-
-    pub stays_acked : (to slot : ℕ) → LogsStep old new (Acknowledged to slot) None above → x.frame ≡ took_of old.node to slot → EngineStays new put' held' arrived desk places
-    stays_acked to slot l is = record {
-      keeps = ack_kept old new put put' held held' arrived (taken_at desk) k.keeps x above time h to slot l is;
-      fed = fed_step old new (Acknowledged to slot) None above (trays_at desk) places l k.fed;
+    pub stays_made : (kind : FrameKind) (to slot : ℕ) → LogsStep old new (making kind to slot) None above → x.frame ≡ frame_made kind old.node to slot
+        → EngineStays new put' held' arrived desk places
+    stays_made kind to slot l is = record {
+      keeps = made_kept old new put put' held held' arrived (taken_at desk) k.keeps x above time h kind to slot l is;
+      fed = fed_step old new (making kind to slot) None above (trays_at desk) places l k.fed;
     }
 
   -- an order was taken and logged

@@ -17,6 +17,7 @@ use cast_desk::{Desk, OrderIn};
 use cast_merge::EngineEnd;
 use cast_message::{Config, FrameBody, NodeId};
 use cast_node::{Entry, EntryKind, Node};
+use cast_script::FrameKind;
 use std::alloc::{AllocError, Global};
 use std::marker::Model;
 use std::sync::Wait;
@@ -205,7 +206,7 @@ impl Engine {
             return false;
         };
         quiet.write(board, false);
-        self.acknowledge(rt, owing);
+        self.make(rt, FrameKind::Took, owing.to, owing.slot);
         true
     }
 
@@ -285,18 +286,19 @@ impl Engine {
         }
     }
 
-    /// Step 3, the second half: acknowledges a slot that was taken.
+    // Makes a frame for a slot, and hands it on. Answers whether it was made.
     #[tactic(auto, using(crate::proofs::Again::desk_same))]
-    fn acknowledge<R: Wait>(&mut self, rt: &R, owing: Owing)
+    fn make<R: Wait>(&mut self, rt: &R, kind: FrameKind, to: NodeId, slot: u64) -> bool
         ensures { IsSameEngine self.old self.new }
     {
         if !self.journal.may_log() {
-            return;
+            return false;
         }
-        let Ok(parcel) = self.journal.ack(owing.to, owing.slot) else {
-            return;
+        let Ok(parcel) = self.journal.make(kind, to, slot) else {
+            return false;
         };
         hand(rt, &mut self.outbox, &mut self.held, parcel);
+        true
     }
 
     /// Step 5: sends a slot that is due, to the next peer in cyclic order to which one is. Answers whether it did.
@@ -313,17 +315,16 @@ impl Engine {
     fn send_due<R: Wait>(&mut self, rt: &R) -> bool
         ensures { IsSameEngine self.old self.new }
     {
-        if self.held.is_some() || !self.journal.may_log() {
+        if self.held.is_some() {
             return false;
         }
         let Some((to, slot)) = self.resend.next_due(self.journal.node()) else {
             return false;
         };
-        let Ok(parcel) = self.journal.send(to, slot) else {
+        if !self.make(rt, FrameKind::Carry, to, slot) {
             return false;
-        };
+        }
         self.resend.note(to, slot);
-        hand(rt, &mut self.outbox, &mut self.held, parcel);
         true
     }
 

@@ -1,16 +1,19 @@
 //! The node of an engine, with its log and its clock.
-ghost use Rattle.std.specs.Prelude.{◌≡◌, ◌+◌, ◌<◌, ◌^◌, [], length, Some, None, IfOk, OnOk, OnErr, IsTrue, IsFalse};
-ghost use Rattle.cast_model.specs.Steps.{Sent, Acknowledged, Arrived, Stopped};
+ghost use Rattle.std.specs.Prelude.{◌≡◌, ◌+◌, ◌<◌, ◌^◌, [], length, Some, None, Ok, IfOk, OnOk, OnErr, IsTrue, IsFalse};
+ghost use Rattle.cast_model.specs.Steps.{Arrived, Stopped};
+ghost use Rattle.cast_merge.specs.Linked.{event_of};
+ghost use Rattle.cast_node.specs.Calls.{sent_reply};
 ghost use Rattle.cast_node.specs.Kept.{nothing_kept};
-ghost use Rattle.cast_node.specs.Turns.{carry_of, took_of};
+ghost use Rattle.cast_node.specs.Turns.{Gives};
 ghost use Rattle.cast_model.specs.OwnSteps.{nothing};
-ghost use Rattle.cast_engine.specs.Journals.{MayLog, LogsStep, LogsOrder, OnlyEnds, Halts, Rises, EndsAs, AsksOrder, IsQuietEnd};
+ghost use Rattle.cast_engine.specs.Journals.{MayLog, LogsStep, LogsOrder, OnlyEnds, Halts, Rises, EndsAs, AsksOrder, IsQuietEnd, making, frame_made};
 
 use crate::parcel::Parcel;
 use cast_desk::OrderIn;
 use cast_merge::EngineEnd;
-use cast_message::{Config, Event, Item, List, NodeId, Outcome, StepFault};
+use cast_message::{Config, Event, Frame, Item, List, NodeId, Outcome, StepFault};
 use cast_node::{Entry, EntryKind, Node, Origin};
+use cast_script::FrameKind;
 use std::alloc::{AllocError, Global};
 use std::marker::Model;
 
@@ -162,45 +165,22 @@ impl Journal {
         Ok(())
     }
 
-    /// Makes a frame that carries a slot to a peer, and logs it. A refusal changes nothing.
-    pub fn send(&mut self, to: NodeId, slot: u64) -> Result<Parcel, StepFault>
-        requires { MayLog self.old }
-        ensures ok { OnOk result (LogsStep self.old self.new (Sent to slot) None self.old.clock) }
-        ensures parcel { IfOk result (λ parcel. (parcel.frame ≡ carry_of self.old.node to slot)
-            × (parcel.stamp ≡ self.new.clock)) }
-        ensures err { OnErr result (self.new ≡ self.old) }
-    {
-        let from = self.node.id();
-        let frame = self.node.send(to, slot)?;
-        let stamp = self.clock + 1;
-        self.log.push_reserved(Entry {
-            stamp,
-            kind: EntryKind::Step {
-                event: Event::Send { from, to, slot },
-                origin: None,
-                outcome: no_news(self.alloc),
-            },
-        });
-        self.clock = stamp;
-        Ok(Parcel { stamp, frame })
-    }
-
-    /// Makes a frame that acknowledges a peer's slot, and logs it. A refusal changes nothing.
-    pub fn ack(&mut self, to: NodeId, slot: u64) -> Result<Parcel, StepFault>
+    /// Makes a frame of this kind for a slot, and logs it. A refusal changes nothing.
+    pub fn make(&mut self, kind: FrameKind, to: NodeId, slot: u64) -> Result<Parcel, StepFault>
         requires { MayLog self.old }
         ensures ok { OnOk result
-            (LogsStep self.old self.new (Acknowledged to slot) None self.old.clock) }
-        ensures parcel { IfOk result (λ parcel. (parcel.frame ≡ took_of self.old.node to slot)
+            (LogsStep self.old self.new (making kind to slot) None self.old.clock) }
+        ensures parcel { IfOk result (λ parcel.
+            (parcel.frame ≡ frame_made kind self.old.node to slot)
             × (parcel.stamp ≡ self.new.clock)) }
         ensures err { OnErr result (self.new ≡ self.old) }
     {
-        let from = self.node.id();
-        let frame = self.node.ack(to, slot)?;
+        let (frame, event) = made_by(&mut self.node, kind, to, slot)?;
         let stamp = self.clock + 1;
         self.log.push_reserved(Entry {
             stamp,
             kind: EntryKind::Step {
-                event: Event::Ack { from, to, slot },
+                event,
                 origin: None,
                 outcome: no_news(self.alloc),
             },
@@ -296,6 +276,26 @@ impl Journal {
             ..
         } = self;
         (log, node, ended)
+    }
+}
+
+// Has a node make a frame, and answers it with its event.
+fn made_by(
+    node: &mut Node,
+    kind: FrameKind,
+    to: NodeId,
+    slot: u64,
+) -> Result<(Frame, Event), StepFault>
+    ensures gives { IfOk result (λ made.
+        Gives node.old (making kind to slot) (sent_reply (Ok made.0)) node.new) }
+    ensures made { IfOk result (λ made. (made.0 ≡ frame_made kind node.old to slot)
+        × (made.1 ≡ event_of node.old.me (making kind to slot))) }
+    ensures err { OnErr result (node.new ≡ node.old) }
+{
+    let from = node.id();
+    match kind {
+        FrameKind::Carry => Ok((node.send(to, slot)?, Event::Send { from, to, slot })),
+        FrameKind::Took => Ok((node.ack(to, slot)?, Event::Ack { from, to, slot })),
     }
 }
 

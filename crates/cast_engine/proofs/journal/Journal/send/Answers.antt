@@ -1,9 +1,0 @@
-use Rattle.std.proofs.Common.{refl, arith}
-use Rattle.cast_engine.proofs.Journaling.{logged, gives_live}
-use Rattle.cast_engine.proofs.journal.Journal.send.Goals as goal
-
-pub invariant_of-self-2 : goal.invariant_of-self-2
-invariant_of-self-2 c =
-    let i = c.self.inside in
-    logged i.config _ _ i.node _ i.log.items _ i.clock _ i.crash i.ended _ _ c.self.view_is c.requires c.self.invariant (omega arith) c.push_reserved.ensures.items c.push_reserved.ensures.capacity refl
-    (gives_live i.node _ _ _ c.in_ok-frame.ensures.exact refl)
