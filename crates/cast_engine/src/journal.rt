@@ -175,12 +175,13 @@ impl Journal {
             × (parcel.stamp ≡ self.new.clock)) }
         ensures err { OnErr result (self.new ≡ self.old) }
     {
-        let (frame, event) = made_by(&mut self.node, kind, to, slot)?;
+        let from = self.node.id();
+        let frame = frame_by(&mut self.node, kind, to, slot)?;
         let stamp = self.clock + 1;
         self.log.push_reserved(Entry {
             stamp,
             kind: EntryKind::Step {
-                event,
+                event: event_by(kind, from, to, slot),
                 origin: None,
                 outcome: no_news(self.alloc),
             },
@@ -279,23 +280,24 @@ impl Journal {
     }
 }
 
-// Has a node make a frame, and answers it with its event.
-fn made_by(
-    node: &mut Node,
-    kind: FrameKind,
-    to: NodeId,
-    slot: u64,
-) -> Result<(Frame, Event), StepFault>
-    ensures gives { IfOk result (λ made.
-        Gives node.old (making kind to slot) (sent_reply (Ok made.0)) node.new) }
-    ensures made { IfOk result (λ made. (made.0 ≡ frame_made kind node.old to slot)
-        × (made.1 ≡ event_of node.old.me (making kind to slot))) }
-    ensures err { OnErr result (node.new ≡ node.old) }
+// Has a node make a frame of this kind.
+fn frame_by(node: &mut Node, kind: FrameKind, to: NodeId, slot: u64) -> Result<Frame, StepFault>
+    ensures gives { Gives node.old (making kind to slot) (sent_reply result) node.new }
+    ensures made { IfOk result (λ frame. frame ≡ frame_made kind node.old to slot) }
 {
-    let from = node.id();
     match kind {
-        FrameKind::Carry => Ok((node.send(to, slot)?, Event::Send { from, to, slot })),
-        FrameKind::Took => Ok((node.ack(to, slot)?, Event::Ack { from, to, slot })),
+        FrameKind::Carry => node.send(to, slot),
+        FrameKind::Took => node.ack(to, slot),
+    }
+}
+
+// The event of a node that makes a frame of this kind.
+fn event_by(kind: FrameKind, from: NodeId, to: NodeId, slot: u64) -> Event
+    ensures { result ≡ event_of from (making kind to slot) }
+{
+    match kind {
+        FrameKind::Carry => Event::Send { from, to, slot },
+        FrameKind::Took => Event::Ack { from, to, slot },
     }
 }
 
