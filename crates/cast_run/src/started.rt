@@ -9,10 +9,9 @@ ghost use Rattle.cast_run.specs.Seats.{seat_client, AreEnded};
 
 use crate::fault::StartFault;
 use crate::job::ClientJob;
-use crate::jobs::{Ended, JobThread, Seat, join_jobs, start_jobs};
+use crate::jobs::{Ended, JobThread, Seat, start_jobs};
 use crate::threads::{
-    CarrierThread, EngineThread, join_all, join_carriers, join_engines, start_carriers,
-    start_engines,
+    CarrierThread, EngineThread, join_all, join_into, start_carriers, start_engines,
 };
 use cast_engine::{Board, Carrier, Engine, Gate};
 use std::alloc::{AllocError, Global};
@@ -129,8 +128,8 @@ pub fn run_threads<
         threads.abandon(&rt);
         return Err(fault);
     }
-    let engines = join_engines(&rt, threads.engines, engines_back);
-    let carriers = join_carriers(&rt, threads.carriers, carriers_back);
-    let jobs = join_jobs(&rt, threads.jobs, jobs_back);
+    let engines = join_into(&rt, threads.engines, engines_back);
+    let carriers = join_into(&rt, threads.carriers, carriers_back);
+    let jobs = join_into(&rt, threads.jobs, jobs_back);
     Ok(((engines, carriers), jobs))
 }
