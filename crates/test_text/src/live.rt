@@ -3,10 +3,10 @@ ghost use Rattle.std.specs.Prelude.{IfOk};
 ghost use Rattle.cast_live.specs.Live.{IsFinished};
 
 use cast_live::{
-    Counted, FinishedRun, Summary, live_text, run_script, summarize, write_record_of,
-    write_replay_of, write_summary,
+    Counted, FinishedRun, Summary, run_script, summarize, write_record_of, write_replay_of,
+    write_summary,
 };
-use cast_run::{LiveFault, Progress};
+use cast_run::Progress;
 use cast_text::{TextFault, Verdict, read_script_text, run_text};
 use cast_words::Meter;
 use std::alloc::Global;
@@ -14,90 +14,17 @@ use std::io::Write;
 use std::sync::{Arc, Wait};
 use std::test::Fail;
 use std::thread::Threads;
-use test_formats::{Failing, reader_of, taken_by, writer_of};
 
-const TWO_NODES: &[u8] =
+pub const TWO_NODES: &[u8] =
     br#"{"nodes":2,"faults":0,"choices":1,"jobs":[[0,[["data","61"]]],[1,[["close"]]]]}"#;
 
-const TWO_NODES_SUMMARY: &[u8] =
+pub const TWO_NODES_SUMMARY: &[u8] =
     b"node 0 stopped 1 1\nnode 1 stopped 1 1\nrest yes\nverdict good\n";
 
-const AT_REST: Summary = Summary {
+pub const AT_REST: Summary = Summary {
     rest: true,
     verdict: Verdict::Good,
 };
-
-/// What came of running a script in threads whose reader and writer fail after so many calls, and what was written.
-fn live<T: Threads + Wait + Copy + Send + 'static>(
-    rt: T,
-    alloc: Global,
-    script: &[u8],
-    reads: u64,
-    writes: u64,
-    failing: Failing,
-) -> (Result<Summary, TextFault>, Vec<u8>) {
-    let mut reader = reader_of(script, reads);
-    let mut writer = writer_of(alloc, usize::MAX, writes, failing);
-    let result = live_text(rt, alloc, &mut reader, &mut writer);
-    (result, taken_by(writer))
-}
-
-#[test]
-fn tells_what_became_of_a_group(rt: HostRuntime) {
-    let (result, taken) = live(rt, rt.alloc(), TWO_NODES, 1_000, 1_000, Failing::Answers);
-    assert_eq!(rt; result, Ok(AT_REST));
-    assert_eq!(rt; taken.as_slice(), TWO_NODES_SUMMARY);
-}
-
-#[test]
-fn a_failed_read_runs_nothing(rt: HostRuntime) {
-    // Two reads give the script, and the third tells that it ends there.
-    for reads in 0..3 {
-        let (result, taken) = live(rt, rt.alloc(), TWO_NODES, reads, 1_000, Failing::Answers);
-        assert_eq!(rt; result, Err(TextFault::Read), "after {reads}");
-        assert!(rt; taken.is_empty());
-    }
-}
-
-#[test]
-fn a_failed_write_of_a_summary_leaves_a_front(rt: HostRuntime) {
-    for failing in [Failing::Answers, Failing::TakesNone] {
-        let mut last = Err(TextFault::Write);
-        for writes in 0..24 {
-            let (result, taken) = live(rt, rt.alloc(), TWO_NODES, 1_000, writes, failing);
-            assert!(rt;
-                result.is_ok() || result == Err(TextFault::Write),
-                "after {writes}"
-            );
-            assert!(rt; TWO_NODES_SUMMARY.starts_with(taken.as_slice()));
-            last = result;
-        }
-        assert_eq!(rt; last, Ok(AT_REST));
-    }
-}
-
-#[test]
-fn refuses_jobs_and_plans_that_name_no_node(rt: HostRuntime) {
-    let rows: [(&[u8], LiveFault); 3] = [
-        (
-            br#"{"nodes":2,"faults":0,"choices":1,"jobs":[[2,[]]]}"#,
-            LiveFault::Jobs,
-        ),
-        (
-            br#"{"nodes":1,"faults":0,"choices":1,"jobs":[[0,[]],[0,[]],[0,[]],[0,[]],[0,[]]]}"#,
-            LiveFault::Jobs,
-        ),
-        (
-            br#"{"nodes":2,"faults":0,"choices":1,"plan":[["crash",2,0]]}"#,
-            LiveFault::Plan,
-        ),
-    ];
-    for (script, why) in rows {
-        let (result, taken) = live(rt, rt.alloc(), script, 1_000, 1_000, Failing::Answers);
-        assert_eq!(rt; result, Err(TextFault::Live(why)));
-        assert!(rt; taken.is_empty());
-    }
-}
 
 /// A run of two nodes in threads, which counted what it did.
 fn run_two<T: Threads + Wait + Copy + Send + 'static>(
