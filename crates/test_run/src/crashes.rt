@@ -1,5 +1,5 @@
 //! Rows in which a node crashes.
-use crate::runs::{RowFault, TURNS, run_jobs};
+use crate::runs::{TURNS, expect_run, run_jobs};
 use crate::seen::see;
 use anyhow::Result;
 use cast_merge::{EngineEnd, NodeReport};
@@ -23,10 +23,8 @@ fn run_crash<R: Threads + Wait + Copy + Send + 'static>(
     plan.faults.push(Fault::Crash { node, entries })?;
     let mut shape = Shape::new(2, 0, 1);
     shape.box_size = 4;
-    match run_jobs(rt, alloc, shape, &plan, &[0, 1], 20, TURNS)? {
-        Ok(run) => Ok(run),
-        Err(_) => Err(RowFault::NotRun.into()),
-    }
+    let run = run_jobs(rt, alloc, shape, &plan, &[0, 1], 20, TURNS)?;
+    Ok(expect_run(run)?)
 }
 
 /// A node that crashes after its fifth entry has broadcast at most five items.

@@ -1,51 +1,31 @@
 //! Rows of one node whose log or whose clock is full.
-use crate::runs::seen_of_jobs;
+use crate::runs::{TURNS, run_jobs, seen_of};
 use anyhow::Result;
 use run_setup::{Shape, no_faults};
 use std::alloc::Global;
 use std::sync::Wait;
 use std::thread::Threads;
 
-pub fn live_limits<R: Threads + Wait + Print + Copy + Send + 'static>(
-    rt: R,
-    alloc: Global,
-) -> Result<()> {
-    print_full_clock(rt, alloc, "live-limits", 1, u64::MAX)?;
-    print_full_log(rt, alloc, "live-limits", 2, 1)
-}
+/// How many items a node has, the first stamp of its clock, and how many entries its log takes.
+pub type Limits = (u64, u64, u64);
 
-pub fn five_items<R: Threads + Wait + Print + Copy + Send + 'static>(
-    rt: R,
-    alloc: Global,
-) -> Result<()> {
-    print_full_log(rt, alloc, "limits-of-five-items", 5, 3)?;
-    print_full_clock(rt, alloc, "limits-of-five-items", 5, u64::MAX - 2)
-}
+pub const LIVE_LIMITS: [Limits; 2] = [(1, u64::MAX, 65_536), (2, 0, 1)];
 
-fn print_full_clock<R: Threads + Wait + Print + Copy + Send + 'static>(
+pub const FIVE_ITEMS: [Limits; 2] = [(5, 0, 3), (5, u64::MAX - 2, 65_536)];
+
+pub fn print_full<R: Threads + Wait + Print + Copy + Send + 'static>(
     rt: R,
     alloc: Global,
     row: &str,
-    items: u64,
-    first_stamp: u64,
+    limits: [Limits; 2],
 ) -> Result<()> {
-    let mut shape = Shape::new(1, 0, 1);
-    shape.first_stamp = first_stamp;
-    let seen = seen_of_jobs(rt, alloc, shape, &no_faults(alloc), &[0], items)?;
-    println!(&rt; "{row}: {seen}")?;
-    Ok(())
-}
-
-fn print_full_log<R: Threads + Wait + Print + Copy + Send + 'static>(
-    rt: R,
-    alloc: Global,
-    row: &str,
-    items: u64,
-    log_limit: u64,
-) -> Result<()> {
-    let mut shape = Shape::new(1, 0, 1);
-    shape.log_limit = log_limit;
-    let seen = seen_of_jobs(rt, alloc, shape, &no_faults(alloc), &[0], items)?;
-    println!(&rt; "{row}: {seen}")?;
+    for (items, first_stamp, log_limit) in limits {
+        let mut shape = Shape::new(1, 0, 1);
+        shape.first_stamp = first_stamp;
+        shape.log_limit = log_limit;
+        let run = run_jobs(rt, alloc, shape, &no_faults(alloc), &[0], items, TURNS)?;
+        let seen = seen_of(alloc, run)?;
+        println!(&rt; "{row}: {seen}")?;
+    }
     Ok(())
 }

@@ -1,5 +1,5 @@
 //! Rows in which carriers lose, repeat and delay frames, and those in which they don't.
-use crate::runs::{RowFault, TURNS, run_jobs, seen_of_jobs};
+use crate::runs::{TURNS, run_jobs, seen_of};
 use crate::seen::see;
 use anyhow::Result;
 use cast_message::List;
@@ -18,7 +18,8 @@ pub fn live_losses<R: Threads + Wait + Print + Copy + Send + 'static>(
     let plan = lose_every(alloc, 2, 2)?;
     let mut shape = Shape::new(2, 0, 1);
     shape.box_size = 4;
-    let seen = seen_of_jobs(rt, alloc, shape, &plan, &[0, 1], 20)?;
+    let run = run_jobs(rt, alloc, shape, &plan, &[0, 1], 20, TURNS)?;
+    let seen = seen_of(alloc, run)?;
     println!(&rt; "live-losses: {seen}")?;
     Ok(())
 }
@@ -31,10 +32,8 @@ pub fn live_all_lost<R: Threads + Wait + Print + Copy + Send + 'static>(
     let mut faults = List::new(alloc);
     faults.push(Link { from: 0, to: 1 }.lose(FrameKind::Carry, 0, 1))?;
     let plan = FaultPlan { faults };
-    let Ok(run) = run_jobs(rt, alloc, Shape::new(2, 0, 1), &plan, &[0], 1, 1_000_000)? else {
-        return Err(RowFault::NotRun.into());
-    };
-    let seen = see(alloc, &run.report)?;
+    let run = run_jobs(rt, alloc, Shape::new(2, 0, 1), &plan, &[0], 1, 1_000_000)?;
+    let seen = seen_of(alloc, run)?;
     let lost = seen.count(1, 0) == Some(0) && seen.count(1, 1) == Some(0);
     let own = seen.count(0, 0) == Some(1) && seen.count(0, 1) == Some(0);
     println!(&rt;
@@ -70,7 +69,8 @@ pub fn one_place<R: Threads + Wait + Print + Copy + Send + 'static>(
 ) -> Result<()> {
     let mut shape = Shape::new(3, 1, 2);
     shape.box_size = 1;
-    let seen = seen_of_jobs(rt, alloc, shape, &no_faults(alloc), &[0, 1, 2], 20)?;
+    let run = run_jobs(rt, alloc, shape, &no_faults(alloc), &[0, 1, 2], 20, TURNS)?;
+    let seen = seen_of(alloc, run)?;
     let within = seen
         .nodes
         .iter()
@@ -90,7 +90,8 @@ pub fn every_fault<R: Threads + Wait + Print + Copy + Send + 'static>(
     let plan = faults_on_each(alloc)?;
     let mut shape = Shape::new(3, 1, 2);
     shape.box_size = 4;
-    let seen = seen_of_jobs(rt, alloc, shape, &plan, &[0, 1, 2], 20)?;
+    let run = run_jobs(rt, alloc, shape, &plan, &[0, 1, 2], 20, TURNS)?;
+    let seen = seen_of(alloc, run)?;
     println!(&rt; "every-fault-on-every-link: {seen}")?;
     Ok(())
 }

@@ -35,17 +35,14 @@ pub fn run_jobs<R: Threads + Wait + Copy + Send + 'static>(
     Ok(run_live(rt, alloc, config, plan, jobs, gates, turns))
 }
 
-/// What came of such a run, where it is to succeed.
-pub fn seen_of_jobs<R: Threads + Wait + Copy + Send + 'static>(
-    rt: R,
-    alloc: Global,
-    shape: Shape,
-    plan: &FaultPlan,
-    nodes: &[u8],
-    items: u64,
-) -> Result<Seen> {
-    match run_jobs(rt, alloc, shape, plan, nodes, items, TURNS)? {
-        Ok(run) => see(alloc, &run.report),
-        Err(_) => Err(RowFault::NotRun.into()),
-    }
+/// The run, where the group was to run.
+pub fn expect_run(
+    run: Result<LiveRun<SubmitAll>, LiveFault>,
+) -> Result<LiveRun<SubmitAll>, RowFault> {
+    run.map_err(|_| RowFault::NotRun)
+}
+
+/// What came of the run, where the group was to run.
+pub fn seen_of(alloc: Global, run: Result<LiveRun<SubmitAll>, LiveFault>) -> Result<Seen> {
+    see(alloc, &expect_run(run)?.report)
 }
