@@ -98,26 +98,23 @@ const LEAST_RULES: &[(&str, Option<(u64, u64)>)] = &[
 ];
 
 /// Texts that are no records, and the line that the grammar has not.
-const OUTSIDE_THE_GRAMMAR: &[(&str, Option<(u64, u64)>)] = &[
-    ("\n", Some((1, 0))),
-    ("end\n", Some((1, 0))),
-    ("cast/1 17 0 1\nend\n", Some((1, 0))),
-    ("cast/1 1 0 1 \nend\n", Some((1, 0))),
-    ("cast/1 01 0 1\nend\n", Some((1, 0))),
-    ("cast/2 2 1 1 uniform\nend\n", Some((1, 0))),
-    ("cast/1 1 0 1\ncast/1 1 0 1\nend\n", Some((2, 0))),
-    ("cast/1 1 0 1\nx 1\nend\n", Some((2, 0))),
-    ("cast/1 1 0 1\nr 0 13\nend\n", Some((2, 0))),
-    ("cast/1 1 0 1\nb 0 0 data:6\nend\n", Some((2, 0))),
-    ("cast/1 1 0 1\nb 0 0 data:6A\nend\n", Some((2, 0))),
-    (
-        "cast/1 1 0 1\nv 0 0 18446744073709551616\nend\n",
-        Some((2, 0)),
-    ),
-    ("cast/1 1 0 1\nend\n\n", Some((3, 0))),
-    ("cast/1 1 0 1\nend\nend\n", Some((3, 0))),
-    ("cast/1 1 0 1\nend\n ", Some((3, 0))),
-    ("cast/1 1 0 1\nend", Some((2, 0))),
+const OUTSIDE_THE_GRAMMAR: &[(&str, u64)] = &[
+    ("\n", 1),
+    ("end\n", 1),
+    ("cast/1 17 0 1\nend\n", 1),
+    ("cast/1 1 0 1 \nend\n", 1),
+    ("cast/1 01 0 1\nend\n", 1),
+    ("cast/2 2 1 1 uniform\nend\n", 1),
+    ("cast/1 1 0 1\ncast/1 1 0 1\nend\n", 2),
+    ("cast/1 1 0 1\nx 1\nend\n", 2),
+    ("cast/1 1 0 1\nr 0 13\nend\n", 2),
+    ("cast/1 1 0 1\nb 0 0 data:6\nend\n", 2),
+    ("cast/1 1 0 1\nb 0 0 data:6A\nend\n", 2),
+    ("cast/1 1 0 1\nv 0 0 18446744073709551616\nend\n", 2),
+    ("cast/1 1 0 1\nend\n\n", 3),
+    ("cast/1 1 0 1\nend\nend\n", 3),
+    ("cast/1 1 0 1\nend\n ", 3),
+    ("cast/1 1 0 1\nend", 2),
 ];
 
 #[test]
@@ -268,13 +265,15 @@ const INSTANCES: &[(&str, Option<(u64, u64)>)] = &[
 /// Each table with what stands before its rows, and what after them.
 const TABLES: &[(&str, &[(&str, Option<(u64, u64)>)], &str)] = &[
     ("", LEAST_RULES, ""),
-    ("", OUTSIDE_THE_GRAMMAR, ""),
     ("cast/1 2 0 1\nb 0 0 data:61\n", DELIVERIES, "\nend\n"),
     ("cast/1 3 1 2\n", INSTANCES, "\nend\n"),
 ];
 
 #[test]
 fn judges_each_row(rt: HostRuntime) -> Result<(), Fail> {
+    for (text, line) in OUTSIDE_THE_GRAMMAR {
+        expect_verdict(&rt, text, bad(*line, 0))?;
+    }
     for (front, rows, end) in TABLES {
         expect_verdicts(&rt, front, rows, end)?;
     }
