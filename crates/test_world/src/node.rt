@@ -197,9 +197,9 @@ fn reply_to(node: &mut Node, ask: Ask) -> Result<Answer, StepFault> {
 // What a node is asked, row by row, and what it answers.
 type Rows = &'static [(Ask, Result<Answer, StepFault>)];
 
-fn expect_rows(rt: &impl Abort, node: &mut Node, rows: Rows) {
+fn expect_rows(rt: &impl Abort, node: &mut Node, name: &str, rows: Rows) {
     for (index, (ask, wanted)) in rows.iter().enumerate() {
-        assert_eq!(rt; reply_to(node, *ask), *wanted, "row {index}");
+        assert_eq!(rt; reply_to(node, *ask), *wanted, "{name}, row {index}");
     }
 }
 
@@ -207,10 +207,11 @@ fn expect_rows(rt: &impl Abort, node: &mut Node, rows: Rows) {
 fn expect_node(
     rt: &(impl Abort + AllocGlobal),
     (nodes, faults, mode, id): (u64, u64, Mode, u8),
+    name: &str,
     rows: Rows,
 ) -> Result<Node, Fail> {
     let mut node = node(rt.alloc(), nodes, faults, mode, id)?;
-    expect_rows(rt, &mut node, rows);
+    expect_rows(rt, &mut node, name, rows);
     Ok(node)
 }
 
@@ -234,12 +235,6 @@ const PROPOSAL: Rows = &[
     (Ask::Crash, Err(StepFault::Crashed)),
 ];
 
-#[test]
-fn shows_what_it_did(rt: HostRuntime) -> Result<(), Fail> {
-    expect_node(&rt, (3, 1, Mode::Basic, 1), PROPOSAL)?;
-    Ok(())
-}
-
 const STRANGE_FRAMES: Rows = &[
     // Node 0 took nothing.
     (Ask::Ack(1, 0), Err(StepFault::NotTaken)),
@@ -253,12 +248,6 @@ const STRANGE_FRAMES: Rows = &[
     // Node 1 could have made this one.
     (Ask::Carry(1, 1, 0, 8191), Ok(Answer::Delivered(1))),
 ];
-
-#[test]
-fn leaves_alone_what_no_node_could_have_made(rt: HostRuntime) -> Result<(), Fail> {
-    expect_node(&rt, (2, 0, Mode::Basic, 0), STRANGE_FRAMES)?;
-    Ok(())
-}
 
 // Node 0 takes a Close of node 1, and orders one of its own.
 const TWO_TO_SEND: Rows = &[
@@ -286,8 +275,8 @@ const NUMBERS: Rows = &[
 
 #[test]
 fn sends_by_numbers(rt: HostRuntime) -> Result<(), Fail> {
-    let mut node = expect_node(&rt, (3, 1, Mode::Basic, 0), TWO_TO_SEND)?;
-    expect_rows(&rt, &mut node, NUMBERS);
+    let mut node = expect_node(&rt, (3, 1, Mode::Basic, 0), "two to send", TWO_TO_SEND)?;
+    expect_rows(&rt, &mut node, "numbers", NUMBERS);
     Ok(())
 }
 
@@ -305,12 +294,6 @@ const ACKNOWLEDGEMENTS: Rows = &[
     (Ask::See(Sight::Frames), Ok(Answer::Number(2))),
 ];
 
-#[test]
-fn acknowledges_by_number(rt: HostRuntime) -> Result<(), Fail> {
-    expect_node(&rt, (3, 1, Mode::Basic, 0), ACKNOWLEDGEMENTS)?;
-    Ok(())
-}
-
 fn make_all_frames(node: &mut Node) -> Result<(), StepFault> {
     for _frame in 0..MOST_FRAMES {
         node.ack_number(NodeId(1), 0)?;
@@ -326,9 +309,9 @@ const ALL_FRAMES: Rows = &[
 
 #[test]
 fn makes_no_more_frames_than_it_can(rt: HostRuntime) -> Result<(), Fail> {
-    let mut node = expect_node(&rt, (2, 0, Mode::Basic, 0), TWO_TO_SEND)?;
+    let mut node = expect_node(&rt, (2, 0, Mode::Basic, 0), "two to send", TWO_TO_SEND)?;
     make_all_frames(&mut node)?;
-    expect_rows(&rt, &mut node, ALL_FRAMES);
+    expect_rows(&rt, &mut node, "all frames", ALL_FRAMES);
     Ok(())
 }
 
@@ -354,13 +337,6 @@ const HOLDERS: Rows = &[
     (Ask::CarryAgain(4, 1, 0, 0), Err(StepFault::Crashed)),
 ];
 
-// In uniform mode, of a group of five that tolerates two faults, the third holder is the last that a delivery waits for.
-#[test]
-fn hears_of_a_pair_again(rt: HostRuntime) -> Result<(), Fail> {
-    expect_node(&rt, (5, 2, Mode::Uniform, 0), HOLDERS)?;
-    Ok(())
-}
-
 const WORDS: Rows = &[
     // Node 0 orders a Close, which no peer could carry to it.
     (Ask::See(Sight::OwesNothing), Ok(Answer::Is(true))),
@@ -385,9 +361,21 @@ const WORDS: Rows = &[
     (Ask::Took(2, 0), Err(StepFault::Crashed)),
 ];
 
+// Nodes by their groups, modes and numbers, each with what it is asked.
+const NODES: &[((u64, u64, Mode, u8), &str, Rows)] = &[
+    ((3, 1, Mode::Basic, 1), "proposal", PROPOSAL),
+    ((2, 0, Mode::Basic, 0), "strange frames", STRANGE_FRAMES),
+    ((3, 1, Mode::Basic, 0), "acknowledgements", ACKNOWLEDGEMENTS),
+    // In uniform mode a delivery here waits for no more than three holders.
+    ((5, 2, Mode::Uniform, 0), "holders", HOLDERS),
+    ((3, 1, Mode::Uniform, 0), "words", WORDS),
+];
+
 #[test]
-fn hears_that_a_slot_was_taken(rt: HostRuntime) -> Result<(), Fail> {
-    expect_node(&rt, (3, 1, Mode::Uniform, 0), WORDS)?;
+fn answers_each_row(rt: HostRuntime) -> Result<(), Fail> {
+    for (of, name, rows) in NODES {
+        expect_node(&rt, *of, name, rows)?;
+    }
     Ok(())
 }
 
