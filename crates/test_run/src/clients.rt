@@ -96,15 +96,12 @@ fn submit_at<R: Wait>(rt: &R, client: &mut Client, items: &[Item], at: usize) ->
     ensures sent { length (submitted client.new) ≡ length (submitted client.old) + result }
     ensures within { at + result < 2 ^ 64 }
 {
-    let Some(item) = items.get(at) else {
-        return 0;
-    };
-    let Ok(item) = item.copy() else {
-        return 0;
-    };
-    match client.submit(rt, item) {
-        Ok(_) => 1,
-        Err(_) => 0,
+    match items.get(at).map(Item::copy) {
+        Some(Ok(item)) => match client.submit(rt, item) {
+            Ok(_) => 1,
+            Err(_) => 0,
+        },
+        _ => 0,
     }
 }
 
