@@ -1,8 +1,7 @@
 //! What happens in the example: who orders what, and a list of events in which frames are lost, repeated and reordered and a
 //! node crashes.
-ghost use Rattle.std.specs.Prelude.{◌≡◌, ◌<◌, ◌++◌, ◌∷◌, [], IfOk, OnOk};
-ghost use Rattle.cast_run.specs.Jobs.{told_job};
-ghost use Rattle.example_ledger.specs.Tellers.{AreNewTellers, KeepsBook};
+ghost use Rattle.std.specs.Prelude.{◌<◌, IfOk};
+ghost use Rattle.example_ledger.specs.Tellers.{AreNewTellers};
 ghost use Rattle.example_ledger.specs.Transfers.{account_count};
 
 use crate::teller::Teller;
@@ -53,26 +52,10 @@ pub fn tellers(alloc: Global) -> Result<Vec<(NodeId, Teller)>, AllocError>
 {
     let mut tellers = Vec::new(alloc);
     for (node, items) in orders(alloc)?.into_iter().enumerate() {
-        add_teller(
-            &mut tellers,
-            NodeId(node as u8),
-            Teller::new(alloc, items, ITEMS),
-        )?;
+        let teller = Teller::new(alloc, items, ITEMS);
+        tellers.push((NodeId(node as u8), teller))?;
     }
     Ok(tellers)
-}
-
-fn add_teller(
-    tellers: &mut Vec<(NodeId, Teller)>,
-    node: NodeId,
-    teller: Teller,
-) -> Result<(), AllocError>
-    requires others { AreNewTellers tellers.old.items }
-    requires new { KeepsBook teller.book [] }
-    ensures { OnOk result (AreNewTellers tellers.new.items) }
-{
-    tellers.push((node, teller))?;
-    Ok(())
 }
 
 /// On each link every second frame that carries a message is lost, the first one too.
@@ -109,46 +92,42 @@ pub fn events(alloc: Global) -> Result<Vec<Event>, AllocError> {
             })?;
         }
     }
-    for event in frames() {
-        events.push(event)?;
-    }
+    add_frames(&mut events)?;
     Ok(events)
 }
 
-fn frames() -> [Event; 26] {
-    [
-        // Node 0's second transfer comes first. Node 1 holds it back until the first is there. Then it comes once more.
-        send(0, 1, 1),
-        send(0, 1, 0),
-        arrive(0, 0),
-        arrive(0, 1),
-        arrive(0, 0),
-        // A frame to node 2 is lost. Node 2 crashes when node 0 alone has heard of its transfer, and node 0 passes it on.
-        send(0, 2, 0),
-        send(2, 0, 0),
-        arrive(2, 0),
-        crash(2),
-        send(0, 1, 2),
-        arrive(0, 3),
-        // Node 1's items.
-        send(1, 0, 0),
-        send(1, 0, 1),
-        arrive(1, 0),
-        arrive(1, 1),
-        // What was taken is acknowledged, and nothing is owed any more.
-        ack(1, 0, 0),
-        ack(1, 0, 1),
-        ack(1, 0, 2),
-        arrive(1, 2),
-        arrive(1, 3),
-        arrive(1, 4),
-        ack(0, 1, 0),
-        ack(0, 1, 1),
-        arrive(0, 4),
-        arrive(0, 5),
-        // Nobody knows this frame: the group refuses the event, and nothing changes.
-        arrive(0, 9),
-    ]
+fn add_frames(events: &mut Vec<Event>) -> Result<(), AllocError> {
+    // Node 0's second transfer comes first. Node 1 holds it back until the first is there. Then it comes once more.
+    add(events, [send(0, 1, 1), send(0, 1, 0)])?;
+    add(events, [arrive(0, 0), arrive(0, 1), arrive(0, 0)])?;
+    // A frame to node 2 is lost. Node 2 crashes when node 0 alone has heard of its transfer, and node 0 passes it on.
+    add(
+        events,
+        [send(0, 2, 0), send(2, 0, 0), arrive(2, 0), crash(2)],
+    )?;
+    add(events, [send(0, 1, 2), arrive(0, 3)])?;
+    // Node 1's items.
+    add(
+        events,
+        [send(1, 0, 0), send(1, 0, 1), arrive(1, 0), arrive(1, 1)],
+    )?;
+    // What was taken is acknowledged, and nothing is owed any more.
+    add(events, [ack(1, 0, 0), ack(1, 0, 1), ack(1, 0, 2)])?;
+    add(events, [arrive(1, 2), arrive(1, 3), arrive(1, 4)])?;
+    add(events, [ack(0, 1, 0), ack(0, 1, 1)])?;
+    add(events, [arrive(0, 4), arrive(0, 5)])?;
+    // Nobody knows this frame: the group refuses the event, and nothing changes.
+    add(events, [arrive(0, 9)])
+}
+
+// Adds at most four events.
+fn add<const N: usize>(events: &mut Vec<Event>, more: [Event; N]) -> Result<(), AllocError>
+    requires { N < 5 }
+{
+    for event in more {
+        events.push(event)?;
+    }
+    Ok(())
 }
 
 fn send(from: u8, to: u8, slot: u64) -> Event {
