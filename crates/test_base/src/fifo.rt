@@ -17,54 +17,29 @@ fn message(number: u64, item: Item) -> Message
     }
 }
 
-// Offers a message of node 0, and counts those whose turn has come.
-fn offer(held: &mut HoldBack, number: u64, item: Item) -> Result<usize, AllocError>
+// Offers a message of node 0. How many had their turn by it, and which is next?
+fn offer(held: &mut HoldBack, number: u64, item: Item) -> Result<(usize, u64), AllocError>
     requires sender { 0 < length held.old }
     requires number { number + 1 < 2 ^ 64 }
     ensures { length held.new ≡ length held.old }
 {
-    let messages = held.offer(message(number, item))?;
-    Ok(messages.len())
-}
-
-// Offers messages up to a number, each of which gives one.
-fn offer_below(held: &mut HoldBack, most: u64) -> Result<bool, AllocError>
-    requires { 0 < length held.old }
-    ensures { length held.new ≡ length held.old }
-{
-    let mut one_each = true;
-    for number in 0..most {
-        one_each = offer(held, number, Item::Close)? == 1 && one_each;
-    }
-    Ok(one_each)
-}
-
-// Offers messages from one to another, the last first.
-fn offer_backwards(held: &mut HoldBack, most: u64) -> Result<bool, AllocError>
-    requires { 0 < length held.old }
-    ensures { length held.new ≡ length held.old }
-{
-    let mut none_each = true;
-    for number in (1..most).rev() {
-        none_each = offer(held, number, Item::Close)? == 0 && none_each;
-    }
-    Ok(none_each)
+    let given = held.offer(message(number, item))?.len();
+    Ok((given, held.next(NodeId(0))))
 }
 
 #[test]
 fn gives_messages_in_order_once(rt: HostRuntime) -> Result<(), Fail> {
     let mut held = HoldBack::new(rt.alloc(), 2)?;
-    assert!(rt; offer(&mut held, 1, Item::Close)? == 0);
+    assert_eq!(rt; offer(&mut held, 1, Item::Close)?, (0, 0));
     assert!(rt; !held.closed(NodeId(0)));
     let propose = Item::Propose {
         instance: 7,
         value: 4,
     };
-    assert!(rt; offer(&mut held, 0, propose)? == 2);
+    assert_eq!(rt; offer(&mut held, 0, propose)?, (2, 2));
     assert!(rt; held.closed(NodeId(0)));
     assert!(rt; !held.closed(NodeId(1)));
-    assert!(rt; offer(&mut held, 0, Item::Close)? == 0);
-    assert!(rt; held.next(NodeId(0)) == 2);
+    assert_eq!(rt; offer(&mut held, 0, Item::Close)?, (0, 2));
     assert!(rt; held.next(NodeId(1)) == 0);
     Ok(())
 }
@@ -72,19 +47,17 @@ fn gives_messages_in_order_once(rt: HostRuntime) -> Result<(), Fail> {
 #[test]
 fn reaches_past_the_ring(rt: HostRuntime) -> Result<(), Fail> {
     let mut held = HoldBack::new(rt.alloc(), 1)?;
-    assert!(rt; offer(&mut held, 5000, Item::Close)? == 0);
-    assert!(rt; offer_below(&mut held, 4999)?);
-    assert!(rt; offer(&mut held, 4999, Item::Close)? == 2);
-    assert!(rt; held.next(NodeId(0)) == 5001);
-    Ok(())
-}
-
-#[test]
-fn gives_a_run_longer_than_the_ring(rt: HostRuntime) -> Result<(), Fail> {
-    let mut held = HoldBack::new(rt.alloc(), 1)?;
-    assert!(rt; offer_backwards(&mut held, 6000)?);
-    assert!(rt; offer(&mut held, 0, Item::Close)? == 6000);
-    assert!(rt; held.next(NodeId(0)) == 6000);
+    assert_eq!(rt; offer(&mut held, 5000, Item::Close)?, (0, 0));
+    for number in 0..4999 {
+        assert_eq!(rt; offer(&mut held, number, Item::Close)?, (1, number + 1));
+    }
+    assert_eq!(rt; offer(&mut held, 4999, Item::Close)?, (2, 5001));
+    // A run longer than the ring.
+    let mut longer = HoldBack::new(rt.alloc(), 1)?;
+    for later in (1..6000).rev() {
+        assert_eq!(rt; offer(&mut longer, later, Item::Close)?, (0, 0), "{later}");
+    }
+    assert_eq!(rt; offer(&mut longer, 0, Item::Close)?, (6000, 6000));
     Ok(())
 }
 
@@ -110,7 +83,7 @@ fn releases_what_it_showed_as_ready(rt: HostRuntime) -> Result<(), Fail> {
 fn knows_what_had_its_turn(rt: HostRuntime) -> Result<(), Fail> {
     let mut held = HoldBack::new(rt.alloc(), 1)?;
     assert!(rt; !held.had_turn(NodeId(0), 0));
-    assert!(rt; offer(&mut held, 0, Item::Close)? == 1);
+    assert_eq!(rt; offer(&mut held, 0, Item::Close)?, (1, 1));
     assert!(rt; held.had_turn(NodeId(0), 0));
     assert!(rt; !held.had_turn(NodeId(0), 1));
     Ok(())
