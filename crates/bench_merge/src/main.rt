@@ -5,13 +5,13 @@
 
 use anyhow::Result;
 use cast_merge::{GroupReport, assemble};
-use cast_message::{Config, Item, Mode, NodeId};
+use cast_message::{Config, FrameKind, Item, Mode, NodeId};
 use cast_world::run_events;
 use std::alloc::Global;
 use std::env;
 use std::rt::{Clock, Env};
 use std::time::Instant;
-use test_merge::{Tells, Weave};
+use test_merge::Weave;
 
 // How many logs there are, and how many entries each has.
 const SIZES: [(u64, u64); 7] = [
@@ -78,7 +78,7 @@ fn write_logs(alloc: Global, logs: u64, entries: u64) -> Result<GroupReport> {
             weave = if stamp == 0 {
                 weave.order(stamp, node, &Item::Close)?
             } else if stamp % 2 == 1 {
-                weave.make(stamp, Tells::Carried, node, next, 0)?
+                weave.make(stamp, FrameKind::Carry, node, next, 0)?
             } else {
                 weave.arrive(stamp, node, stamp / 2 - 1)?
             };

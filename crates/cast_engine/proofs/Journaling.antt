@@ -10,7 +10,7 @@ use Rattle.cast_message.specs.declared.event.Answer.{Answer}
 use Rattle.cast_message.specs.declared.message.FrameBody.{FrameBody}
 use Rattle.cast_message.specs.declared.message.FrameBody.TheVariants.{Carry, Took}
 use Rattle.cast_message.specs.declared.message.Message.{Message}
-use Rattle.cast_model.specs.Steps.{Step, Ordered, Sent, Acknowledged, Arrived, Stopped}
+use Rattle.cast_model.specs.Steps.{Step, Ordered, Sent, Acknowledged, Arrived, Stopped, making}
 use Rattle.cast_model.specs.OwnSteps.{is_stop}
 use Rattle.std.specs.Prelude.{Ok}
 use Rattle.cast_relay.specs.Held.{holds}
@@ -21,9 +21,9 @@ use Rattle.cast_node.specs.Turns.{Told, told, released, unmoved, kept_after, arr
 use Rattle.cast_merge.specs.declared.report.EngineEnd.{EngineEnd}
 use Rattle.cast_merge.specs.declared.report.EngineEnd.TheVariants.{Crashed}
 use Rattle.cast_merge.specs.Linked.{event_of}
-use Rattle.cast_script.specs.declared.script.FrameKind.{FrameKind}
-use Rattle.cast_script.specs.declared.script.FrameKind.TheVariants as kinds
-use Rattle.cast_engine.specs.Journals.{Rises, is_crash, is_crash_event, EndsAs, JournalKeeps, JournalState, MayLog, making}
+use Rattle.cast_message.specs.declared.message.FrameKind.{FrameKind}
+use Rattle.cast_message.specs.declared.message.FrameKind.TheVariants as kinds
+use Rattle.cast_engine.specs.Journals.{Rises, is_crash, is_crash_event, EndsAs, JournalKeeps, JournalState, MayLog}
 
 abbrev pub entry : ℕ → EntryKind → Entry
 entry stamp kind = record { stamp = stamp; kind = kind }

@@ -4,11 +4,11 @@ use Rattle.std.specs.Prelude.{Ok, Err, if◌then◌else◌, is_some, ◌||◌}
 use Rattle.std.proofs.lemmas.List.{length-append, length-map, append-nil, map-append}
 use Rattle.cast_message.specs.declared.config.Config.{Config}
 use Rattle.cast_message.specs.declared.message.Frame.{Frame}
-use Rattle.cast_model.specs.Steps.{Step, Ordered, Sent, Acknowledged, Arrived, Stopped, Steps, frame_count, frames_by}
+use Rattle.cast_model.specs.Steps.{Step, Ordered, Sent, Acknowledged, Arrived, Stopped, Steps, making, frame_count, frames_by}
 use Rattle.cast_model.specs.OwnSteps.{own_fault, own_made, node_after, is_ignored}
 use Rattle.cast_node.specs.declared.entry.Origin.{Origin}
 use Rattle.cast_node.specs.declared.entry.EntryKind.TheVariants.{Step as StepEntry, Refused}
-use Rattle.cast_node.specs.Turns.{kept_after, carry_of, took_of}
+use Rattle.cast_node.specs.Turns.{kept_after, carry_of, took_of, frame_made}
 use Rattle.cast_node.specs.Stands.{Stands}
 use Rattle.cast_node.proofs.Continuing.{continues}
 use Rattle.cast_node.proofs.Refusals.{faults_are}
@@ -17,9 +17,9 @@ use Rattle.cast_desk.specs.declared.desk.OrderIn.{OrderIn}
 use Rattle.cast_engine.specs.declared.parcel.Parcel.{Parcel}
 use Rattle.cast_merge.specs.Linked.{Made, event_of, outcome_in, steps_in, made_in, kept_in, stamped, IsFor}
 use Rattle.cast_engine.specs.Runs.{Has, Read, Moved, Served, Denied, Run, trail_of, log_of, orders_of, IsRun, AreReceived, IsReceived, IsReceivedBy, IsMade, parcel, is_order, origin_of, EngineKeeps}
-use Rattle.cast_engine.specs.Journals.{JournalState, LogsStep, LogsRefusal, LogsOrder, OnlyEnds, Halts, making, frame_made}
-use Rattle.cast_script.specs.declared.script.FrameKind.{FrameKind}
-use Rattle.cast_script.specs.declared.script.FrameKind.TheVariants.{Carry, Took}
+use Rattle.cast_engine.specs.Journals.{JournalState, LogsStep, LogsRefusal, LogsOrder, OnlyEnds, Halts}
+use Rattle.cast_message.specs.declared.message.FrameKind.{FrameKind}
+use Rattle.cast_message.specs.declared.message.FrameKind.TheVariants.{Carry, Took}
 use Rattle.cast_engine.specs.Engines.{KeepsOf, Handed}
 use Rattle.cast_engine.proofs.Lists.{get_left, get_last, has_left, has_snoc}
 

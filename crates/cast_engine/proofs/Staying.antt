@@ -4,10 +4,11 @@ use Rattle.std.specs.Prelude.{IsTrue, IsFalse, replicate}
 use Rattle.std.proofs.lemmas.List.{length-replicate}
 use Rattle.cast_message.specs.declared.config.Config.{Config}
 use Rattle.cast_node.proofs.Beginning.{stands_for_nothing}
-use Rattle.cast_model.specs.Steps.{Step, Arrived, Stopped}
+use Rattle.cast_model.specs.Steps.{Step, Arrived, Stopped, making}
 use Rattle.cast_node.specs.declared.entry.Origin.{Origin}
 use Rattle.cast_node.specs.declared.entry.Entry.{Entry}
 use Rattle.cast_node.specs.Kept.{Kept, nothing_kept}
+use Rattle.cast_node.specs.Turns.{frame_made}
 use Rattle.cast_box.specs.Ends.{PutterEnd}
 use Rattle.cast_desk.specs.declared.desk.Desk.{Desk}
 use Rattle.cast_desk.specs.declared.desk.OrderIn.{OrderIn}
@@ -16,8 +17,8 @@ use Rattle.cast_engine.specs.declared.parcel.Parcel.{Parcel}
 use Rattle.cast_engine.specs.declared.feeding.Place.{Place}
 use Rattle.cast_merge.specs.Linked.{steps_in, kept_in}
 use Rattle.cast_engine.specs.Runs.{EngineKeeps, trail_of, log_of, orders_of, IsRun, AreReceived}
-use Rattle.cast_engine.specs.Journals.{JournalState, LogsStep, LogsRefusal, LogsOrder, OnlyEnds, Halts, MayLog, Rises, EndsAs, making, frame_made}
-use Rattle.cast_script.specs.declared.script.FrameKind.{FrameKind}
+use Rattle.cast_engine.specs.Journals.{JournalState, LogsStep, LogsRefusal, LogsOrder, OnlyEnds, Halts, MayLog, Rises, EndsAs}
+use Rattle.cast_message.specs.declared.message.FrameKind.{FrameKind}
 use Rattle.cast_engine.specs.Feeding.{AreFed, IsFed, first_place}
 use Rattle.cast_engine.specs.Engines.{taken_at, trays_at, KeepsOf, EngineStays, Handed, TakesOrder, TakesIn, IsUnused, EngineState, Leaves}
 use Rattle.cast_merge.specs.declared.report.EngineEnd.{EngineEnd}

@@ -9,16 +9,13 @@ use Rattle.cast_message.specs.declared.event.Answer.TheVariants.{Ordered as Answ
 use Rattle.cast_message.specs.declared.event.Outcome.{Outcome}
 use Rattle.cast_message.specs.declared.message.Item.{Item}
 use Rattle.cast_message.specs.declared.event.StepFault.{StepFault}
-use Rattle.cast_message.specs.declared.message.Frame.{Frame}
-use Rattle.cast_model.specs.Steps.{Step, Ordered, Sent, Acknowledged, Stopped}
+use Rattle.cast_model.specs.Steps.{Step, Ordered, Stopped}
 use Rattle.cast_node.specs.declared.entry.Origin.{Origin}
 use Rattle.cast_node.specs.declared.entry.Entry.{Entry}
 use Rattle.cast_node.specs.declared.entry.EntryKind.{EntryKind}
 use Rattle.cast_node.specs.declared.entry.EntryKind.TheVariants.{Step as StepEntry, Refused}
 use Rattle.cast_node.specs.Kept.{Kept}
-use Rattle.cast_node.specs.Turns.{Gives, carry_of, took_of}
-use Rattle.cast_script.specs.declared.script.FrameKind.{FrameKind}
-use Rattle.cast_script.specs.declared.script.FrameKind.TheVariants.{Carry, Took}
+use Rattle.cast_node.specs.Turns.{Gives}
 use Rattle.cast_desk.specs.declared.desk.OrderIn.{OrderIn}
 use Rattle.cast_merge.specs.declared.report.EngineEnd.{EngineEnd}
 use Rattle.cast_merge.specs.declared.report.EngineEnd.TheVariants.{Crashed, LogFull}
@@ -39,15 +36,6 @@ pub record MayLog (j : JournalState) : Type 0 where
   pub room : length j.log < j.config.log_limit
   pub time : j.clock + 1 < 2 ^ 64
   pub safe : (n : ℕ) → j.crash ≡ Some n → length j.log < n
-
--- the step in which a node makes a frame of this kind for a slot, and the frame
-abbrev pub making : FrameKind → ℕ → ℕ → Step
-making Carry to slot = Sent to slot
-making Took to slot = Acknowledged to slot
-
-abbrev pub frame_made : FrameKind → Kept → ℕ → ℕ → Frame
-frame_made Carry kept to slot = carry_of kept to slot
-frame_made Took kept to slot = took_of kept to slot
 
 -- one entry was logged
 pub record Logs (old new : JournalState) (stamp : ℕ) (kind : EntryKind) : Type 0 where

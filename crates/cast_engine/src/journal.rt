@@ -1,19 +1,18 @@
 //! The node of an engine, with its log and its clock.
 ghost use Rattle.std.specs.Prelude.{◌≡◌, ◌+◌, ◌<◌, ◌^◌, [], length, Some, None, Ok, IfOk, OnOk, OnErr, IsTrue, IsFalse};
-ghost use Rattle.cast_model.specs.Steps.{Arrived, Stopped};
+ghost use Rattle.cast_model.specs.Steps.{Arrived, Stopped, making};
 ghost use Rattle.cast_merge.specs.Linked.{event_of};
 ghost use Rattle.cast_node.specs.Calls.{sent_reply};
 ghost use Rattle.cast_node.specs.Kept.{nothing_kept};
-ghost use Rattle.cast_node.specs.Turns.{Gives};
+ghost use Rattle.cast_node.specs.Turns.{Gives, frame_made};
 ghost use Rattle.cast_model.specs.OwnSteps.{nothing};
-ghost use Rattle.cast_engine.specs.Journals.{MayLog, LogsStep, LogsOrder, OnlyEnds, Halts, Rises, EndsAs, AsksOrder, IsQuietEnd, making, frame_made};
+ghost use Rattle.cast_engine.specs.Journals.{MayLog, LogsStep, LogsOrder, OnlyEnds, Halts, Rises, EndsAs, AsksOrder, IsQuietEnd};
 
 use crate::parcel::Parcel;
 use cast_desk::OrderIn;
 use cast_merge::EngineEnd;
-use cast_message::{Config, Event, Frame, Item, List, NodeId, Outcome, StepFault};
+use cast_message::{Config, Event, Frame, FrameKind, Item, List, NodeId, Outcome, StepFault};
 use cast_node::{Entry, EntryKind, Node, Origin};
-use cast_script::FrameKind;
 use std::alloc::{AllocError, Global};
 use std::marker::Model;
 

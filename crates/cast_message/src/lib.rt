@@ -10,5 +10,5 @@ mod payload;
 pub use config::{Config, ConfigFault, Mode};
 pub use event::{Answer, Event, Outcome, Reply, StepFault};
 pub use list::List;
-pub use message::{Decision, Frame, FrameBody, Item, Message, NodeId};
+pub use message::{Decision, Frame, FrameBody, FrameKind, Item, Message, NodeId};
 pub use payload::Payload;

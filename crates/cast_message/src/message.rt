@@ -96,6 +96,13 @@ pub enum FrameBody {
     Took { slot: u64 },
 }
 
+/// The kind of a frame, by its body.
+#[derive(Clone, Copy, Debug, PartialEq, Eq)]
+pub enum FrameKind {
+    Carry,
+    Took,
+}
+
 impl Frame {
     /// An equal frame, or want of memory.
     pub fn copy(&self) -> Result<Frame, AllocError>

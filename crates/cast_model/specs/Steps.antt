@@ -1,4 +1,5 @@
 -- What one node has done, read off its own steps alone, each arrival with the frame that arrived.
+--     making kind to slot         the step in which a node makes a frame of this kind for a slot
 --     steps_of past q             q's steps in a history of the group
 --     own_items steps             the items that the node ordered, in order
 --     held me steps               the messages that it holds, each with the node that it came from
@@ -12,6 +13,8 @@ use Rattle.cast_message.specs.declared.message.Message.{Message}
 use Rattle.cast_message.specs.declared.message.Frame.{Frame}
 use Rattle.cast_message.specs.declared.message.FrameBody.{FrameBody}
 use Rattle.cast_message.specs.declared.message.FrameBody.TheVariants.{Carry, Took}
+use Rattle.cast_message.specs.declared.message.FrameKind.{FrameKind}
+use Rattle.cast_message.specs.declared.message.FrameKind.TheVariants as kinds
 use Rattle.cast_model.specs.History.{History, FirstCopy, has_pair, frames, frame_arriving}
 
 -- A step of one node.
@@ -21,6 +24,10 @@ pub data Step : Type 0 where
   Acknowledged : (to slot : ℕ) → Step
   Arrived : (frame : Frame) → Step
   Stopped : Step
+
+abbrev pub making : FrameKind → ℕ → ℕ → Step
+making kinds.Carry to slot = Sent to slot
+making kinds.Took to slot = Acknowledged to slot
 
 -- the steps of a node, the newest first
 abbrev pub Steps : Type 0

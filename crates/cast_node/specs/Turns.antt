@@ -4,6 +4,7 @@
 --     told kept s i                  what is delivered and decided once something was heard of a pair, and what is kept then
 --     kept_fault kept step           why a step is refused
 --     kept_answer, kept_after        else the answer, and what is kept then
+--     frame_made kind kept to slot   the frame of this kind that a node makes for a slot
 --     Gives kept step reply new      both: a step answered by this reply leaves this
 use Rattle.std.specs.Prelude.{◌≡◌, ℕ, suc, ◌+◌, ◌-◌, ◌*◌, ◌==◌, nat_lt, Bool, false, not, ◌&&◌, if◌then◌else◌, List, [], ◌∷◌, ◌++◌, length, replicate, slice_index_or, slice_set, Option, Some, None, unwrap_or, Result, Ok, Err}
 use Rattle.std.specs.Ordering.{nat_cmp}
@@ -19,6 +20,8 @@ use Rattle.cast_message.specs.declared.message.Message.{Message}
 use Rattle.cast_message.specs.declared.message.Frame.{Frame}
 use Rattle.cast_message.specs.declared.message.FrameBody.{FrameBody}
 use Rattle.cast_message.specs.declared.message.FrameBody.TheVariants.{Carry, Took}
+use Rattle.cast_message.specs.declared.message.FrameKind.{FrameKind}
+use Rattle.cast_message.specs.declared.message.FrameKind.TheVariants as kinds
 use Rattle.cast_model.specs.History.{numbered}
 use Rattle.cast_model.specs.Refusals.{Cause, NodeView, step_causes, first_fault}
 use Rattle.cast_model.specs.Replies.{IsRefused}
@@ -207,6 +210,10 @@ carry_of kept to slot =
 
 abbrev pub took_of : Kept → ℕ → ℕ → Frame
 took_of kept to slot = record { from = kept.me; seq = kept.frames; to = to; body = Took slot }
+
+abbrev pub frame_made : FrameKind → Kept → ℕ → ℕ → Frame
+frame_made kinds.Carry kept to slot = carry_of kept to slot
+frame_made kinds.Took kept to slot = took_of kept to slot
 
 -- what a step answers and leaves; a refused one leaves all as it was
 abbrev pub Gives : Kept → Step → Result Answer StepFault → Kept → Type 0

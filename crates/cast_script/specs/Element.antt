@@ -16,8 +16,8 @@ use Rattle.cast_script.specs.declared.script.ScriptEvent.{ScriptEvent}
 use Rattle.cast_script.specs.declared.script.ScriptEvent.TheVariants.{Core, Settle}
 use Rattle.cast_script.specs.declared.script.Fault.{Fault}
 use Rattle.cast_script.specs.declared.script.Fault.TheVariants.{Lose, Repeat, Delay, Crash}
-use Rattle.cast_script.specs.declared.script.FrameKind.{FrameKind}
-use Rattle.cast_script.specs.declared.script.FrameKind.TheVariants.{Carry, Took}
+use Rattle.cast_message.specs.declared.message.FrameKind.{FrameKind}
+use Rattle.cast_message.specs.declared.message.FrameKind.TheVariants.{Carry, Took}
 use Rattle.cast_words.specs.Unhex.{unhex}
 use Rattle.cast_script.specs.Places.{places}
 

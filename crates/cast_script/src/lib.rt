@@ -15,8 +15,9 @@ mod reading;
 mod replay;
 mod script;
 
+pub use cast_message::FrameKind;
 pub use law::is_read_back;
 pub use live_fault::LiveFault;
 pub use reading::read_script;
 pub use replay::write_script;
-pub use script::{Fault, FaultPlan, FrameKind, Script, ScriptEvent, ScriptFault};
+pub use script::{Fault, FaultPlan, Script, ScriptEvent, ScriptFault};

@@ -68,13 +68,6 @@ pub enum Fault {
     },
 }
 
-/// The kind of a frame, by its body.
-#[derive(Clone, Copy, Debug, PartialEq, Eq)]
-pub enum FrameKind {
-    Carry,
-    Took,
-}
-
 /// Why a text is no script. The index of a shape is 0 for the value as a whole, else 1 and the place of the first bad
 /// element in the list made of the events, the plan and the jobs. The limits of the configuration are asked for once all
 /// is of its form.

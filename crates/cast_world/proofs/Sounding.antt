@@ -12,19 +12,19 @@ use Rattle.cast_message.specs.declared.message.Message.{Message}
 use Rattle.cast_message.specs.declared.message.Frame.{Frame}
 use Rattle.cast_message.specs.declared.message.FrameBody.{FrameBody}
 use Rattle.cast_message.specs.declared.message.FrameBody.TheVariants.{Carry, Took}
+use Rattle.cast_message.specs.declared.message.FrameKind.{FrameKind}
+use Rattle.cast_message.specs.declared.message.FrameKind.TheVariants as kinds
 use Rattle.cast_model.specs.Refusals.{Cause, no_node, first_fault}
-use Rattle.cast_model.specs.Steps.{Step, Ordered, Sent, Acknowledged, Arrived, Stopped}
+use Rattle.cast_model.specs.Steps.{Step, Ordered, Sent, Acknowledged, Arrived, Stopped, making}
 use Rattle.std.specs.FinMap as finite
 use Rattle.cast_relay.specs.Held.{holds}
 use Rattle.cast_node.specs.Kept.{Kept, nothing_kept, link_to, is_enough}
 use Rattle.cast_node.specs.Calls.{number_reply}
-use Rattle.cast_node.specs.Turns.{told, released, unmoved, own_taken_up, acknowledged, arrived_body, may_arrive, taken_up, with_taken, with_acked, with_knower, kept_fault, kept_after, Gives}
+use Rattle.cast_node.specs.Turns.{told, released, unmoved, own_taken_up, acknowledged, arrived_body, may_arrive, taken_up, with_taken, with_acked, with_knower, kept_fault, kept_after, frame_made, Gives}
 use Rattle.cast_node.proofs.Places.{length-slice_set, at_set, same_number, other_number}
-use Rattle.cast_world.specs.declared.frames.Making.{Making}
-use Rattle.cast_world.specs.declared.frames.Making.TheVariants.{Carry as CarrySlot, Took as TookSlot}
 use Rattle.cast_world.specs.declared.frames.Mark.{Mark}
-use Rattle.cast_world.specs.Group.{State, node_at, marks_at, frame_by}
-use Rattle.cast_world.specs.Moves.{marks_after, making_step, making_mark, Takes, TakesStep, ArrivesBy, IsSound}
+use Rattle.cast_world.specs.Group.{State, node_at, marks_at, frame_by, mark_of}
+use Rattle.cast_world.specs.Moves.{marks_after, Takes, TakesStep, ArrivesBy, IsSound}
 
 -- a step leaves a node's number and its configuration
 record SamePlace (kept new : Kept) : Type 0 where
@@ -165,10 +165,10 @@ in_group config to more e = by_test (nat_lt to config.nodes) refl e
     by_test true f g = ltb-true to config.nodes f
     by_test false f g = absurd (cc)
 
-pub made_in : (making : Making) (kept : Kept) (to slot : ℕ) → kept_fault kept (making_step making to slot) ≡ None → (making_mark making kept to slot).to < kept.config.nodes
+pub made_in : (kind : FrameKind) (kept : Kept) (to slot : ℕ) → kept_fault kept (making kind to slot) ≡ None → (mark_of (frame_made kind kept to slot)).to < kept.config.nodes
 unfolding kept_fault
-made_in CarrySlot kept to slot e = in_group kept.config to _ e
-made_in TookSlot kept to slot e = in_group kept.config to _ e
+made_in kinds.Carry kept to slot e = in_group kept.config to _ e
+made_in kinds.Took kept to slot e = in_group kept.config to _ e
 
 -- what holds of a call that answers a frame's number holds of its reply
 pub made_so : (P : Type 0) (r : Result ℕ StepFault) → OnOk r P → OnOk (number_reply r) P

@@ -1,6 +1,6 @@
 -- What a step changes of a world: one node takes a step, and may make a frame.
 --     TakesStep world p step made reply new     node p is asked for the step, and makes frames with these marks where it takes it
---     making_step, making_mark making ..        the step in which a frame is made for a slot, and the frame's mark
+--     MakesFrame world kind from to slot reply new   a node makes a frame of this kind for a slot, whose mark is kept
 --     StepsTo world event reply new             the world answers the event so, and is this then
 --     IsSilent reply                            the event was accepted, and nothing was ordered, delivered or decided by it
 --     IsSound world                             the nodes are those of the group, and frames go to them
@@ -13,11 +13,11 @@ use Rattle.cast_message.specs.declared.event.StepFault.{StepFault}
 use Rattle.cast_message.specs.declared.event.StepFault.TheVariants.{NoNode, NoFrame}
 use Rattle.cast_model.specs.OwnSteps.{nothing}
 use Rattle.cast_model.specs.Replies.{IsRefused}
-use Rattle.cast_model.specs.Steps.{Step, Ordered, Sent, Acknowledged, Arrived, Stopped}
+use Rattle.cast_message.specs.declared.message.FrameKind.{FrameKind}
+use Rattle.cast_message.specs.declared.message.FrameKind.TheVariants.{Carry, Took}
+use Rattle.cast_model.specs.Steps.{Step, Ordered, Arrived, Stopped, making}
 use Rattle.cast_node.specs.Kept.{Kept}
-use Rattle.cast_node.specs.Turns.{kept_fault, carry_of, took_of, Gives}
-use Rattle.cast_world.specs.declared.frames.Making.{Making}
-use Rattle.cast_world.specs.declared.frames.Making.TheVariants.{Carry, Took}
+use Rattle.cast_node.specs.Turns.{kept_fault, frame_made, Gives}
 use Rattle.cast_world.specs.declared.frames.Mark.{Mark}
 use Rattle.cast_world.specs.Group.{State, node_at, marks_at, mark_of, frame_by}
 
@@ -68,23 +68,15 @@ ArrivesBy world from seq None (Ok answer) new = ⊥
 ArrivesBy world from seq None (Err refusal) new =
     (new ≡ world) × (refusal ≡ missing (length world.nodes) from)
 
--- the step in which a node makes a frame for a slot, and the mark of that frame
-abbrev pub making_step : Making → ℕ → ℕ → Step
-making_step Carry to slot = Sent to slot
-making_step Took to slot = Acknowledged to slot
-
-abbrev pub making_mark : Making → Kept → ℕ → ℕ → Mark
-making_mark Carry kept to slot = mark_of (carry_of kept to slot)
-making_mark Took kept to slot = mark_of (took_of kept to slot)
+abbrev pub MakesFrame : State → FrameKind → ℕ → ℕ → ℕ → Result Answer StepFault → State → Type 0
+MakesFrame world kind from to slot reply new =
+    let mark = mark_of (frame_made kind (node_at world from) to slot) in
+    TakesStep world from (making kind to slot) (mark ∷ []) reply new
 
 abbrev pub StepsTo : State → Event → Result Answer StepFault → State → Type 0
 StepsTo world (Order node item) reply new = TakesStep world node (Ordered item) [] reply new
-StepsTo world (Send from to slot) reply new =
-    let mark = mark_of (carry_of (node_at world from) to slot) in
-    TakesStep world from (Sent to slot) (mark ∷ []) reply new
-StepsTo world (Ack from to slot) reply new =
-    let mark = mark_of (took_of (node_at world from) to slot) in
-    TakesStep world from (Acknowledged to slot) (mark ∷ []) reply new
+StepsTo world (Send from to slot) reply new = MakesFrame world Carry from to slot reply new
+StepsTo world (Ack from to slot) reply new = MakesFrame world Took from to slot reply new
 StepsTo world (Arrive from seq) reply new =
     ArrivesBy world from seq (slice_get (marks_at world from) seq) reply new
 StepsTo world (Crash node) reply new = TakesStep world node Stopped [] reply new

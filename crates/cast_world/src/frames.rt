@@ -2,16 +2,16 @@
 //! is there before its node takes the step, so that a refusal changes neither.
 ghost use Rattle.std.specs.Prelude.{◌≡◌, ℕ, ◌==◌, true, false, IsTrue, IsFalse, List, ◌++◌, ◌∷◌, [], IfOk, OnOk, OnErr, map};
 ghost use Rattle.cast_message.specs.declared.config.Config.{Config as Settings};
-ghost use Rattle.cast_model.specs.Steps.{Arrived};
+ghost use Rattle.cast_model.specs.Steps.{Arrived, making};
 ghost use Rattle.cast_model.specs.Replies.{IsRefused};
 ghost use Rattle.cast_node.specs.Kept.{Kept};
 ghost use Rattle.cast_relay.specs.Held.{holds};
 ghost use Rattle.cast_node.specs.Calls.{number_reply, silent_reply};
-ghost use Rattle.cast_node.specs.Turns.{Gives};
-ghost use Rattle.cast_world.specs.Group.{item_in, body_in, frame_in};
-ghost use Rattle.cast_world.specs.Moves.{FindsMark, making_step, making_mark};
+ghost use Rattle.cast_node.specs.Turns.{Gives, frame_made};
+ghost use Rattle.cast_world.specs.Group.{item_in, body_in, frame_in, mark_of};
+ghost use Rattle.cast_world.specs.Moves.{FindsMark};
 
-use cast_message::{Answer, Frame, FrameBody, Item, Message, NodeId, Reply, StepFault};
+use cast_message::{Answer, Frame, FrameBody, FrameKind, Item, Message, NodeId, Reply, StepFault};
 use cast_node::{Node, Numbers};
 use std::alloc::AllocError;
 
@@ -32,35 +32,28 @@ pub struct Mark {
     pub sender: NodeId,
 }
 
-/// What a node makes a frame for: to carry a slot, or to acknowledge one.
-#[derive(Clone, Copy, Debug)]
-pub enum Making {
-    Carry,
-    Took,
-}
-
 /// A frame for a slot. It is answered by its number.
 pub fn make(
     node: &mut Node,
     made: &mut Vec<Mark>,
-    making: Making,
+    kind: FrameKind,
     to: NodeId,
     slot: u64,
 ) -> Result<u64, StepFault>
-    ensures gives { Gives node.old (making_step making to slot) (number_reply result) node.new }
+    ensures gives { Gives node.old (making kind to slot) (number_reply result) node.new }
     ensures made { OnOk result (made.new.items
-        ≡ made.old.items ++ making_mark making node.old to slot ∷ []) }
+        ≡ made.old.items ++ mark_of (frame_made kind node.old to slot) ∷ []) }
     ensures same { OnErr result (made.new.items ≡ made.old.items) }
 {
     if slot > LAST_SLOT || made.reserve(1).is_err() {
-        return Err(or_memory(match making {
-            Making::Carry => node.send_fault(to, slot),
-            Making::Took => node.ack_fault(to, slot),
+        return Err(or_memory(match kind {
+            FrameKind::Carry => node.send_fault(to, slot),
+            FrameKind::Took => node.ack_fault(to, slot),
         }));
     }
-    let sent = match making {
-        Making::Carry => node.send_numbers(to, slot)?,
-        Making::Took => Numbers {
+    let sent = match kind {
+        FrameKind::Carry => node.send_numbers(to, slot)?,
+        FrameKind::Took => Numbers {
             seq: node.ack_number(to, slot)?,
             sender: NodeId(NOBODY),
             number: 0,

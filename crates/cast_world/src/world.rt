@@ -8,10 +8,10 @@ ghost use Rattle.cast_model.specs.Delivery.{decision};
 ghost use Rattle.cast_model.specs.Shown.{ShowsDelivered, ShowsStream, ShowsOwed};
 ghost use Rattle.cast_world.specs.Group.{Stands, StandingFor, Continues, FindsNode, IsFar, IsRefusedForCause, node_at, marks_at};
 ghost use Rattle.cast_node.specs.Calls.{number_reply, silent_reply};
-ghost use Rattle.cast_world.specs.Moves.{IsSilent, StepsTo, TakesStep, making_step, making_mark};
+ghost use Rattle.cast_world.specs.Moves.{IsSilent, MakesFrame, StepsTo, TakesStep};
 
-use crate::frames::{self, Making, Mark};
-use cast_message::{Answer, Config, Event, Item, NodeId, Reply, StepFault};
+use crate::frames::{self, Mark};
+use cast_message::{Answer, Config, Event, FrameKind, Item, NodeId, Reply, StepFault};
 use cast_node::{Node, no_news};
 use std::alloc::{AllocError, Global};
 use std::marker::Model;
@@ -80,8 +80,8 @@ impl World {
     {
         match event {
             Event::Order { node, item } => self.order(*node, item),
-            Event::Send { from, to, slot } => sent(self.make(Making::Carry, *from, *to, *slot)),
-            Event::Ack { from, to, slot } => sent(self.make(Making::Took, *from, *to, *slot)),
+            Event::Send { from, to, slot } => sent(self.make(FrameKind::Carry, *from, *to, *slot)),
+            Event::Ack { from, to, slot } => sent(self.make(FrameKind::Took, *from, *to, *slot)),
             Event::Arrive { from, seq } => self.arrive(*from, *seq),
             Event::Crash { node } => self.crash(*node),
         }
@@ -96,8 +96,8 @@ impl World {
         ensures not { IsFalse result → self.new ≡ self.old }
     {
         match event {
-            Event::Send { from, to, slot } => self.make(Making::Carry, *from, *to, *slot).is_ok(),
-            Event::Ack { from, to, slot } => self.make(Making::Took, *from, *to, *slot).is_ok(),
+            Event::Send { from, to, slot } => self.make(FrameKind::Carry, *from, *to, *slot).is_ok(),
+            Event::Ack { from, to, slot } => self.make(FrameKind::Took, *from, *to, *slot).is_ok(),
             Event::Arrive { from, seq } => self.arrive_silently(*from, *seq).is_some(),
             Event::Order { .. } | Event::Crash { .. } => false,
         }
@@ -121,14 +121,12 @@ impl World {
     // A node makes a frame for a slot.
     fn make(
         &mut self,
-        making: Making,
+        kind: FrameKind,
         from: NodeId,
         to: NodeId,
         slot: u64,
     ) -> Result<u64, StepFault>
-        ensures { TakesStep self.old from (making_step making to slot)
-            (making_mark making (node_at self.old from) to slot ∷ [])
-            (number_reply result) self.new }
+        ensures { MakesFrame self.old kind from to slot (number_reply result) self.new }
     {
         let place = usize::from(from.0);
         if place >= self.nodes.len() {
@@ -137,7 +135,7 @@ impl World {
         frames::make(
             &mut self.nodes[place],
             &mut self.marks[place],
-            making,
+            kind,
             to,
             slot,
         )
