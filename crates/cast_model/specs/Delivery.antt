@@ -38,20 +38,31 @@ abbrev pub tells_of : List FirstCopy → ℕ → ℕ → FrameBody → Bool
 tells_of copies s i (Carry slot message) = message.sender == s && message.number == i
 tells_of copies s i (Took slot) = is_pair (copy_at copies slot) s i
 
--- p, which holds the pair, knows that r holds it: r is p or the sender, or a frame from r told it
+-- p, which holds the pair, knows that r holds it: r is p or the sender, or a frame from r told it, of those that arrived at p,
+-- which gave r these copies
+abbrev pub is_told : List FirstCopy → List Frame → ℕ → ℕ → ℕ → ℕ → Bool
+is_told copies arrived p s i r = r == p || r == s || list_any (λ frame. frame.from == r && tells_of copies s i frame.body) arrived
+
 unfoldable pub knows : History → ℕ → ℕ → ℕ → ℕ → Bool
-knows past p s i r = r == p || r == s || list_any (λ frame. frame.from == r && tells_of (given past p r) s i frame.body) (arrivals past p)
+knows past p s i r = is_told (given past p r) (arrivals past p) p s i r
 
 -- how many nodes p knows to hold the pair, which is none where p doesn't
+abbrev pub holders : Config → List FirstCopy → (ℕ → Bool) → ℕ → ℕ → ℕ
+holders config copies knows s i = if has_pair copies s i then count_by knows (nodes_of config) else 0
+
 unfoldable pub known_by : Config → History → ℕ → ℕ → ℕ → ℕ
-known_by config past p s i = if has_pair (first past p) s i then count_by (knows past p s i) (nodes_of config) else 0
+known_by config past p s i = holders config (first past p) (knows past p s i) s i
 
--- enough nodes are known to hold the pair: in basic mode p alone will do
+-- so many nodes that are known to hold a pair are enough: in basic mode a node by itself will do, in uniform mode there must be
+-- more than may crash. This is the one place at which the modes differ
+abbrev pub are_enough : Mode → ℕ → ℕ → Bool
+are_enough Basic faults holders = true
+are_enough Uniform faults holders = nat_lt faults holders
+
 unfoldable pub is_known_enough : Mode → Config → History → ℕ → ℕ → ℕ → Bool
-is_known_enough Basic config past p s i = true
-is_known_enough Uniform config past p s i = nat_lt config.faults (known_by config past p s i)
+is_known_enough mode config past p s i = are_enough mode config.faults (known_by config past p s i)
 
--- q may deliver the pair once its turn has come: the one place at which the modes differ
+-- q may deliver the pair once its turn has come
 unfoldable pub is_ready : Config → History → ℕ → ℕ → ℕ → Bool
 is_ready config past q s i = has_pair (first past q) s i && is_known_enough config.mode config past q s i
 

@@ -19,10 +19,9 @@
 --     IsStep past me event step          the event after past is this step of the node
 use Rattle.std.specs.Prelude.{◌≡◌, ℕ, ◌-◌, ◌*◌, ◌==◌, is_some, nat_lt, nat_le, take, Bool, true, false, not, ◌&&◌, ◌||◌, if◌then◌else◌, List, [], ◌∷◌, ◌++◌, length, map, slice_get, slice_index_or}
 use Rattle.std.specs.Prelude.{Option, Some, None, Result}
-use Rattle.std.specs.List.{filter, list_any, filter_map, count_by, prefix_len, range_with_len}
+use Rattle.std.specs.List.{filter, list_any, filter_map, prefix_len, range_with_len}
 use Rattle.cast_message.specs.declared.config.Config.{Config}
 use Rattle.cast_message.specs.declared.config.Mode.{Mode}
-use Rattle.cast_message.specs.declared.config.Mode.TheVariants.{Basic, Uniform}
 use Rattle.cast_message.specs.declared.event.Event.{Event}
 use Rattle.cast_message.specs.declared.event.Event.TheVariants.{Order, Send, Ack, Arrive, Crash}
 use Rattle.cast_message.specs.declared.event.Outcome.{Outcome}
@@ -37,7 +36,7 @@ use Rattle.cast_message.specs.declared.message.Frame.{Frame}
 use Rattle.cast_message.specs.declared.message.FrameBody.{FrameBody}
 use Rattle.cast_message.specs.declared.message.FrameBody.TheVariants.{Carry, Took}
 use Rattle.cast_model.specs.History.{History, FirstCopy, has_pair, frames, is_carry_of, is_took_of}
-use Rattle.cast_model.specs.Delivery.{nodes_of, is_pair, tells_of, sender_in, value_in, votes, least, decision_by}
+use Rattle.cast_model.specs.Delivery.{is_pair, is_told, holders, are_enough, sender_in, value_in, votes, least, decision_by}
 use Rattle.cast_model.specs.Refusals.{NodeView, step_causes, first_fault}
 use Rattle.cast_model.specs.Replies.{reply_by}
 use Rattle.cast_model.specs.Steps.{Step, Ordered, Sent, Acknowledged, Arrived, Stopped, Steps, own_items, frames_in, frame_count, Held, copy_of, held}
@@ -75,15 +74,14 @@ own_owed me steps q = filter (λ slot. not (own_acked steps q slot)) (range_with
 
 -- it knows that r holds the pair
 unfoldable pub own_knows : ℕ → Steps → ℕ → ℕ → ℕ → Bool
-own_knows me steps s i r = r == me || r == s || list_any (λ frame. frame.from == r && tells_of (own_given_copies me steps r) s i frame.body) (frames_in steps)
+own_knows me steps s i r = is_told (own_given_copies me steps r) (frames_in steps) me s i r
 
 -- how many nodes it knows to hold the pair, which is none where it doesn't
 unfoldable pub own_known_by : Config → ℕ → Steps → ℕ → ℕ → ℕ
-own_known_by config me steps s i = if has_pair (own_copies me steps) s i then count_by (own_knows me steps s i) (nodes_of config) else 0
+own_known_by config me steps s i = holders config (own_copies me steps) (own_knows me steps s i) s i
 
 unfoldable pub own_known_enough : Mode → Config → ℕ → Steps → ℕ → ℕ → Bool
-own_known_enough Basic config me steps s i = true
-own_known_enough Uniform config me steps s i = nat_lt config.faults (own_known_by config me steps s i)
+own_known_enough mode config me steps s i = are_enough mode config.faults (own_known_by config me steps s i)
 
 -- it may deliver the pair once its turn has come
 unfoldable pub own_is_ready : Config → ℕ → Steps → ℕ → ℕ → Bool

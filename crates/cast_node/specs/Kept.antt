@@ -3,17 +3,17 @@
 --     link_to kept q                 what it gave q
 --     taken_from kept r              the slots that it took of what r gave it
 --     knowers_of kept s i            the nodes that it knows to hold the pair, none where it doesn't hold it itself
---     is_enough kept s i             enough nodes are known to hold the pair: in basic mode the node alone will do
+--     is_enough kept s i             enough nodes are known to hold the pair
 --     nothing_kept config me         what a node keeps that has done nothing
-use Rattle.std.specs.Prelude.{ℕ, ◌-◌, Bool, true, List, [], replicate, slice_index_or, nat_lt}
+use Rattle.std.specs.Prelude.{ℕ, ◌-◌, Bool, true, List, [], replicate, slice_index_or}
 use Rattle.std.specs.Ordering.{nat_cmp}
 use Rattle.std.specs.FinSet as set
 use Rattle.std.specs.FinMap as map
 use Rattle.cast_message.specs.declared.config.Config.{Config}
 use Rattle.cast_message.specs.declared.config.Mode.{Mode}
-use Rattle.cast_message.specs.declared.config.Mode.TheVariants.{Basic, Uniform}
 use Rattle.cast_message.specs.declared.message.Item.{Item}
 use Rattle.cast_message.specs.declared.message.Message.{Message}
+use Rattle.cast_model.specs.Delivery.{are_enough}
 use Rattle.cast_link.specs.Links.{Link}
 use Rattle.cast_relay.specs.Held.{Held}
 use Rattle.cast_fifo.specs.Held.{Held as HeldBack, nothing_held}
@@ -46,8 +46,7 @@ abbrev pub knowers_of : Kept → ℕ → ℕ → set.FinSet nat_cmp
 knowers_of kept s i = knowers_in kept.knowers s i
 
 abbrev pub is_enough_in : Mode → ℕ → set.FinSet nat_cmp → Bool
-is_enough_in Basic faults knowers = true
-is_enough_in Uniform faults knowers = nat_lt faults (set.len knowers)
+is_enough_in mode faults knowers = are_enough mode faults (set.len knowers)
 
 abbrev pub is_enough : Kept → ℕ → ℕ → Bool
 is_enough kept s i = is_enough_in kept.config.mode kept.config.faults (knowers_of kept s i)
