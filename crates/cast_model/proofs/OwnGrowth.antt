@@ -14,7 +14,7 @@ use Rattle.cast_message.specs.declared.message.FrameBody.{FrameBody}
 use Rattle.cast_message.specs.declared.message.FrameBody.TheVariants.{Carry, Took}
 use Rattle.cast_model.specs.History.{FirstCopy, has_pair, copy_at, is_carry_of, is_took_of}
 use Rattle.cast_model.specs.Delivery.{nodes_of, is_pair, tells_of, sender_in}
-use Rattle.cast_model.specs.Steps.{Step, Ordered, Sent, Acknowledged, Arrived, Stopped, Steps, own_items, frame_of, frames_in, Held, copy_of, held_by_body, held_by, held}
+use Rattle.cast_model.specs.Steps.{each, Step, Ordered, Sent, Acknowledged, Arrived, Stopped, Steps, own_items, frame_of, frames_in, Held, copy_of, held_by_body, held_by, held}
 use Rattle.cast_model.specs.OwnSteps.{own_copies, own_given, own_given_copies, own_taken, own_acked, own_knows, own_known_by, own_known_enough, own_is_ready, own_concerned, is_possible, is_possible_body, is_ignored, IsOwnAccepted}
 use Rattle.cast_model.proofs.Members.{Member, Member-append, Member-append_left, Member-one, Member-if_not, list_any-Member, Member-list_any}
 use Rattle.cast_model.proofs.Sound.{Member-has_pair, has_pair-Member}
@@ -39,7 +39,7 @@ module _ (me : ℕ) (step : Step) (steps : Steps) where
   own_given-more q = ap (filter (λ h. not (h.message.sender == q) && not (h.source == q))) held-more ∙ filter-append _ (held me steps) (brought me steps step)
 
   pub frames_in-more : frames_in (step ∷ steps) ≡ frames_in steps ++ frame_of step
-  unfolding frames_in
+  unfolding each
   frames_in-more = refl
 
   pub own_taken-more : (r slot : ℕ) → own_taken (step ∷ steps) r slot ≡ (own_taken steps r slot || list_any (λ frame. frame.from == r && is_carry_of slot frame.body) (frame_of step))
@@ -83,7 +83,7 @@ possible_given config me steps frame e = by_body frame.body (and_parts _ _ (not-
     by_body (Carry slot message) h = tt
 
 pub frames_given : (config : Config) (me : ℕ) (steps : Steps) → IsOwnAccepted config me steps → (frame : Frame) → Member frame (frames_in steps) → GivenTo me steps frame.from frame.body
-unfolding IsOwnAccepted frames_in
+unfolding IsOwnAccepted each
 frames_given config me [] accepted frame m = elim m [ ]
 frames_given config me (step ∷ steps) accepted frame m = elim (Member-append frame (frames_in steps) (frame_of step) m) [
   | inl old ↦ given_to_kept me step steps frame.from frame.body (frames_given config me steps accepted.0 frame old)

@@ -9,64 +9,67 @@ use Rattle.cast_message.specs.declared.message.Frame.{Frame}
 use Rattle.cast_message.specs.declared.message.FrameBody.{FrameBody}
 use Rattle.cast_message.specs.declared.message.FrameBody.TheVariants.{Carry, Took}
 use Rattle.cast_model.specs.History.{History, has_pair, stream, items_ordered, first, frames, frame_arriving, frame_at, arrivals, copies_gained, copies_arriving, copies_brought, frames_gained}
-use Rattle.cast_model.specs.Steps.{Step, Ordered, Sent, Acknowledged, Arrived, Stopped, step_by, step_of, steps_of, item_of, own_items, frame_of, frames_in, frames_by, frame_count, Held, copy_of, held_by_body, held_by, held}
+use Rattle.cast_model.specs.Steps.{Step, Ordered, Sent, Acknowledged, Arrived, Stopped, Steps, each, step_by, step_of, steps_of, item_of, own_items, frame_of, frames_in, frames_by, frame_count, Held, copy_of, held_by_body, held_by, held}
 use Rattle.cast_model.proofs.Growth.{gained, made}
 
+module _ {A : Type 0} (tell : Step → List A) (steps : Steps) (have : List A) (so_far : each tell steps ≡ have) where
+  -- one step more, if this one is the node's
+  told : (b : Bool) (step : Step) → each tell (cond b (step ∷ []) [] ++ steps) ≡ have ++ cond b (tell step) []
+  unfolding each
+  told true step = ap (λ all. all ++ tell step) so_far
+  told false step = so_far ∙ sym (append-nil have)
+
+  -- which tells nothing
+  untold : (b : Bool) (step : Step) → tell step ≡ [] → each tell (cond b (step ∷ []) [] ++ steps) ≡ have ++ []
+  untold b step none = told b step ∙ ap (λ more. have ++ more) (nothing b)
+    where
+      nothing : (b : Bool) → cond b (tell step) [] ≡ []
+      nothing true = none
+      nothing false = refl
+
 -- the items that the node ordered are its stream
+module _ (past : History) (q : ℕ) (so_far : own_items (steps_of past q) ≡ stream past q) where
+  silent : (b : Bool) (step : Step) → item_of step ≡ [] → own_items (cond b (step ∷ []) [] ++ steps_of past q) ≡ stream past q ++ []
+  silent = untold item_of (steps_of past q) (stream past q) so_far
+
+  items_by_frame : (o : Option Frame) → own_items (step_by o q ++ steps_of past q) ≡ stream past q ++ []
+  items_by_frame None = so_far ∙ sym (append-nil (stream past q))
+  items_by_frame (Some frame) = silent (frame.to == q) (Arrived frame) refl
+
+  items_by_event : (event : Event) → own_items (step_of (frames past) event q ++ steps_of past q) ≡ stream past q ++ items_ordered event q
+  unfolding frame_arriving
+  items_by_event (Order node item) = told item_of (steps_of past q) (stream past q) so_far (node == q) (Ordered item)
+  items_by_event (Send from to slot) = silent (from == q) (Sent to slot) refl
+  items_by_event (Ack from to slot) = silent (from == q) (Acknowledged to slot) refl
+  items_by_event (Arrive from seq) = items_by_frame (slice_get (frames past from) seq)
+  items_by_event (Crash node) = silent (node == q) Stopped refl
+
 pub own_items-steps_of : (past : History) (q : ℕ) → own_items (steps_of past q) ≡ stream past q
-unfolding steps_of own_items stream frame_arriving
+unfolding steps_of stream each
 own_items-steps_of [] q = refl
-own_items-steps_of (event ∷ past) q = by_event event (own_items-steps_of past q)
-  where
-    idle : own_items (steps_of past q) ≡ stream past q → own_items (steps_of past q) ≡ stream past q ++ []
-    idle ih = ih ∙ sym (append-nil (stream past q))
-
-    by_test : (b : Bool) (step : Step) → item_of step ≡ [] → own_items (steps_of past q) ≡ stream past q → own_items (cond b (step ∷ []) [] ++ steps_of past q) ≡ stream past q ++ []
-    by_test true step none ih = ap (λ items. own_items (steps_of past q) ++ items) none ∙ ap (λ items. items ++ []) ih
-    by_test false step none ih = idle ih
-
-    by_order : (b : Bool) (item : Item) → own_items (steps_of past q) ≡ stream past q → own_items (cond b (Ordered item ∷ []) [] ++ steps_of past q) ≡ stream past q ++ cond b (item ∷ []) []
-    by_order true item ih = ap (λ items. items ++ item ∷ []) ih
-    by_order false item ih = idle ih
-
-    by_frame : (o : Option Frame) → own_items (steps_of past q) ≡ stream past q → own_items (step_by o q ++ steps_of past q) ≡ stream past q ++ []
-    by_frame None ih = idle ih
-    by_frame (Some frame) ih = by_test (frame.to == q) (Arrived frame) refl ih
-
-    by_event : (event : Event) → own_items (steps_of past q) ≡ stream past q → own_items (step_of (frames past) event q ++ steps_of past q) ≡ stream past q ++ items_ordered event q
-    by_event (Order node item) ih = by_order (node == q) item ih
-    by_event (Send from to slot) ih = by_test (from == q) (Sent to slot) refl ih
-    by_event (Ack from to slot) ih = by_test (from == q) (Acknowledged to slot) refl ih
-    by_event (Arrive from seq) ih = by_frame (slice_get (frames past from) seq) ih
-    by_event (Crash node) ih = by_test (node == q) Stopped refl ih
+own_items-steps_of (event ∷ past) q = items_by_event past q (own_items-steps_of past q) event
 
 -- the frames that arrived are the arrivals
+module _ (past : History) (q : ℕ) (so_far : frames_in (steps_of past q) ≡ arrivals past q) where
+  unmoved : (b : Bool) (step : Step) → frame_of step ≡ [] → frames_in (cond b (step ∷ []) [] ++ steps_of past q) ≡ arrivals past q ++ []
+  unmoved = untold frame_of (steps_of past q) (arrivals past q) so_far
+
+  frames_by_frame : (o : Option Frame) → frames_in (step_by o q ++ steps_of past q) ≡ arrivals past q ++ frame_at o q
+  frames_by_frame None = so_far ∙ sym (append-nil (arrivals past q))
+  frames_by_frame (Some frame) = told frame_of (steps_of past q) (arrivals past q) so_far (frame.to == q) (Arrived frame)
+
+  frames_by_event : (event : Event) → frames_in (step_of (frames past) event q ++ steps_of past q) ≡ arrivals past q ++ frame_at (frame_arriving (frames past) event) q
+  unfolding frame_arriving
+  frames_by_event (Order node item) = unmoved (node == q) (Ordered item) refl
+  frames_by_event (Send from to slot) = unmoved (from == q) (Sent to slot) refl
+  frames_by_event (Ack from to slot) = unmoved (from == q) (Acknowledged to slot) refl
+  frames_by_event (Arrive from seq) = frames_by_frame (slice_get (frames past from) seq)
+  frames_by_event (Crash node) = unmoved (node == q) Stopped refl
+
 pub frames_in-steps_of : (past : History) (q : ℕ) → frames_in (steps_of past q) ≡ arrivals past q
-unfolding steps_of frames_in arrivals frame_arriving
+unfolding steps_of arrivals each
 frames_in-steps_of [] q = refl
-frames_in-steps_of (event ∷ past) q = by_event event (frames_in-steps_of past q)
-  where
-    idle : frames_in (steps_of past q) ≡ arrivals past q → frames_in (steps_of past q) ≡ arrivals past q ++ []
-    idle ih = ih ∙ sym (append-nil (arrivals past q))
-
-    by_test : (b : Bool) (step : Step) → frame_of step ≡ [] → frames_in (steps_of past q) ≡ arrivals past q → frames_in (cond b (step ∷ []) [] ++ steps_of past q) ≡ arrivals past q ++ []
-    by_test true step none ih = ap (λ items. frames_in (steps_of past q) ++ items) none ∙ ap (λ items. items ++ []) ih
-    by_test false step none ih = idle ih
-
-    arrived : (b : Bool) (frame : Frame) → frames_in (steps_of past q) ≡ arrivals past q → frames_in (cond b (Arrived frame ∷ []) [] ++ steps_of past q) ≡ arrivals past q ++ cond b (frame ∷ []) []
-    arrived true frame ih = ap (λ all. all ++ frame ∷ []) ih
-    arrived false frame ih = idle ih
-
-    by_frame : (o : Option Frame) → frames_in (steps_of past q) ≡ arrivals past q → frames_in (step_by o q ++ steps_of past q) ≡ arrivals past q ++ frame_at o q
-    by_frame None ih = idle ih
-    by_frame (Some frame) ih = arrived (frame.to == q) frame ih
-
-    by_event : (event : Event) → frames_in (steps_of past q) ≡ arrivals past q → frames_in (step_of (frames past) event q ++ steps_of past q) ≡ arrivals past q ++ frame_at (frame_arriving (frames past) event) q
-    by_event (Order node item) ih = by_test (node == q) (Ordered item) refl ih
-    by_event (Send from to slot) ih = by_test (from == q) (Sent to slot) refl ih
-    by_event (Ack from to slot) ih = by_test (from == q) (Acknowledged to slot) refl ih
-    by_event (Arrive from seq) ih = by_frame (slice_get (frames past from) seq) ih
-    by_event (Crash node) ih = by_test (node == q) Stopped refl ih
+frames_in-steps_of (event ∷ past) q = frames_by_event past q (frames_in-steps_of past q) event
 
 brought-map : (before : List Held) (r : ℕ) (body : FrameBody) → map copy_of (held_by_body before r body) ≡ copies_brought (map copy_of before) r body
 brought-map before r (Took slot) = refl

@@ -49,21 +49,24 @@ unfoldable pub steps_of : History → ℕ → Steps
 steps_of [] q = []
 steps_of (event ∷ past) q = step_of (frames past) event q ++ steps_of past q
 
+-- what each step tells, in order
+unfoldable pub each : {A : Type 0} → (Step → List A) → Steps → List A
+each tell [] = []
+each tell (step ∷ steps) = each tell steps ++ tell step
+
 abbrev pub item_of : Step → List Item
 item_of (Ordered item) = item ∷ []
 item_of _ = []
 
-unfoldable pub own_items : Steps → List Item
-own_items [] = []
-own_items (step ∷ steps) = own_items steps ++ item_of step
+abbrev pub own_items : Steps → List Item
+own_items steps = each item_of steps
 
 abbrev pub frame_of : Step → List Frame
 frame_of (Arrived frame) = frame ∷ []
 frame_of _ = []
 
-unfoldable pub frames_in : Steps → List Frame
-frames_in [] = []
-frames_in (step ∷ steps) = frames_in steps ++ frame_of step
+abbrev pub frames_in : Steps → List Frame
+frames_in steps = each frame_of steps
 
 abbrev pub frames_by : Step → ℕ
 frames_by (Sent to slot) = 1

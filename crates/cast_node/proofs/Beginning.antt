@@ -10,7 +10,7 @@ use Rattle.std.proofs.lemmas.Bool.Decides.{nat_tests}
 use Rattle.cast_message.specs.declared.config.Config.{Config}
 use Rattle.cast_message.specs.declared.message.Message.{Message}
 use Rattle.cast_model.specs.History.{has_pair}
-use Rattle.cast_model.specs.Steps.{own_items, frame_count, frames_in, held}
+use Rattle.cast_model.specs.Steps.{each, frame_count, held}
 use Rattle.cast_model.specs.OwnSteps.{own_live, own_given, own_taken, own_acked, own_owed, own_is_ready, own_log, message_in, message_at, IsOwnAccepted}
 use Rattle.cast_fifo.specs.Held.{nothing_held}
 use Rattle.cast_fifo.proofs.Stands.{Stands as HoldsBack}
@@ -40,7 +40,7 @@ nothing_back config me s = record {
 }
 
 pub stands_for_nothing : (config : Config) (me : ℕ) → me < config.nodes → Stands config me [] (nothing_kept config me)
-unfolding IsOwnAccepted own_live frame_count own_items own_taken frames_in own_log newest_first has_pair held
+unfolding IsOwnAccepted own_live frame_count own_taken own_log newest_first has_pair held each
 stands_for_nothing config me place = record {
   accepted = tt;
   place = place;

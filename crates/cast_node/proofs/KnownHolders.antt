@@ -11,7 +11,7 @@ use Rattle.cast_message.specs.declared.message.FrameBody.{FrameBody}
 use Rattle.cast_message.specs.declared.message.FrameBody.TheVariants.{Carry, Took}
 use Rattle.cast_model.specs.History.{has_pair, copy_at}
 use Rattle.cast_model.specs.Delivery.{tells_of}
-use Rattle.cast_model.specs.Steps.{Step, Ordered, Sent, Acknowledged, Arrived, Stopped, Steps, copy_of, held_by_body, held, frames_in, frame_of}
+use Rattle.cast_model.specs.Steps.{each, Step, Ordered, Sent, Acknowledged, Arrived, Stopped, Steps, copy_of, held_by_body, held, frames_in, frame_of}
 use Rattle.cast_model.specs.OwnSteps.{own_copies, own_given, own_given_copies, own_knows, is_ignored, IsOwnAccepted}
 use Rattle.cast_model.proofs.Members.{Member, Member-append, Member-one, Member-list_any, Member-filter, Member-get_or, here, there}
 use Rattle.cast_model.proofs.Sound.{has_pair-Member}
@@ -60,7 +60,7 @@ knows_more config me step steps accepted s i r =
 -- a pair of which a frame told is held
 module _ (config : Config) (me : ℕ) where
   carried_held : (steps : Steps) (frame : Frame) → Member frame (frames_in steps) → (slot : ℕ) (message : Message) → frame.body ≡ Carry slot message → has_pair (own_copies me steps) message.sender message.number ≡ true
-  unfolding frames_in has_pair
+  unfolding has_pair each
   carried_held [] frame m slot message e = elim m [ ]
   carried_held (step ∷ steps) frame m slot message e = elim (Member-append frame (frames_in steps) (frame_of step) m) [
     | inl old ↦ own_pair_kept me step steps message.sender message.number (carried_held steps frame old slot message e)

@@ -21,7 +21,7 @@ use Rattle.cast_message.specs.declared.message.FrameBody.TheVariants.{Carry, Too
 use Rattle.cast_model.specs.History.{FirstCopy, has_pair, copy_at, is_carry_of, is_took_of}
 use Rattle.cast_model.specs.Delivery.{is_pair, tells_of}
 use Rattle.cast_model.specs.Replies.{is_from}
-use Rattle.cast_model.specs.Steps.{Step, Ordered, Sent, Acknowledged, Arrived, Stopped, Steps, item_of as items_of, own_items, frame_count, frames_in, frame_of, Held, copy_of, held_by_body, held}
+use Rattle.cast_model.specs.Steps.{each, Step, Ordered, Sent, Acknowledged, Arrived, Stopped, Steps, item_of as items_of, own_items, frame_count, frames_in, frame_of, Held, copy_of, held_by_body, held}
 use Rattle.cast_model.specs.OwnSteps.{own_live, own_copies, own_given, own_given_copies, own_taken, own_acked, own_knows, own_is_ready, own_next, own_concerned, own_turns, own_deliveries, own_log, own_outcome, own_decisions_of, message_in, messages_from, nothing, is_ignored, is_possible, is_possible_body, IsOwnAccepted}
 use Rattle.cast_model.proofs.Members.{Member-list_any, list_any-Member}
 use Rattle.cast_model.proofs.OwnGrowth.{brought, held-more, own_copies-more, own_given-more, own_taken-more, own_acked-more}
@@ -49,7 +49,7 @@ record InRange (config : Config) (me : ℕ) (steps : Steps) (s i : ℕ) : Type 0
 
 module _ (config : Config) (me : ℕ) (place : me < config.nodes) where
   held_in : (steps : Steps) → IsOwnAccepted config me steps → (s i : ℕ) → has_pair (own_copies me steps) s i ≡ true → InRange config me steps s i
-  unfolding IsOwnAccepted has_pair held own_items is_possible
+  unfolding IsOwnAccepted has_pair held is_possible each
   held_in [] accepted s i e = absurd (false≢true e)
   held_in (step ∷ steps) accepted s i e = elim (or_cases (has_pair (own_copies me steps) s i) _ (sym (ap (λ copies. has_pair copies s i) (own_copies-more me step steps) ∙ list_any-append _ (own_copies me steps) (map copy_of (brought me steps step))) ∙ e)) [
     | inl old ↦ (let r = held_in steps accepted.0 s i old in record { sender = r.sender; number = λ z. more step (r.number z) })
@@ -166,15 +166,15 @@ module _ (config : Config) (me : ℕ) (steps : Steps) (kept : Kept) (st : Stands
       stands_same step accepted nothing_new items (no_ack step e) (no_news step accepted e) live frames kept.incoming live_is frames_is st.peers_in (λ r slot l. st.taken r slot l ∙ sym (no_take step e r slot))
 
   pub sent_stands : (to slot : ℕ) → IsOwnAccepted config me (Sent to slot ∷ steps) → Stands config me (Sent to slot ∷ steps) (record kept { frames = kept.frames + 1 })
-  unfolding own_items own_live frame_count
+  unfolding own_live frame_count each
   sent_stands to slot accepted = quiet_stands (Sent to slot) accepted refl (append-nil (own_items steps)) refl kept.live (kept.frames + 1) st.live (ap (λ n. n + 1) st.frames)
 
   pub acknowledged_stands : (to slot : ℕ) → IsOwnAccepted config me (Acknowledged to slot ∷ steps) → Stands config me (Acknowledged to slot ∷ steps) (record kept { frames = kept.frames + 1 })
-  unfolding own_items own_live frame_count
+  unfolding own_live frame_count each
   acknowledged_stands to slot accepted = quiet_stands (Acknowledged to slot) accepted refl (append-nil (own_items steps)) refl kept.live (kept.frames + 1) st.live (ap (λ n. n + 1) st.frames)
 
   pub stopped_stands : IsOwnAccepted config me (Stopped ∷ steps) → Stands config me (Stopped ∷ steps) (record kept { live = false })
-  unfolding own_items own_live frame_count
+  unfolding own_live frame_count each
   stopped_stands accepted = quiet_stands Stopped accepted refl (append-nil (own_items steps)) refl false kept.frames refl (st.frames ∙ (let z : frame_count steps ≡ frame_count steps + 0 = omega arith in z))
 
 cmp_eq : (q k : ℕ) → eq_by_cmp nat_cmp q k ≡ (q == k)
@@ -210,7 +210,7 @@ told_before me steps from slot before s i x e =
     by_body (Took place) t u = ap (λ k. is_pair (copy_at (own_given_copies me steps x) k) s i) (eqb-true place slot t) ∙ u
 
 took_base : (config : Config) (me : ℕ) (steps : Steps) (kept : Kept) → Stands config me steps kept → (from seq to slot : ℕ) → IsOwnAccepted config me (Arrived (record { from = from; seq = seq; to = to; body = Took slot }) ∷ steps) → length (with_acked kept from slot).outgoing ≡ config.nodes → Base config me (Arrived (record { from = from; seq = seq; to = to; body = Took slot })) steps (with_acked kept from slot)
-unfolding own_items own_live frame_count
+unfolding own_live frame_count each
 took_base config me steps kept st from seq to slot accepted peers =
     let step : Step = Arrived (record { from = from; seq = seq; to = to; body = Took slot }) in
     base_of config me step steps kept st accepted refl (let z : frame_count steps + 0 ≡ frame_count steps = omega arith in z) kept.stream kept.relay (with_acked kept from slot).outgoing kept.incoming (st.stream ∙ sym (append-nil (own_items steps)))
@@ -243,7 +243,7 @@ module _ (config : Config) (me : ℕ) (steps : Steps) (kept : Kept) (st : Stands
     own_kept = record kept { stream = kept.stream ++ item ∷ []; relay = record (with_pair kept.relay kept.me (length kept.stream)) { own = kept.relay.own + 1 } }
 
     own_base : Base config me (Ordered item) steps own_kept
-    unfolding own_items own_live frame_count
+    unfolding own_live frame_count each
     own_base = base_of config me (Ordered item) steps kept st accepted refl (let z : frame_count steps + 0 ≡ frame_count steps = omega arith in z) own_kept.stream own_kept.relay kept.outgoing kept.incoming (ap (λ items. items ++ item ∷ []) st.stream)
         st.relay_me (length-slice_set kept.relay.numbers kept.me _ ∙ st.relay_size)
         (λ x k l.
@@ -313,7 +313,7 @@ module _ (config : Config) (me : ℕ) (steps : Steps) (kept : Kept) (st : Stands
     itself = λ k. same_number message.sender message.sender refl k && same_number message.number message.number refl k
 
     carry_base : (relay : HeldPairs) → relay.me ≡ me → length relay.numbers ≡ 256 → ((x k : ℕ) → x < config.nodes → holds relay x k ≡ has_pair (own_copies me (carry ∷ steps)) x k) → Base config me carry steps (record (with_taken kept from slot) { relay = relay })
-    unfolding own_items own_live frame_count
+    unfolding own_live frame_count each
     carry_base relay relay_me relay_size relay_holds =
         base_of config me carry steps kept st accepted refl (let z : frame_count steps + 0 ≡ frame_count steps = omega arith in z) kept.stream relay kept.outgoing (with_taken kept from slot).incoming (st.stream ∙ sym (append-nil (own_items steps)))
         relay_me relay_size relay_holds st.peers_out (length-slice_set kept.incoming from _ ∙ st.peers_in) carry_taken
@@ -409,7 +409,7 @@ module _ (config : Config) (me : ℕ) (steps : Steps) (kept : Kept) (st : Stands
 
     -- it was acknowledged before
     took_again : own_acked steps from slot ≡ true → ToldRight config me took steps (unmoved kept)
-    unfolding own_items own_live frame_count
+    unfolding own_live frame_count each
     took_again before = record {
       stands = stands_same config me steps kept st took accepted refl (append-nil (own_items steps)) acked_same knows kept.live kept.frames kept.incoming st.live (st.frames ∙ (let z : frame_count steps ≡ frame_count steps + 0 = omega arith in z)) st.peers_in (λ r k l. st.taken r k l ∙ sym (took_takes r k));
       outcome = sym (outcome_nothing config me steps kept st took accepted refl (append-nil (own_items steps)) acked_same knows);
