@@ -5,7 +5,8 @@ ghost use Rattle.cast_script.specs.Element.{fault_of, fault_at, kind_of, lose_of
 ghost use Rattle.cast_script.specs.Unread.{Gives};
 
 use crate::element::{Element, Unread, node, places};
-use crate::script::{Fault, FrameKind};
+use crate::script::Fault;
+use cast_message::FrameKind;
 use serde_json::Value;
 use std::alloc::Global;
 

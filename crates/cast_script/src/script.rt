@@ -1,5 +1,5 @@
 //! What a script says, and why a text is none.
-use cast_message::{Config, ConfigFault, Event, Item, List, Mode, NodeId};
+use cast_message::{Config, ConfigFault, Event, FrameKind, Item, List, Mode, NodeId};
 use thiserror::Error;
 
 /// What a group is to be, and what is to happen to it.
