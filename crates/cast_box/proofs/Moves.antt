@@ -8,9 +8,9 @@ use lib.ListN.{get_elem?}
 use Rattle.crossbeam_queue.specs.Fifo.{Pushes, Pops, Forks, Merges, Learns}
 use Rattle.crossbeam_queue.proofs.Lists.{at_set}
 use Rattle.cast_box.specs.declared.rule.Known.{Known}
-use Rattle.cast_box.specs.declared.rule.Role.TheVariants.{Putting, Taking, Gathering}
+use Rattle.cast_box.specs.declared.rule.Role.TheVariants.{Putting, Taking, Gathering, Ended}
 use Rattle.cast_box.specs.Lists.{of, put_by}
-use Rattle.cast_box.specs.Rule.{Ruled, Fits, IsPutter, IsTaker, putter, taker, gatherer, spent, Puts, Takes, Closes, Empties, ShowsPutter, ShowsEnded, ShowsAll, ShowsLeft}
+use Rattle.cast_box.specs.Rule.{Ruled, Fits, IsPutter, IsTaker, IsGatherer, putter, taker, gatherer, spent, Puts, Takes, Closes, Empties, ShowsPutter, ShowsEnded, ShowsAll, ShowsLeft}
 use Rattle.cast_box.proofs.Lists.{of-append, of_same, of_other, put_by_past, all_below}
 
 -- the seats with seat b changed
@@ -47,32 +47,63 @@ module _ {T : Type 0} where
   abbrev All : (ℕ → Known T → Type 0) → List (Known T) → Type 0
   All F views = (pass : ℕ) (v : Known T) → get_elem? views pass ≡ some v → F pass v
 
+  at_same : (F : ℕ → Known T → Type 0) {i j : ℕ} {w u : Known T} → F i w → (j ≡ i) × (w ≡ u) → F j u
+  at_same F h is = subst (λ (y : ℕ × Known T). F y.0 y.1) (λ k. (sym is.0 k, is.1 k)) h
+
   all_set : (F : ℕ → Known T → Type 0) (views : List (Known T)) (pass : ℕ) (w : Known T) → F pass w
       → ((j : ℕ) (u : Known T) → j ≢ pass → get_elem? views j ≡ some u → F j u) → All F (set views pass w)
-  all_set F views pass w mine others j u e =
-      ⊎_elim (λ (x : (j ≡ pass) × (w ≡ u)). subst (λ (y : ℕ × Known T). F y.0 y.1) (λ i. (sym x.0 i, x.1 i)) mine)
-      (λ (x : (j ≢ pass) × (get_elem? views j ≡ some u)). others j u x.0 x.1) (at_set views pass j w u e)
+  all_set F views pass w mine others j u e = ⊎_elim (at_same F mine) (λ x. others j u x.0 x.1) (at_set views pass j w u e)
 
   all_snoc : (F : ℕ → Known T → Type 0) (views : List (Known T)) (w : Known T) → All F views → F (length views) w → All F (views ++ w ∷ [])
-  all_snoc F views w old new j u e =
-      ⊎_elim (λ x. old j u x)
-      (λ (x : (j ≡ length views) × (w ≡ u)). subst (λ (y : ℕ × Known T). F y.0 y.1) (λ i. (sym x.0 i, x.1 i)) new)
-      (at_snoc views w u j e)
+  all_snoc F views w old new j u e = ⊎_elim (old j u) (at_same F new) (at_snoc views w u j e)
 
-  -- what a putter knows goes on to hold where its seat and what it has put stay
-  putter_stays : {reader : ℕ} {seat seat' : ℕ → Option ℕ} {put put' : ℕ → List T} {taken taken' items items' : List (ℕ × T)} {size putters pass : ℕ} {v : Known T}
-      → IsPutter reader seat put taken items size putters pass v → seat' v.number ≡ some pass → put' v.number ≡ put v.number → IsPutter reader seat' put' taken' items' size putters pass v
-  putter_stays his sits same = record { sits = sits; put_is = his.put_is ∙ sym same; size_is = his.size_is; putters_is = his.putters_is; below = his.below }
+  module _ {reader : ℕ} {seat : ℕ → Option ℕ} {put : ℕ → List T} {taken items : List (ℕ × T)} {size putters pass : ℕ} {v : Known T} where
+    putter_fits : v.role ≡ Putting → IsPutter reader seat put taken items size putters pass v → Fits reader seat put taken items size putters pass v
+    putter_fits is mine = record { as_putter = λ r. mine; as_taker = λ r. cc; as_gatherer = λ r. cc }
 
-  -- an end beside the reader's is a putter or was given up
-  fits_beside : {reader : ℕ} {seat seat' : ℕ → Option ℕ} {put put' : ℕ → List T} {taken taken' items items' : List (ℕ × T)} {size size' putters putters' : ℕ} {j : ℕ} {u : Known T} (pass : ℕ)
-      → j ≢ pass → pass ≡ reader → Fits reader seat put taken items size putters j u
-      → (IsPutter reader seat put taken items size putters j u → IsPutter reader seat' put' taken' items' size' putters' j u) → Fits reader seat' put' taken' items' size' putters' j u
-  fits_beside pass other reads old stays = record {
-    as_putter = λ r. stays (old.as_putter r);
-    as_taker = λ r. absurd (other ((old.as_taker r).reads ∙ sym reads));
-    as_gatherer = λ r. absurd (other ((old.as_gatherer r).reads ∙ sym reads));
-  }
+    taker_fits : v.role ≡ Taking → IsTaker reader seat put taken items size putters pass v → Fits reader seat put taken items size putters pass v
+    taker_fits is mine = record { as_putter = λ r. cc; as_taker = λ r. mine; as_gatherer = λ r. cc }
+
+    gatherer_fits : v.role ≡ Gathering → IsGatherer reader seat put taken items size putters pass v → Fits reader seat put taken items size putters pass v
+    gatherer_fits is mine = record { as_putter = λ r. cc; as_taker = λ r. cc; as_gatherer = λ r. mine }
+
+    -- an end that was given up fits every box
+    spent_fits : v.role ≡ Ended → Fits reader seat put taken items size putters pass v
+    spent_fits is = record { as_putter = λ r. cc; as_taker = λ r. cc; as_gatherer = λ r. cc }
+
+    -- what a putter knows goes on to hold where its seat and what it has put stay
+    putter_stays : {seat' : ℕ → Option ℕ} {put' : ℕ → List T} {taken' items' : List (ℕ × T)}
+        → IsPutter reader seat put taken items size putters pass v → seat' v.number ≡ some pass → put' v.number ≡ put v.number → IsPutter reader seat' put' taken' items' size putters pass v
+    putter_stays his sits same = record { sits = sits; put_is = his.put_is ∙ sym same; size_is = his.size_is; putters_is = his.putters_is; below = his.below }
+
+  module _ {items : List (ℕ × T)} {views : List (Known T)} (h : Ruled items views) where
+    -- the reader's end changes, and an end beside it is a putter or was given up
+    fits_beside : {seat' : ℕ → Option ℕ} {put' : ℕ → List T} {taken' items' : List (ℕ × T)} {size' putters' : ℕ} (pass : ℕ) → pass ≡ h.reader
+        → (j : ℕ) (u : Known T) → j ≢ pass → get_elem? views j ≡ some u
+        → (IsPutter h.reader h.seat h.put h.taken items h.size h.putters j u → IsPutter h.reader seat' put' taken' items' size' putters' j u)
+        → Fits h.reader seat' put' taken' items' size' putters' j u
+    fits_beside pass reads j u other e stays =
+        let old = h.fits j u e in
+        record {
+          as_putter = λ r. stays (old.as_putter r);
+          as_taker = λ r. absurd (other ((old.as_taker r).reads ∙ sym reads));
+          as_gatherer = λ r. absurd (other ((old.as_gatherer r).reads ∙ sym reads));
+        }
+
+    -- a change of the seats alone
+    reseated : {views' : List (Known T)} (seat' : ℕ → Option ℕ) → All (Fits h.reader seat' h.put h.taken items h.size h.putters) views' → Ruled items views'
+    reseated seat' fits = record {
+      reader = h.reader;
+      seat = seat';
+      put = h.put;
+      taken = h.taken;
+      size = h.size;
+      putters = h.putters;
+      fair = h.fair;
+      room = h.room;
+      within = h.within;
+      fits = fits;
+    }
 
   pub begins : Ruled {T = T} [] (taker 0 0 0 [] [] ∷ [])
   begins = record {
@@ -85,52 +116,24 @@ module _ {T : Type 0} where
     fair = λ a. refl;
     room = omega arith;
     within = λ a h. refl;
-    fits = all_set (Fits 0 (λ a. none) (λ a. []) [] [] 0 0) (taker 0 0 0 [] [] ∷ []) 0 (taker 0 0 0 [] [])
-        (record {
-          as_putter = λ r. cc;
-          as_taker = λ r. record {
-            reads = refl;
-            taken_is = refl;
-            unmade = λ a h. (refl, refl);
-            ended = λ a h. absurd (omega arith);
-            ended_made = omega arith;
-            size_is = refl;
-            putters_is = refl;
-            made_within = omega arith;
-          };
-          as_gatherer = λ r. cc;
-        })
-        (λ j u other e. ⊎_elim (λ (x : get_elem? [] j ≡ some u). absurd (some-ne-none u (sym x))) (λ x. absurd (other x.0)) (at_snoc [] (taker 0 0 0 [] []) u j e));
-  }
-
-  -- an end that was given up fits every box
-  spent_fits : (reader : ℕ) (seat : ℕ → Option ℕ) (put : ℕ → List T) (taken items : List (ℕ × T)) (size putters pass : ℕ) → Fits reader seat put taken items size putters pass spent
-  spent_fits reader seat put taken items size putters pass = record { as_putter = λ r. cc; as_taker = λ r. cc; as_gatherer = λ r. cc }
-
-  -- the first end is told the limits of its box, before any other end is made
-  pub limits : (pass size putters : ℕ) (v : Known T) → v ≡ taker 0 0 0 [] [] → Forks Ruled pass v (taker size putters 0 [] []) spent
-  limits pass size putters v is items views h at =
-      let l : Known T = taker size putters 0 [] [] in
-      let vs : List (Known T) = set views pass l in
-      let mine = (h.fits pass v at).as_taker (ap (λ w. w.role) is) in
-      let fresh : (a : ℕ) → (h.seat a ≡ none) × (h.put a ≡ []) = λ a. mine.unmade a (let n = ap (λ (w : Known T). w.number) is in omega arith) in
-      let F : ℕ → Known T → Type 0 = Fits h.reader h.seat h.put h.taken items size putters in
-      let old_fits : All F vs = all_set F views pass l
-      (record {
-        as_putter = λ q. cc;
-        as_taker = λ q. record {
-          reads = mine.reads;
-          taken_is = sym (ap (λ (w : Known T). w.taken) is) ∙ mine.taken_is;
-          unmade = λ a k. fresh a;
-          ended = λ a k. absurd (omega arith);
+    fits = all_snoc _ [] _ (λ j u e. absurd (some-ne-none u (sym e)))
+        (taker_fits refl (record {
+          reads = refl;
+          taken_is = refl;
+          unmade = λ a h. (refl, refl);
+          ended = λ a h. absurd (omega arith);
           ended_made = omega arith;
           size_is = refl;
           putters_is = refl;
           made_within = omega arith;
-        };
-        as_gatherer = λ q. cc;
-      })
-      (λ j u other e. fits_beside pass other mine.reads (h.fits j u e) (λ his. absurd (seated h.seat u.number u.number j (fresh u.number).0 his.sits refl))) in
+        }));
+  }
+
+  -- the first end is told the limits of its box, before any other end is made
+  pub limits : (pass size putters : ℕ) (v : Known T) → v ≡ taker 0 0 0 [] [] → Forks Ruled pass v (taker size putters 0 [] []) spent
+  limits pass size putters v is items views h at =
+      let mine = (h.fits pass v at).as_taker (ap (λ w. w.role) is) in
+      let fresh : (a : ℕ) → (h.seat a ≡ none) × (h.put a ≡ []) = λ a. mine.unmade a (let n = ap (λ (w : Known T). w.number) is in omega arith) in
       record {
         reader = h.reader;
         seat = h.seat;
@@ -141,7 +144,20 @@ module _ {T : Type 0} where
         fair = h.fair;
         room = let none_yet = h.room in let size_is = mine.size_is in let zero_is = ap (λ (w : Known T). w.size) is in omega arith;
         within = λ a k. (fresh a).1;
-        fits = all_snoc F vs spent old_fits (spent_fits h.reader h.seat h.put h.taken items size putters (length vs));
+        fits = all_snoc _ _ _
+            (all_set _ views pass _
+            (taker_fits refl (record {
+              reads = mine.reads;
+              taken_is = sym (ap (λ (w : Known T). w.taken) is) ∙ mine.taken_is;
+              unmade = λ a k. fresh a;
+              ended = λ a k. absurd (omega arith);
+              ended_made = omega arith;
+              size_is = refl;
+              putters_is = refl;
+              made_within = omega arith;
+            }))
+            (λ j u other e. fits_beside h pass mine.reads j u other e (λ his. absurd (seated h.seat u.number u.number j (fresh u.number).0 his.sits refl))))
+            (spent_fits refl);
       }
 
   pub puts : (n pass : ℕ) (v : Known T) (x : T) → v.role ≡ Putting → v.size ≡ n → Pushes Ruled n pass v (v.number, x) (Puts v (v.number, x))
@@ -150,8 +166,7 @@ module _ {T : Type 0} where
       let m : ℕ × T = (v.number, x) in
       let mine = (h.fits pass v at).as_putter may in
       let put' : ℕ → List T = λ a. h.put a ++ of a (m ∷ []) in
-      let same : (a : ℕ) → a ≢ v.number → put' a ≡ h.put a = λ a ne. ap (λ l. h.put a ++ l) (of_other a v.number x ne) ∙ append-nil (h.put a) in
-      let F : ℕ → Known T → Type 0 = Fits h.reader h.seat put' h.taken (items ++ m ∷ []) h.size h.putters in (
+      let same : (a : ℕ) → a ≢ v.number → put' a ≡ h.put a = λ a ne. ap (λ l. h.put a ++ l) (of_other a v.number x ne) ∙ append-nil (h.put a) in (
         w,
         record {
           reader = h.reader;
@@ -163,18 +178,14 @@ module _ {T : Type 0} where
           fair = λ a. ap (of a) (sym (append_assoc h.taken items (m ∷ []))) ∙ of-append a (h.taken ++ items) (m ∷ []) ∙ ap (λ l. l ++ of a (m ∷ [])) (h.fair a);
           room = let long = length-append items (m ∷ []) in let same_size = mine.size_is in omega arith;
           within = λ a k. let lt = mine.below in let ne : a ≢ v.number = omega arith in same a ne ∙ h.within a k;
-          fits = all_set F views pass w
-              (record {
-                as_putter = λ r. record {
-                  sits = mine.sits;
-                  put_is = ap (λ l. l ++ x ∷ []) mine.put_is ∙ ap (λ l. h.put v.number ++ l) (sym (of_same v.number x));
-                  size_is = mine.size_is;
-                  putters_is = mine.putters_is;
-                  below = mine.below;
-                };
-                as_taker = λ r. cc;
-                as_gatherer = λ r. cc;
-              })
+          fits = all_set _ views pass w
+              (putter_fits refl (record {
+                sits = mine.sits;
+                put_is = ap (λ l. l ++ x ∷ []) mine.put_is ∙ ap (λ l. h.put v.number ++ l) (sym (of_same v.number x));
+                size_is = mine.size_is;
+                putters_is = mine.putters_is;
+                below = mine.below;
+              }))
               (λ j u other e. let old = h.fits j u e in record {
                 as_putter = λ r. let his = old.as_putter r in putter_stays his his.sits (same u.number (apart h.seat u.number v.number j pass his.sits mine.sits other));
                 as_taker = λ r. let his = old.as_taker r in record {
@@ -230,8 +241,7 @@ module _ {T : Type 0} where
         fair = λ a. ap (of a) (append_assoc h.taken (m ∷ []) items) ∙ h.fair a;
         room = let was = h.room in omega arith;
         within = h.within;
-        fits = all_set (Fits h.reader h.seat h.put taken' items h.size h.putters) views pass w mine
-            (λ j u other e. fits_beside pass other reads (h.fits j u e) (λ his. putter_stays his his.sits refl));
+        fits = all_set _ views pass w mine (λ j u other e. fits_beside h pass reads j u other e (λ his. putter_stays his his.sits refl));
       }
 
   pub takes : (pass : ℕ) (v : Known T) → v.role ≡ Taking → Pops Ruled pass v (Takes v)
@@ -242,20 +252,16 @@ module _ {T : Type 0} where
       (λ n. absurd (not_nil m.1 (of m.0 h.taken) (of m.0 items) (sym (brought h.taken m items) ∙ h.fair m.0 ∙ (mine.unmade m.0 (omega arith)).1))) in (
         w,
         pops m items views pass w h mine.reads
-            (record {
-              as_putter = λ r. cc;
-              as_taker = λ r. record {
-                reads = mine.reads;
-                taken_is = ap (λ l. l ++ m ∷ []) mine.taken_is;
-                unmade = mine.unmade;
-                ended = mine.ended;
-                ended_made = mine.ended_made;
-                size_is = mine.size_is;
-                putters_is = mine.putters_is;
-                made_within = mine.made_within;
-              };
-              as_gatherer = λ r. cc;
-            }),
+            (taker_fits refl (record {
+              reads = mine.reads;
+              taken_is = ap (λ l. l ++ m ∷ []) mine.taken_is;
+              unmade = mine.unmade;
+              ended = mine.ended;
+              ended_made = mine.ended_made;
+              size_is = mine.size_is;
+              putters_is = mine.putters_is;
+              made_within = mine.made_within;
+            })),
         (refl, below),
       )
 
@@ -266,60 +272,38 @@ module _ {T : Type 0} where
 
   pub forks : (pass : ℕ) (v : Known T) → v.role ≡ Taking → v.number < v.putters → Forks Ruled pass v (taker v.size v.putters (v.number + 1) v.taken v.ended) (putter v.size v.putters v.number [])
   forks pass v may more items views h at =
-      let l : Known T = taker v.size v.putters (v.number + 1) v.taken v.ended in
-      let r : Known T = putter v.size v.putters v.number [] in
       let mine = (h.fits pass v at).as_taker may in
-      let vs : List (Known T) = set views pass l in
+      let vs : List (Known T) = set views pass (taker v.size v.putters (v.number + 1) v.taken v.ended) in
       let seat' : ℕ → Option ℕ = seat_with h.seat v.number (some (length vs)) in
       let free = mine.unmade v.number (omega arith) in
       let kept : (a : ℕ) → a ≢ v.number → seat' a ≡ h.seat a = λ a ne. seat_other h.seat a v.number (some (length vs)) ne in
-      let F : ℕ → Known T → Type 0 = Fits h.reader seat' h.put h.taken items h.size h.putters in
-      let old_fits : All F vs = all_set F views pass l
-      (record {
-        as_putter = λ q. cc;
-        as_taker = λ q. record {
-          reads = mine.reads;
-          taken_is = mine.taken_is;
-          unmade = λ a k. let no = mine.unmade a (omega arith) in let ne : a ≢ v.number = omega arith in (kept a ne ∙ no.0, no.1);
-          ended = λ a k. let no = mine.ended a k in let le = mine.ended_made in let ne : a ≢ v.number = omega arith in (kept a ne ∙ no.0, no.1);
-          ended_made = let le = mine.ended_made in omega arith;
-          size_is = mine.size_is;
-          putters_is = mine.putters_is;
-          made_within = let is = mine.putters_is in omega arith;
-        };
-        as_gatherer = λ q. cc;
-      })
-      (λ j u other e. fits_beside pass other mine.reads (h.fits j u e)
-      (λ his. putter_stays his (kept u.number (λ eq. seated h.seat v.number u.number j free.0 his.sits (sym eq)) ∙ his.sits) refl)) in
-      let new : F (length vs) r = record {
-        as_putter = λ q. record {
-          sits = seat_same h.seat v.number (some (length vs));
-          put_is = sym free.1;
-          size_is = mine.size_is;
-          putters_is = mine.putters_is;
-          below = let is = mine.putters_is in omega arith;
-        };
-        as_taker = λ q. cc;
-        as_gatherer = λ q. cc;
-      } in
-      record {
-        reader = h.reader;
-        seat = seat';
-        put = h.put;
-        taken = h.taken;
-        size = h.size;
-        putters = h.putters;
-        fair = h.fair;
-        room = h.room;
-        within = h.within;
-        fits = all_snoc F vs r old_fits new;
-      }
+      reseated h seat'
+      (all_snoc _ vs _
+      (all_set _ views pass _
+      (taker_fits refl (record {
+        reads = mine.reads;
+        taken_is = mine.taken_is;
+        unmade = λ a k. let no = mine.unmade a (omega arith) in let ne : a ≢ v.number = omega arith in (kept a ne ∙ no.0, no.1);
+        ended = λ a k. let no = mine.ended a k in let le = mine.ended_made in let ne : a ≢ v.number = omega arith in (kept a ne ∙ no.0, no.1);
+        ended_made = let le = mine.ended_made in omega arith;
+        size_is = mine.size_is;
+        putters_is = mine.putters_is;
+        made_within = let is = mine.putters_is in omega arith;
+      }))
+      (λ j u other e. fits_beside h pass mine.reads j u other e
+      (λ his. putter_stays his (kept u.number (λ eq. seated h.seat v.number u.number j free.0 his.sits (sym eq)) ∙ his.sits) refl)))
+      (putter_fits refl (record {
+        sits = seat_same h.seat v.number (some (length vs));
+        put_is = sym free.1;
+        size_is = mine.size_is;
+        putters_is = mine.putters_is;
+        below = let is = mine.putters_is in omega arith;
+      })))
 
   pub merges : (pass : ℕ) (v : Known T) (other : ℕ) (w : Known T) → v.role ≡ Taking → w.role ≡ Putting → w.number ≡ length v.ended
       → Merges Ruled pass v other w (taker v.size v.putters v.number v.taken (v.ended ++ w.put ∷ [])) spent
   merges pass v other w may put next items views h at two at' =
       let both : Known T = taker v.size v.putters v.number v.taken (v.ended ++ w.put ∷ []) in
-      let vs : List (Known T) = set views pass both in
       let mine = (h.fits pass v at).as_taker may in
       let was : get_elem? views other ≡ some w = ⊎_elim (λ x. absurd (two x.0)) (λ x. x.1) (at_set views pass other both w at') in
       let his = (h.fits other w was).as_putter put in
@@ -335,36 +319,20 @@ module _ {T : Type 0} where
       (λ n. let is : a ≡ w.number = omega arith in
       (ap seat' is ∙ seat_same h.seat w.number none, get_or_at v.ended w.put [] [] a (omega arith) ∙ his.put_is ∙ ap h.put (sym is))) in
       let F : ℕ → Known T → Type 0 = Fits h.reader seat' h.put h.taken items h.size h.putters in
-      let Now : ℕ → Known T → Type 0 = λ j y. j ≢ other → F j y in
-      let now : All Now vs = all_set Now views pass both
-      (λ ne. record {
-        as_putter = λ q. cc;
-        as_taker = λ q. record {
-          reads = mine.reads;
-          taken_is = mine.taken_is;
-          unmade = λ a k. let no = mine.unmade a k in (gone a no.0, no.1);
-          ended = ended;
-          ended_made = let len = length-append v.ended (w.put ∷ []) in omega arith;
-          size_is = mine.size_is;
-          putters_is = mine.putters_is;
-          made_within = mine.made_within;
-        };
-        as_gatherer = λ q. cc;
-      })
-      (λ j u o e ne. fits_beside pass o mine.reads (h.fits j u e)
+      let now = all_set (λ j y. j ≢ other → F j y) views pass both
+      (λ ne. taker_fits refl (record {
+        reads = mine.reads;
+        taken_is = mine.taken_is;
+        unmade = λ a k. let no = mine.unmade a k in (gone a no.0, no.1);
+        ended = ended;
+        ended_made = let len = length-append v.ended (w.put ∷ []) in omega arith;
+        size_is = mine.size_is;
+        putters_is = mine.putters_is;
+        made_within = mine.made_within;
+      }))
+      (λ j u o e ne. fits_beside h pass mine.reads j u o e
       (λ its. putter_stays its (kept u.number (apart h.seat u.number w.number j other its.sits his.sits ne) ∙ its.sits) refl)) in
-      record {
-        reader = h.reader;
-        seat = seat';
-        put = h.put;
-        taken = h.taken;
-        size = h.size;
-        putters = h.putters;
-        fair = h.fair;
-        room = h.room;
-        within = h.within;
-        fits = all_set F vs other spent (spent_fits h.reader seat' h.put h.taken items h.size h.putters other) (λ j u ne e. now j u e ne);
-      }
+      reseated h seat' (all_set _ (set views pass both) other spent (spent_fits refl) (λ j u ne e. now j u e ne))
 
   -- once all putters have ended, no seat is left, and what each has put is known
   all_ended : (reader : ℕ) (seat : ℕ → Option ℕ) (put : ℕ → List T) (taken items : List (ℕ × T)) (size putters pass : ℕ) (v : Known T)
@@ -381,7 +349,7 @@ module _ {T : Type 0} where
       let room : length (m ∷ items) ≤ v.size = let was = h.room in let is = mine.size_is in omega arith in (
         w,
         pops m items views pass w h mine.reads
-            (record { as_putter = λ r. cc; as_taker = λ r. cc; as_gatherer = λ r. record { reads = mine.reads; left_is = refl; all_ended = λ a. (know a).0 } }),
+            (gatherer_fits refl (record { reads = mine.reads; left_is = refl; all_ended = λ a. (know a).0 })),
         (refl, (λ a. ap (λ l. of a (l ++ m ∷ items)) mine.taken_is ∙ h.fair a ∙ sym (know a).1), room),
       )
 
@@ -397,7 +365,7 @@ module _ {T : Type 0} where
       let mine = (h.fits pass v at).as_gatherer may in (
         w,
         pops m items views pass w h mine.reads
-            (record { as_putter = λ r. cc; as_taker = λ r. cc; as_gatherer = λ r. record { reads = mine.reads; left_is = refl; all_ended = mine.all_ended } }),
+            (gatherer_fits refl (record { reads = mine.reads; left_is = refl; all_ended = mine.all_ended })),
         (refl, mine.left_is),
       )
 
