@@ -90,20 +90,12 @@ module _ {T : Type 0} where
           as_gatherer = λ r. absurd (other ((old.as_gatherer r).reads ∙ sym reads));
         }
 
-    -- a change of the seats alone
-    reseated : {views' : List (Known T)} (seat' : ℕ → Option ℕ) → All (Fits h.reader seat' h.put h.taken items h.size h.putters) views' → Ruled items views'
-    reseated seat' fits = record {
-      reader = h.reader;
-      seat = seat';
-      put = h.put;
-      taken = h.taken;
-      size = h.size;
-      putters = h.putters;
-      fair = h.fair;
-      room = h.room;
-      within = h.within;
-      fits = fits;
-    }
+    -- the reader's end changes the box, and what each putter has put stays
+    changes : {items' : List (ℕ × T)} {views' : List (Known T)} (seat' : ℕ → Option ℕ) (taken' : List (ℕ × T)) (size' putters' : ℕ)
+        → ((a : ℕ) → of a (taken' ++ items') ≡ h.put a) → length items' ≤ size' → ((a : ℕ) → putters' ≤ a → h.put a ≡ [])
+        → All (Fits h.reader seat' h.put taken' items' size' putters') views' → Ruled items' views'
+    changes seat' taken' size' putters' fair room within fits =
+        record { reader = h.reader; seat = seat'; put = h.put; taken = taken'; size = size'; putters = putters'; fair = fair; room = room; within = within; fits = fits }
 
   pub begins : Ruled {T = T} [] (taker 0 0 0 [] [] ∷ [])
   begins = record {
@@ -134,31 +126,22 @@ module _ {T : Type 0} where
   limits pass size putters v is items views h at =
       let mine = (h.fits pass v at).as_taker (ap (λ w. w.role) is) in
       let fresh : (a : ℕ) → (h.seat a ≡ none) × (h.put a ≡ []) = λ a. mine.unmade a (let n = ap (λ (w : Known T). w.number) is in omega arith) in
-      record {
-        reader = h.reader;
-        seat = h.seat;
-        put = h.put;
-        taken = h.taken;
-        size = size;
-        putters = putters;
-        fair = h.fair;
-        room = let none_yet = h.room in let size_is = mine.size_is in let zero_is = ap (λ (w : Known T). w.size) is in omega arith;
-        within = λ a k. (fresh a).1;
-        fits = all_snoc _ _ _
-            (all_set _ views pass _
-            (taker_fits refl (record {
-              reads = mine.reads;
-              taken_is = sym (ap (λ (w : Known T). w.taken) is) ∙ mine.taken_is;
-              unmade = λ a k. fresh a;
-              ended = λ a k. absurd (omega arith);
-              ended_made = omega arith;
-              size_is = refl;
-              putters_is = refl;
-              made_within = omega arith;
-            }))
-            (λ j u other e. fits_beside h pass mine.reads j u other e (λ his. absurd (seated h.seat u.number u.number j (fresh u.number).0 his.sits refl))))
-            (spent_fits refl);
-      }
+      let room : length items ≤ size = let none_yet = h.room in let size_is = mine.size_is in let zero_is = ap (λ (w : Known T). w.size) is in omega arith in
+      changes h h.seat h.taken size putters h.fair room (λ a k. (fresh a).1)
+      (all_snoc _ _ _
+      (all_set _ views pass _
+      (taker_fits refl (record {
+        reads = mine.reads;
+        taken_is = sym (ap (λ (w : Known T). w.taken) is) ∙ mine.taken_is;
+        unmade = λ a k. fresh a;
+        ended = λ a k. absurd (omega arith);
+        ended_made = omega arith;
+        size_is = refl;
+        putters_is = refl;
+        made_within = omega arith;
+      }))
+      (λ j u other e. fits_beside h pass mine.reads j u other e (λ his. absurd (seated h.seat u.number u.number j (fresh u.number).0 his.sits refl))))
+      (spent_fits refl))
 
   pub puts : (n pass : ℕ) (v : Known T) (x : T) → v.role ≡ Putting → v.size ≡ n → Pushes Ruled n pass v (v.number, x) (Puts v (v.number, x))
   puts n pass v x may size_is items views room h at =
@@ -230,19 +213,8 @@ module _ {T : Type 0} where
   pops : (m : ℕ × T) (items : List (ℕ × T)) (views : List (Known T)) (pass : ℕ) (w : Known T) (h : Ruled (m ∷ items) views) → pass ≡ h.reader
       → Fits h.reader h.seat h.put (h.taken ++ m ∷ []) items h.size h.putters pass w → Ruled items (set views pass w)
   pops m items views pass w h reads mine =
-      let taken' = h.taken ++ m ∷ [] in
-      record {
-        reader = h.reader;
-        seat = h.seat;
-        put = h.put;
-        taken = taken';
-        size = h.size;
-        putters = h.putters;
-        fair = λ a. ap (of a) (append_assoc h.taken (m ∷ []) items) ∙ h.fair a;
-        room = let was = h.room in omega arith;
-        within = h.within;
-        fits = all_set _ views pass w mine (λ j u other e. fits_beside h pass reads j u other e (λ his. putter_stays his his.sits refl));
-      }
+      changes h h.seat (h.taken ++ m ∷ []) h.size h.putters (λ a. ap (of a) (append_assoc h.taken (m ∷ []) items) ∙ h.fair a) (let was = h.room in omega arith) h.within
+      (all_set _ views pass w mine (λ j u other e. fits_beside h pass reads j u other e (λ his. putter_stays his his.sits refl)))
 
   pub takes : (pass : ℕ) (v : Known T) → v.role ≡ Taking → Pops Ruled pass v (Takes v)
   takes pass v may m items views h at =
@@ -277,7 +249,7 @@ module _ {T : Type 0} where
       let seat' : ℕ → Option ℕ = seat_with h.seat v.number (some (length vs)) in
       let free = mine.unmade v.number (omega arith) in
       let kept : (a : ℕ) → a ≢ v.number → seat' a ≡ h.seat a = λ a ne. seat_other h.seat a v.number (some (length vs)) ne in
-      reseated h seat'
+      changes h seat' h.taken h.size h.putters h.fair h.room h.within
       (all_snoc _ vs _
       (all_set _ views pass _
       (taker_fits refl (record {
@@ -332,7 +304,7 @@ module _ {T : Type 0} where
       }))
       (λ j u o e ne. fits_beside h pass mine.reads j u o e
       (λ its. putter_stays its (kept u.number (apart h.seat u.number w.number j other its.sits his.sits ne) ∙ its.sits) refl)) in
-      reseated h seat' (all_set _ (set views pass both) other spent (spent_fits refl) (λ j u ne e. now j u e ne))
+      changes h seat' h.taken h.size h.putters h.fair h.room h.within (all_set _ (set views pass both) other spent (spent_fits refl) (λ j u ne e. now j u e ne))
 
   -- once all putters have ended, no seat is left, and what each has put is known
   all_ended : (reader : ℕ) (seat : ℕ → Option ℕ) (put : ℕ → List T) (taken items : List (ℕ × T)) (size putters pass : ℕ) (v : Known T)
