@@ -93,14 +93,9 @@ bytes_itself w = (bytes_eq-Decides w w).1 refl
 
 item_same : (i j : Item) → is_item i j ≡ true → i ≡ j
 item_same (Data xs) (Data ys) e = ap Data (text_same xs ys e)
-item_same (Data xs) (Propose k w) e = absurd (cc)
-item_same (Data xs) Close e = absurd (cc)
-item_same (Propose j v) (Data ys) e = absurd (cc)
 item_same (Propose j v) (Propose k w) e = let both = and_true (nat_eq j k) (nat_eq v w) e in (λ i. Propose (same_number j k both.0 i) (same_number v w both.1 i))
-item_same (Propose j v) Close e = absurd (cc)
-item_same Close (Data ys) e = absurd (cc)
-item_same Close (Propose k w) e = absurd (cc)
 item_same Close Close e = refl
+item_same a b e = absurd (cc)
 
 pub item_itself : (i : Item) → is_item i i ≡ true
 item_itself (Data xs) = bytes_itself xs

@@ -9,7 +9,7 @@ use Rattle.cast_record.specs.Verdicts.{with_line, kept_by, verdict}
 use Rattle.cast_record.proofs.ReadLemmas.{line_takes_text}
 use Rattle.cast_record.proofs.WordLemmas.{line_without_feed}
 use Rattle.cast_judge.specs.declared.judging.State.{State}
-use Rattle.cast_judge.specs.declared.judging.State.TheVariants.{Reading, Offended, Refused}
+use Rattle.cast_judge.specs.declared.judging.State.TheVariants.{Reading, Offended}
 use Rattle.cast_judge.specs.declared.kept.Kept.{Kept}
 use Rattle.cast_judge.specs.declared.kept.Place.TheVariants.{Body, Ended}
 use Rattle.cast_judge.specs.Kept.{is_ended_at, rule_by, Keeps, IsNew}
@@ -38,8 +38,7 @@ judges_kept past bytes line old new s short read e w =
 
 pub reading_state : (state : State) → is_reading_state state ≡ true → state ≡ Reading
 reading_state Reading e = refl
-reading_state (Offended rule) e = absurd (cc)
-reading_state Refused e = absurd (cc)
+reading_state state e = absurd (cc)
 
 -- the same facts of equal parts
 pub moved : (state state' : State) (text : List ℕ) (kept kept' : Kept) (tail tail' : List ℕ) (lines lines' : ℕ) → state' ≡ state → kept' ≡ kept → tail' ≡ tail → lines' ≡ lines → StandsAs state text kept tail lines → StandsAs state' text kept' tail' lines'
@@ -51,8 +50,7 @@ moved state state' text kept kept' tail tail' lines lines' a b c d h =
 
 pub was_reading : (state : State) (text : List ℕ) (kept : Kept) (tail : List ℕ) (lines : ℕ) → is_reading_state state ≡ true → StandsAs state text kept tail lines → IsReading text kept tail lines
 was_reading Reading text kept tail lines e h = h
-was_reading (Offended rule) text kept tail lines e h = absurd (cc)
-was_reading Refused text kept tail lines e h = absurd (cc)
+was_reading state text kept tail lines e h = absurd (cc)
 
 -- ---- a text with more of it
 
@@ -151,6 +149,5 @@ still_offended text more kept tail lines rule h = record {
 
 -- a state in which nothing more is read
 pub done_on : (state : State) (text more : List ℕ) (kept : Kept) (tail : List ℕ) (lines : ℕ) → is_reading_state state ≡ false → is_refused_state state ≡ false → StandsAs state text kept tail lines → StandsAs state (text ++ more) kept tail lines
-done_on Reading text more kept tail lines e f h = absurd (cc)
 done_on (Offended rule) text more kept tail lines e f h = still_offended text more kept tail lines rule h
-done_on Refused text more kept tail lines e f h = absurd (cc)
+done_on state text more kept tail lines e f h = absurd (cc)

@@ -3,11 +3,11 @@ use Rattle.std.proofs.Common.{◌≡◌, ℕ, ◌+◌, ◌<◌, ◌&&◌, ◌||�
 use Rattle.std.specs.List.{filter}
 use Rattle.std.proofs.lemmas.Bool.Decides.{nat_tests}
 use Rattle.cast_message.specs.declared.message.Item.{Item}
-use Rattle.cast_message.specs.declared.message.Item.TheVariants.{Data, Propose, Close}
+use Rattle.cast_message.specs.declared.message.Item.TheVariants.{Propose}
 use Rattle.cast_message.specs.declared.message.Message.{Message}
 use Rattle.cast_message.specs.declared.message.Decision.{Decision}
 use Rattle.cast_record.specs.declared.line.Line.{Line}
-use Rattle.cast_record.specs.declared.line.Line.TheVariants.{Head, Head2, Broadcast, Delivered, Decided, Crashed, Refused, End}
+use Rattle.cast_record.specs.declared.line.Line.TheVariants.{Head, Head2, Broadcast, Delivered, Decided, Crashed}
 use Rattle.cast_record.specs.Rules as said
 use Rattle.cast_record.proofs.ReadLemmas.{or_false}
 use Rattle.cast_record.proofs.VerdictLemmas.{least_of}
@@ -21,18 +21,12 @@ use Rattle.cast_judge.proofs.TestLemmas.{not_false, and_true}
 -- ---- as many items as broadcasts
 
 one_in : (p : ℕ) (line : Line) (lines : List Line) → length (cond (said.is_broadcast (λ m. nat_eq m.sender p) line) (line ∷ lines) lines) ≡ length lines + length (items_in line p)
-one_in p (Head n f k) lines = omega arith
-one_in p (Head2 n f k mode) lines = omega arith
 one_in p (Broadcast m) lines = go (nat_eq m.sender p)
   where
     go : (b : Bool) → length (cond b (Broadcast m ∷ lines) lines) ≡ length lines + length (cond b (m.item ∷ []) [])
     go true = omega arith
     go false = omega arith
-one_in p (Delivered q m) lines = omega arith
-one_in p (Decided q d) lines = omega arith
-one_in p (Crashed q) lines = omega arith
-one_in p (Refused i c) lines = omega arith
-one_in p End lines = omega arith
+one_in p line lines = omega arith
 
 pub items_counted : (past : List Line) (p : ℕ) → length (items_of past p) ≡ said.broadcasts_of past p
 unfolding items_of said.broadcasts_of
@@ -46,12 +40,7 @@ items_counted (line ∷ past) p =
 head_names : (n : ℕ) (line : Line) → said.is_head line ≡ true → said.names_below n line ≡ true
 head_names n (Head a b c) e = refl
 head_names n (Head2 a b c d) e = refl
-head_names n (Broadcast m) e = absurd (cc)
-head_names n (Delivered q m) e = absurd (cc)
-head_names n (Decided q d) e = absurd (cc)
-head_names n (Crashed q) e = absurd (cc)
-head_names n (Refused i c) e = absurd (cc)
-head_names n End e = absurd (cc)
+head_names n line e = absurd (cc)
 
 pub in_range : (past : List Line) (line : Line) → said.is_out_of_place past line ≡ false → said.names_below (said.group_of past).nodes line ≡ true
 in_range [] line e = head_names (said.group_of []).nodes line (not_false (said.is_head line) e)
@@ -86,9 +75,8 @@ below p n e = grind (arith, nat_tests)
 -- one more value, where it may be known already
 pub value_count : (a b : Bool) (n v : ℕ) (vs : List ℕ) → a ≡ b → n ≡ length vs → cond a n (n + 1) ≡ length (cond b vs (v ∷ vs))
 value_count true true n v vs same count = count
-value_count true false n v vs same count = absurd (cc)
-value_count false true n v vs same count = absurd (cc)
 value_count false false n v vs same count = omega (arith, count)
+value_count a b n v vs same count = absurd (cc)
 
 module _ (past : List Line) (k : Kept) (s : StandsFor past k) where
   node : (p : ℕ) → nat_lt p (length k.nodes.items) ≡ true → StandsForNode past p (kept.node_at k.nodes.items p)
@@ -120,22 +108,18 @@ module _ (past : List Line) (k : Kept) (s : StandsFor past k) where
       (λ i. nat_lt (s.faults i) (s.choices i) && nat_lt (s.choices i) (count i))
 
   second_same : (p : ℕ) (item : Item) → kept.is_second_proposal k p item ≡ said.is_second_proposal past p item
-  second_same p (Data payload) = refl
   second_same p (Propose j w) = (s.instances j).proposed p
-  second_same p Close = refl
+  second_same p item = refl
 
   -- of a line that names nodes of the group, the least rule is the same, by its kind
   least_same : (line : Line) → said.names_below (length k.nodes.items) line ≡ true → kept.is_out_of_place k line ≡ said.is_out_of_place past line → kept.rule_by k line ≡ said.first_broken 0 (said.rules past line)
-  least_same (Head n f c) e place = λ i. least_of (place i) false false false false false false
-  least_same (Head2 n f c d) e place = λ i. least_of (place i) false false false false false false
   least_same (Broadcast m) e place = λ i. least_of (place i) (numbered_same m e i) ((node m.sender e).closed i) false false (crash_same m.sender e i) (second_same m.sender m.item i)
   least_same (Delivered q m) e place =
       let crash = crash_same q (and_true (nat_lt q (length k.nodes.items)) (nat_lt m.sender (length k.nodes.items)) e).0 in
       (λ i. least_of (place i) (delivery_same q m e i) false false false (crash i) false)
   least_same (Decided q d) e place = λ i. least_of (place i) false false (not ((s.instances d.instance).values d.value i)) (many_same q d i) (crash_same q e i) false
   least_same (Crashed q) e place = λ i. least_of (place i) false false false false (crash_same q e i) false
-  least_same (Refused j c) e place = λ i. least_of (place i) false false false false false false
-  least_same End e place = λ i. least_of (place i) false false false false false false
+  least_same line e place = λ i. least_of (place i) false false false false false false
 
 -- what is kept tells the least rule that a line breaks
 pub rule_same : (past : List Line) (k : Kept) (line : Line) → StandsFor past k → kept.rule_by k line ≡ said.broken past line

@@ -8,7 +8,7 @@ use Rattle.std.proofs.Math.Seq.{get_or-append_seam}
 use Rattle.std.proofs.lemmas.List.{get_or_append_left, length-replicate}
 use Rattle.std.proofs.lemmas.Grind.{common_steps}
 use Rattle.cast_message.specs.declared.message.Item.{Item}
-use Rattle.cast_message.specs.declared.message.Item.TheVariants.{Data, Propose, Close}
+use Rattle.cast_message.specs.declared.message.Item.TheVariants.{Propose}
 use Rattle.cast_message.specs.declared.message.Message.{Message}
 use Rattle.cast_message.specs.declared.message.Decision.{Decision}
 use Rattle.cast_record.specs.declared.line.Line.{Line}
@@ -73,12 +73,10 @@ node_added nodes (Delivered q m) p e within =
     set_at nodes q p (λ node. kept.with_delivery node m.sender)
     (λ b node. record node { items = node.items ++ []; delivered = cond b (slice_set node.delivered m.sender (kept.one_more (slice_index node.delivered m.sender))) node.delivered })
     within (λ node. with_nothing (kept.with_delivery node m.sender)) with_nothing
-node_added nodes (Decided q d) p e within = with_nothing (kept.node_at nodes p)
 node_added nodes (Crashed q) p e within =
     set_at nodes q p kept.with_crash (λ b node. record node { items = node.items ++ []; crashed = b || node.crashed })
     within (λ node. with_nothing (kept.with_crash node)) with_nothing
-node_added nodes (Refused i c) p e within = with_nothing (kept.node_at nodes p)
-node_added nodes End p e within = with_nothing (kept.node_at nodes p)
+node_added nodes line p e within = with_nothing (kept.node_at nodes p)
 
 -- ---- how many were delivered
 
@@ -97,46 +95,30 @@ counted_there counts t s v e = let other : s ≢ t = (λ h. other_number t s e (
 
 count_on : (a b : Bool) (line : Line) (lines : List Line) → length (cond (a && b) (line ∷ lines) lines) ≡ cond a (cond b (length lines + 1) (length lines)) (length lines)
 count_on true true line lines = omega arith
-count_on true false line lines = refl
-count_on false b line lines = refl
+count_on a b line lines = refl
 
 delivered_added : (past : List Line) (line : Line) (p : ℕ) (counts : List ℕ) → length past < 2 ^ 63 → length counts ≡ 64 → ((s : ℕ) → s < 64 → slice_index counts s ≡ said.deliveries_of past p s)
     → (s : ℕ) → s < 64 → slice_index (counts_in line p counts) s ≡ said.deliveries_of (line ∷ past) p s
 unfolding said.deliveries_of
-delivered_added past (Head n f k) p counts short room h s within = h s within
-delivered_added past (Head2 n f k mode) p counts short room h s within = h s within
-delivered_added past (Broadcast m) p counts short room h s within = h s within
 delivered_added past (Delivered q m) p counts short room h s within =
     go (nat_eq q p) (nat_eq m.sender s) refl ∙ sym (count_on (nat_eq q p) (nat_eq m.sender s) (Delivered q m) (filter (said.is_delivery p s) past))
   where
     few : said.deliveries_of past p s < 2 ^ 63
     few = omega (arith, few_delivered past p s)
 
-    total : ℕ
-    total = said.deliveries_of past p s
-
     go : (a b : Bool) → nat_eq m.sender s ≡ b → slice_index (cond a (slice_set counts m.sender (kept.one_more (slice_index counts m.sender))) counts) s ≡ cond a (cond b (said.deliveries_of past p s + 1) (said.deliveries_of past p s)) (said.deliveries_of past p s)
     go true true e = counted_here counts m.sender s (said.deliveries_of past p s) (same_number m.sender s e) (omega arith) (h s within) few
     go true false e = counted_there counts m.sender s (kept.one_more (slice_index counts m.sender)) e ∙ h s within
     go false b e = h s within
-delivered_added past (Decided q d) p counts short room h s within = h s within
-delivered_added past (Crashed q) p counts short room h s within = h s within
-delivered_added past (Refused i c) p counts short room h s within = h s within
-delivered_added past End p counts short room h s within = h s within
+delivered_added past line p counts short room h s within = h s within
 
 room_added : (line : Line) (p : ℕ) (counts : List ℕ) → length counts ≡ 64 → length (counts_in line p counts) ≡ 64
-room_added (Head n f k) p counts room = room
-room_added (Head2 n f k mode) p counts room = room
-room_added (Broadcast m) p counts room = room
 room_added (Delivered q m) p counts room = go (nat_eq q p)
   where
     go : (b : Bool) → length (cond b (slice_set counts m.sender (kept.one_more (slice_index counts m.sender))) counts) ≡ 64
     go true = length-set counts m.sender (kept.one_more (slice_index counts m.sender)) ∙ room
     go false = room
-room_added (Decided q d) p counts room = room
-room_added (Crashed q) p counts room = room
-room_added (Refused i c) p counts room = room
-room_added End p counts room = room
+room_added line p counts room = room
 
 pub node_on : (past : List Line) (line : Line) (p : ℕ) (node : Sender) → length past < 2 ^ 63 → StandsForNode past p node → StandsForNode (line ∷ past) p (added line p node)
 unfolding items_of said.has_closed said.has_crashed
@@ -193,9 +175,8 @@ silent_on past m q instance none never h = record {
 }
 
 broadcast_on : (past : List Line) (m : Message) (item : Item) (q : ℕ) (instance : Instance) → m.item ≡ item → StandsForInstance past q instance → StandsForInstance (Broadcast m ∷ past) q (kept.item_changes m.sender item q instance)
-broadcast_on past m (Data payload) q instance is h = silent_on past m q instance (λ j. ap (said.proposes_in j) is) (λ j v. ap (said.proposes j v) is) h
 broadcast_on past m (Propose j w) q instance is h = proposal_on past m j w q instance is h
-broadcast_on past m Close q instance is h = silent_on past m q instance (λ j. ap (said.proposes_in j) is) (λ j v. ap (said.proposes j v) is) h
+broadcast_on past m item q instance is h = silent_on past m q instance (λ j. ap (said.proposes_in j) is) (λ j v. ap (said.proposes j v) is) h
 
 decision_on : (past : List Line) (p : ℕ) (d : Decision) (q : ℕ) (instance : Instance) → said.is_proposed past d.instance d.value ≡ true → StandsForInstance past q instance → StandsForInstance (Decided p d ∷ past) q (kept.changed_at d.instance (adds.Decided d.value) q instance)
 unfolding said.has_proposed said.is_proposed said.values_in
@@ -216,8 +197,6 @@ decision_on past p d q instance was h = go (nat_eq q d.instance) (nat_eq d.insta
 
         taken : said.values_in (Decided p d ∷ past) q ≡ d.value ∷ said.values_in past q
         taken = rw e refl
-    go true false e f = absurd (cc)
-    go false true e f = absurd (cc)
     go false false e f = record {
       proposed = h.proposed;
       values = h.values;
@@ -227,17 +206,13 @@ decision_on past p d q instance was h = go (nat_eq q d.instance) (nat_eq d.insta
       where
         left : nat_eq d.instance q ≡ false → said.values_in (Decided p d ∷ past) q ≡ said.values_in past q
         left e = rw e refl
+    go a b e f = absurd (cc)
 
 pub instance_on : (past : List Line) (line : Line) (q : ℕ) (instance : Instance) → said.is_not_proposed past line ≡ false → StandsForInstance past q instance → StandsForInstance (line ∷ past) q (kept.instance_after line q instance)
 unfolding said.has_proposed said.is_proposed said.values_in
-instance_on past (Head n f k) q instance sound h = record { proposed = h.proposed; values = h.values; decided = h.decided; count = h.count }
-instance_on past (Head2 n f k mode) q instance sound h = record { proposed = h.proposed; values = h.values; decided = h.decided; count = h.count }
 instance_on past (Broadcast m) q instance sound h = broadcast_on past m m.item q instance refl h
-instance_on past (Delivered p m) q instance sound h = record { proposed = h.proposed; values = h.values; decided = h.decided; count = h.count }
 instance_on past (Decided p d) q instance sound h = decision_on past p d q instance (not_false (said.is_proposed past d.instance d.value) sound) h
-instance_on past (Crashed p) q instance sound h = record { proposed = h.proposed; values = h.values; decided = h.decided; count = h.count }
-instance_on past (Refused i c) q instance sound h = record { proposed = h.proposed; values = h.values; decided = h.decided; count = h.count }
-instance_on past End q instance sound h = record { proposed = h.proposed; values = h.values; decided = h.decided; count = h.count }
+instance_on past line q instance sound h = record { proposed = h.proposed; values = h.values; decided = h.decided; count = h.count }
 
 -- ---- the item of each number
 
@@ -294,28 +269,21 @@ number_sound m n e = grind (arith, nat_tests)
 pub numbered_on : (past : List Line) (line : Line) → said.breaks_prefix past line ≡ false → ((m : Message) → said.has_broadcast past m ≡ kept.has_item (items_of past m.sender) m.number m.item)
     → (m : Message) → said.has_broadcast (line ∷ past) m ≡ kept.has_item (items_of (line ∷ past) m.sender) m.number m.item
 unfolding said.has_broadcast items_of
-numbered_on past (Head n f k) sound h m = h m ∙ sym (ap (λ items. kept.has_item items m.number m.item) (append-nil (items_of past m.sender)))
-numbered_on past (Head2 n f k mode) sound h m = h m ∙ sym (ap (λ items. kept.has_item items m.number m.item) (append-nil (items_of past m.sender)))
 numbered_on past (Broadcast b) sound h m = broadcast_numbered past b m (number_sound b.number (said.broadcasts_of past b.sender) sound ∙ sym (items_counted past b.sender)) (h m)
-numbered_on past (Delivered q b) sound h m = h m ∙ sym (ap (λ items. kept.has_item items m.number m.item) (append-nil (items_of past m.sender)))
-numbered_on past (Decided q d) sound h m = h m ∙ sym (ap (λ items. kept.has_item items m.number m.item) (append-nil (items_of past m.sender)))
-numbered_on past (Crashed q) sound h m = h m ∙ sym (ap (λ items. kept.has_item items m.number m.item) (append-nil (items_of past m.sender)))
-numbered_on past (Refused i c) sound h m = h m ∙ sym (ap (λ items. kept.has_item items m.number m.item) (append-nil (items_of past m.sender)))
-numbered_on past End sound h m = h m ∙ sym (ap (λ items. kept.has_item items m.number m.item) (append-nil (items_of past m.sender)))
+numbered_on past line sound h m = h m ∙ sym (ap (λ items. kept.has_item items m.number m.item) (append-nil (items_of past m.sender)))
 
 -- ---- all that is kept
 
 -- what holds of each kind of line but a head
 for_body : (P : Line → Type 0) → ((m : Message) → P (Broadcast m)) → ((q : ℕ) (m : Message) → P (Delivered q m)) → ((q : ℕ) (d : Decision) → P (Decided q d)) → ((q : ℕ) → P (Crashed q)) → ((i c : ℕ) → P (Refused i c)) → P End
     → (line : Line) → said.is_head line ≡ false → P line
-for_body P b d v x r end (Head n f k) e = absurd (cc)
-for_body P b d v x r end (Head2 n f k mode) e = absurd (cc)
 for_body P b d v x r end (Broadcast m) e = b m
 for_body P b d v x r end (Delivered q m) e = d q m
 for_body P b d v x r end (Decided q c) e = v q c
 for_body P b d v x r end (Crashed q) e = x q
 for_body P b d v x r end (Refused i c) e = r i c
 for_body P b d v x r end End e = end
+for_body P b d v x r end line e = absurd (cc)
 
 group_on : (past : List Line) (line : Line) → said.is_head line ≡ false → said.group_of (line ∷ past) ≡ said.group_of past
 unfolding said.group_of
@@ -364,12 +332,7 @@ fresh_node : (head : Line) (p : ℕ) → said.is_head head ≡ true → StandsFo
 unfolding items_of said.has_closed said.has_crashed said.deliveries_of
 fresh_node (Head n f k) p e = record { items = refl; closed = refl; crashed = refl; room = refl; delivered = λ s within. none_counted 64 s }
 fresh_node (Head2 n f k mode) p e = record { items = refl; closed = refl; crashed = refl; room = refl; delivered = λ s within. none_counted 64 s }
-fresh_node (Broadcast m) p e = absurd (cc)
-fresh_node (Delivered q m) p e = absurd (cc)
-fresh_node (Decided q d) p e = absurd (cc)
-fresh_node (Crashed q) p e = absurd (cc)
-fresh_node (Refused i c) p e = absurd (cc)
-fresh_node End p e = absurd (cc)
+fresh_node line p e = absurd (cc)
 
 fresh_at : (n p : ℕ) → p < n → kept.node_at (replicate n kept.nobody) p ≡ kept.nobody
 fresh_at n p within = grind (arith, common_steps)
@@ -410,12 +373,7 @@ head_on : (line : Line) (old new : Kept) → said.is_head line ≡ true → IsWi
 unfolding said.group_of
 head_on (Head n f k) old new e h s w = opened (Head n f k) n f k old new (record { is = refl; plain = refl; proposed = refl; group = refl; few = omega (arith, h.1); nodes = λ nodes. refl; faults = λ faults. refl; choices = λ choices. refl }) s w
 head_on (Head2 n f k mode) old new e h s w = opened (Head2 n f k mode) n f k old new (record { is = refl; plain = refl; proposed = refl; group = refl; few = h.0.1; nodes = λ nodes. refl; faults = λ faults. refl; choices = λ choices. refl }) s w
-head_on (Broadcast m) old new e h s w = absurd (cc)
-head_on (Delivered q m) old new e h s w = absurd (cc)
-head_on (Decided q d) old new e h s w = absurd (cc)
-head_on (Crashed q) old new e h s w = absurd (cc)
-head_on (Refused i c) old new e h s w = absurd (cc)
-head_on End old new e h s w = absurd (cc)
+head_on line old new e h s w = absurd (cc)
 
 -- ---- a line that breaks no rule
 
