@@ -89,9 +89,5 @@ fn crash(places: &[Value]) -> Option<ScriptEvent>
 fn settle(places: &[Value]) -> Option<ScriptEvent>
     ensures { result ≡ settle_of (map view places.now) }
 {
-    if places.is_empty() {
-        Some(ScriptEvent::Settle)
-    } else {
-        None
-    }
+    places.is_empty().then_some(ScriptEvent::Settle)
 }

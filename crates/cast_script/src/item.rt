@@ -50,9 +50,5 @@ fn proposal(places: &[Value]) -> Option<Item>
 fn close(places: &[Value]) -> Option<Item>
     ensures { result ≡ close_of (map view places.now) }
 {
-    if places.is_empty() {
-        Some(Item::Close)
-    } else {
-        None
-    }
+    places.is_empty().then_some(Item::Close)
 }
