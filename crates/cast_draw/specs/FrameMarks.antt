@@ -10,6 +10,7 @@ use Rattle.cast_draw.specs.declared.frames.MadeFrame.{MadeFrame}
 use Rattle.cast_draw.specs.declared.side.Side.{Side}
 use Rattle.cast_draw.specs.declared.side.Side.TheVariants.{Up, Down}
 use Rattle.cast_draw.specs.Marks.{joined, colour_of}
+use Rattle.cast_draw.specs.Pieces.{place_text}
 
 abbrev pub cargo_words : Cargo → ℕ → List ℕ
 cargo_words (Message pair) slot = joined (codes ": slot " ∷ decimal slot ∷ codes ", message " ∷ decimal pair.sender ∷ codes "." ∷ decimal pair.number ∷ [])
@@ -28,7 +29,7 @@ class_of Word = codes " k"
 
 -- a line from one point to another
 abbrev pub line_text : ℕ → ℕ → ℕ → ℕ → List ℕ
-line_text x y to_x to_y = joined (codes "' d='M" ∷ decimal x ∷ codes " " ∷ decimal y ∷ codes "L" ∷ decimal to_x ∷ codes " " ∷ decimal to_y ∷ codes "'>" ∷ [])
+line_text x y to_x to_y = joined (codes "' d='M" ∷ place_text x y ∷ codes "L" ∷ place_text to_x to_y ∷ codes "'>" ∷ [])
 
 abbrev pub arrow_text : MadeFrame → ℕ → ℕ → ℕ → ℕ → ℕ → List ℕ
 arrow_text frame x y to_x to_y event =
@@ -41,7 +42,7 @@ stub_path Down = codes "l11 34'>"
 
 abbrev pub stub_text : MadeFrame → ℕ → ℕ → List ℕ → Side → List ℕ
 stub_text frame x y class side =
-    joined (codes "<path class='" ∷ class ∷ class_of frame.cargo ∷ joined (codes "' d='M" ∷ decimal x ∷ codes " " ∷ decimal y ∷ [])
+    joined (codes "<path class='" ∷ class ∷ class_of frame.cargo ∷ joined (codes "' d='M" ∷ place_text x y ∷ [])
     ∷ stub_path side ∷ [])
 
 -- the upper edge of the cross at the end of a stub
@@ -53,7 +54,7 @@ abbrev pub lost_text : MadeFrame → ℕ → ℕ → Side → List ℕ
 lost_text frame x y side =
     joined (stub_text frame x y (codes "o") side ∷ frame_words frame ∷ codes ", never arrives</title></path><path class='e"
     ∷ class_of frame.cargo
-    ∷ joined (codes "' d='M" ∷ decimal (x + 7) ∷ codes " " ∷ decimal (cross_top side y) ∷ codes "l8 8m0 -8l-8 8'/>\n" ∷ []) ∷ [])
+    ∷ joined (codes "' d='M" ∷ place_text (x + 7) (cross_top side y) ∷ codes "l8 8m0 -8l-8 8'/>\n" ∷ []) ∷ [])
 
 abbrev pub leaving_text : MadeFrame → ℕ → ℕ → Side → List ℕ
 leaving_text frame x y side =

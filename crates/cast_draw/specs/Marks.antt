@@ -12,6 +12,7 @@ use Rattle.cast_message.specs.declared.message.Message.{Message}
 use Rattle.cast_message.specs.declared.message.Decision.{Decision}
 use Rattle.cast_record.specs.Text.{item_word}
 use Rattle.cast_draw.specs.Labels.{item_label, value_label}
+use Rattle.cast_draw.specs.Pieces.{place_text}
 
 -- the texts one after another
 abbrev pub joined : List (List ℕ) → List ℕ
@@ -52,20 +53,20 @@ abbrev pub decision_text : ℕ → ℕ → ℕ → ℕ → Decision → List ℕ
 decision_text x top event node decision =
     joined (codes "<g><title>node " ∷ decimal node ∷ codes " decides " ∷ decimal decision.value
     ∷ codes " in instance " ∷ decimal decision.instance ∷ codes ", event " ∷ decimal event
-    ∷ codes "</title><path class='v' d='M" ∷ decimal (x + 9) ∷ codes " " ∷ decimal top
+    ∷ codes "</title><path class='v' d='M" ∷ place_text (x + 9) top
     ∷ codes "l6.5 6.5l-6.5 6.5l-6.5 -6.5z'/><text class='w' x='" ∷ decimal (x + 19) ∷ codes "' y='" ∷ decimal (top + 10)
     ∷ codes "'>" ∷ value_label decision.value ∷ codes "</text></g>\n" ∷ [])
 
 abbrev pub crash_text : ℕ → ℕ → ℕ → ℕ → List ℕ
 crash_text x y event node =
     joined (codes "<g><title>node " ∷ decimal node ∷ codes " crashes, event " ∷ decimal event
-    ∷ codes "</title><path class='x' d='M" ∷ decimal (x - 7) ∷ codes " " ∷ decimal (y - 7)
+    ∷ codes "</title><path class='x' d='M" ∷ place_text (x - 7) (y - 7)
     ∷ codes "l14 14m0 -14l-14 14'/></g>\n" ∷ [])
 
 abbrev pub refusal_text : ℕ → ℕ → ℕ → ℕ → List ℕ
 refusal_text x y event code =
     joined (codes "<g><title>event " ∷ decimal event ∷ codes " is refused with code " ∷ decimal code
-    ∷ codes "</title><path class='r' d='M" ∷ decimal (x - 3) ∷ codes " " ∷ decimal (y - 3)
+    ∷ codes "</title><path class='r' d='M" ∷ place_text (x - 3) (y - 3)
     ∷ codes "l6 6m0 -6l-6 6'/><text class='q' x='" ∷ decimal x ∷ codes "' y='" ∷ decimal (y + 16)
     ∷ codes "'>" ∷ decimal code ∷ codes "</text></g>\n" ∷ [])
 

@@ -13,6 +13,7 @@ use Rattle.cast_draw.specs.declared.frames.MadeFrame.{MadeFrame}
 use Rattle.cast_draw.specs.Heights.{height_of}
 use Rattle.cast_draw.specs.Sides.{side_of}
 use Rattle.cast_draw.specs.Marks.{joined}
+use Rattle.cast_draw.specs.Pieces.{place_text}
 use Rattle.cast_draw.specs.FrameMarks.{lost_text, leaving_text}
 use Rattle.cast_draw.specs.Sheet.{Sheet, bottom_of}
 
@@ -53,12 +54,12 @@ head_text config width height = joined (size_text width height ∷ caption confi
 abbrev pub life_text : ℕ → ℕ → List ℕ
 life_text node end =
     joined (codes "<text class='n' x='12' y='" ∷ decimal (height_of node + 4) ∷ codes "'>node " ∷ decimal node ∷ codes "</text><path class='p' d='M"
-    ∷ decimal 76 ∷ codes " " ∷ decimal (height_of node) ∷ codes "H" ∷ decimal end ∷ codes "'/>\n" ∷ [])
+    ∷ place_text 76 (height_of node) ∷ codes "H" ∷ decimal end ∷ codes "'/>\n" ∷ [])
 
 -- its line after a crash
 abbrev pub rest_text : ℕ → ℕ → ℕ → List ℕ
 rest_text node from width =
-    joined (codes "<path class='z' d='M" ∷ decimal from ∷ codes " " ∷ decimal (height_of node) ∷ codes "H" ∷ decimal width ∷ codes "'/>\n" ∷ [])
+    joined (codes "<path class='z' d='M" ∷ place_text from (height_of node) ∷ codes "H" ∷ decimal width ∷ codes "'/>\n" ∷ [])
 
 abbrev pub lifeline_text : ℕ → Option ℕ → ℕ → List ℕ
 lifeline_text node None width = life_text node width

@@ -2,7 +2,7 @@
 ghost use Rattle.std.specs.Prelude.{◌≡◌, ◌<◌, ◌++◌, [], OnOk, decimal};
 ghost use Rattle.cast_record.specs.Text.{item_word};
 ghost use Rattle.cast_words.specs.Hex.{hex};
-ghost use Rattle.cast_draw.specs.Pieces.{piece_text, text_of};
+ghost use Rattle.cast_draw.specs.Pieces.{piece_text, place_text, text_of};
 
 use crate::label::{put_item_label, put_value_label};
 use cast_message::Item;
@@ -18,6 +18,8 @@ pub enum Piece<'a> {
     Text(&'a [u8]),
     /// The number in decimal.
     Number(u64),
+    /// The place as paths name it: from the left, and from the top.
+    Place(u64, u64),
     /// The word that the item has in a record.
     Word(&'a Item),
     /// The item as it is shown beside a mark.
@@ -73,6 +75,7 @@ impl Ink {
         match piece {
             Piece::Text(text) => self.put_bytes(text),
             Piece::Number(number) => self.put_number(*number),
+            Piece::Place(x, y) => self.put_place(*x, *y),
             Piece::Word(item) => self.put_word(item),
             Piece::Label(item) => put_item_label(self, item),
             Piece::Value(value) => put_value_label(self, *value),
@@ -91,6 +94,14 @@ impl Ink {
     {
         self.bytes
             .extend_from_slice(Buffer::new().format(number).as_bytes())
+    }
+
+    fn put_place(&mut self, x: u64, y: u64) -> Result<(), AllocError>
+        ensures { OnOk result (self.new ≡ self.old ++ place_text x y) }
+    {
+        self.put_number(x)?;
+        self.put_bytes(b" ")?;
+        self.put_number(y)
     }
 
     /// Puts two digits at the end for each byte.

@@ -7,7 +7,7 @@ ghost use Rattle.cast_draw.specs.FrameMarks.{class_of, frame_words, cargo_words,
 use crate::cell::{Cell, Spot};
 use crate::frames::{Cargo, MadeFrame};
 use crate::ink::Ink;
-use crate::ink::Piece::{Label, Number, Text, Value, Word};
+use crate::ink::Piece::{Label, Number, Place, Text, Value, Word};
 use crate::links::Pair;
 use crate::side::Side;
 use cast_message::{Decision, Item, Message, NodeId};
@@ -147,9 +147,7 @@ pub fn put_decision(
         Text(b", event "),
         Number(index),
         Text(b"</title><path class='v' d='M"),
-        Number(cell.x + 9),
-        Text(b" "),
-        Number(top),
+        Place(cell.x + 9, top),
         Text(b"l6.5 6.5l-6.5 6.5l-6.5 -6.5z'/><text class='w' x='"),
         Number(cell.x + 19),
         Text(b"' y='"),
@@ -170,9 +168,7 @@ pub fn put_crash(ink: &mut Ink, spot: Spot, index: u64, node: NodeId) -> Result<
         Text(b" crashes, event "),
         Number(index),
         Text(b"</title><path class='x' d='M"),
-        Number(spot.x - 7),
-        Text(b" "),
-        Number(spot.y - 7),
+        Place(spot.x - 7, spot.y - 7),
         Text(b"l14 14m0 -14l-14 14'/></g>\n"),
     ])
 }
@@ -187,9 +183,7 @@ pub fn put_refusal(ink: &mut Ink, spot: Spot, index: u64, code: u64) -> Result<(
         Text(b" is refused with code "),
         Number(code),
         Text(b"</title><path class='r' d='M"),
-        Number(spot.x - 3),
-        Text(b" "),
-        Number(spot.y - 3),
+        Place(spot.x - 3, spot.y - 3),
         Text(b"l6 6m0 -6l-6 6'/><text class='q' x='"),
         Number(spot.x),
         Text(b"' y='"),
@@ -257,13 +251,9 @@ pub fn put_arrow(
     put_class(ink, frame)?;
     ink.put(&[
         Text(b"' d='M"),
-        Number(start.x),
-        Text(b" "),
-        Number(start.y),
+        Place(start.x, start.y),
         Text(b"L"),
-        Number(end.x),
-        Text(b" "),
-        Number(end.y),
+        Place(end.x, end.y),
         Text(b"'>"),
     ])?;
     put_frame_words(ink, frame)?;
@@ -284,9 +274,7 @@ pub fn put_lost(ink: &mut Ink, frame: &MadeFrame, start: Spot, side: Side) -> Re
     put_class(ink, frame)?;
     ink.put(&[
         Text(b"' d='M"),
-        Number(start.x + 7),
-        Text(b" "),
-        Number(cross_top(side, start.y)),
+        Place(start.x + 7, cross_top(side, start.y)),
         Text(b"l8 8m0 -8l-8 8'/>\n"),
     ])
 }
@@ -319,12 +307,7 @@ fn put_stub_start(
     ink.put_bytes(b"<path class='")?;
     ink.put_bytes(class)?;
     put_class(ink, frame)?;
-    ink.put(&[
-        Text(b"' d='M"),
-        Number(start.x),
-        Text(b" "),
-        Number(start.y),
-    ])?;
+    ink.put(&[Text(b"' d='M"), Place(start.x, start.y)])?;
     ink.put_bytes(path_of(side))
 }
 

@@ -8,7 +8,7 @@ use crate::fault::DrawFault;
 use crate::frames::{Fate, MadeFrame, MadeFrames};
 use crate::height::height_of;
 use crate::ink::Ink;
-use crate::ink::Piece::{Number, Text};
+use crate::ink::Piece::{Number, Place, Text};
 use crate::marks::{put_leaving, put_lost};
 use crate::picture::Picture;
 use crate::rows::crash_of;
@@ -238,9 +238,7 @@ fn put_life(ink: &mut Ink, node: NodeId, end: u64) -> Result<(), AllocError>
         Text(b"'>node "),
         Number(u64::from(node.0)),
         Text(b"</text><path class='p' d='M"),
-        Number(LINES_FROM),
-        Text(b" "),
-        Number(y),
+        Place(LINES_FROM, y),
         Text(b"H"),
         Number(end),
         Text(b"'/>\n"),
@@ -253,9 +251,7 @@ fn put_rest(ink: &mut Ink, node: NodeId, from: u64, width: u64) -> Result<(), Al
 {
     ink.put(&[
         Text(b"<path class='z' d='M"),
-        Number(from),
-        Text(b" "),
-        Number(height_of(node)),
+        Place(from, height_of(node)),
         Text(b"H"),
         Number(width),
         Text(b"'/>\n"),

@@ -8,9 +8,7 @@ use crate::frames::{Cargo, Column, Fate, MadeFrame, MadeFrames};
 use crate::ink::Ink;
 use crate::links::{Links, Pair};
 use crate::marks::{put_arrow, put_broadcast, put_crash, put_ground, put_refusal};
-use crate::rows::{
-    add_frame, arrive, count, end_line, given, hold, hold_cargo, new_crashes, new_links, new_made,
-};
+use crate::rows::{add_frame, arrive, count, end_line, given, hold, hold_cargo, new_links, new_made};
 use crate::window::Window;
 use cast_message::{Answer, Config, Event, Item, NodeId, Outcome, Reply, StepFault};
 use std::alloc::{AllocError, Global};
@@ -63,7 +61,7 @@ impl Picture {
             marks: Ink::new(alloc),
             links: new_links(alloc, nodes)?,
             made: new_made(alloc, nodes)?,
-            crashes: new_crashes(alloc, nodes)?,
+            crashes: vec![in alloc; None; nodes as usize]?,
         })
     }
 

@@ -34,17 +34,6 @@ pub fn new_made(alloc: Global, nodes: u64) -> Result<Vec<MadeFrames>, AllocError
     Ok(made)
 }
 
-/// So many lines that do not end.
-pub fn new_crashes(alloc: Global, nodes: u64) -> Result<Vec<Option<u64>>, AllocError>
-    ensures { IfOk result (λ crashes. crashes.items ≡ replicate nodes None) }
-{
-    let mut crashes = Vec::new(alloc);
-    for _node in 0..nodes {
-        crashes.push(None)?;
-    }
-    Ok(crashes)
-}
-
 /// A node holds a message that came from this one. What is no node holds none.
 pub fn hold(
     links: &mut Vec<Links>,
