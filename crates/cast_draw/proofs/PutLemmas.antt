@@ -69,14 +69,26 @@ proposal-parts i v is_cut old first second third new cut_is a b c d =
 
 -- ---- texts that are put one after another
 
-pub puts-2 : (old s t a b : List ℕ) → s ≡ old ++ a → t ≡ s ++ b → t ≡ old ++ (a ++ (b ++ []))
-puts-2 old s t a b p q = rw (q, p, append-nil b, append_assoc old a b) refl
+parts-2 : (old s t a b : List ℕ) → s ≡ old ++ a → t ≡ s ++ b → t ≡ old ++ (a ++ (b ++ []))
+parts-2 old s t a b p q = rw (q, p, append-nil b, append_assoc old a b) refl
 
-pub puts-3 : (old s t u a b c : List ℕ) → s ≡ old ++ a → t ≡ s ++ b → u ≡ t ++ c → u ≡ old ++ (a ++ (b ++ (c ++ [])))
-puts-3 old s t u a b c p q r = rw (r, q, p, append-nil c, append_assoc (old ++ a) b c, append_assoc old a (b ++ c)) refl
+parts-3 : (old s t u a b c : List ℕ) → s ≡ old ++ a → t ≡ s ++ b → u ≡ t ++ c → u ≡ old ++ (a ++ (b ++ (c ++ [])))
+parts-3 old s t u a b c p q r = rw (r, q, p, append-nil c, append_assoc (old ++ a) b c, append_assoc old a (b ++ c)) refl
 
-pub puts-5 : (old s t u v w a b c d e : List ℕ) → s ≡ old ++ a → t ≡ s ++ b → u ≡ t ++ c → v ≡ u ++ d → w ≡ v ++ e → w ≡ old ++ (a ++ (b ++ (c ++ (d ++ (e ++ [])))))
-puts-5 old s t u v w a b c d e p q r x y =
-    puts-3 (old ++ a) t u w b c (d ++ e) (rw p at q) r (y ∙ ap (λ l. l ++ e) x ∙ append_assoc u d e)
+parts-5 : (old s t u v w a b c d e : List ℕ) → s ≡ old ++ a → t ≡ s ++ b → u ≡ t ++ c → v ≡ u ++ d → w ≡ v ++ e → w ≡ old ++ (a ++ (b ++ (c ++ (d ++ (e ++ [])))))
+parts-5 old s t u v w a b c d e p q r x y =
+    parts-3 (old ++ a) t u w b c (d ++ e) (rw p at q) r (y ∙ ap (λ l. l ++ e) x ∙ append_assoc u d e)
     ∙ append_assoc old a (b ++ (c ++ ((d ++ e) ++ [])))
     ∙ ap (λ l. old ++ (a ++ (b ++ (c ++ l)))) (append_assoc d e [])
+
+-- the same of a call that puts the last of them
+
+pub puts-2 : {T E : Type 0} {s : List ℕ} (old t a b : List ℕ) → s ≡ old ++ a → (last : Result T E) → OnOk last (t ≡ s ++ b) → OnOk last (t ≡ old ++ (a ++ (b ++ [])))
+puts-2 {s = s} old t a b p last q = on_ok last (parts-2 old s t a b p) q
+
+pub puts-3 : {T E : Type 0} {s t : List ℕ} (old u a b c : List ℕ) → s ≡ old ++ a → t ≡ s ++ b → (last : Result T E) → OnOk last (u ≡ t ++ c) → OnOk last (u ≡ old ++ (a ++ (b ++ (c ++ []))))
+puts-3 {s = s} {t = t} old u a b c p q last r = on_ok last (parts-3 old s t u a b c p q) r
+
+pub puts-5 : {T E : Type 0} {s t u v : List ℕ} (old w a b c d e : List ℕ) → s ≡ old ++ a → t ≡ s ++ b → u ≡ t ++ c → v ≡ u ++ d → (last : Result T E) → OnOk last (w ≡ v ++ e)
+    → OnOk last (w ≡ old ++ (a ++ (b ++ (c ++ (d ++ (e ++ []))))))
+puts-5 {s = s} {t = t} {u = u} {v = v} old w a b c d e p q r x last y = on_ok last (parts-5 old s t u v w a b c d e p q r x) y
