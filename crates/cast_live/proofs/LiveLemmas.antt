@@ -1,5 +1,5 @@
 -- Running the group of a script, and what its faults mean.
-use Rattle.std.proofs.Common.{◌≡◌, ℕ, zero, suc, ◌==◌, ◌<◌, ◌≤◌, Bool, true, false, cond, List, [], ◌∷◌, ◌++◌, length, map, Option, slice_get, Some, refl, sym, ap, subst, ◌∙◌, arith, append_assoc}
+use Rattle.std.proofs.Common.{◌≡◌, ℕ, zero, suc, ◌==◌, ◌<◌, ◌≤◌, Bool, true, false, cond, List, [], ◌∷◌, ◌++◌, length, map, Option, Err, slice_get, Some, refl, sym, ap, subst, ◌∙◌, arith, append_assoc}
 use Rattle.std.proofs.lemmas.List.{map-append}
 use Rattle.std.specs.Io.KnownBytes.{Appends}
 use Rattle.std.proofs.KnownBytes.{Keeps-refl}
@@ -19,7 +19,7 @@ use Rattle.cast_live.specs.declared.summary.Summary.{Summary}
 use Rattle.cast_text.specs.declared.fault.TextFault.{TextFault}
 use Rattle.cast_text.specs.declared.fault.TextFault.TheVariants as faults
 use Rattle.cast_text.specs.Text.{IsScriptIn, WroteFront, fault_of_live}
-use Rattle.cast_live.specs.Live.{IsNewJob, AreNewJobs, items_of, IsFinished, IsMergedRun, IsRunOf, IsOfRunning, IsSummaryOf, Summarized, WritesSummary, SummaryBreaksOff, LiveFails, ends_of, summary_text}
+use Rattle.cast_live.specs.Live.{IsNewJob, AreNewJobs, items_of, IsFinished, IsMergedRun, IsRunOf, IsOfRunning, IsSummaryOf, Summarized, WritesSummary, SummaryBreaksOff, Summarizes, ends_of, summary_text}
 
 pub new_more : (all : List (ℕ × SubmitAll)) (x : ℕ × SubmitAll) → AreNewJobs all → IsNewJob x.1 → AreNewJobs (all ++ x ∷ [])
 new_more [] x each new zero a at = let same : x ≡ a = cc in subst (λ (b : ℕ × SubmitAll). IsNewJob b.1) same new
@@ -81,7 +81,7 @@ module _ (script : Script) (handed : List (ℕ × SubmitAll)) (same : map items_
 
 -- ---- what is told of a run
 
-pub run_fails : (input old : Option (List ℕ)) (read_failed failed : Bool) (script : Script) (fault : TextFault) → IsScriptIn input script → IsOfRunning script fault → LiveFails input read_failed old old failed fault
+pub run_fails : (input old : Option (List ℕ)) (read_failed failed : Bool) (script : Script) (fault : TextFault) → IsScriptIn input script → IsOfRunning script fault → Summarizes input read_failed old old failed (Err fault)
 run_fails input old read_failed failed script (faults.Live why) read is = (record { script = script; read = read; cause = is }, Keeps-refl old)
 run_fails input old read_failed failed script faults.Memory read is = (tt, Keeps-refl old)
 run_fails input old read_failed failed script faults.Read read is = absurd is

@@ -6,8 +6,8 @@
 --     node_text config past p ended        the line of node p: its end, and how many items it delivered from each node
 --     summary_text config past ends said   the whole summary
 --     WritesSummary input old new said     the writer has the summary of a run of the script that was read
---     LiveFails                            what each fault means
-use Rattle.std.specs.Prelude.{◌≡◌, ℕ, ◌+◌, ◌++◌, ◌↔◌, [], ◌∷◌, List, Bool, true, false, IsTrue, length, map, flat_map, codes, decimal, reverse, slice_get, Some, None, Option}
+--     Summarizes                           the same, or a fault has its cause
+use Rattle.std.specs.Prelude.{◌≡◌, ℕ, ◌+◌, ◌++◌, ◌↔◌, [], ◌∷◌, List, Bool, true, false, IsTrue, length, map, flat_map, codes, decimal, reverse, slice_get, Some, None, Option, Result, Ok, Err}
 use Rattle.std.specs.List.{range_with_len}
 use Rattle.std.specs.Io.KnownBytes.{Appends, Keeps}
 use Rattle.cast_message.specs.declared.config.Config.{Config}
@@ -169,8 +169,9 @@ pub record SummaryBreaksOff (input old new : Option (List ℕ)) (failed : Bool) 
   pub broken : failed ≡ true
   pub front : WroteFront old new (text_of_run run)
 
--- each fault has its cause, and nothing was written but where the summary broke off
-abbrev pub LiveFails : Option (List ℕ) → Bool → Option (List ℕ) → Option (List ℕ) → Bool → TextFault → Type 0
-LiveFails input read_failed old new failed (faults.Live why) = DoesNotRun input why × Keeps old new
-LiveFails input read_failed old new failed faults.Write = SummaryBreaksOff input old new failed
-LiveFails input read_failed old new failed fault = IsOfScript input read_failed fault × Keeps old new
+-- the summary was written, or a fault has its cause, and nothing was written but where the summary broke off
+abbrev pub Summarizes : Option (List ℕ) → Bool → Option (List ℕ) → Option (List ℕ) → Bool → Result Summary TextFault → Type 0
+Summarizes input read_failed old new failed (Ok said) = WritesSummary input old new said
+Summarizes input read_failed old new failed (Err (faults.Live why)) = DoesNotRun input why × Keeps old new
+Summarizes input read_failed old new failed (Err faults.Write) = SummaryBreaksOff input old new failed
+Summarizes input read_failed old new failed (Err fault) = IsOfScript input read_failed fault × Keeps old new

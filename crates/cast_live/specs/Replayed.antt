@@ -2,7 +2,7 @@
 --     lines_told index events replies     the lines of these events with these replies, counted from an index on
 --     run_record config events replies    the head, those lines, and the end
 --     RecordsReplay config events         running the script of these events writes just that record
-use Rattle.std.specs.Prelude.{◌≡◌, ℕ, ◌+◌, Bool, true, false, List, [], ◌∷◌, ◌++◌, reverse, Option, Some, Result}
+use Rattle.std.specs.Prelude.{◌≡◌, ℕ, ◌+◌, Bool, true, false, List, [], ◌∷◌, ◌++◌, reverse, Option, Some, Result, Err}
 use Rattle.std.specs.List.{All}
 use Rattle.std.specs.Io.KnownBytes.{Appends}
 use Rattle.cast_message.specs.declared.config.Config.{Config}
@@ -20,7 +20,7 @@ use Rattle.cast_script.specs.Replay.{script_text}
 use Rattle.cast_script.specs.declared.script.ScriptFault.{ScriptFault}
 use Rattle.cast_script.specs.declared.script.ScriptFault.TheVariants.{Memory}
 use Rattle.cast_text.specs.declared.fault.TextFault.TheVariants as faults
-use Rattle.cast_text.specs.Text.{WritesRecord, Fails}
+use Rattle.cast_text.specs.Text.{WritesRecord, Records}
 
 unfoldable pub lines_told : ℕ → List Event → List (Result Answer StepFault) → List Line
 lines_told index [] results = []
@@ -42,7 +42,7 @@ pub record RecordsReplay (config : Config) (events : List Event) : Type 0 where
   -- whatever running the text of that script writes, to its end, is that record
   pub replays : (old new : Option (List ℕ)) → WritesRecord (Some (script_text config events)) old new → Appends old new (record_text (record_of_accepted config events))
   -- that text is refused for want of memory alone
-  pub not_refused : (read_failed failed : Bool) (old new : Option (List ℕ)) (fault : ScriptFault) → Fails (Some (script_text config events)) read_failed old new failed (faults.Script fault) → fault ≡ Memory
+  pub not_refused : (read_failed failed : Bool) (old new : Option (List ℕ)) (fault : ScriptFault) → Records (Some (script_text config events)) read_failed old new failed (Err (faults.Script fault)) → fault ≡ Memory
   pub good : verdict (record_text (record_of_accepted config events)) ≡ Good
   -- where all events are accepted, no line of it is a refusal
   pub none_refused : history config events ≡ reverse events → All (λ line. is_refusal line ≡ false) (record_of_accepted config events)

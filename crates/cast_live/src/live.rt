@@ -3,8 +3,8 @@ ghost use Rattle.std.specs.Prelude.{◌≡◌, ◌++◌, ◌∷◌, [], false, I
 ghost use Rattle.cast_record.specs.Text.{record_text};
 ghost use Rattle.cast_run.specs.Jobs.{told_job};
 ghost use Rattle.cast_script.specs.Replay.{script_text};
-ghost use Rattle.cast_live.specs.Live.{IsFinished, IsNewJob, AreNewJobs, items_of, IsOfRunning, IsRunOf, WritesSummary, LiveFails};
-ghost use Rattle.cast_text.specs.Text.{IsTold, Puts};
+ghost use Rattle.cast_live.specs.Live.{IsFinished, IsNewJob, AreNewJobs, items_of, IsOfRunning, IsRunOf, Summarizes};
+ghost use Rattle.cast_text.specs.Text.{Puts, Tells};
 ghost use Rattle.cast_live.specs.Replayed.{record_of_accepted, RecordsReplay};
 
 use crate::replay::{is_replayed, write_run_record};
@@ -36,17 +36,13 @@ pub fn live_text<R: Read, W: Write, T: Threads + Wait + Copy + Send + 'static>(
     reader: &mut Meter<R>,
     writer: &mut Meter<W>,
 ) -> Result<Summary, TextFault>
-    requires reader { reader.old.failed ≡ false }
-    requires writer { writer.old.failed ≡ false }
-    // The summary is that of a run of the script that was read, and the writer has its text and nothing else.
-    ensures ok { IfOk result (WritesSummary (R.remaining reader.old.inner)
-        (W.contents writer.old.inner) (W.contents writer.new.inner)) }
-    ensures err { IfErr result
-        (LiveFails (R.remaining reader.old.inner) reader.new.failed (W.contents writer.old.inner)
-        (W.contents writer.new.inner) writer.new.failed) }
+    requires { (reader.old.failed ≡ false) × (writer.old.failed ≡ false) }
+    // The summary is that of a run of the script that was read, and the writer has its text and nothing else, or a fault
+    // has its cause.
+    ensures exact { Summarizes (R.remaining reader.old.inner) reader.new.failed
+        (W.contents writer.old.inner) (W.contents writer.new.inner) writer.new.failed result }
     // What failed is told, and nothing else is.
-    ensures sound { OnOk result ((reader.new.failed ≡ false) × (writer.new.failed ≡ false)) }
-    ensures told { IfErr result (λ fault. IsTold fault reader.new.failed writer.new.failed) }
+    ensures told { Tells result reader.new.failed writer.new.failed }
 {
     let script = read_script_text(alloc, reader)?;
     let progress = Progress::shared(alloc, script.config.nodes())?;

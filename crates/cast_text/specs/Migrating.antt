@@ -1,10 +1,10 @@
 -- The bytes of a record, and the same with the new head.
-use Rattle.std.specs.Prelude.{◌≡◌, ◌<◌, ◌≤◌, List, ℕ, length, Bool, true, Option, IfSome}
+use Rattle.std.specs.Prelude.{◌≡◌, ◌≤◌, List, ℕ, length, Bool, true, Option, IfSome, Result, Ok, Err}
 use Rattle.std.specs.Io.KnownBytes.{Appends, Keeps}
 use Rattle.cast_record.specs.Migration.{IsMigrated, HasNoHead}
 use Rattle.cast_text.specs.declared.fault.TextFault.{TextFault}
 use Rattle.cast_text.specs.declared.fault.TextFault.TheVariants as faults
-use Rattle.cast_text.specs.Text.{input_limit, WroteFront}
+use Rattle.cast_text.specs.Text.{input_limit, IsOfInput, WroteFront}
 
 -- these are the bytes with their head changed, where they are known
 abbrev pub IsInputMigrated : Option (List ℕ) → List ℕ → Type 0
@@ -23,12 +23,9 @@ pub record MigratedBreaksOff (input old new : Option (List ℕ)) (failed : Bool)
   pub broken : failed ≡ true
   pub front : WroteFront old new migrated
 
--- Each fault has its cause, and nothing was written but where the writing broke off.
-abbrev pub MigratingFails : Option (List ℕ) → Bool → Option (List ℕ) → Option (List ℕ) → Bool → TextFault → Type 0
-MigratingFails input read_failed old new failed faults.Read = (read_failed ≡ true) × Keeps old new
-MigratingFails input read_failed old new failed faults.TooLong = IfSome input (λ bytes. input_limit < length bytes) × Keeps old new
-MigratingFails input read_failed old new failed faults.NotV1 = IfSome input (λ bytes. (length bytes ≤ input_limit) × HasNoHead bytes) × Keeps old new
-MigratingFails input read_failed old new failed faults.Write = MigratedBreaksOff input old new failed
-MigratingFails input read_failed old new failed faults.Memory = Keeps old new
-MigratingFails input read_failed old new failed (faults.Script fault) = ⊥
-MigratingFails input read_failed old new failed (faults.Live fault) = ⊥
+-- The text was written, or a fault has its cause, and nothing was written but where the writing broke off.
+abbrev pub Migrates : Option (List ℕ) → Bool → Option (List ℕ) → Option (List ℕ) → Bool → Result (Unit {0}) TextFault → Type 0
+Migrates input read_failed old new failed (Ok done) = WritesMigrated input old new
+Migrates input read_failed old new failed (Err faults.NotV1) = IfSome input (λ bytes. (length bytes ≤ input_limit) × HasNoHead bytes) × Keeps old new
+Migrates input read_failed old new failed (Err faults.Write) = MigratedBreaksOff input old new failed
+Migrates input read_failed old new failed (Err fault) = IsOfInput input read_failed fault × Keeps old new

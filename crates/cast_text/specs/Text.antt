@@ -63,38 +63,30 @@ pub record RecordBreaksOff (broken : TextFault) (input old new : Option (List �
   pub read : IsScriptIn input script
   pub breaks : BreaksOff broken old new failed (record_text (record_of script))
 
--- the faults of reading a script, each with its cause
+-- the faults of reading an input, each with its cause
+abbrev pub IsOfInput : Option (List ℕ) → Bool → TextFault → Type 0
+IsOfInput input read_failed faults.Read = read_failed ≡ true
+IsOfInput input read_failed faults.TooLong = IfSome input (λ bytes. input_limit < length bytes)
+IsOfInput input read_failed faults.Memory = Unit {0}
+IsOfInput input read_failed fault = ⊥
+
+-- the same of reading a script
 abbrev pub IsOfScript : Option (List ℕ) → Bool → TextFault → Type 0
-IsOfScript input read_failed faults.Read = read_failed ≡ true
-IsOfScript input read_failed faults.TooLong = IfSome input (λ bytes. input_limit < length bytes)
 IsOfScript input read_failed (faults.Script fault) = IfSome input (λ bytes. (length bytes ≤ input_limit) × Reads (Err fault) bytes)
-IsOfScript input read_failed faults.Memory = Unit {0}
-IsOfScript input read_failed fault = ⊥
+IsOfScript input read_failed fault = IsOfInput input read_failed fault
 
--- Each fault has its cause, and nothing was written but where the record broke off.
-abbrev pub Fails : Option (List ℕ) → Bool → Option (List ℕ) → Option (List ℕ) → Bool → TextFault → Type 0
-Fails input read_failed old new failed faults.Read = (read_failed ≡ true) × Keeps old new
-Fails input read_failed old new failed faults.TooLong = IfSome input (λ bytes. input_limit < length bytes) × Keeps old new
-Fails input read_failed old new failed (faults.Script fault) = IfSome input (λ bytes. (length bytes ≤ input_limit) × Reads (Err fault) bytes) × Keeps old new
-Fails input read_failed old new failed faults.Write = RecordBreaksOff faults.Write input old new failed
-Fails input read_failed old new failed faults.Memory = Keeps old new ⊎ RecordBreaksOff faults.Memory input old new failed
-Fails input read_failed old new failed faults.NotV1 = ⊥
-Fails input read_failed old new failed (faults.Live fault) = ⊥
+-- The record was written, or a fault has its cause, and nothing was written but where the record broke off.
+abbrev pub Records : Option (List ℕ) → Bool → Option (List ℕ) → Option (List ℕ) → Bool → Result (Unit {0}) TextFault → Type 0
+Records input read_failed old new failed (Ok done) = WritesRecord input old new
+Records input read_failed old new failed (Err faults.Write) = RecordBreaksOff faults.Write input old new failed
+Records input read_failed old new failed (Err faults.Memory) = Keeps old new ⊎ RecordBreaksOff faults.Memory input old new failed
+Records input read_failed old new failed (Err fault) = IsOfScript input read_failed fault × Keeps old new
 
--- A fault that is told names the stream that failed, and no other failed; want of memory is `Memory` alone.
-abbrev pub IsTold : TextFault → Bool → Bool → Type 0
-IsTold faults.Read read_failed write_failed = (read_failed ≡ true) × (write_failed ≡ false)
-IsTold faults.Write read_failed write_failed = (read_failed ≡ false) × (write_failed ≡ true)
-IsTold (faults.Script scripts.Memory) read_failed write_failed = ⊥
-IsTold (faults.Live lives.Memory) read_failed write_failed = ⊥
-IsTold fault read_failed write_failed = (read_failed ≡ false) × (write_failed ≡ false)
-
--- the faults of reading alone
-abbrev pub IsOfReading : TextFault → Type 0
-IsOfReading faults.Read = Unit {0}
-IsOfReading faults.TooLong = Unit {0}
-IsOfReading (faults.Script fault) = ⊥
-IsOfReading faults.Write = ⊥
-IsOfReading faults.Memory = Unit {0}
-IsOfReading faults.NotV1 = ⊥
-IsOfReading (faults.Live fault) = ⊥
+-- What failed is told, and nothing else is: a fault names the stream that failed, and no other did; want of memory is `Memory` alone.
+abbrev pub Tells : {T : Type 0} → Result T TextFault → Bool → Bool → Type 0
+Tells (Ok done) read_failed write_failed = (read_failed ≡ false) × (write_failed ≡ false)
+Tells (Err faults.Read) read_failed write_failed = (read_failed ≡ true) × (write_failed ≡ false)
+Tells (Err faults.Write) read_failed write_failed = (read_failed ≡ false) × (write_failed ≡ true)
+Tells (Err (faults.Script scripts.Memory)) read_failed write_failed = ⊥
+Tells (Err (faults.Live lives.Memory)) read_failed write_failed = ⊥
+Tells (Err fault) read_failed write_failed = (read_failed ≡ false) × (write_failed ≡ false)

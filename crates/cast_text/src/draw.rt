@@ -1,9 +1,9 @@
 //! Drawing the run of a script, as the world takes its events.
-ghost use Rattle.std.specs.Prelude.{◌≡◌, false, IfErr, IfOk, OnOk};
+ghost use Rattle.std.specs.Prelude.{◌≡◌, false, IfErr, IfOk};
 ghost use Rattle.cast_draw.specs.Sheet.{sheet_of};
 ghost use Rattle.cast_text.specs.Pictured.{sheet_of_script};
-ghost use Rattle.cast_text.specs.Drawing.{WritesDrawing, DrawingFails};
-ghost use Rattle.cast_text.specs.Text.{IsTold};
+ghost use Rattle.cast_text.specs.Drawing.{Draws};
+ghost use Rattle.cast_text.specs.Text.{Tells};
 
 use crate::fault::TextFault;
 use crate::play::{Observer, play};
@@ -24,16 +24,12 @@ pub fn draw_text<R: Read, W: Write>(
     reader: &mut Meter<R>,
     writer: &mut Meter<W>,
 ) -> Result<(), TextFault>
-    requires reader { reader.old.failed ≡ false }
-    requires writer { writer.old.failed ≡ false }
-    // The writer has the picture of the script that was read, and nothing else.
-    ensures ok { OnOk result (WritesDrawing window (R.remaining reader.old.inner)
-        (W.contents writer.old.inner) (W.contents writer.new.inner)) }
-    ensures err { IfErr result (DrawingFails window (R.remaining reader.old.inner) reader.new.failed
-        (W.contents writer.old.inner) (W.contents writer.new.inner) writer.new.failed) }
+    requires { (reader.old.failed ≡ false) × (writer.old.failed ≡ false) }
+    // The writer has the picture of the script that was read, and nothing else, or a fault has its cause.
+    ensures exact { Draws window (R.remaining reader.old.inner) reader.new.failed
+        (W.contents writer.old.inner) (W.contents writer.new.inner) writer.new.failed result }
     // What failed is told, and nothing else is.
-    ensures sound { OnOk result ((reader.new.failed ≡ false) × (writer.new.failed ≡ false)) }
-    ensures told { IfErr result (λ fault. IsTold fault reader.new.failed writer.new.failed) }
+    ensures told { Tells result reader.new.failed writer.new.failed }
 {
     let script = read_script_text(alloc, reader)?;
     let picture = draw_script(alloc, &script, window)?;

@@ -1,6 +1,6 @@
 //! Reading an input to its end, or to the byte past its limit.
-ghost use Rattle.std.specs.Prelude.{◌≡◌, ◌<◌, ◌≤◌, length, false, IfOk, OnOk, IfSome, IsErrOf, IfErr};
-ghost use Rattle.cast_text.specs.Text.{IsOfReading, IsTold};
+ghost use Rattle.std.specs.Prelude.{◌≡◌, ◌≤◌, length, false, IfOk, IfSome, IfErr};
+ghost use Rattle.cast_text.specs.Text.{IsOfInput, Tells};
 
 use crate::fault::TextFault;
 use cast_words::Meter;
@@ -19,11 +19,8 @@ pub fn read_input<R: Read>(alloc: Global, reader: &mut Meter<R>) -> Result<Vec<u
     ensures whole { IfOk result
         (λ v. IfSome (R.remaining reader.old.inner) (λ input. v.items ≡ input)) }
     ensures short { IfOk result (λ v. length v.items ≤ INPUT_LIMIT) }
-    ensures long { IsErrOf result TextFault.TooLong →
-        IfSome (R.remaining reader.old.inner) (λ input. INPUT_LIMIT < length input) }
-    ensures faults { IfErr result IsOfReading }
-    ensures sound { OnOk result (reader.new.failed ≡ false) }
-    ensures told { IfErr result (λ fault. IsTold fault reader.new.failed false) }
+    ensures err { IfErr result (IsOfInput (R.remaining reader.old.inner) reader.new.failed) }
+    ensures told { Tells result reader.new.failed false }
 {
     let mut bytes = Vec::new(alloc);
     let mut chunk = [0; PIECE];

@@ -1,7 +1,7 @@
 //! Judging the text of a record as it is read.
-ghost use Rattle.std.specs.Prelude.{◌≡◌, false, IfOk, IfErr, OnOk};
-ghost use Rattle.cast_text.specs.Judging.{JudgesInput, IsOfJudging, SaysVerdict, JudgingFails};
-ghost use Rattle.cast_text.specs.Text.{IsTold};
+ghost use Rattle.std.specs.Prelude.{◌≡◌, false, IfOk, IfErr};
+ghost use Rattle.cast_text.specs.Judging.{JudgesInput, Judges};
+ghost use Rattle.cast_text.specs.Text.{IsOfInput, Tells};
 
 use crate::fault::TextFault;
 use crate::input::{INPUT_LIMIT, PIECE};
@@ -19,17 +19,12 @@ pub fn judge_text<R: Read, W: Write>(
     reader: &mut Meter<R>,
     writer: &mut Meter<W>,
 ) -> Result<Verdict, TextFault>
-    requires reader { reader.old.failed ≡ false }
-    requires writer { writer.old.failed ≡ false }
-    // The verdict is that on the bytes, and the writer has its line and nothing else.
-    ensures ok { IfOk result (SaysVerdict (R.remaining reader.old.inner)
-        (W.contents writer.old.inner) (W.contents writer.new.inner)) }
-    ensures err { IfErr result
-        (JudgingFails (R.remaining reader.old.inner) reader.new.failed (W.contents writer.old.inner)
-        (W.contents writer.new.inner) writer.new.failed) }
+    requires { (reader.old.failed ≡ false) × (writer.old.failed ≡ false) }
+    // The verdict is that on the bytes, and the writer has its line and nothing else, or a fault has its cause.
+    ensures exact { Judges (R.remaining reader.old.inner) reader.new.failed
+        (W.contents writer.old.inner) (W.contents writer.new.inner) writer.new.failed result }
     // What failed is told, and nothing else is.
-    ensures sound { OnOk result ((reader.new.failed ≡ false) × (writer.new.failed ≡ false)) }
-    ensures told { IfErr result (λ fault. IsTold fault reader.new.failed writer.new.failed) }
+    ensures told { Tells result reader.new.failed writer.new.failed }
 {
     let verdict = judge_input(alloc, reader)?;
     write_verdict(verdict, writer)?;
@@ -40,9 +35,8 @@ pub fn judge_text<R: Read, W: Write>(
 fn judge_input<R: Read>(alloc: Global, reader: &mut Meter<R>) -> Result<Verdict, TextFault>
     requires { reader.old.failed ≡ false }
     ensures ok { IfOk result (JudgesInput (R.remaining reader.old.inner)) }
-    ensures err { IfErr result (IsOfJudging (R.remaining reader.old.inner) reader.new.failed) }
-    ensures sound { OnOk result (reader.new.failed ≡ false) }
-    ensures told { IfErr result (λ fault. IsTold fault reader.new.failed false) }
+    ensures err { IfErr result (IsOfInput (R.remaining reader.old.inner) reader.new.failed) }
+    ensures told { Tells result reader.new.failed false }
 {
     let mut judging = Judging::new(alloc);
     let mut chunk = [0; PIECE];

@@ -1,7 +1,7 @@
 //! Giving the text of an old record the new head.
-ghost use Rattle.std.specs.Prelude.{◌≡◌, false, OnOk, IfErr};
-ghost use Rattle.cast_text.specs.Migrating.{WritesMigrated, MigratingFails};
-ghost use Rattle.cast_text.specs.Text.{IsTold};
+ghost use Rattle.std.specs.Prelude.{◌≡◌, false};
+ghost use Rattle.cast_text.specs.Migrating.{Migrates};
+ghost use Rattle.cast_text.specs.Text.{Tells};
 
 use crate::fault::TextFault;
 use crate::input::read_input;
@@ -17,17 +17,12 @@ pub fn migrate_text<R: Read, W: Write>(
     reader: &mut Meter<R>,
     writer: &mut Meter<W>,
 ) -> Result<(), TextFault>
-    requires reader { reader.old.failed ≡ false }
-    requires writer { writer.old.failed ≡ false }
-    // The writer has the bytes with their head changed, and nothing else.
-    ensures ok { OnOk result (WritesMigrated (R.remaining reader.old.inner)
-        (W.contents writer.old.inner) (W.contents writer.new.inner)) }
-    ensures err { IfErr result
-        (MigratingFails (R.remaining reader.old.inner) reader.new.failed
-        (W.contents writer.old.inner) (W.contents writer.new.inner) writer.new.failed) }
+    requires { (reader.old.failed ≡ false) × (writer.old.failed ≡ false) }
+    // The writer has the bytes with their head changed, and nothing else, or a fault has its cause.
+    ensures exact { Migrates (R.remaining reader.old.inner) reader.new.failed
+        (W.contents writer.old.inner) (W.contents writer.new.inner) writer.new.failed result }
     // What failed is told, and nothing else is.
-    ensures sound { OnOk result ((reader.new.failed ≡ false) × (writer.new.failed ≡ false)) }
-    ensures told { IfErr result (λ fault. IsTold fault reader.new.failed writer.new.failed) }
+    ensures told { Tells result reader.new.failed writer.new.failed }
 {
     let input = read_input(alloc, reader)?;
     let migrated = match migrate(alloc, input.as_slice()) {

@@ -1,6 +1,6 @@
 //! From the bytes of a script to those of its record.
-ghost use Rattle.std.specs.Prelude.{◌≡◌, false, IfOk, IfErr, OnOk};
-ghost use Rattle.cast_text.specs.Text.{Fails, IsOfScript, IsScriptIn, IsTold, WritesRecord};
+ghost use Rattle.std.specs.Prelude.{◌≡◌, false, IfOk, IfErr};
+ghost use Rattle.cast_text.specs.Text.{IsOfScript, IsScriptIn, Records, Tells};
 
 use crate::fault::TextFault;
 use crate::input::read_input;
@@ -18,17 +18,12 @@ pub fn run_text<R: Read, W: Write>(
     reader: &mut Meter<R>,
     writer: &mut Meter<W>,
 ) -> Result<(), TextFault>
-    requires reader { reader.old.failed ≡ false }
-    requires writer { writer.old.failed ≡ false }
-    // The bytes are a script's, and the writer has its record, which is good, and nothing else.
-    ensures ok { OnOk result (WritesRecord (R.remaining reader.old.inner)
-        (W.contents writer.old.inner) (W.contents writer.new.inner)) }
-    ensures err { IfErr result
-        (Fails (R.remaining reader.old.inner) reader.new.failed (W.contents writer.old.inner)
-        (W.contents writer.new.inner) writer.new.failed) }
+    requires { (reader.old.failed ≡ false) × (writer.old.failed ≡ false) }
+    // The bytes are a script's, and the writer has its record, which is good, and nothing else, or a fault has its cause.
+    ensures exact { Records (R.remaining reader.old.inner) reader.new.failed
+        (W.contents writer.old.inner) (W.contents writer.new.inner) writer.new.failed result }
     // What failed is told, and nothing else is.
-    ensures sound { OnOk result ((reader.new.failed ≡ false) × (writer.new.failed ≡ false)) }
-    ensures told { IfErr result (λ fault. IsTold fault reader.new.failed writer.new.failed) }
+    ensures told { Tells result reader.new.failed writer.new.failed }
 {
     let script = read_script_text(alloc, reader)?;
     tell_ranges(script.events.as_slice());
@@ -40,8 +35,7 @@ pub fn read_script_text<R: Read>(alloc: Global, reader: &mut Meter<R>) -> Result
     requires { reader.old.failed ≡ false }
     ensures ok { IfOk result (IsScriptIn (R.remaining reader.old.inner)) }
     ensures err { IfErr result (IsOfScript (R.remaining reader.old.inner) reader.new.failed) }
-    ensures sound { OnOk result (reader.new.failed ≡ false) }
-    ensures told { IfErr result (λ fault. IsTold fault reader.new.failed false) }
+    ensures told { Tells result reader.new.failed false }
 {
     let input = read_input(alloc, reader)?;
     match read_script(alloc, input.as_slice()) {

@@ -33,8 +33,7 @@ impl TextCommand {
         reader: &mut Meter<R>,
         writer: &mut Meter<W>,
     ) -> Result<Verdict, TextFault>
-        requires reader { reader.old.failed ≡ false }
-        requires writer { writer.old.failed ≡ false }
+        requires { (reader.old.failed ≡ false) × (writer.old.failed ≡ false) }
     {
         match self {
             TextCommand::Run => run_text(alloc, reader, writer)?,

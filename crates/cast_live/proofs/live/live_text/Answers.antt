@@ -2,18 +2,18 @@ use Rattle.std.proofs.lemmas.Result.{err_from_is_err_and}
 use Rattle.cast_live.proofs.LiveLemmas.{run_fails, summary_done, summary_breaks}
 use Rattle.cast_live.proofs.live.live_text.Goals as goal
 
-pub returns-in_err-run-clause-err : goal.returns-in_err-run-clause-err
-returns-in_err-run-clause-err g c =
+pub returns-in_err-run-clause-exact : goal.returns-in_err-run-clause-exact
+returns-in_err-run-clause-exact g c =
     let p = err_from_is_err_and c.from_residual-in_err-run.result c.from_residual-in_err-run.ensures.1 in
     rw (p.1, p.2) (run_fails _ _ c.read_script_text.new.reader.failed c.args.writer.now.failed c.in_ok-script.script c.in_err-run.field-0.0 c.in_ok-script.ensures.ok c.in_err-run.ensures.err)
 
-pub returns-in_err-write_summary-clause-err : goal.returns-in_err-write_summary-clause-err
-returns-in_err-write_summary-clause-err g c =
+pub returns-in_err-write_summary-clause-exact : goal.returns-in_err-write_summary-clause-exact
+returns-in_err-write_summary-clause-exact g c =
     let p = err_from_is_err_and c.from_residual-in_err-write_summary.result c.from_residual-in_err-write_summary.ensures.1 in
     rw (p.1, p.2) (summary_breaks _ _ _ c.write_summary.new.writer.failed c.in_ok-script.script c.in_ok-run.run' c.in_ok-summary.summary c.in_ok-script.ensures.ok c.in_ok-run.ensures.config c.in_ok-run.ensures.ran c.in_ok-run.ensures.ok c.in_ok-summary.ensures
     c.in_err-write_summary.ensures)
 
-pub returns-clause-ok : goal.returns-clause-ok
-returns-clause-ok g c =
+pub returns-clause-exact : goal.returns-clause-exact
+returns-clause-exact g c =
     summary_done _ _ _ c.write_summary.new.writer.failed c.in_ok-script.script c.in_ok-run.run' c.in_ok-summary.summary c.in_ok-script.ensures.ok c.in_ok-run.ensures.config c.in_ok-run.ensures.ran c.in_ok-run.ensures.ok c.in_ok-summary.ensures
     c.in_ok-write_summary.ensures

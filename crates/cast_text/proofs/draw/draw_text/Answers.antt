@@ -4,14 +4,14 @@ use Rattle.cast_draw.specs.Page.{picture_text}
 use Rattle.cast_text.proofs.DrawingLemmas.{drawing_done, drawing_breaks}
 use Rattle.cast_text.proofs.draw.draw_text.Goals as goal
 
-pub returns-clause-ok : goal.returns-clause-ok
-returns-clause-ok g c =
+pub returns-clause-exact : goal.returns-clause-exact
+returns-clause-exact g c =
     let text = c.in_ok-drawing.ensures ∙ ap picture_text c.in_ok-picture.ensures.ok in
     drawing_done c.args.window (g.R.Read.remaining c.args.reader.now.inner) (g.W.Write.contents c.args.writer.now.inner) (g.W.Write.contents c.write_drawing.new.writer.inner) c.write_drawing.new.writer.failed
     c.in_ok-script.script c.in_ok-drawing.drawing c.in_ok-script.ensures.ok text c.in_ok-write_drawing.ensures
 
-pub returns-in_err-write_drawing-clause-err : goal.returns-in_err-write_drawing-clause-err
-returns-in_err-write_drawing-clause-err g c =
+pub returns-in_err-write_drawing-clause-exact : goal.returns-in_err-write_drawing-clause-exact
+returns-in_err-write_drawing-clause-exact g c =
     let p = err_from_is_err_and c.from_residual-in_err-write_drawing.result c.from_residual-in_err-write_drawing.ensures.1 in
     let text = c.in_ok-drawing.ensures ∙ ap picture_text c.in_ok-picture.ensures.ok in
     rw (p.1, p.2)

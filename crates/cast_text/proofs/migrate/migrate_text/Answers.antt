@@ -5,8 +5,8 @@ use Rattle.cast_words.specs.Written.{WrotePrefix}
 use Rattle.cast_text.proofs.MigratingLemmas.{input_migrated, migrated_breaks}
 use Rattle.cast_text.proofs.migrate.migrate_text.Goals as goal
 
-pub returns-in_err-write_bytes-clause-err : goal.returns-in_err-write_bytes-clause-err
-returns-in_err-write_bytes-clause-err g c =
+pub returns-in_err-write_bytes-clause-exact : goal.returns-in_err-write_bytes-clause-exact
+returns-in_err-write_bytes-clause-exact g c =
     let p = err_from_is_err_and c.from_residual-in_err-write_bytes.result c.from_residual-in_err-write_bytes.ensures.1 in
     let is = subst (λ (bytes : List ℕ). IsMigrated bytes c.in-Ok.migrated.items) c.as_slice.ensures.value c.in-Ok.ensures.exact in
     let read = input_migrated (g.R.Read.remaining c.args.reader.now.inner) c.in_ok-input.input.items c.in-Ok.migrated.items c.in_ok-input.ensures.whole c.in_ok-input.ensures.short is in
