@@ -26,51 +26,42 @@ pub struct Flaw<'a> {
 
 /// What is wrong with the value as an event.
 pub fn event_flaw(value: &Value) -> Flaw<'_> {
-    let expected = EVENT;
-    flaw_in_event(value).unwrap_or(Flaw { value, expected })
-}
-
-fn flaw_in_event(value: &Value) -> Option<Flaw<'_>> {
-    let (name, places) = name_and_places(value)?;
-    match name {
-        "order" => order_flaw(value, places),
-        "send" => link_flaw(value, places, "[\"send\",FROM,TO,SLOT]"),
-        "ack" => link_flaw(value, places, "[\"ack\",FROM,TO,SLOT]"),
-        "arrive" => count_flaw(value, places, "[\"arrive\",FROM,SEQ]"),
-        "crash" => crash_flaw(value, places),
-        "settle" => unless(places.is_empty(), value, "[\"settle\"]"),
+    let flaw = match name_and_places(value) {
+        Some(("order", places)) => order_flaw(value, places),
+        Some(("send", places)) => link_flaw(value, places, "[\"send\",FROM,TO,SLOT]"),
+        Some(("ack", places)) => link_flaw(value, places, "[\"ack\",FROM,TO,SLOT]"),
+        Some(("arrive", places)) => count_flaw(value, places, "[\"arrive\",FROM,SEQ]"),
+        Some(("crash", places)) => crash_flaw(value, places),
+        Some(("settle", places)) => unless(places.is_empty(), value, "[\"settle\"]"),
         _ => None,
-    }
+    };
+    let expected = EVENT;
+    flaw.unwrap_or(Flaw { value, expected })
 }
 
 /// What is wrong with the value as a fault of a plan.
 pub fn fault_flaw(value: &Value) -> Flaw<'_> {
-    let expected = FAULT;
-    flaw_in_fault(value).unwrap_or(Flaw { value, expected })
-}
-
-fn flaw_in_fault(value: &Value) -> Option<Flaw<'_>> {
-    let (name, places) = name_and_places(value)?;
-    match name {
-        "lose" => frames_flaw(value, places, "[\"lose\",KIND,FROM,TO,FIRST,STEP]"),
-        "repeat" => frames_flaw(value, places, "[\"repeat\",KIND,FROM,TO,FIRST,STEP]"),
-        "delay" => delay_flaw(value, places),
-        "crash" => count_flaw(value, places, "[\"crash\",NODE,ENTRIES]"),
+    let flaw = match name_and_places(value) {
+        Some(("lose", places)) => frames_flaw(value, places, "[\"lose\",KIND,FROM,TO,FIRST,STEP]"),
+        Some(("repeat", places)) => {
+            frames_flaw(value, places, "[\"repeat\",KIND,FROM,TO,FIRST,STEP]")
+        }
+        Some(("delay", places)) => delay_flaw(value, places),
+        Some(("crash", places)) => count_flaw(value, places, "[\"crash\",NODE,ENTRIES]"),
         _ => None,
-    }
+    };
+    let expected = FAULT;
+    flaw.unwrap_or(Flaw { value, expected })
 }
 
 /// What is wrong with the value as a job.
 pub fn job_flaw(value: &Value) -> Flaw<'_> {
-    let expected = "a job: [NODE,[[ITEM..],[ITEM..],..]]";
-    flaw_in_job(value).unwrap_or(Flaw { value, expected })
-}
-
-fn flaw_in_job(value: &Value) -> Option<Flaw<'_>> {
-    let [node, items] = places(value)? else {
-        return None;
+    let flaw = match places(value) {
+        Some([node, items]) => not_node(node).or(items_flaw(items)),
+        _ => None,
     };
-    not_node(node).or(items_flaw(items))
+    let expected = "a job: [NODE,[[ITEM..],[ITEM..],..]]";
+    flaw.unwrap_or(Flaw { value, expected })
 }
 
 fn places(value: &Value) -> Option<&[Value]> {
