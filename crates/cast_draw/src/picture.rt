@@ -8,7 +8,9 @@ use crate::frames::{Cargo, Column, Fate, MadeFrame, MadeFrames};
 use crate::ink::Ink;
 use crate::links::{Links, Pair};
 use crate::marks::{put_arrow, put_broadcast, put_crash, put_ground, put_refusal};
-use crate::rows::{add_frame, arrive, count, end_line, given, hold, hold_cargo, new_links, new_made};
+use crate::rows::{
+    add_frame, arrive, count, end_line, given, hold, hold_cargo, new_links, new_made,
+};
 use crate::window::Window;
 use cast_message::{Answer, Config, Event, Item, NodeId, Outcome, Reply, StepFault};
 use std::alloc::{AllocError, Global};

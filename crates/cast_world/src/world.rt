@@ -11,6 +11,7 @@ ghost use Rattle.cast_node.specs.Calls.{number_reply, silent_reply};
 ghost use Rattle.cast_world.specs.Moves.{IsSilent, MakesFrame, StepsTo, TakesStep};
 
 use crate::frames::{self, Mark};
+use cast_message::FrameKind::{Carry, Took};
 use cast_message::{Answer, Config, Event, FrameKind, Item, NodeId, Reply, StepFault};
 use cast_node::{Node, no_news};
 use std::alloc::{AllocError, Global};
@@ -80,8 +81,8 @@ impl World {
     {
         match event {
             Event::Order { node, item } => self.order(*node, item),
-            Event::Send { from, to, slot } => sent(self.make(FrameKind::Carry, *from, *to, *slot)),
-            Event::Ack { from, to, slot } => sent(self.make(FrameKind::Took, *from, *to, *slot)),
+            Event::Send { from, to, slot } => sent(self.make(Carry, *from, *to, *slot)),
+            Event::Ack { from, to, slot } => sent(self.make(Took, *from, *to, *slot)),
             Event::Arrive { from, seq } => self.arrive(*from, *seq),
             Event::Crash { node } => self.crash(*node),
         }
@@ -96,8 +97,8 @@ impl World {
         ensures not { IsFalse result → self.new ≡ self.old }
     {
         match event {
-            Event::Send { from, to, slot } => self.make(FrameKind::Carry, *from, *to, *slot).is_ok(),
-            Event::Ack { from, to, slot } => self.make(FrameKind::Took, *from, *to, *slot).is_ok(),
+            Event::Send { from, to, slot } => self.make(Carry, *from, *to, *slot).is_ok(),
+            Event::Ack { from, to, slot } => self.make(Took, *from, *to, *slot).is_ok(),
             Event::Arrive { from, seq } => self.arrive_silently(*from, *seq).is_some(),
             Event::Order { .. } | Event::Crash { .. } => false,
         }
