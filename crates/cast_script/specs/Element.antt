@@ -47,6 +47,14 @@ abbrev pub by_name : {A : Type 0} → (List ℕ → List Data → Option A) → 
 by_name read [] = None
 by_name read (word ∷ ds) = option_and_then (λ name. read name ds) (as_str word)
 
+-- what two places, each read so, are together
+abbrev pub both : {A B C : Type 0} → (Data → Option A) → (Data → Option B) → (A → B → C) → List Data → Option C
+both first second make (d ∷ e ∷ []) = do
+  a ← first d
+  b ← second e
+  Some (make a b)
+both first second make _ = None
+
 -- ---- items
 
 abbrev pub data_of : List Data → Option Item
@@ -54,11 +62,7 @@ data_of (digits ∷ []) = option_map Bytes (option_and_then unhex (as_str digits
 data_of _ = None
 
 abbrev pub proposal_of : List Data → Option Item
-proposal_of (j ∷ v ∷ []) = do
-  instance ← number_of j
-  value ← number_of v
-  Some (Propose instance value)
-proposal_of _ = None
+proposal_of ds = both number_of number_of Propose ds
 
 abbrev pub close_of : List Data → Option Item
 close_of [] = Some Close
@@ -95,11 +99,7 @@ abbrev pub ack_of : List Data → Option ScriptEvent
 ack_of ds = option_map (λ place. Core (Ack place.from place.to place.slot)) (link_slot_of ds)
 
 abbrev pub arrive_of : List Data → Option ScriptEvent
-arrive_of (p ∷ s ∷ []) = do
-  from ← node_of p
-  seq ← number_of s
-  Some (Core (Arrive from seq))
-arrive_of _ = None
+arrive_of ds = both node_of number_of (λ from seq. Core (Arrive from seq)) ds
 
 abbrev pub crash_of : List Data → Option ScriptEvent
 crash_of (p ∷ []) = do
@@ -135,36 +135,31 @@ abbrev pub kind_of : Data → Option FrameKind
 kind_of d = option_and_then kind_named (as_str d)
 
 -- what befalls the frames that these places name
-abbrev pub befalls : {A : Type 0} → (FrameKind → ℕ → ℕ → ℕ → ℕ → A) → Data → Data → Data → Data → Data → Option A
-befalls fault k p q o m = do
+abbrev pub befalls : {A : Type 0} → (FrameKind → ℕ → ℕ → ℕ → ℕ → A) → List Data → Option A
+befalls fault (k ∷ p ∷ q ∷ o ∷ m ∷ []) = do
   kind ← kind_of k
   from ← node_of p
   to ← node_of q
   first ← number_of o
   step ← number_of m
   Some (fault kind from to first step)
+befalls fault _ = None
 
 abbrev pub lose_of : List Data → Option Fault
-lose_of (k ∷ p ∷ q ∷ o ∷ m ∷ []) = befalls Lose k p q o m
-lose_of _ = None
+lose_of ds = befalls Lose ds
 
 abbrev pub repeat_of : List Data → Option Fault
-repeat_of (k ∷ p ∷ q ∷ o ∷ m ∷ []) = befalls Repeat k p q o m
-repeat_of _ = None
+repeat_of ds = befalls Repeat ds
 
 abbrev pub delay_of : List Data → Option Fault
 delay_of (k ∷ p ∷ q ∷ o ∷ m ∷ c ∷ []) = do
-  delay ← befalls {A = ℕ → Fault} Delay k p q o m
+  delay ← befalls {A = ℕ → Fault} Delay (k ∷ p ∷ q ∷ o ∷ m ∷ [])
   count ← number_of c
   Some (delay count)
 delay_of _ = None
 
 abbrev pub engine_crash_of : List Data → Option Fault
-engine_crash_of (p ∷ e ∷ []) = do
-  node ← node_of p
-  entries ← number_of e
-  Some (Crash node entries)
-engine_crash_of _ = None
+engine_crash_of ds = both node_of number_of Crash ds
 
 abbrev pub fault_named : List ℕ → List Data → Option Fault
 fault_named name ds =
