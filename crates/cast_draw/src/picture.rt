@@ -8,9 +8,7 @@ use crate::frames::{Cargo, Column, Fate, MadeFrame, MadeFrames};
 use crate::ink::Ink;
 use crate::links::{Links, Pair};
 use crate::marks::{put_arrow, put_broadcast, put_crash, put_ground, put_refusal};
-use crate::rows::{
-    add_frame, arrive, count, end_line, given, hold, hold_cargo, new_links, new_made,
-};
+use crate::rows::{add_frame, arrive, count, end_line, given, hold, new_links, new_made};
 use crate::window::Window;
 use cast_message::{Answer, Config, Event, Item, NodeId, Outcome, Reply, StepFault};
 use std::alloc::{AllocError, Global};
@@ -140,7 +138,7 @@ impl Picture {
             sender: node,
             number,
         };
-        hold(&mut self.links, node, pair, node)?;
+        hold(&mut self.links, node, Cargo::Message(pair), node)?;
         if !self.window.shows(index) {
             return Ok(());
         }
@@ -212,7 +210,7 @@ impl Picture {
         let Some(frame) = arrive(&mut self.made, from, seq, is_shown) else {
             return Ok(());
         };
-        hold_cargo(&mut self.links, node, frame.cargo, from)?;
+        hold(&mut self.links, node, frame.cargo, from)?;
         if !is_shown {
             return Ok(());
         }

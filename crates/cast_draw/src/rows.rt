@@ -3,7 +3,7 @@ ghost use Rattle.std.specs.Prelude.{◌≡◌, ◌++◌, ◌∷◌, [], ◌≤�
 ghost use Rattle.std.specs.List.{range_with_len};
 ghost use Rattle.cast_draw.specs.Gifts.{nothing_given, slot_of};
 ghost use Rattle.cast_draw.specs.MadeFrames.{with_arrival};
-ghost use Rattle.cast_draw.specs.Drawn.{gifts_at, held_at, held_of_cargo, made_at};
+ghost use Rattle.cast_draw.specs.Drawn.{gifts_at, held_of_cargo, made_at};
 
 use crate::frames::{Cargo, MadeFrame, MadeFrames};
 use crate::links::{Links, Pair};
@@ -34,35 +34,23 @@ pub fn new_made(alloc: Global, nodes: u64) -> Result<Vec<MadeFrames>, AllocError
     Ok(made)
 }
 
-/// A node holds a message that came from this one. What is no node holds none.
+/// A node holds what came from this one. What is no node holds nothing.
 pub fn hold(
     links: &mut Vec<Links>,
     node: NodeId,
-    pair: Pair,
+    cargo: Cargo,
     source: NodeId,
 ) -> Result<(), AllocError>
-    ensures { OnOk result (links.new.items ≡ held_at links.old.items node pair source) }
+    ensures { OnOk result (links.new.items ≡ held_of_cargo links.old.items node cargo source) }
 {
+    let Cargo::Message(pair) = cargo else {
+        return Ok(());
+    };
     let place = usize::from(node.0);
     if place >= links.len() {
         return Ok(());
     }
     links[place].hold(pair, source)
-}
-
-/// A node holds what a frame from this one carries.
-pub fn hold_cargo(
-    links: &mut Vec<Links>,
-    node: NodeId,
-    cargo: Cargo,
-    from: NodeId,
-) -> Result<(), AllocError>
-    ensures { OnOk result (links.new.items ≡ held_of_cargo links.old.items node cargo from) }
-{
-    match cargo {
-        Cargo::Message(pair) => hold(links, node, pair, from),
-        Cargo::Word => Ok(()),
-    }
 }
 
 /// What stands in a slot of what a node gives another.
