@@ -4,7 +4,6 @@
 
 mod cell;
 mod deeds;
-mod fault;
 mod frames;
 mod height;
 mod ink;
@@ -18,7 +17,6 @@ mod side;
 mod style;
 mod window;
 
-pub use fault::DrawFault;
 pub use page::{Drawing, write_drawing};
 pub use picture::Picture;
 pub use window::Window;

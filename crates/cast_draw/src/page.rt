@@ -4,7 +4,6 @@ ghost use Rattle.cast_draw.specs.Page.{caption, head_text, life_text, lifeline_t
 ghost use Rattle.cast_words.specs.Written.{Puts};
 
 use crate::cell::{LINES_FROM, Spot};
-use crate::fault::DrawFault;
 use crate::frames::{Fate, MadeFrame, MadeFrames};
 use crate::height::height_of;
 use crate::ink::Ink;
@@ -47,7 +46,7 @@ impl Picture {
     ghost use Rattle.cast_draw.specs.Page.{picture_text};
 
     /// The picture of what was taken.
-    pub fn finish(self) -> Result<Drawing, DrawFault>
+    pub fn finish(self) -> Result<Drawing, AllocError>
         ensures { IfOk result (λ drawing. drawing ≡ picture_text (sheet_of self)) }
     {
         let mut front = Ink::new(self.alloc);

@@ -3,7 +3,6 @@ ghost use Rattle.std.specs.Prelude.{◌≡◌, ◌<◌, ◌≤◌, ◌^◌};
 
 use crate::cell::{FARTHEST, FIRST_COLUMN, LINES_FROM, NARROW, Spot};
 use crate::deeds::{put_deeds, width_of};
-use crate::fault::DrawFault;
 use crate::frames::{Cargo, Column, Fate, MadeFrame, MadeFrames};
 use crate::ink::Ink;
 use crate::links::{Links, Pair};
@@ -46,7 +45,7 @@ impl Picture {
     ghost use Rattle.cast_draw.specs.Drawn.{answered, arrived, crashed, drawn_after, gifts_at, made_at, ordered, refused, sent, sent_slot, settle_begun, settle_ended, with_outcome};
 
     /// The picture of a group in which nothing has happened.
-    pub fn new(alloc: Global, config: &Config, window: Window) -> Result<Picture, DrawFault>
+    pub fn new(alloc: Global, config: &Config, window: Window) -> Result<Picture, AllocError>
         ensures { IfOk result (λ picture. sheet_of picture ≡ blank config.now window) }
     {
         let nodes = config.nodes();
@@ -66,8 +65,8 @@ impl Picture {
     }
 
     /// Takes an event, which has this place in its script, and the reply to it. A reply that is not one to the event leaves
-    /// nothing.
-    pub fn take(&mut self, index: u64, event: &Event, reply: &Reply) -> Result<(), DrawFault>
+    /// nothing. A picture of more than 2^40 points in width finds no memory.
+    pub fn take(&mut self, index: u64, event: &Event, reply: &Reply) -> Result<(), AllocError>
         ensures { OnOk result (sheet_of self.new
             ≡ drawn_after (sheet_of self.old) index event.now reply.now) }
     {
@@ -86,7 +85,7 @@ impl Picture {
     }
 
     /// The settle that began last, which has this place in its script, is over.
-    pub fn end_settle(&mut self, index: u64) -> Result<(), DrawFault>
+    pub fn end_settle(&mut self, index: u64) -> Result<(), AllocError>
         ensures { OnOk result (sheet_of self.new ≡ settle_ended (sheet_of self.old) index) }
     {
         if !self.window.shows(index) {

@@ -8,7 +8,7 @@ ghost use Rattle.cast_text.specs.Text.{Tells};
 use crate::fault::TextFault;
 use crate::play::{Observer, play};
 use crate::text::read_script_text;
-use cast_draw::{DrawFault, Picture, Window, write_drawing};
+use cast_draw::{Picture, Window, write_drawing};
 use cast_message::{Event, Reply};
 use cast_script::Script;
 use cast_words::Meter;
@@ -36,19 +36,6 @@ pub fn draw_text<R: Read, W: Write>(
     let drawing = picture.finish()?;
     write_drawing(&drawing, writer)?;
     Ok(())
-}
-
-impl From<DrawFault> for TextFault {
-    ghost use Rattle.std.specs.Prelude.{◌≡◌};
-    ghost use Rattle.cast_text.specs.declared.fault.TextFault.TheVariants.{Memory};
-
-    ghost from_gives = { λ _ fault. fault ≡ Memory };
-
-    fn from(why: DrawFault) -> TextFault {
-        match why {
-            DrawFault::Memory => TextFault::Memory,
-        }
-    }
 }
 
 // The picture of all events of the script.
