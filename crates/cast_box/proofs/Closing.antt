@@ -1,6 +1,7 @@
--- Ends in lists, and what the last steps on a box tell.
-use Rattle.std.proofs.Common.{◌≡◌, ℕ, zero, suc, List, [], ◌∷◌, ◌++◌, ◌<◌, ◌≤◌, length, slice_get, Some, None, Option, OnSome, MatchOption, sym, refl, ap, ◌∙◌, subst, ◌⊎◌, inl, inr, ⊎_elim, arith}
+-- Places in lists, and what the last steps on a box tell.
+use Rattle.std.proofs.Common.{◌≡◌, ℕ, zero, suc, List, [], ◌∷◌, ◌++◌, ◌<◌, ◌≤◌, length, map, slice_get, Some, None, Option, option_map, OnSome, MatchOption, sym, refl, ap, ◌∙◌, subst, ◌⊎◌, inl, inr, ⊎_elim, arith}
 use Rattle.std.proofs.lemmas.List.{append-nil, length-append}
+use Rattle.std.proofs.lemmas.Option.{slice_get-map, slice_get_within}
 use Rattle.crossbeam_queue.specs.Fifo.{Held}
 use Rattle.cast_box.specs.declared.rule.Known.{Known}
 use Rattle.cast_box.specs.Lists.{of, put_by, IsFair, HasOwn, HasTakenOfEnded}
@@ -19,6 +20,22 @@ module _ {A : Type 0} where
   get_middle [] x ys = refl
   get_middle (y ∷ xs) x ys = get_middle xs x ys
 
+  pub found : (xs : List A) (a : ℕ) → a < length xs → (x : A) × (slice_get xs a ≡ Some x)
+  found [] a h = absurd (omega arith)
+  found (x ∷ xs) zero h = (x, refl)
+  found (x ∷ xs) (suc a) h = found xs a (omega arith)
+
+  pub map_at : {B : Type 0} (f : A → B) (xs : List A) (i : ℕ) (x : A) → slice_get xs i ≡ Some x → slice_get (map f xs) i ≡ Some (f x)
+  map_at f xs i x e = slice_get-map f xs i ∙ ap (option_map f) e
+
+  -- what holds of each element holds with one element more
+  pub each_more : (P : ℕ → A → Type 0) (xs : List A) (x : A) → ((i : ℕ) (a : A) → slice_get xs i ≡ Some a → P i a) → P (length xs) x
+      → (i : ℕ) (a : A) → slice_get (xs ++ x ∷ []) i ≡ Some a → P i a
+  each_more P xs x each last i a at =
+      ⊎_elim (λ (t : slice_get xs i ≡ Some a). each i a t)
+      (λ (t : (i ≡ length xs) × (x ≡ a)). subst (λ z. P i z) t.1 (subst (λ n. P n x) (sym t.0) last))
+      (get_snoc xs x a i at)
+
   pub no_length : (xs : List A) → length xs ≡ 0 → xs ≡ []
   no_length [] e = refl
   no_length (x ∷ xs) e = absurd (omega arith)
@@ -26,6 +43,18 @@ module _ {A : Type 0} where
   pub on_some : (o : Option A) (x : A) (P : Type 0) → o ≡ Some x → OnSome o P → P
   on_some (Some y) x P e h = h
   on_some None x P e h = absurd cc
+
+pub both_more : {A B : Type 0} (P : ℕ → A → B → Type 0) (xs : List A) (ys : List B) (x : A) (y : B) → length xs ≡ length ys
+    → ((i : ℕ) (a : A) (b : B) → slice_get xs i ≡ Some a → slice_get ys i ≡ Some b → P i a b) → P (length xs) x y
+    → (i : ℕ) (a : A) (b : B) → slice_get (xs ++ x ∷ []) i ≡ Some a → slice_get (ys ++ y ∷ []) i ≡ Some b → P i a b
+both_more P xs ys x y same each last i a b at bt =
+    ⊎_elim
+    (λ (t : slice_get xs i ≡ Some a). ⊎_elim (λ (u : slice_get ys i ≡ Some b). each i a b t u)
+    (λ (u : (i ≡ length ys) × (y ≡ b)). absurd (let k = slice_get_within xs i a t in let w = u.0 in omega arith)) (get_snoc ys y b i bt))
+    (λ (t : (i ≡ length xs) × (x ≡ a)). ⊎_elim (λ (u : slice_get ys i ≡ Some b). absurd (let k = slice_get_within ys i b u in let w = t.0 in omega arith))
+    (λ (u : (i ≡ length ys) × (y ≡ b)). subst (λ z. P i a z) u.1 (subst (λ z. P i z y) t.1 (subst (λ n. P n x y) (sym t.0) last)))
+    (get_snoc ys y b i bt))
+    (get_snoc xs x a i at)
 
 module _ {T : Type 0} where
   -- what the closing pop tells, with none and with an item

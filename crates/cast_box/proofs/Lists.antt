@@ -12,8 +12,11 @@ module _ {T : Type 0} where
         | false ↦ of-append a ms ys
       ]
 
+  pub of_mine : (m : ℕ × T) (ms : List (ℕ × T)) → of m.0 (m ∷ ms) ≡ m.1 ∷ of m.0 ms
+  of_mine m ms = ap (λ b. cond b (m.1 ∷ of m.0 ms) (of m.0 ms)) (eq-eqb m.0 m.0 refl)
+
   pub of_same : (a : ℕ) (x : T) → of a ((a, x) ∷ []) ≡ x ∷ []
-  of_same a x = ap (λ b. cond b (x ∷ []) []) (eq-eqb a a refl)
+  of_same a x = of_mine (a, x) []
 
   pub of_other : (a b : ℕ) (x : T) → a ≢ b → of a ((b, x) ∷ []) ≡ []
   of_other a b x n = ap (λ t. cond t (x ∷ []) []) (ne_eqb a b n)
@@ -22,9 +25,6 @@ module _ {T : Type 0} where
   put_by_past [] a h = refl
   put_by_past (l ∷ ls) zero h = absurd (omega arith)
   put_by_past (l ∷ ls) (suc a) h = put_by_past ls a (omega arith)
-
-  of_mine : (m : ℕ × T) (ms : List (ℕ × T)) → of m.0 (m ∷ ms) ≡ m.1 ∷ of m.0 ms
-  of_mine m ms = ap (λ b. cond b (m.1 ∷ of m.0 ms) (of m.0 ms)) (eq-eqb m.0 m.0 refl)
 
   -- where all items are of putter 0, they are its items
   pub sole_items : (ms : List (ℕ × T)) → ((a : ℕ) → 1 ≤ a → of a ms ≡ []) → map (λ m. m.1) ms ≡ of 0 ms

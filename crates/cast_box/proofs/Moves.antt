@@ -11,7 +11,7 @@ use Rattle.cast_box.specs.declared.rule.Known.{Known}
 use Rattle.cast_box.specs.declared.rule.Role.TheVariants.{Putting, Taking, Gathering, Ended}
 use Rattle.cast_box.specs.Lists.{of, put_by}
 use Rattle.cast_box.specs.Rule.{Ruled, Fits, IsPutter, IsTaker, IsGatherer, putter, taker, gatherer, spent, Puts, Takes, Closes, Empties, ShowsPutter, ShowsEnded, ShowsAll, ShowsLeft}
-use Rattle.cast_box.proofs.Lists.{of-append, of_same, of_other, put_by_past, all_below}
+use Rattle.cast_box.proofs.Lists.{of-append, of_mine, of_same, of_other, put_by_past, all_below}
 
 -- the seats with seat b changed
 seat_with : (ℕ → Option ℕ) → ℕ → Option ℕ → ℕ → Option ℕ
@@ -196,7 +196,7 @@ module _ {T : Type 0} where
 
   -- an item in the middle stands among its putter's items
   brought : (xs : List (ℕ × T)) (m : ℕ × T) (ys : List (ℕ × T)) → of m.0 (xs ++ m ∷ ys) ≡ of m.0 xs ++ m.1 ∷ of m.0 ys
-  brought xs m ys = of-append m.0 xs (m ∷ ys) ∙ ap (λ l. of m.0 xs ++ l) (of-append m.0 (m ∷ []) ys ∙ ap (λ l. l ++ of m.0 ys) (of_same m.0 m.1))
+  brought xs m ys = of-append m.0 xs (m ∷ ys) ∙ ap (λ l. of m.0 xs ++ l) (of_mine m ys)
 
   pub shows_putter : (pass : ℕ) (v : Known T) → v.role ≡ Putting → Learns Ruled pass v (ShowsPutter v)
   shows_putter pass v may items views h at =

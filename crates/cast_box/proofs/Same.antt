@@ -1,15 +1,16 @@
 -- Ends that were used are still the ends of their box.
-use Rattle.std.proofs.Common.{◌≡◌, ℕ, zero, suc, List, [], ◌∷◌, slice_get, slice_set, Some, sym, refl, ap, ◌∙◌, subst, ◌⊎◌, inl, inr, ⊎_elim}
+use Rattle.std.proofs.Common.{◌≡◌, ◌≢◌, ℕ, zero, suc, List, [], ◌∷◌, slice_get, slice_set, Some, sym, refl, ap, ◌∙◌, subst, ◌⊎◌, inl, inr, ⊎_elim, arith}
 use Rattle.std.proofs.lemmas.List.{length-set}
 use Rattle.cast_box.specs.Ends.{PutterEnd, TakerEnd, IsSamePutter, IsSameTaker, AreSamePutters, AreAllEnds}
 
 -- what stands in a list after one place was written
-pub get_set : {A : Type 0} (xs : List A) (i j : ℕ) (a x : A) → slice_get (slice_set xs i a) j ≡ Some x → ((j ≡ i) × (a ≡ x)) ⊎ (slice_get xs j ≡ Some x)
-get_set [] i j a x e = inr e
+pub get_set : {A : Type 0} (xs : List A) (i j : ℕ) (a x : A) → slice_get (slice_set xs i a) j ≡ Some x → ((j ≡ i) × (a ≡ x)) ⊎ ((j ≢ i) × (slice_get xs j ≡ Some x))
+get_set [] i j a x e = absurd cc
 get_set (y ∷ ys) zero zero a x e = inl (refl, cc)
-get_set (y ∷ ys) zero (suc j) a x e = inr e
-get_set (y ∷ ys) (suc i) zero a x e = inr e
-get_set {A = A} (y ∷ ys) (suc i) (suc j) a x e = ⊎_elim (λ (t : (j ≡ i) × (a ≡ x)). inl (ap suc t.0, t.1)) (λ t. inr t) (get_set ys i j a x e)
+get_set (y ∷ ys) zero (suc j) a x e = inr ((λ h. omega arith), e)
+get_set (y ∷ ys) (suc i) zero a x e = inr ((λ h. omega arith), e)
+get_set {A = A} (y ∷ ys) (suc i) (suc j) a x e =
+    ⊎_elim (λ (t : (j ≡ i) × (a ≡ x)). inl (ap suc t.0, t.1)) (λ (t : (j ≢ i) × (slice_get ys j ≡ Some x)). let n = t.0 in inr ((λ h. n (omega arith)), t.1)) (get_set ys i j a x e)
 
 module _ {T : Type 0} where
   pub taker_same : (t : TakerEnd T) → IsSameTaker t t
@@ -37,7 +38,7 @@ module _ {T : Type 0} where
     λ a p at. ⊎_elim
         (λ (t : (a ≡ i) × (new ≡ p)). let P : PutterEnd T → Type 0 = λ z. (o : PutterEnd T) × (slice_get ps a ≡ Some o) × IsSamePutter o z in
         subst P t.1 (old, ap (slice_get ps) t.0 ∙ was, same))
-        (λ (t : slice_get ps a ≡ Some p). (p, t, (refl, refl, refl, refl))) (get_set ps i a new p at),
+        (λ (t : (a ≢ i) × (slice_get ps a ≡ Some p)). (p, t.1, (refl, refl, refl, refl))) (get_set ps i a new p at),
   )
 
   pub ends_same : (ps qs : List (PutterEnd T)) (t u : TakerEnd T) → AreSamePutters ps qs → IsSameTaker t u → AreAllEnds ps t → AreAllEnds qs u

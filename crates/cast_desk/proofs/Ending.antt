@@ -1,14 +1,12 @@
 -- Boxes of clients that are ended one by one.
-use Rattle.std.proofs.Common.{◌≡◌, ℕ, zero, suc, ◌+◌, List, [], ◌∷◌, ◌++◌, length, map, slice_get, Some, sym, refl, ap, ◌∙◌, subst, ⊎_elim, arith}
+use Rattle.std.proofs.Common.{◌≡◌, ℕ, zero, suc, ◌+◌, List, [], ◌∷◌, ◌++◌, length, map, slice_get, Some, sym, refl, ap, ◌∙◌, arith}
 use Rattle.std.proofs.lemmas.List.{length-map, length-append, map-append, append_assoc, append-nil}
-use Rattle.std.proofs.lemmas.Option.{slice_get_within}
-use Rattle.cast_box.proofs.Closing.{get_snoc, get_middle, no_length}
+use Rattle.cast_box.proofs.Closing.{get_middle, no_length, map_at, both_more}
 use Rattle.cast_box.specs.Lists.{of, put_by, IsFair, StartsWith}
 use Rattle.cast_box.specs.Ends.{PutterEnd, TakerEnd, AreAllEnds, IsNextToEnd, HaveAllEnded}
 use Rattle.cast_desk.specs.declared.desk.OrderIn.{OrderIn}
 use Rattle.cast_desk.specs.declared.notice.Notice.{Notice}
 use Rattle.cast_desk.specs.Desk.{ClientState, IsDeskOf}
-use Rattle.cast_desk.proofs.Making.{map_at}
 
 abbrev pub puts : List ClientState → List (List OrderIn)
 puts cs = map (λ (c : ClientState). c.orders.put) cs
@@ -84,16 +82,7 @@ module _ (all : List ClientState) (orders : TakerEnd OrderIn) (trays : List (Put
               trays_are = e.trays_are ∙ ap (λ l. e.front ++ l) k ∙ sym (append_assoc e.front (t ∷ []) more');
               as_many = length-append e.front (t ∷ []) ∙ ap (λ m. m + 1) e.as_many ∙ sym (length-append seen (c ∷ []));
               now_is = n ∙ ap (λ (z : TakerEnd OrderIn). P z (z.ended ++ c.orders.put ∷ [])) e.now_is ∙ ap (P orders) (sym (map-append put_of seen (c ∷ [])));
-              took = λ i client tray p q.
-                  ⊎_elim
-                  (λ (x : slice_get seen i ≡ Some client). ⊎_elim (λ (y : slice_get e.front i ≡ Some tray). e.took i client tray x y)
-                  (λ (y : (i ≡ length e.front) × (t ≡ tray)). absurd (let a = slice_get_within seen i client x in let b = y.0 in let d = e.as_many in omega arith)) (get_snoc e.front t tray i q))
-                  (λ (x : (i ≡ length seen) × (c ≡ client)). ⊎_elim (λ (y : slice_get e.front i ≡ Some tray). absurd (let a = slice_get_within e.front i tray y in let b = x.0 in let d = e.as_many in omega arith))
-                  (λ (y : (i ≡ length e.front) × (t ≡ tray)).
-                  let Q : PutterEnd Notice → ClientState → Type 0 = λ a b. StartsWith a.put (map (λ (m : ℕ × Notice). m.1) b.tray.taken) in
-                  subst (Q tray) x.1 (subst (λ a. Q a c) y.1 s))
-                  (get_snoc e.front t tray i q))
-                  (get_snoc seen c client i p);
+              took = both_more (λ i client tray. StartsWith tray.put (map (λ (m : ℕ × Notice). m.1) client.tray.taken)) seen e.front c t (sym e.as_many) e.took s;
             }
 
     module _ (done : length rest ≡ 0) where

@@ -1,8 +1,8 @@
 -- Clients and trays that are made one by one.
-use Rattle.std.proofs.Common.{◌≡◌, ℕ, zero, suc, ◌+◌, ◌<◌, List, [], ◌∷◌, ◌++◌, length, map, slice_get, Some, sym, refl, ap, ◌∙◌, subst, ⊎_elim, arith}
+use Rattle.std.proofs.Common.{◌≡◌, ℕ, ◌+◌, List, [], ◌∷◌, ◌++◌, length, map, slice_get, Some, sym, refl, ap, ◌∙◌, subst, arith}
 use Rattle.std.proofs.lemmas.List.{length-map, length-append, map-append}
 use Rattle.std.proofs.lemmas.Option.{slice_get_within}
-use Rattle.cast_box.proofs.Closing.{get_snoc}
+use Rattle.cast_box.proofs.Closing.{found, map_at, each_more, both_more}
 use Rattle.cast_box.specs.Ends.{PutterEnd, TakerEnd, AreAllEnds, AreNew}
 use Rattle.cast_desk.specs.declared.desk.OrderIn.{OrderIn}
 use Rattle.cast_desk.specs.declared.notice.Notice.{Notice}
@@ -20,16 +20,6 @@ pub record Made (size first : ℕ) (ps : List (PutterEnd OrderIn)) (all : List C
   pub tray : (c : ℕ) (client : ClientState) (t : PutterEnd Notice) → slice_get all c ≡ Some client → slice_get trays c ≡ Some t → IsTray size t client.tray
   pub client : (c : ℕ) (client : ClientState) → slice_get all c ≡ Some client → (client.number ≡ c) × (client.first_ticket ≡ first)
 
-pub map_at : {A B : Type 0} (f : A → B) (xs : List A) (i : ℕ) (x : A) → slice_get xs i ≡ Some x → slice_get (map f xs) i ≡ Some (f x)
-map_at f [] i x e = absurd cc
-map_at f (y ∷ ys) zero x e = let h : y ≡ x = cc in ap (λ z. Some (f z)) h
-map_at f (y ∷ ys) (suc i) x e = map_at f ys i x e
-
-found : {A : Type 0} (xs : List A) (a : ℕ) → a < length xs → (x : A) × (slice_get xs a ≡ Some x)
-found [] a h = absurd (omega arith)
-found (x ∷ xs) zero h = (x, refl)
-found (x ∷ xs) (suc a) h = found xs a (omega arith)
-
 module _ (size first : ℕ) (ps : List (PutterEnd OrderIn)) (all : List ClientState) (trays : List (PutterEnd Notice)) (m : Made size first ps all trays) where
   pub made_more : (number : ℕ) (p : PutterEnd OrderIn) (t : PutterEnd Notice) (u : TakerEnd Notice) → number ≡ length ps → IsTray size t u
       → Made size first (ps ++ p ∷ []) (all ++ client_of number first p u ∷ []) (trays ++ t ∷ [])
@@ -41,19 +31,8 @@ module _ (size first : ℕ) (ps : List (PutterEnd OrderIn)) (all : List ClientSt
       record {
         orders = map-append orders_of all (client ∷ []) ∙ ap (λ l. l ++ p ∷ []) m.orders;
         width = length-append trays (t ∷ []) ∙ ap (λ n. n + 1) m.width ∙ sym (length-append all (client ∷ []));
-        tray = λ c d s e f.
-            ⊎_elim
-            (λ (x : slice_get all c ≡ Some d). ⊎_elim (λ (y : slice_get trays c ≡ Some s). m.tray c d s x y)
-            (λ (y : (c ≡ length trays) × (t ≡ s)). absurd (let k = slice_get_within all c d x in let l = y.0 in omega arith)) (get_snoc trays t s c f))
-            (λ (x : (c ≡ length all) × (client ≡ d)). ⊎_elim (λ (y : slice_get trays c ≡ Some s). absurd (let k = slice_get_within trays c s y in let l = x.0 in omega arith))
-            (λ (y : (c ≡ length trays) × (t ≡ s)). let P : PutterEnd Notice → ClientState → Type 0 = λ a b. IsTray size a b.tray in subst (P s) x.1 (subst (λ a. P a client) y.1 is))
-            (get_snoc trays t s c f))
-            (get_snoc all client d c e);
-        client = λ c d e.
-            ⊎_elim (λ (x : slice_get all c ≡ Some d). m.client c d x)
-            (λ (x : (c ≡ length all) × (client ≡ d)). let P : ClientState → Type 0 = λ b. (b.number ≡ c) × (b.first_ticket ≡ first) in
-            subst P x.1 (n ∙ sym many ∙ sym x.0, refl))
-            (get_snoc all client d c e);
+        tray = both_more (λ c d s. IsTray size s d.tray) all trays client t (sym m.width) m.tray is;
+        client = each_more (λ c d. (d.number ≡ c) × (d.first_ticket ≡ first)) all client m.client (n ∙ sym many, refl);
       }
 
   module _ (orders : TakerEnd OrderIn) (ends : AreAllEnds ps orders) (new : AreNew ps orders) (is_size : orders.size ≡ size) where

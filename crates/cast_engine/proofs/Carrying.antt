@@ -1,5 +1,5 @@
 -- Each step of a carrier keeps what it keeps.
-use Rattle.std.proofs.Common.{◌≡◌, ℕ, zero, suc, ◌+◌, List, [], ◌∷◌, ◌++◌, take, drop, slice_get, slice_set, Some, Ok, Err, Result, MatchResult, sym, ap, ◌∙◌, subst, ◌⊎◌, inl, inr, ⊎_elim}
+use Rattle.std.proofs.Common.{◌≡◌, ◌≢◌, ℕ, zero, suc, ◌+◌, List, [], ◌∷◌, ◌++◌, take, drop, slice_get, slice_set, Some, Ok, Err, Result, MatchResult, sym, ap, ◌∙◌, subst, ◌⊎◌, inl, inr, ⊎_elim}
 use Rattle.cast_box.specs.Ends.{PutterEnd}
 use Rattle.cast_box.proofs.Same.{get_set}
 use Rattle.cast_engine.specs.declared.parcel.Parcel.{Parcel}
@@ -25,7 +25,7 @@ puts_put inboxes x old new was put taken k is q inbox y at has =
     (has_snoc old.put x y (subst (λ l. Has l y) e here)))
     (λ (e : new.put ≡ old.put). old_one (subst (λ l. Has l y) e here))
     put)
-    (λ (t : slice_get inboxes q ≡ Some inbox). k q inbox y t has)
+    (λ (t : (q ≢ x.frame.to) × (slice_get inboxes q ≡ Some inbox)). k q inbox y t.1 has)
     (get_set inboxes x.frame.to q new inbox at)
 
 pub puts_equal : (inboxes inboxes' : List (PutterEnd Parcel)) (x y : Parcel) → x ≡ y → Puts inboxes x inboxes' → Puts inboxes y inboxes'
@@ -42,7 +42,7 @@ pub still_set : (old now : List Delayed) (place : ℕ) (d d' : Delayed) → Stil
 still_set old now place d d' s at e taken k y has =
     ⊎_elim
     (λ (t : (has.0 ≡ place) × (d' ≡ y)). subst (IsTaken taken) (sym e ∙ ap (λ (z : Delayed). z.parcel) t.1) (s taken k d (place, at)))
-    (λ (t : slice_get now has.0 ≡ Some y). s taken k y (has.0, t))
+    (λ (t : (has.0 ≢ place) × (slice_get now has.0 ≡ Some y)). s taken k y (has.0, t.1))
     (get_set now place has.0 d' y has.1)
 
 has_take : {A : Type 0} (n : ℕ) (xs : List A) (x : A) → Has (take n xs) x → Has xs x
@@ -52,9 +52,8 @@ has_take (suc n) (y ∷ ys) x (zero, e) = (zero, e)
 has_take (suc n) (y ∷ ys) x (suc i, e) = let it = has_take n ys x (i, e) in (suc it.0, it.1)
 
 has_drop : {A : Type 0} (n : ℕ) (xs : List A) (x : A) → Has (drop n xs) x → Has xs x
-has_drop zero xs x h = h
-has_drop (suc n) [] x h = h
 has_drop (suc n) (y ∷ ys) x h = let it = has_drop n ys x h in (suc it.0, it.1)
+has_drop n xs x h = h
 
 has_either : {A : Type 0} (xs ys : List A) (x : A) → Has (xs ++ ys) x → Has xs x ⊎ Has ys x
 has_either [] ys x h = inr h

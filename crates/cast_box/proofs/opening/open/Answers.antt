@@ -1,7 +1,7 @@
-use Rattle.std.proofs.Common.{◌≡◌, ap, ◌∙◌, sym, ⊎_elim, arith, ℕ, length, [], ◌∷◌, slice_get, Some}
+use Rattle.std.proofs.Common.{◌≡◌, ap, ◌∙◌, sym, arith, ℕ, length, [], ◌∷◌, slice_get}
 use Rattle.std.proofs.lemmas.List.{length-append}
 use Rattle.cast_box.specs.Ends.{PutterEnd, OpeningBox}
-use Rattle.cast_box.proofs.Closing.{get_snoc}
+use Rattle.cast_box.proofs.Closing.{each_more}
 use Rattle.cast_box.proofs.opening.open.Goals as goal
 
 pub loop-number-preserved : goal.loop-number-preserved
@@ -14,8 +14,8 @@ loop-number-preserved g c =
       ap (λ o. o.size) made.1 ∙ was.1,
       ap (λ o. o.putters) made.1 ∙ was.2,
       (let n = length-append c.loop-number.all.items (c.in_ok-next_putter.field-0 ∷ []) in ap length pushed.items ∙ omega arith),
-      λ a p e. ⊎_elim
-          (λ (x : slice_get c.loop-number.all.items a ≡ Some p). was.4 a p x ∙ ap (λ o. fresh o a) (sym made.1))
-          (λ x. sym x.1 ∙ made.0 ∙ ap (fresh c.loop-number.opening) (sym (x.0 ∙ was.3)) ∙ ap (λ o. fresh o a) (sym made.1))
-          (get_snoc c.loop-number.all.items c.in_ok-next_putter.field-0 p a (ap (λ l. slice_get l a) (sym pushed.items) ∙ e)),
+      λ a p e. each_more (λ i q. q ≡ fresh c.next_putter.new.self i) c.loop-number.all.items c.in_ok-next_putter.field-0
+          (λ i q at. was.4 i q at ∙ ap (λ o. fresh o i) (sym made.1))
+          (made.0 ∙ ap (fresh c.loop-number.opening) (sym was.3) ∙ ap (λ o. fresh o (length c.loop-number.all.items)) (sym made.1))
+          a p (ap (λ l. slice_get l a) (sym pushed.items) ∙ e),
     )
