@@ -92,8 +92,11 @@ IsSize size = (0 < size) × (size ≤ 4096)
 abbrev pub IsPutters : ℕ → Type 0
 IsPutters putters = (0 < putters) × (putters ≤ 64)
 
--- the first refusal that has a cause
+-- the first refusal that has a cause, by what the size and the number of putters have to be
+abbrev pub IsFirstFault : Type 0 → Type 0 → BoxFault → Type 0
+IsFirstFault size putters Size = ¬ size
+IsFirstFault size putters Putters = size × ¬ putters
+IsFirstFault size putters Memory = size × putters
+
 abbrev pub IsFaultOf : ℕ → ℕ → BoxFault → Type 0
-IsFaultOf size putters Size = ¬ IsSize size
-IsFaultOf size putters Putters = IsSize size × ¬ IsPutters putters
-IsFaultOf size putters Memory = IsSize size × IsPutters putters
+IsFaultOf size putters = IsFirstFault (IsSize size) (IsPutters putters)

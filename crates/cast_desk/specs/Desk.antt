@@ -1,9 +1,8 @@
 -- Clients and desks, as contracts see them.
 use Rattle.std.specs.Prelude.{◌≡◌, ℕ, ◌+◌, ◌<◌, ◌≤◌, ◌^◌, List, [], ◌∷◌, ◌++◌, length, map, slice_get, slice_set, Some, Result, MatchResult}
 use Rattle.cast_box.specs.declared.opening.BoxFault.{BoxFault}
-use Rattle.cast_box.specs.declared.opening.BoxFault.TheVariants.{Size, Putters, Memory}
 use Rattle.cast_box.specs.declared.ends.Full.{Full as Refused}
-use Rattle.cast_box.specs.Ends.{PutterEnd, TakerEnd, IsSamePutter, IsSameTaker, AreAllEnds, WasFull, FilledItAlone, IsSize}
+use Rattle.cast_box.specs.Ends.{PutterEnd, TakerEnd, IsSamePutter, IsSameTaker, AreAllEnds, WasFull, FilledItAlone, IsSize, IsFirstFault}
 use Rattle.cast_message.specs.declared.message.Item.{Item}
 use Rattle.cast_desk.specs.declared.desk.OrderIn.{OrderIn}
 use Rattle.cast_desk.specs.declared.notice.Notice.{Notice}
@@ -62,8 +61,5 @@ pub record IsNewDesk (size first_ticket : ℕ) (clients : List ClientState) (ord
 abbrev pub IsClients : ℕ → Type 0
 IsClients clients = (0 < clients) × (clients ≤ 4)
 
--- the first refusal that has a cause
 abbrev pub IsFaultOf : ℕ → ℕ → BoxFault → Type 0
-IsFaultOf size clients Size = ¬ IsSize size
-IsFaultOf size clients Putters = IsSize size × ¬ IsClients clients
-IsFaultOf size clients Memory = IsSize size × IsClients clients
+IsFaultOf size clients = IsFirstFault (IsSize size) (IsClients clients)
