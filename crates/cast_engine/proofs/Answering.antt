@@ -9,7 +9,7 @@ use Rattle.cast_message.specs.declared.config.Config.{Config}
 use Rattle.cast_message.specs.declared.event.Event.TheVariants.{Order}
 use Rattle.cast_message.specs.declared.event.Outcome.{Outcome}
 use Rattle.cast_message.specs.declared.message.Item.{Item}
-use Rattle.cast_model.specs.Steps.{Step, Ordered, Sent, Acknowledged, Arrived, Stopped}
+use Rattle.cast_model.specs.Steps.{Step, Ordered}
 use Rattle.cast_node.specs.declared.entry.Origin.{Origin}
 use Rattle.cast_node.specs.declared.entry.Entry.{Entry}
 use Rattle.cast_node.specs.declared.entry.EntryKind.TheVariants.{Step as StepEntry}
@@ -25,16 +25,14 @@ module _ {A B : Type 0} where
   pub matches_snoc : (R : A → B → Type 0) (xs : List A) (ys : List B) (x : A) (y : B) → Matches R xs ys → R x y → Matches R (xs ++ x ∷ []) (ys ++ y ∷ [])
   unfolding Matches
   matches_snoc R [] [] x y m r = (r, tt)
-  matches_snoc R [] (b ∷ ys) x y m r = absurd m
-  matches_snoc R (a ∷ xs) [] x y m r = absurd m
   matches_snoc R (a ∷ xs) (b ∷ ys) x y m r = (m.0, matches_snoc R xs ys x y m.1 r)
+  matches_snoc R xs ys x y m r = absurd m
 
   pub matches_still : (R S : A → B → Type 0) (xs : List A) (ys : List B) → ((x : A) (y : B) → Has xs x → R x y → S x y) → Matches R xs ys → Matches S xs ys
   unfolding Matches
   matches_still R S [] [] f m = tt
-  matches_still R S [] (b ∷ ys) f m = absurd m
-  matches_still R S (a ∷ xs) [] f m = absurd m
   matches_still R S (a ∷ xs) (b ∷ ys) f m = (f a b (zero, refl) m.0, matches_still R S xs ys (λ x y h r. f x y (suc h.0, h.1) r) m.1)
+  matches_still R S xs ys f m = absurd m
 
 module _ {A : Type 0} where
   filter_snoc : (f : A → Bool) (xs : List A) (x : A) → filter f (xs ++ x ∷ []) ≡ filter f xs ++ (if f x then x ∷ [] else [])
@@ -164,10 +162,7 @@ module _ (config : Config) (p : ℕ) (c : ℕ) where
 
 not_order : (p : ℕ) (step : Step) (node : ℕ) (item : Item) → is_order step ≡ false → event_of p step ≡ Order node item → ⊥
 not_order p (Ordered i) node item h e = false≢true (sym h)
-not_order p (Sent to slot) node item h e = cc
-not_order p (Acknowledged to slot) node item h e = cc
-not_order p (Arrived frame) node item h e = cc
-not_order p Stopped node item h e = cc
+not_order p step node item h e = cc
 
 pub run_origins : (config : Config) (p : ℕ) (run : Run) → IsRun config p run → (e : Entry) (node : ℕ) (item : Item) (origin : Option Origin) (outcome : Outcome)
     → Has (log_of config p run) e → e.kind ≡ StepEntry (Order node item) origin outcome → (order : OrderIn) × Has (orders_of run) order × (origin ≡ Some (origin_of order))

@@ -1,32 +1,24 @@
 -- A client that was told of a log, when the log grows or more is told.
-use Rattle.std.proofs.Common.{◌≡◌, ◌≢◌, ℕ, zero, suc, ◌+◌, ◌^◌, ◌%◌, ◌<◌, ◌≤◌, get_or, slice_set, List, [], ◌∷◌, ◌++◌, length, take, slice_get, Option, Some, None, sym, refl, ap, ◌∙◌, subst, ◌⊎◌, inl, inr, ⊎_elim, arith}
+use Rattle.std.proofs.Common.{◌≡◌, ◌≢◌, ℕ, zero, suc, ◌+◌, ◌^◌, ◌%◌, ◌<◌, ◌≤◌, get_or, slice_set, List, [], ◌∷◌, ◌++◌, length, take, slice_get, Option, Some, None, sym, refl, ap, ◌∙◌, subst, ⊎_elim, arith}
 use Rattle.std.proofs.lemmas.List.{append-nil, append_assoc, length-append, length-set}
-use Rattle.std.proofs.lemmas.Option.{slice_get_within}
+use mathlib.Core.Logic.{dite}
+use Rattle.std.proofs.Math.Decide.{dec_lt}
+use Rattle.std.proofs.lemmas.Option.{none-some, slice_get_past, slice_get_read, slice_get_within}
+use Rattle.cast_box.proofs.Closing.{found}
 use Rattle.cast_box.specs.Ends.{PutterEnd, IsSamePutter, AreSamePutters}
-use Rattle.cast_box.proofs.Same.{putters_set}
+use Rattle.cast_box.proofs.Same.{putters_set, get_set}
 use Rattle.cast_node.specs.declared.entry.Entry.{Entry}
 use Rattle.cast_desk.specs.declared.notice.Notice.{Notice}
 use Rattle.cast_desk.specs.Feed.{told_by, feed_from, orders_of, orders_in}
 use Rattle.cast_desk.proofs.Feeds.{take_all, counted_more, fed_more as fed_more'}
 use Rattle.cast_engine.specs.declared.feeding.Place.{Place}
 use Rattle.cast_engine.specs.Feeding.{told_at, told_here, IsNext, IsPlaced, IsFed, told_to, AreFed, FedIn, FedAt}
-use Rattle.cast_engine.proofs.Lists.{get_left, set_apart}
+use Rattle.cast_engine.proofs.Lists.{get_left}
 
 take_front : {A : Type 0} (xs ys : List A) (n : ℕ) → n ≤ length xs → take n (xs ++ ys) ≡ take n xs
 take_front xs ys zero h = refl
 take_front [] ys (suc n) h = absurd (omega arith)
 take_front (x ∷ xs) ys (suc n) h = ap (λ l. x ∷ l) (take_front xs ys n (omega arith))
-
-pub get_all : {A : Type 0} (xs : List A) (n : ℕ) → n < length xs → (x : A) × (slice_get xs n ≡ Some x)
-get_all [] n h = absurd (omega arith)
-get_all (x ∷ xs) zero h = (x, refl)
-get_all (x ∷ xs) (suc n) h = get_all xs n (omega arith)
-
-get_past : {A : Type 0} (xs : List A) (n : ℕ) → length xs ≤ n → slice_get xs n ≡ None
-get_past [] zero h = refl
-get_past [] (suc n) h = refl
-get_past (x ∷ xs) zero h = absurd (omega arith)
-get_past (x ∷ xs) (suc n) h = get_past xs n (omega arith)
 
 get_none : {A : Type 0} (xs : List A) (n : ℕ) → slice_get xs n ≡ None → length xs ≤ n
 get_none [] n e = omega arith
@@ -34,18 +26,7 @@ get_none (x ∷ xs) zero e = absurd cc
 get_none (x ∷ xs) (suc n) e = let h = get_none xs n e in omega arith
 
 pub read_at : {A : Type 0} (xs : List A) (n : ℕ) (x : A) → n < length xs → x ≡ get_or xs n x → slice_get xs n ≡ Some x
-read_at [] n x h e = absurd (omega arith)
-read_at (y ∷ ys) zero x h e = ap (λ z. Some z) (sym e)
-read_at (y ∷ ys) (suc n) x h e = read_at ys n x (omega arith) e
-
-less_or_not : (a b : ℕ) → (a < b) ⊎ (b ≤ a)
-less_or_not a zero = inr (omega arith)
-less_or_not zero (suc b) = inl (omega arith)
-less_or_not (suc a) (suc b) = ⊎_elim (λ (h : a < b). inl (omega arith)) (λ (h : b ≤ a). inr (omega arith)) (less_or_not a b)
-
-none_of_nothing : {A : Type 0} (n : ℕ) (x : A) → slice_get [] n ≡ Some x → ⊥
-none_of_nothing zero x e = cc
-none_of_nothing (suc n) x e = cc
+read_at xs n x h e = slice_get_read xs (length xs) n x refl h e
 
 module _ (client : ℕ) (log more : List Entry) (place : Place) (f : IsPlaced client log place) where
   front : take place.entry (log ++ more) ≡ take place.entry log
@@ -59,20 +40,20 @@ module _ (client : ℕ) (log more : List Entry) (place : Place) (f : IsPlaced cl
 
   -- the entry at the place is there still
   same_entry : place.entry < length log → new_told ≡ old_told
-  same_entry lt = let it = get_all log place.entry lt in
+  same_entry lt = let it = found log place.entry lt in
       ap (told_at client place.orders) (get_left log more place.entry it.0 it.1 ∙ sym it.1)
 
   -- the place is at the end of the log: nothing was told of what stands there now
   at_end : length log ≤ place.entry → (place.told ≡ 0) × ((n : Notice) → place.waiting ≡ Some n → ⊥)
   at_end le =
-      let none : old_told ≡ [] = ap (told_at client place.orders) (get_past log place.entry le) in
+      let none : old_told ≡ [] = ap (told_at client place.orders) (slice_get_past log place.entry le) in
       let short = f.begun in
       let len : length old_told ≡ 0 = ap length none in
-      (omega arith, λ n w. none_of_nothing place.told n (sym (ap (λ l. slice_get l place.told) none) ∙ f.waits n w))
+      (omega arith, λ n w. none-some n (sym (ap (λ l. slice_get l place.told) none) ∙ f.waits n w))
 
   pub fed_longer : IsPlaced client (log ++ more) place × (told_to client (log ++ more) place ≡ told_to client log place)
-  fed_longer = ⊎_elim
-      (λ (lt : place.entry < length log). (
+  fed_longer = dite (dec_lt place.entry (length log))
+      (λ lt. (
         record {
           within = let w = f.within in let l = length-append log more in omega arith;
           counted = f.counted ∙ ap orders_of (sym front);
@@ -81,8 +62,8 @@ module _ (client : ℕ) (log more : List Entry) (place : Place) (f : IsPlaced cl
         },
         (λ i. feed_from client 0 (front i) ++ take place.told (same_entry lt i)),
       ))
-      (λ (le : length log ≤ place.entry).
-      let none = at_end le in
+      (λ no.
+      let none = at_end (omega arith) in
       let nothing : (l : List Notice) → take place.told l ≡ [] = λ l. ap (λ n. take n l) none.0 in (
         record {
           within = let w = f.within in let l = length-append log more in omega arith;
@@ -92,7 +73,6 @@ module _ (client : ℕ) (log more : List Entry) (place : Place) (f : IsPlaced cl
         },
         ap (λ l. feed_from client 0 l ++ take place.told new_told) front ∙ ap (λ l. feed_from client 0 (take place.entry log) ++ l) (nothing new_told ∙ sym (nothing old_told)),
       ))
-      (less_or_not place.entry (length log))
 
 pub fed_more : (log log' : List Entry) (e : Entry) (trays : List (PutterEnd Notice)) (places : List Place) → log' ≡ log ++ e ∷ [] → AreFed log trays places → AreFed log' trays places
 fed_more log log' e trays places is f =
@@ -170,7 +150,7 @@ module _ (client : ℕ) (log : List Entry) (trays : List (PutterEnd Notice)) (ol
 -- what the loop over the clients keeps
 pub fed_at : (log : List Entry) (trays : List (PutterEnd Notice)) (places : List Place) (client : ℕ) (place : Place) → AreFed log trays places → slice_get places client ≡ Some place → FedIn client log trays place
 fed_at log trays places client place f at =
-    let tray = get_all trays client (let l = f.0 in let w = slice_get_within places client place at in omega arith) in
+    let tray = found trays client (let l = f.0 in let w = slice_get_within places client place at in omega arith) in
     (tray.0, tray.1, f.1 client tray.0 place tray.1 at)
 
 pub fed_set : (log : List Entry) (trays new : List (PutterEnd Notice)) (places : List Place) (client : ℕ) (place : Place) → AreFed log trays places → FedAt client log trays new place
@@ -188,10 +168,10 @@ fed_set log trays new places client place f it =
             let Q : ℕ → PutterEnd Notice → Place → Type 0 = λ c t p. IsFed c log p t.put in
             subst (λ c. Q c tray p) (sym x.0) (subst (λ t. Q client t p) x.1 (subst (Q client it.1) y.1 it.5)))
             (λ (y : (c ≢ client) × (slice_get places c ≡ Some p)). absurd (y.0 x.0))
-            (set_apart places client c place p b))
+            (get_set places client c place p b))
             (λ (x : (c ≢ client) × (slice_get trays c ≡ Some tray)).
-            ⊎_elim (λ (y : (c ≡ client) × (place ≡ p)). absurd (x.0 y.0)) (λ (y : (c ≢ client) × (slice_get places c ≡ Some p)). f.1 c tray p x.1 y.1) (set_apart places client c place p b))
-            (set_apart trays client c it.1 tray a),
+            ⊎_elim (λ (y : (c ≡ client) × (place ≡ p)). absurd (x.0 y.0)) (λ (y : (c ≢ client) × (slice_get places c ≡ Some p)). f.1 c tray p x.1 y.1) (get_set places client c place p b))
+            (get_set trays client c it.1 tray a),
       ),
       putters_set trays client it.0 it.1 it.2 it.4,
     )

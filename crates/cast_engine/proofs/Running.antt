@@ -6,7 +6,9 @@ use Rattle.cast_message.specs.declared.config.Config.{Config}
 use Rattle.cast_message.specs.declared.message.Frame.{Frame}
 use Rattle.cast_model.specs.Steps.{Step, Ordered, Sent, Acknowledged, Arrived, Stopped, Steps, making, frame_count, frames_by}
 use Rattle.cast_model.specs.OwnSteps.{own_fault, own_made, node_after, is_ignored}
+use Rattle.cast_node.specs.declared.entry.Entry.{Entry}
 use Rattle.cast_node.specs.declared.entry.Origin.{Origin}
+use Rattle.cast_node.specs.Kept.{Kept}
 use Rattle.cast_node.specs.declared.entry.EntryKind.TheVariants.{Step as StepEntry, Refused}
 use Rattle.cast_node.specs.Turns.{kept_after, carry_of, took_of, frame_made}
 use Rattle.cast_node.specs.Stands.{Stands}
@@ -15,58 +17,50 @@ use Rattle.cast_node.proofs.Refusals.{faults_are}
 use Rattle.cast_node.proofs.Showing.{carries, tells_taken}
 use Rattle.cast_desk.specs.declared.desk.OrderIn.{OrderIn}
 use Rattle.cast_engine.specs.declared.parcel.Parcel.{Parcel}
-use Rattle.cast_merge.specs.Linked.{Made, event_of, outcome_in, steps_in, made_in, kept_in, stamped, IsFor}
-use Rattle.cast_engine.specs.Runs.{Has, Read, Moved, Served, Denied, Run, trail_of, log_of, orders_of, IsRun, AreReceived, IsReceived, IsReceivedBy, IsMade, parcel, is_order, origin_of, EngineKeeps}
+use Rattle.cast_merge.specs.Linked.{Made, Trail, event_of, outcome_in, steps_in, made_in, kept_in, stamped, IsFor}
+use Rattle.cast_engine.specs.Runs.{Has, Read, Moved, Served, Denied, Run, mark, trail_of, log_of, orders_of, IsRun, AreReceived, IsReceived, IsReceivedBy, IsMade, parcel, is_order, origin_of, EngineKeeps}
 use Rattle.cast_engine.specs.Journals.{JournalState, LogsStep, LogsRefusal, LogsOrder, OnlyEnds, Halts}
 use Rattle.cast_message.specs.declared.message.FrameKind.{FrameKind}
 use Rattle.cast_message.specs.declared.message.FrameKind.TheVariants.{Carry, Took}
 use Rattle.cast_engine.specs.Engines.{KeepsOf, Handed}
-use Rattle.cast_engine.proofs.Lists.{get_left, get_last, has_left, has_snoc}
+use Rattle.cast_box.proofs.Closing.{get_middle}
+use Rattle.cast_engine.proofs.Lists.{get_left, has_left, has_snoc}
 
 -- as many frames were made as the node counts
 made_by_step : (config : Config) (p : ℕ) (steps : Steps) (step : Step) → own_fault config p steps step ≡ None
     → frame_count steps + length (own_made p steps step) ≡ frame_count (node_after config p steps step)
 unfolding own_made node_after frame_count
-made_by_step config p steps step none =
-    elim step as (λ s. own_fault config p steps s ≡ None → frame_count steps + length (own_made p steps s) ≡ frame_count (node_after config p steps s)) [
-      | Ordered item ↦ λ n. ap (λ f. frame_count (if is_some f || false then steps else Ordered item ∷ steps)) (sym n)
-      | Sent to slot ↦ λ n. ap (λ f. frame_count (if is_some f || false then steps else Sent to slot ∷ steps)) (sym n)
-      | Acknowledged to slot ↦ λ n. ap (λ f. frame_count (if is_some f || false then steps else Acknowledged to slot ∷ steps)) (sym n)
-      | Arrived frame ↦ λ n. either_same (is_some (own_fault config p steps (Arrived frame)) || is_ignored config p steps (Arrived frame)) steps (Arrived frame) refl
-      | Stopped ↦ λ n. ap (λ f. frame_count (if is_some f || false then steps else Stopped ∷ steps)) (sym n)
-    ] none
+made_by_step config p steps (Arrived frame) none = either_same (is_some (own_fault config p steps (Arrived frame)) || is_ignored config p steps (Arrived frame)) steps (Arrived frame) refl
   where
     either_same : (b : Bool) (steps : Steps) (s : Step) → frames_by s ≡ 0 → frame_count steps + 0 ≡ frame_count (if b then steps else s ∷ steps)
     either_same true steps s z = omega arith
     either_same false steps s z = omega (arith, z)
+made_by_step config p steps step none = ap (λ f. frame_count (if is_some f || false then steps else step ∷ steps)) (sym none)
+
+-- as many frames were made after one more step
+step_counted : (config : Config) (p : ℕ) (trail : Trail) (stamp : ℕ) (step : Step) → own_fault config p (steps_in config p trail) step ≡ None
+    → length (made_in config p trail) ≡ frame_count (steps_in config p trail) → length (made_in config p (mark stamp step ∷ trail)) ≡ frame_count (steps_in config p (mark stamp step ∷ trail))
+unfolding made_in steps_in frame_count
+step_counted config p trail stamp step none before =
+    let old = made_in config p trail in
+    let new = own_made p (steps_in config p trail) step in
+    let l = length-append old (map (stamped stamp) new) in
+    let m = length-map new (stamped stamp) in
+    let n = made_by_step config p (steps_in config p trail) step none in
+    omega (arith, l, m, n, before)
 
 pub frames_counted : (config : Config) (p : ℕ) (run : Run) → IsRun config p run → length (made_in config p (trail_of run)) ≡ frame_count (steps_in config p (trail_of run))
 unfolding trail_of made_in steps_in IsRun frame_count
 frames_counted config p [] r = refl
-frames_counted config p (Moved stamp step ∷ rs) r =
-    let before = frames_counted config p rs r.0 in
-    let old = made_in config p (trail_of rs) in
-    let new = own_made p (steps_in config p (trail_of rs)) step in
-    let l = length-append old (map (stamped stamp) new) in
-    let m = length-map new (stamped stamp) in
-    let n = made_by_step config p (steps_in config p (trail_of rs)) step r.1.0 in
-    omega (arith, l, m, n, before)
-frames_counted config p (Served stamp order ∷ rs) r =
-    let before = frames_counted config p rs r.0 in
-    let old = made_in config p (trail_of rs) in
-    let new = own_made p (steps_in config p (trail_of rs)) (Ordered order.item) in
-    let l = length-append old (map (stamped stamp) new) in
-    let m = length-map new (stamped stamp) in
-    let n = made_by_step config p (steps_in config p (trail_of rs)) (Ordered order.item) r.1 in
-    omega (arith, l, m, n, before)
+frames_counted config p (Moved stamp step ∷ rs) r = step_counted config p (trail_of rs) stamp step r.1.0 (frames_counted config p rs r.0)
+frames_counted config p (Served stamp order ∷ rs) r = step_counted config p (trail_of rs) stamp (Ordered order.item) r.1 (frames_counted config p rs r.0)
 frames_counted config p (Denied stamp order fault ∷ rs) r = frames_counted config p rs r.0
 
 -- what was made stays so
 pub made_still : (config : Config) (p : ℕ) (run : Run) (r : Read) (x : Parcel) → IsMade config p run x → IsMade config p (r ∷ run) x
 unfolding trail_of made_in
-made_still config p run (Moved stamp step) x h = get_left (made_in config p (trail_of run)) _ x.frame.seq (stamped x.stamp x.frame) h
-made_still config p run (Served stamp order) x h = get_left (made_in config p (trail_of run)) _ x.frame.seq (stamped x.stamp x.frame) h
 made_still config p run (Denied stamp order fault) x h = h
+made_still config p run read x h = get_left (made_in config p (trail_of run)) _ x.frame.seq (stamped x.stamp x.frame) h
 
 -- the parcel of the frame that a step makes
 made_last : (config : Config) (p : ℕ) (run : Run) (stamp : ℕ) (step : Step) (f : Frame) → own_made p (steps_in config p (trail_of run)) step ≡ f ∷ [] → length (made_in config p (trail_of run)) ≡ f.seq
@@ -78,7 +72,7 @@ made_last config p run stamp step f m n x e s =
     ap (λ l. slice_get (old ++ map (stamped stamp) l) x.frame.seq) m
     ∙ ap (λ (g : Frame). slice_get (old ++ last ∷ []) g.seq) e
     ∙ ap (λ i. slice_get (old ++ last ∷ []) i) (sym n)
-    ∙ get_last old last
+    ∙ get_middle old last []
     ∙ (λ i. Some (stamped (sym s i) (sym e i)))
 
 -- a parcel that arrived was taken still where more was taken
@@ -89,30 +83,23 @@ received_still taken m (r ∷ rs) h = (received_still taken m rs h.0, one r h.1)
   where
     by_step : (stamp : ℕ) (step : Step) → IsReceivedBy taken stamp step → IsReceivedBy (taken ++ m ∷ []) stamp step
     by_step stamp (Arrived frame) g = (g.0, g.1, has_left taken (m ∷ []) (g.0, parcel g.1 frame) g.2, g.3)
-    by_step stamp (Ordered item) g = tt
-    by_step stamp (Sent to slot) g = tt
-    by_step stamp (Acknowledged to slot) g = tt
-    by_step stamp Stopped g = tt
+    by_step stamp step g = tt
 
     one : (r : Read) → IsReceived taken r → IsReceived (taken ++ m ∷ []) r
     one (Moved stamp step) g = by_step stamp step g
-    one (Served stamp order) g = tt
-    one (Denied stamp order fault) g = tt
+    one read g = tt
+
+-- where only boxes changed
+boxes_kept : {config : Config} {p : ℕ} {node : Kept} {log : List Entry} {put put' : List Parcel} {held held' : Option Parcel} {arrived arrived' : List (ℕ × Parcel)} {orders : List (ℕ × OrderIn)}
+    → (k : EngineKeeps config p node log put held arrived orders) → ((x : Parcel) → Has put' x → IsMade config p k.run x) → ((x : Parcel) → held' ≡ Some x → IsMade config p k.run x) → AreReceived arrived' k.run
+    → EngineKeeps config p node log put' held' arrived' orders
+boxes_kept k sent waits received =
+    record { run = k.run; runs = k.runs; is_log = k.is_log; stands = k.stands; reached = k.reached; sent = sent; waits = waits; received = received; ordered = k.ordered }
 
 -- where more was taken from the inbox
 pub taken_kept : (j : JournalState) (put : List Parcel) (held : Option Parcel) (arrived : List (ℕ × Parcel)) (orders : List (ℕ × OrderIn)) (m : ℕ × Parcel)
     → KeepsOf j put held arrived orders → KeepsOf j put held (arrived ++ m ∷ []) orders
-taken_kept j put held arrived orders m k = record {
-  run = k.run;
-  runs = k.runs;
-  is_log = k.is_log;
-  stands = k.stands;
-  reached = k.reached;
-  sent = k.sent;
-  waits = k.waits;
-  received = received_still arrived m k.run k.received;
-  ordered = k.ordered;
-}
+taken_kept j put held arrived orders m k = boxes_kept k k.sent k.waits (received_still arrived m k.run k.received)
 
 -- where only the end was noted
 pub ends_kept : (old new : JournalState) (put : List Parcel) (held : Option Parcel) (arrived : List (ℕ × Parcel)) (orders : List (ℕ × OrderIn))
@@ -233,17 +220,7 @@ hand_kept j put put' held held' arrived orders x k made h =
     (λ (t : (put' ≡ put) × (held' ≡ Some x)).
     (subst Made (sym t.0) k.sent, subst Waits (sym t.1) (λ y e. let is : x ≡ y = cc in subst P is made)))
     h in
-    record {
-      run = k.run;
-      runs = k.runs;
-      is_log = k.is_log;
-      stands = k.stands;
-      reached = k.reached;
-      sent = both.0;
-      waits = both.1;
-      received = k.received;
-      ordered = k.ordered;
-    }
+    boxes_kept k both.0 both.1 k.received
 
 -- the parcel that waited is put, or waits again
 pub flush_kept : (j : JournalState) (put put' : List Parcel) (held held' : Option Parcel) (arrived : List (ℕ × Parcel)) (orders : List (ℕ × OrderIn)) (x : Parcel)

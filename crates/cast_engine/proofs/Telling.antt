@@ -5,7 +5,7 @@ use Rattle.std.proofs.lemmas.List.{append-nil, append_assoc, reverse-append}
 use Rattle.std.proofs.lemmas.Option.{slice_get_within}
 use Rattle.cast_message.specs.declared.config.Config.{Config}
 use Rattle.cast_message.specs.declared.message.Frame.{Frame}
-use Rattle.cast_model.specs.Steps.{Step, Ordered, Sent, Acknowledged, Arrived, Stopped}
+use Rattle.cast_model.specs.Steps.{Step, Ordered, Arrived}
 use Rattle.cast_box.specs.Lists.{StartsWith}
 use Rattle.cast_box.specs.Ends.{PutterEnd}
 use Rattle.cast_node.specs.declared.entry.Entry.{Entry}
@@ -20,7 +20,8 @@ use Rattle.cast_engine.specs.Runs.{Has, Moved, Served, Denied, Run, mark, parcel
 use Rattle.cast_engine.specs.Journals.{Rises}
 use Rattle.cast_engine.specs.Feeding.{told_here, told_at, told_to, IsPlaced, AreFed}
 use Rattle.cast_engine.specs.Engines.{EngineState, Leaves, Tells, WereTold, trays_at}
-use Rattle.cast_engine.proofs.Fed.{get_all}
+use Rattle.cast_box.proofs.Closing.{found}
+use Rattle.cast_merge.proofs.Logging.{one_more}
 use Rattle.cast_engine.proofs.Answering.{run_fits, run_origins}
 use Rattle.cast_engine.specs.Serving.{Serves}
 use Rattle.cast_desk.specs.declared.desk.OrderIn.{OrderIn}
@@ -39,24 +40,22 @@ rises_pairs (x ∷ xs) first clock r i zero d lt h = absurd (omega arith)
 rises_pairs (x ∷ xs) first clock r zero (suc j) d lt h = rises_each xs x.stamp clock r.1 j d (omega arith)
 rises_pairs (x ∷ xs) first clock r (suc i) (suc j) d lt h = rises_pairs xs x.stamp clock r.1 i j d (omega arith) (omega arith)
 
-taken_snoc : (log : List Entry) (e : Entry) → taken (log ++ e ∷ []) ≡ taken log ++ taken_of e.stamp e.kind
-unfolding taken
-taken_snoc [] e = append-nil (taken_of e.stamp e.kind)
-taken_snoc (x ∷ xs) e = ap (λ l. taken_of x.stamp x.kind ++ l) (taken_snoc xs e) ∙ sym (append_assoc (taken_of x.stamp x.kind) (taken xs) (taken_of e.stamp e.kind))
-
-last_first : (xs : List Taken) (x : Taken) → reverse xs ++ x ∷ [] ≡ reverse (x ∷ xs)
-last_first xs x = sym (reverse-append (x ∷ []) xs)
+-- one more entry, and what is told of it
+tells_more : (log : List Entry) (e : Entry) (told : List Taken) (x : Taken) → taken_of e.stamp e.kind ≡ x ∷ [] → taken log ≡ reverse told → taken (log ++ e ∷ []) ≡ reverse (x ∷ told)
+tells_more log e told x is before = one_more log e ∙ (λ i. before i ++ is i) ∙ sym (reverse-append (x ∷ []) told)
 
 -- the log tells of the steps
 pub run_tells : (config : Config) (p : ℕ) (run : Run) → taken (log_of config p run) ≡ reverse (taken_in config p (trail_of run))
 unfolding trail_of log_of taken_in taken
 run_tells config p [] = refl
 run_tells config p (Moved stamp step ∷ rs) =
-    taken_snoc (log_of config p rs) (entry_by config p (steps_in config p (trail_of rs)) (Moved stamp step)) ∙ ap (λ l. l ++ taken_by config p (steps_in config p (trail_of rs)) (mark stamp step) ∷ []) (run_tells config p rs) ∙ last_first (taken_in config p (trail_of rs)) (taken_by config p (steps_in config p (trail_of rs)) (mark stamp step))
+    let steps = steps_in config p (trail_of rs) in
+    tells_more (log_of config p rs) (entry_by config p steps (Moved stamp step)) (taken_in config p (trail_of rs)) (taken_by config p steps (mark stamp step)) refl (run_tells config p rs)
 run_tells config p (Served stamp order ∷ rs) =
-    taken_snoc (log_of config p rs) (entry_by config p (steps_in config p (trail_of rs)) (Served stamp order)) ∙ ap (λ l. l ++ taken_by config p (steps_in config p (trail_of rs)) (mark stamp (Ordered order.item)) ∷ []) (run_tells config p rs) ∙ last_first (taken_in config p (trail_of rs)) (taken_by config p (steps_in config p (trail_of rs)) (mark stamp (Ordered order.item)))
+    let steps = steps_in config p (trail_of rs) in
+    tells_more (log_of config p rs) (entry_by config p steps (Served stamp order)) (taken_in config p (trail_of rs)) (taken_by config p steps (mark stamp (Ordered order.item))) refl (run_tells config p rs)
 run_tells config p (Denied stamp order fault ∷ rs) =
-    taken_snoc (log_of config p rs) (entry_by config p (steps_in config p (trail_of rs)) (Denied stamp order fault)) ∙ append-nil (taken (log_of config p rs)) ∙ run_tells config p rs
+    one_more (log_of config p rs) (entry_by config p (steps_in config p (trail_of rs)) (Denied stamp order fault)) ∙ append-nil (taken (log_of config p rs)) ∙ run_tells config p rs
 
 pub run_taken : (config : Config) (p : ℕ) (run : Run) → IsRun config p run → AreTaken config p (trail_of run)
 unfolding trail_of IsRun AreTaken
@@ -70,10 +69,7 @@ IsBrought arrived stamp frame = (number : ℕ) × (sent : ℕ) × Has arrived (n
 
 by_step : (arrived : List (ℕ × Parcel)) (stamp : ℕ) (step : Step) → IsReceivedBy arrived stamp step → OnArrival (IsBrought arrived) stamp step
 by_step arrived stamp (Arrived frame) h = h
-by_step arrived stamp (Ordered item) h = tt
-by_step arrived stamp (Sent to slot) h = tt
-by_step arrived stamp (Acknowledged to slot) h = tt
-by_step arrived stamp Stopped h = tt
+by_step arrived stamp step h = tt
 
 pub run_received : (arrived : List (ℕ × Parcel)) (run : Run) → AreReceived arrived run → EachArrival (IsBrought arrived) (trail_of run)
 unfolding trail_of AreReceived EachArrival
@@ -144,7 +140,7 @@ told_begins client log place f =
 
 pub fed_told : (log : List Entry) (trays : List (PutterEnd Notice)) (places : List Place) → AreFed log trays places → WereTold log trays
 fed_told log trays places f c tray at =
-    let place = get_all places c (let w = f.0 in let k = slice_get_within trays c tray at in omega arith) in
+    let place = found places c (let w = f.0 in let k = slice_get_within trays c tray at in omega arith) in
     let it = f.1 c tray place.0 at place.1 in
     subst (StartsWith (feed log c)) (sym it.1) (told_begins c log place.0 it.0)
 

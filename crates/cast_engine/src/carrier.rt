@@ -252,7 +252,7 @@ fn take_over<R: Wait>(
         return;
     }
     if fate.delay > 0 {
-        keep(delayed, parcel, fate.delay, fate.twice);
+        let _lost = keep(delayed, parcel, fate.delay, fate.twice);
         return;
     }
     hand_on(rt, inboxes, parcel, fate.twice);
@@ -310,13 +310,7 @@ fn release<R: Wait>(rt: &R, inboxes: &mut Vec<Putter<Parcel>>, delayed: &mut Vec
 }
 
 // Keeps a parcel until so many more were taken for its target. It is lost where there is no memory.
-fn keep(delayed: &mut Vec<Delayed>, parcel: Parcel, left: u64, twice: bool)
-    ensures { StillWith delayed.old.items parcel delayed.new.items }
-{
-    let _lost = try_keep(delayed, parcel, left, twice);
-}
-
-fn try_keep(
+fn keep(
     delayed: &mut Vec<Delayed>,
     parcel: Parcel,
     left: u64,
