@@ -21,17 +21,14 @@ impl EndRoom {
     fn new(alloc: Global, nodes: usize) -> Result<EndRoom, AllocError>
         ensures { IfOk result (HasEndRoom nodes) }
     {
-        let takers = Vec::with_capacity(alloc, nodes)?;
-        let reports = Vec::with_capacity(alloc, nodes)?;
-        let desks = Vec::with_capacity(alloc, nodes)?;
         let mut dones = Vec::new(alloc);
         for _node in 0..nodes {
             dones.push(true)?;
         }
         Ok(EndRoom {
-            takers,
-            reports,
-            desks,
+            takers: Vec::with_capacity(alloc, nodes)?,
+            reports: Vec::with_capacity(alloc, nodes)?,
+            desks: Vec::with_capacity(alloc, nodes)?,
             dones,
         })
     }
@@ -42,17 +39,12 @@ impl<J: Drop> Room<J> {
     pub fn new(alloc: Global, nodes: usize, clients: usize) -> Result<Room<J>, AllocError>
         ensures { IfOk result (HasRoom nodes clients) }
     {
-        let ends = EndRoom::new(alloc, nodes)?;
-        let jobs = Vec::with_capacity(alloc, clients)?;
-        let drafts = Vec::with_capacity(alloc, clients)?;
-        let left = Vec::with_capacity(alloc, nodes)?;
-        let clients = Vec::with_capacity(alloc, clients)?;
         Ok(Room {
-            ends,
-            jobs,
-            drafts,
-            left,
-            clients,
+            ends: EndRoom::new(alloc, nodes)?,
+            jobs: Vec::with_capacity(alloc, clients)?,
+            drafts: Vec::with_capacity(alloc, clients)?,
+            left: Vec::with_capacity(alloc, nodes)?,
+            clients: Vec::with_capacity(alloc, clients)?,
         })
     }
 }

@@ -32,26 +32,18 @@ impl<J: ClientJob + Drop> Running<J> {
         ensures carriers { IfOk result (λ r. IsRoomFor nodes r.carriers) }
         ensures jobs { IfOk result (λ r. IsRoomFor clients r.jobs) }
     {
-        let engines = Vec::with_capacity(alloc, nodes)?;
-        let carriers = Vec::with_capacity(alloc, nodes)?;
-        let jobs = Vec::with_capacity(alloc, clients)?;
         Ok(Running {
-            engines,
-            carriers,
-            jobs,
+            engines: Vec::with_capacity(alloc, nodes)?,
+            carriers: Vec::with_capacity(alloc, nodes)?,
+            jobs: Vec::with_capacity(alloc, clients)?,
         })
     }
 
     // Joins them, and drops what they give.
     fn abandon<R: Threads>(self, rt: &R) {
-        let Running {
-            engines,
-            carriers,
-            jobs,
-        } = self;
-        join_all(rt, engines);
-        join_all(rt, carriers);
-        join_all(rt, jobs);
+        join_all(rt, self.engines);
+        join_all(rt, self.carriers);
+        join_all(rt, self.jobs);
     }
 }
 
