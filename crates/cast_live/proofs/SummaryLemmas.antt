@@ -1,5 +1,5 @@
 -- How a summary is written in parts.
-use Rattle.std.proofs.Common.{◌≡◌, ℕ, suc, ◌+◌, ◌-◌, ◌<◌, ◌≤◌, List, [], ◌∷◌, ◌++◌, length, codes, decimal, get_or, drop, sym, ap, subst, ◌∙◌, arith}
+use Rattle.std.proofs.Common.{◌≡◌, ℕ, suc, ◌+◌, ◌-◌, ◌<◌, ◌≤◌, List, [], ◌∷◌, ◌++◌, length, codes, decimal, get_or, drop, append_assoc, sym, ap, subst, ◌∙◌, arith}
 use Rattle.std.specs.List.{range_with_len}
 use Rattle.std.proofs.lemmas.List.{drop_all}
 use Rattle.cast_message.specs.declared.config.Config.{Config}
@@ -25,13 +25,15 @@ pub all_counts : (config : Config) (past : History) (p n : ℕ) → counts_text 
 all_counts config past p n = ap (λ k. counts_text config past p (range_with_len 0 k)) (let e : n ≡ n - 0 = omega arith in e)
 
 pub counts-next : (config : Config) (past : History) (p a n count : ℕ) → a < n → count ≡ length (delivered config past p a)
-    → counts_text config past p (range_with_len a (n - a)) ≡ (codes " " ++ decimal count) ++ counts_text config past p (range_with_len (a + 1) (n - (a + 1)))
-counts-next config past p a n count l is =
-    ap (counts_text config past p) (range-next a n l)
-    ∙ ap (λ c. (codes " " ++ decimal c) ++ counts_text config past p (range_with_len (a + 1) (n - (a + 1)))) (sym is)
+    → (after : List ℕ) → counts_text config past p (range_with_len a (n - a)) ++ after
+    ≡ (codes " " ++ decimal count) ++ (counts_text config past p (range_with_len (a + 1) (n - (a + 1))) ++ after)
+counts-next config past p a n count l is after =
+    ap (λ numbers. counts_text config past p numbers ++ after) (range-next a n l)
+    ∙ ap (λ c. ((codes " " ++ decimal c) ++ counts_text config past p (range_with_len (a + 1) (n - (a + 1)))) ++ after) (sym is)
+    ∙ append_assoc (codes " " ++ decimal count) (counts_text config past p (range_with_len (a + 1) (n - (a + 1)))) after
 
-pub counts-end : (config : Config) (past : History) (p a n : ℕ) → n ≤ a → counts_text config past p (range_with_len a (n - a)) ≡ []
-counts-end config past p a n l = ap (counts_text config past p) (range-end a n l)
+pub counts-end : (config : Config) (past : History) (p a n : ℕ) → n ≤ a → (after : List ℕ) → counts_text config past p (range_with_len a (n - a)) ++ after ≡ after
+counts-end config past p a n l after = ap (λ numbers. counts_text config past p numbers ++ after) (range-end a n l)
 
 pub nodes-next : (config : Config) (past : History) (reports : List NodeReport) (i : ℕ) (report : NodeReport) → i < length reports → report ≡ get_or reports i report
     → nodes_text config past i (ends_of (drop i reports)) ≡ node_text config past i report.ended ++ nodes_text config past (i + 1) (ends_of (drop (i + 1) reports))

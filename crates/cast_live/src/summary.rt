@@ -85,6 +85,7 @@ fn write_nodes<W: Write>(
     Ok(())
 }
 
+// How the node ended, and how many items it delivered from each node.
 fn write_node<W: Write>(
     config: &Config,
     world: &World,
@@ -100,7 +101,10 @@ fn write_node<W: Write>(
         (node_text config.now past node ended) }
 {
     write_end(u64::from(node), ended, writer)?;
-    write_counts(config, world, node, writer)?;
+    let nodes = config.nodes() as u8;
+    for sender in 0..nodes {
+        write_count(delivered_count(config, world, node, sender), writer)?;
+    }
     write_bytes(b"\n", writer)
 }
 
@@ -115,27 +119,7 @@ fn write_end<W: Write>(node: u64, ended: EngineEnd, writer: &mut Meter<W>) -> Wr
     write_bytes(end_name(ended), writer)
 }
 
-// How many items the node delivered from each node, each after a blank.
-fn write_counts<W: Write>(
-    config: &Config,
-    world: &World,
-    node: u8,
-    writer: &mut Meter<W>,
-) -> Written
-    requires node { node < config.now.nodes }
-    requires writer { writer.old.failed ≡ false }
-    ensures sound { OnOk result (writer.new.failed ≡ false) }
-    ensures text { (past : History) → Stands config.now past world.now →
-        Puts W.contents writer.old writer.new result
-        (counts_text config.now past node (range_with_len 0 config.now.nodes)) }
-{
-    let nodes = config.nodes() as u8;
-    for sender in 0..nodes {
-        write_count(delivered_count(config, world, node, sender), writer)?;
-    }
-    Ok(())
-}
-
+// How many items were delivered from a node, after a blank.
 fn write_count<W: Write>(count: u64, writer: &mut Meter<W>) -> Written
     requires { writer.old.failed ≡ false }
     ensures { Puts W.contents writer.old writer.new result (codes " " ++ decimal count) }
