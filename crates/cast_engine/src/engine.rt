@@ -285,7 +285,8 @@ impl Engine {
         }
     }
 
-    // Makes a frame for a slot, and hands it on. Answers whether it was made.
+    // Makes a frame for a slot, and hands it on: in the second half of step 3 an acknowledgement, in step 5 what is sent. Answers
+    // whether it was made.
     #[tactic(auto, using(crate::proofs::Again::desk_same))]
     fn make<R: Wait>(&mut self, rt: &R, kind: FrameKind, to: NodeId, slot: u64) -> bool
         ensures { IsSameEngine self.old self.new }
