@@ -11,5 +11,5 @@ abbrev pub invariant-loop-sender : goal.invariant-loop-sender
 invariant-loop-sender g l = record {
   sound : l.writer.failed ≡ false;
   going : (past : History) → Stands l.config past l.world → IsGoing (g.W.Write.contents l.fn.writer.inner) (g.W.Write.contents l.writer.inner) l.writer.failed
-      (node_text l.config past l.node l.ended) (counts_text l.config past l.node (range_with_len l.sender (l.config.nodes - l.sender)) ++ codes "\n");
+      (node_text l.config past l.node l.fn.ended) (counts_text l.config past l.node (range_with_len l.sender (l.config.nodes - l.sender)) ++ codes "\n");
 }
