@@ -1,5 +1,5 @@
 -- Each step of a carrier keeps what it keeps.
-use Rattle.std.proofs.Common.{◌≡◌, ◌≢◌, ℕ, zero, suc, ◌+◌, List, [], ◌∷◌, ◌++◌, take, drop, slice_get, slice_set, Some, Ok, Err, Result, MatchResult, sym, ap, ◌∙◌, subst, ◌⊎◌, inl, inr, ⊎_elim}
+use Rattle.std.proofs.Common.{◌≡◌, ◌≢◌, Bool, true, false, cond, ℕ, zero, suc, ◌+◌, List, [], ◌∷◌, ◌++◌, take, drop, slice_get, slice_set, Some, Ok, Err, Result, MatchResult, sym, ap, ◌∙◌, subst, ◌⊎◌, inl, inr, ⊎_elim}
 use Rattle.cast_box.specs.Ends.{PutterEnd}
 use Rattle.cast_box.proofs.Same.{get_set}
 use Rattle.cast_engine.specs.declared.parcel.Parcel.{Parcel}
@@ -37,6 +37,11 @@ puts_both a b c x p q taken k is = q taken (p taken k is) is
 pub still_with : (old new : List Delayed) (d : Delayed) → new ≡ old ++ d ∷ [] → StillWith old d.parcel new
 still_with old new d e taken k is y has =
     ⊎_elim (λ h. k y h) (λ (w : d ≡ y). let P : Delayed → Type 0 = λ z. IsTaken taken z.parcel in subst P w is) (has_snoc old d y (subst (λ l. Has l y) e has))
+
+-- so it does where a parcel is added, or the list stays
+pub still_added : (old new : List Delayed) (d : Delayed) (added : Bool) → new ≡ cond added (old ++ d ∷ []) old → StillWith old d.parcel new
+still_added old new d true e taken k is y has = still_with old new d e taken k is y has
+still_added old new d false e taken k is y has = k y (subst (λ l. Has l y) e has)
 
 pub still_set : (old now : List Delayed) (place : ℕ) (d d' : Delayed) → Still old now → slice_get now place ≡ Some d → d'.parcel ≡ d.parcel → Still old (slice_set now place d')
 still_set old now place d d' s at e taken k y has =

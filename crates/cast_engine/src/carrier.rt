@@ -14,7 +14,7 @@ use std::alloc::{AllocError, Global};
 use std::marker::Model;
 use std::sync::Wait;
 
-// So often in succession a carrier that finds nothing gives up the processor.
+// So often in succession a carrier that finds nothing gives up the processor. After that it sleeps each time.
 const PATIENCE: u64 = 8;
 
 /// A parcel that is kept until so many more frames were taken for its target.
@@ -119,7 +119,7 @@ impl Carrier {
 pub fn run_carrier<R: Wait>(rt: &R, mut carrier: Carrier, board: &Board, node: usize) -> Carrier
     ensures { IsSameCarrier carrier result }
 {
-    let mut waiting = Waiting::new(PATIENCE);
+    let mut waiting = Waiting::new(PATIENCE, 1);
     for _ in rt.forever() {
         let last = board.has_ended(node);
         if carrier.carry(rt) {
@@ -191,12 +191,15 @@ impl NamedFrame {
     // Whether a fault of these frames names it: their ordinals are first, first + step, first + 2 * step, ..; with no step,
     // first alone.
     fn is_hit(&self, kind: FrameKind, from: NodeId, to: NodeId, first: u64, step: u64) -> bool {
-        let is_ordinal = match self.ordinal.checked_sub(first) {
+        // Most faults are of other frames, and a division takes long.
+        if to != self.to || kind != self.kind || from != self.from {
+            return false;
+        }
+        match self.ordinal.checked_sub(first) {
             Some(0) => true,
             Some(past) => step != 0 && past % step == 0,
             None => false,
-        };
-        kind == self.kind && from == self.from && to == self.to && is_ordinal
+        }
     }
 }
 
@@ -252,7 +255,7 @@ fn take_over<R: Wait>(
         return;
     }
     if fate.delay > 0 {
-        let _lost = keep(delayed, parcel, fate.delay, fate.twice);
+        keep(delayed, parcel, fate);
         return;
     }
     hand_on(rt, inboxes, parcel, fate.twice);
@@ -309,21 +312,15 @@ fn release<R: Wait>(rt: &R, inboxes: &mut Vec<Putter<Parcel>>, delayed: &mut Vec
     }
 }
 
-// Keeps a parcel until so many more were taken for its target. It is lost where there is no memory.
-fn keep(
-    delayed: &mut Vec<Delayed>,
-    parcel: Parcel,
-    left: u64,
-    twice: bool,
-) -> Result<(), AllocError>
+// Keeps a parcel until as many more were taken for its target as its fate says. It is lost where there is no memory.
+fn keep(delayed: &mut Vec<Delayed>, parcel: Parcel, fate: Fate)
     ensures { StillWith delayed.old.items parcel delayed.new.items }
 {
-    delayed.push(Delayed {
-        left,
-        twice,
+    let _lost = delayed.push(Delayed {
+        left: fate.delay,
+        twice: fate.twice,
         parcel,
-    })?;
-    Ok(())
+    });
 }
 
 // Hands on a parcel once or twice. A copy that finds no memory is lost.

@@ -10,7 +10,7 @@ use crate::feeding::{Place, first_places, notify_all};
 use crate::gate::Gate;
 use crate::journal::Journal;
 use crate::parcel::Parcel;
-use crate::resend::{LAST_SENT, Resend};
+use crate::resend::Resend;
 use crate::waiting::Waiting;
 use cast_box::{Full, Putter, Taker};
 use cast_desk::{Desk, OrderIn};
@@ -21,9 +21,12 @@ use std::alloc::{AllocError, Global};
 use std::marker::Model;
 use std::sync::Wait;
 
-// So often in succession an engine that finds nothing to do gives up the processor. What it owes it sends again in less, so
-// after so many turns nothing is owed, and it waits for others alone.
-const PATIENCE: u64 = 2 * LAST_SENT as u64;
+// So often in succession an engine that finds nothing to do gives up the processor.
+const PATIENCE: u64 = 8;
+
+// After that it takes so many turns between two sleeps: turns tell it when to send again what is owed, and one turn a sleep would
+// make that wait long.
+const TURNS_AWAKE: u64 = 16;
 
 /// What came of a turn.
 #[derive(Clone, Copy)]
@@ -461,7 +464,7 @@ pub fn run_engine<G: Gate + Drop, R: Wait>(
 ) -> Engine
     ensures { IsSameEngine engine result }
 {
-    let mut waiting = Waiting::new(PATIENCE);
+    let mut waiting = Waiting::new(PATIENCE, TURNS_AWAKE);
     for _ in rt.forever() {
         if board.is_stopped() {
             quiet.end(board);

@@ -18,15 +18,18 @@ use std::alloc::{AllocError, Global};
 use std::sync::{Arc, Wait};
 use std::thread::Threads;
 
-// The threads that were started.
+/// The engines and the carriers of a group.
+pub type Group = (Vec<Engine>, Vec<Carrier>);
+
+/// The threads that were started.
 #[derive(Drop)]
-struct Running<J: ClientJob> {
+pub struct Running<J: ClientJob> {
     engines: Vec<EngineThread>,
     carriers: Vec<CarrierThread>,
     jobs: Vec<JobThread<J>>,
 }
 
-impl<J: ClientJob + Drop> Running<J> {
+impl<J: ClientJob + Send + Drop + 'static> Running<J> {
     fn new(alloc: Global, nodes: usize, clients: usize) -> Result<Running<J>, AllocError>
         ensures engines { IfOk result (λ r. IsRoomFor nodes r.engines) }
         ensures carriers { IfOk result (λ r. IsRoomFor nodes r.carriers) }
@@ -45,83 +48,72 @@ impl<J: ClientJob + Drop> Running<J> {
         join_all(rt, self.carriers);
         join_all(rt, self.jobs);
     }
-}
 
-/// The engines and the carriers of a group.
-pub type Group = (Vec<Engine>, Vec<Carrier>);
-
-// Starts all threads. Those that were started stand in `threads`, at `Err` too.
-fn start_all<
-    J: ClientJob + Send + Drop + 'static,
-    G: Gate + Send + Drop + 'static,
-    R: Threads + Wait + Copy + Send + 'static,
->(
-    rt: R,
-    alloc: Global,
-    board: &Arc<Board, Global>,
-    threads: &mut Running<J>,
-    group: Group,
-    seats: Vec<Seat<J>>,
-    gates: Vec<G>,
-    turns: u64,
-) -> Result<(), StartFault>
-    requires facts { (i : ℕ) (s : Seat J) → slice_get seats.items i ≡ Some s →
-        J.fact s.job (submitted s.client) (got s.client) false }
-    requires gates { length gates.items ≡ length group.0.items }
-    requires room { IsRoomFor (vec_len group.0) threads.old.engines
-        × IsRoomFor (vec_len group.1) threads.old.carriers
-        × IsRoomFor (vec_len seats) threads.old.jobs }
-    ensures engines { OnOk result
-        (map (λ t. t.promise.was.value) threads.new.engines.items ≡ group.0.items) }
-    ensures carriers { OnOk result
-        (map (λ t. t.promise.was.value) threads.new.carriers.items ≡ group.1.items) }
-    ensures jobs { OnOk result
-        (map (λ t. told t.promise.node t.promise.was.value) threads.new.jobs.items
-        ≡ map seat_client seats.items) }
-{
-    let (engines, carriers) = group;
-    start_engines(rt, alloc, board, &mut threads.engines, engines, gates)?;
-    start_carriers(rt, board, &mut threads.carriers, carriers)?;
-    start_jobs(rt, board, &mut threads.jobs, seats, turns)
-}
-
-/// Runs each engine, each carrier and each job in a thread of its own, and joins them. Where a thread isn't started, or
-/// memory runs out, those that were started are told to stop and are joined.
-pub fn run_threads<
-    J: ClientJob + Send + Drop + 'static,
-    G: Gate + Send + Drop + 'static,
-    R: Threads + Wait + Copy + Send + 'static,
->(
-    rt: R,
-    alloc: Global,
-    group: Group,
-    seats: Vec<Seat<J>>,
-    gates: Vec<G>,
-    board: Arc<Board, Global>,
-    turns: u64,
-) -> Result<(Group, Vec<Ended<J>>), StartFault>
-    requires group { IsGroup group.0.items group.1.items
-        × (length group.1.items ≡ length group.0.items) }
-    requires gates { length gates.items ≡ length group.0.items }
-    requires facts { (i : ℕ) (s : Seat J) → slice_get seats.items i ≡ Some s →
-        J.fact s.job (submitted s.client) (got s.client) false }
-    ensures group { IfOk result (λ r. IsGroup r.0.0.items r.0.1.items) }
-    ensures many { IfOk result (λ r. (length r.0.0.items ≡ length group.0.items)
-        × (length r.0.1.items ≡ length group.1.items)) }
-    ensures same { IfOk result (λ r. AreSame IsSameEngine group.0.items r.0.0.items) }
-    ensures jobs { IfOk result (λ r. AreEnded J.fact (map seat_client seats.items) r.1.items) }
-{
-    let engines_back = Vec::with_capacity(alloc, group.0.len())?;
-    let carriers_back = Vec::with_capacity(alloc, group.1.len())?;
-    let jobs_back = Vec::with_capacity(alloc, seats.len())?;
-    let mut threads = Running::new(alloc, group.0.len(), seats.len())?;
-    if let Err(fault) = start_all(rt, alloc, &board, &mut threads, group, seats, gates, turns) {
-        board.stop();
-        threads.abandon(&rt);
-        return Err(fault);
+    // Starts all threads. Those that were started stand in `self`, at `Err` too.
+    fn start<G: Gate + Send + Drop + 'static, R: Threads + Wait + Copy + Send + 'static>(
+        &mut self,
+        rt: R,
+        alloc: Global,
+        board: &Arc<Board, Global>,
+        group: Group,
+        seats: Vec<Seat<J>>,
+        gates: Vec<G>,
+        turns: u64,
+    ) -> Result<(), StartFault>
+        requires facts { (i : ℕ) (s : Seat J) → slice_get seats.items i ≡ Some s →
+            J.fact s.job (submitted s.client) (got s.client) false }
+        requires gates { length gates.items ≡ length group.0.items }
+        requires room { IsRoomFor (vec_len group.0) self.old.engines
+            × IsRoomFor (vec_len group.1) self.old.carriers
+            × IsRoomFor (vec_len seats) self.old.jobs }
+        ensures engines { OnOk result
+            (map (λ t. t.promise.was.value) self.new.engines.items ≡ group.0.items) }
+        ensures carriers { OnOk result
+            (map (λ t. t.promise.was.value) self.new.carriers.items ≡ group.1.items) }
+        ensures jobs { OnOk result
+            (map (λ t. told t.promise.node t.promise.was.value) self.new.jobs.items
+            ≡ map seat_client seats.items) }
+    {
+        let (engines, carriers) = group;
+        start_engines(rt, alloc, board, &mut self.engines, engines, gates)?;
+        start_carriers(rt, board, &mut self.carriers, carriers)?;
+        start_jobs(rt, board, &mut self.jobs, seats, turns)
     }
-    let engines = join_into(&rt, threads.engines, engines_back);
-    let carriers = join_into(&rt, threads.carriers, carriers_back);
-    let jobs = join_into(&rt, threads.jobs, jobs_back);
-    Ok(((engines, carriers), jobs))
+
+    /// Runs each engine, each carrier and each job in a thread of its own, and joins them. Where a thread isn't started, or
+    /// memory runs out, those that were started are told to stop and are joined.
+    pub fn run<G: Gate + Send + Drop + 'static, R: Threads + Wait + Copy + Send + 'static>(
+        rt: R,
+        alloc: Global,
+        group: Group,
+        seats: Vec<Seat<J>>,
+        gates: Vec<G>,
+        board: Arc<Board, Global>,
+        turns: u64,
+    ) -> Result<(Group, Vec<Ended<J>>), StartFault>
+        requires group { IsGroup group.0.items group.1.items
+            × (length group.1.items ≡ length group.0.items) }
+        requires gates { length gates.items ≡ length group.0.items }
+        requires facts { (i : ℕ) (s : Seat J) → slice_get seats.items i ≡ Some s →
+            J.fact s.job (submitted s.client) (got s.client) false }
+        ensures group { IfOk result (λ r. IsGroup r.0.0.items r.0.1.items) }
+        ensures many { IfOk result (λ r. (length r.0.0.items ≡ length group.0.items)
+            × (length r.0.1.items ≡ length group.1.items)) }
+        ensures same { IfOk result (λ r. AreSame IsSameEngine group.0.items r.0.0.items) }
+        ensures jobs { IfOk result (λ r. AreEnded J.fact (map seat_client seats.items) r.1.items) }
+    {
+        let engines_back = Vec::with_capacity(alloc, group.0.len())?;
+        let carriers_back = Vec::with_capacity(alloc, group.1.len())?;
+        let jobs_back = Vec::with_capacity(alloc, seats.len())?;
+        let mut threads = Running::new(alloc, group.0.len(), seats.len())?;
+        if let Err(fault) = threads.start(rt, alloc, &board, group, seats, gates, turns) {
+            board.stop();
+            threads.abandon(&rt);
+            return Err(fault);
+        }
+        let engines = join_into(&rt, threads.engines, engines_back);
+        let carriers = join_into(&rt, threads.carriers, carriers_back);
+        let jobs = join_into(&rt, threads.jobs, jobs_back);
+        Ok(((engines, carriers), jobs))
+    }
 }

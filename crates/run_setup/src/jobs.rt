@@ -1,5 +1,5 @@
 //! Jobs that submit items, and gates that are open.
-ghost use Rattle.std.specs.Prelude.{IfOk, OnOk};
+ghost use Rattle.std.specs.Prelude.{IfOk};
 ghost use Rattle.run_setup.specs.NewJobs.{AreNew};
 
 use bytes::Bytes;
@@ -26,22 +26,9 @@ pub fn submit_each(
 {
     let mut jobs = Vec::new(alloc);
     for node in nodes {
-        add_new(&mut jobs, NodeId(*node), data_items(alloc, items)?)?;
+        jobs.push((NodeId(*node), SubmitAll::new(data_items(alloc, items)?)))?;
     }
     Ok(jobs)
-}
-
-// Adds a job that submits these items.
-fn add_new(
-    jobs: &mut Vec<(NodeId, SubmitAll)>,
-    node: NodeId,
-    items: List<Item>,
-) -> Result<(), AllocError>
-    requires { AreNew jobs.old.items }
-    ensures { OnOk result (AreNew jobs.new.items) }
-{
-    jobs.push((node, SubmitAll::new(items)))?;
-    Ok(())
 }
 
 /// A gate for each of so many nodes that lets every turn pass.

@@ -1,5 +1,6 @@
-use Rattle.cast_engine.proofs.Carrying.{still_with}
+use Rattle.std.specs.Result.{is_ok}
+use Rattle.cast_engine.proofs.Carrying.{still_added}
 use Rattle.cast_engine.proofs.carrier.keep.Goals as goal
 
 pub returns : goal.returns
-returns c = still_with c.args.delayed.now.items c.push.new.self.items _ c.in_ok-push.ensures.items
+returns c = still_added c.args.delayed.now.items c.push-lost.new.self.items _ (is_ok c.push-lost.result) c.push-lost.ensures.items

@@ -9,7 +9,7 @@ returns-then-fate-clause-moves g c =
 pub returns-then-fate-gt0-clause-moves : goal.returns-then-fate-gt0-clause-moves
 returns-then-fate-gt0-clause-moves g c =
     let p = c.pass_time.new in
-    moves_kept c.args.inboxes.now.items p.inboxes.items c.args.delayed.now.items p.delayed.items c.keep-lost.new.delayed.items c.args.parcel c.pass_time.ensures.moves c.keep-lost.ensures
+    moves_kept c.args.inboxes.now.items p.inboxes.items c.args.delayed.now.items p.delayed.items c.keep.new.delayed.items c.args.parcel c.pass_time.ensures.moves c.keep.ensures
 
 pub returns-clause-moves : goal.returns-clause-moves
 returns-clause-moves g c =
