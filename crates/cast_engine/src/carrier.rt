@@ -14,7 +14,7 @@ use std::alloc::{AllocError, Global};
 use std::marker::Model;
 use std::sync::Wait;
 
-// So often in succession a carrier that finds nothing gives up the processor. After that it sleeps each time.
+// So often in succession a carrier that finds nothing gives up the processor.
 const PATIENCE: u64 = 8;
 
 /// A parcel that is kept until so many more frames were taken for its target.
@@ -119,7 +119,7 @@ impl Carrier {
 pub fn run_carrier<R: Wait>(rt: &R, mut carrier: Carrier, board: &Board, node: usize) -> Carrier
     ensures { IsSameCarrier carrier result }
 {
-    let mut waiting = Waiting::new(PATIENCE, 1);
+    let mut waiting = Waiting::new(PATIENCE);
     for _ in rt.forever() {
         let last = board.has_ended(node);
         if carrier.carry(rt) {

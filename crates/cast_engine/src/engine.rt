@@ -10,7 +10,7 @@ use crate::feeding::{Place, first_places, notify_all};
 use crate::gate::Gate;
 use crate::journal::Journal;
 use crate::parcel::Parcel;
-use crate::resend::Resend;
+use crate::resend::{LAST_SENT, Resend};
 use crate::waiting::Waiting;
 use cast_box::{Full, Putter, Taker};
 use cast_desk::{Desk, OrderIn};
@@ -21,12 +21,9 @@ use std::alloc::{AllocError, Global};
 use std::marker::Model;
 use std::sync::Wait;
 
-// So often in succession an engine that finds nothing to do gives up the processor.
-const PATIENCE: u64 = 8;
-
-// After that it takes so many turns between two sleeps: turns tell it when to send again what is owed, and one turn a sleep would
-// make that wait long.
-const TURNS_AWAKE: u64 = 16;
+// So often in succession an engine that finds nothing to do gives up the processor. What it owes it sends again in less, so
+// after so many turns nothing is owed, and it waits for others alone.
+const PATIENCE: u64 = 2 * LAST_SENT as u64;
 
 /// What came of a turn.
 #[derive(Clone, Copy)]
@@ -54,6 +51,10 @@ pub struct Engine {
     resend: Resend,
     // How many turns are left.
     turns: u64,
+    // No order comes any more: no job was left, and the desk was empty.
+    no_orders: bool,
+    // No notice is taken any more: no job was left, and each tray was full.
+    trays_full: bool,
 }
 
 impl Model for Engine {
@@ -138,6 +139,8 @@ impl Engine {
             places,
             resend,
             turns,
+            no_orders: false,
+            trays_full: false,
         })
     }
 
@@ -172,7 +175,8 @@ impl Engine {
         if moved { Turn::Moved } else { Turn::Idle }
     }
 
-    // Steps 2 to 7. Answers whether 2 to 6 did anything. The jobs are asked before the desk is found empty.
+    // Steps 2 to 7. Answers whether 2 to 6 did anything. The jobs are asked before the desk is found empty and the trays full: once
+    // no job is left, both stay so, and are looked at no more.
     #[tactic(auto, using(crate::proofs::Again::desk_same))]
     fn work<R: Wait>(&mut self, rt: &R, board: &Board, quiet: &mut Quiet) -> bool
         ensures { IsSameEngine self.old self.new }
@@ -181,8 +185,19 @@ impl Engine {
         let jobs_ended = quiet.jobs_ended(board);
         let ordered = self.take_order(rt);
         let told = self.notify(rt);
+        self.note_served(jobs_ended, ordered, told);
         quiet.write(board, jobs_ended && !ordered && self.is_settled(board));
         exchanged || ordered || told
+    }
+
+    // Notes, where no job is left, whether the desk was empty and each client's next notice found its tray full.
+    #[tactic(auto, using(crate::proofs::Again::desk_same))]
+    fn note_served(&mut self, jobs_ended: bool, ordered: bool, told: bool)
+        ensures { self.new ≡ self.old }
+    {
+        let all_wait = self.places.iter().all(|place| place.waiting.is_some());
+        self.no_orders = jobs_ended && !ordered;
+        self.trays_full = jobs_ended && !told && all_wait;
     }
 
     // Steps 2, 3 and 5.
@@ -344,6 +359,9 @@ impl Engine {
     fn notify<R: Wait>(&mut self, rt: &R) -> bool
         ensures { IsSameEngine self.old self.new }
     {
+        if self.trays_full {
+            return false;
+        }
         match &mut self.desk {
             Some(desk) => notify_all(rt, desk, &mut self.places, self.journal.log()),
             None => false,
@@ -385,7 +403,7 @@ impl Engine {
     fn take_order<R: Wait>(&mut self, rt: &R) -> bool
         ensures { IsSameEngine self.old self.new }
     {
-        if !self.journal.may_log() {
+        if self.no_orders || !self.journal.may_log() {
             return false;
         }
         let Some(order) = take_order(rt, &mut self.desk) else {
@@ -464,7 +482,7 @@ pub fn run_engine<G: Gate + Drop, R: Wait>(
 ) -> Engine
     ensures { IsSameEngine engine result }
 {
-    let mut waiting = Waiting::new(PATIENCE, TURNS_AWAKE);
+    let mut waiting = Waiting::new(PATIENCE);
     for _ in rt.forever() {
         if board.is_stopped() {
             quiet.end(board);

@@ -11,24 +11,21 @@ use std::time::Duration;
 // How long a sleep is, in microseconds, to which the system adds some fifty.
 const NAP: u64 = 20;
 
-/// How a thread waits: so many times in succession it gives up the processor; after that it looks again so often at once, sleeps
-/// for a moment, and so on.
+/// How a thread waits: so many times in succession it gives up the processor, and then it sleeps, for a moment at a time.
 #[derive(Drop)]
 pub struct Waiting {
     bed: Parker,
     patience: u64,
-    looks: u64,
-    // How often in succession there was nothing to do, of the times before a sleep.
+    // How often in succession there was nothing to do.
     waits: u64,
 }
 
 impl Waiting {
-    /// A thread that gives up the processor so often, and then sleeps each time that it has looked so often.
-    pub fn new(patience: u64, looks: u64) -> Waiting {
+    /// A thread that sleeps once it has waited so often.
+    pub fn new(patience: u64) -> Waiting {
         Waiting {
             bed: Parker::new(),
             patience,
-            looks,
             waits: 0,
         }
     }
@@ -38,13 +35,12 @@ impl Waiting {
         self.waits = 0;
     }
 
-    /// There was nothing to do: lets others run, or has the thread look again.
+    /// There was nothing to do: lets others run.
     pub fn wait<R: Wait>(&mut self, rt: &R) {
-        self.waits = self.waits.saturating_add(1);
-        if self.waits <= self.patience {
+        if self.waits < self.patience {
+            self.waits += 1;
             thread::yield_now();
-        } else if self.waits - self.patience >= self.looks {
-            self.waits = self.patience;
+        } else {
             self.bed.park_timeout(rt, Duration::from_micros(NAP));
         }
     }

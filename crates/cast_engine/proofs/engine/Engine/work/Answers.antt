@@ -1,8 +1,14 @@
+use Rattle.std.proofs.Common.{sym, subst}
+use Rattle.cast_engine.specs.Engines.{IsSameEngine}
 use Rattle.cast_engine.proofs.Again.{engine_again}
 use Rattle.cast_engine.proofs.engine.Engine.work.Goals as goal
 
 pub returns-then-ordered : goal.returns-then-ordered
-returns-then-ordered g c = engine_again c.args.self.now c.take_order-ordered.new.self c.notify-told.new.self (engine_again c.args.self.now c.exchange-exchanged.new.self c.take_order-ordered.new.self c.exchange-exchanged.ensures c.take_order-ordered.ensures) c.notify-told.ensures
+returns-then-ordered g c =
+    subst (IsSameEngine c.args.self.now) (sym c.note_served.ensures)
+    (engine_again c.args.self.now c.take_order-ordered.new.self c.notify-told.new.self (engine_again c.args.self.now c.exchange-exchanged.new.self c.take_order-ordered.new.self c.exchange-exchanged.ensures c.take_order-ordered.ensures) c.notify-told.ensures)
 
 pub returns-else-ordered : goal.returns-else-ordered
-returns-else-ordered g c = engine_again c.args.self.now c.take_order-ordered.new.self c.notify-told.new.self (engine_again c.args.self.now c.exchange-exchanged.new.self c.take_order-ordered.new.self c.exchange-exchanged.ensures c.take_order-ordered.ensures) c.notify-told.ensures
+returns-else-ordered g c =
+    subst (IsSameEngine c.args.self.now) (sym c.note_served.ensures)
+    (engine_again c.args.self.now c.take_order-ordered.new.self c.notify-told.new.self (engine_again c.args.self.now c.exchange-exchanged.new.self c.take_order-ordered.new.self c.exchange-exchanged.ensures c.take_order-ordered.ensures) c.notify-told.ensures)
