@@ -4,8 +4,9 @@
 #![tactic(auto)]
 
 use anyhow::Result;
-use cast_merge::{GroupReport, assemble};
+use cast_merge::assemble;
 use cast_message::{Config, FrameKind, Item, Mode, NodeId};
+use cast_report::GroupReport;
 use cast_world::run_events;
 use std::alloc::Global;
 use std::env;

@@ -5,7 +5,7 @@
 #![tactic(auto)]
 
 use anyhow::Result;
-use cast_merge::{EngineEnd, GroupReport};
+use cast_report::{EngineEnd, GroupReport};
 use cast_run::run_live;
 use run_setup::{Shape, lose_every, no_faults, open_gates, submit_each};
 use std::alloc::{AllocError, Global};

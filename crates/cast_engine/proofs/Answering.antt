@@ -15,7 +15,7 @@ use Rattle.cast_node.specs.declared.entry.Entry.{Entry}
 use Rattle.cast_node.specs.declared.entry.EntryKind.TheVariants.{Step as StepEntry}
 use Rattle.cast_desk.specs.declared.desk.OrderIn.{OrderIn}
 use Rattle.cast_box.specs.Lists.{of}
-use Rattle.cast_merge.specs.Linked.{Mark, Trail, steps_in, event_of}
+use Rattle.cast_report.specs.Linked.{Mark, Trail, steps_in, event_of}
 use Rattle.cast_engine.specs.Runs.{Has, Moved, Served, Denied, Run, mark, trail_of, log_of, orders_of, entry_by, IsRun, is_order, origin_of}
 use Rattle.cast_engine.specs.Journals.{Rises}
 use Rattle.cast_engine.specs.Serving.{is_of, origin_in, entries_of, orders_by, before, IsAnswered, IsAnsweredBy, Matches}

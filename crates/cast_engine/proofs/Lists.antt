@@ -1,7 +1,7 @@
 -- Lists read by place.
 use Rattle.std.proofs.Common.{◌≡◌, List, [], ◌∷◌, ◌++◌, length, slice_get, Some, ◌⊎◌, inl, inr, ⊎_elim}
 use Rattle.cast_box.proofs.Closing.{get_snoc, get_middle}
-pub use Rattle.cast_merge.proofs.Logging.{get_left}
+pub use Rattle.cast_report.proofs.Logging.{get_left}
 use Rattle.cast_engine.specs.Runs.{Has}
 
 module _ {A : Type 0} where

@@ -17,7 +17,7 @@ use Rattle.cast_node.proofs.Refusals.{faults_are}
 use Rattle.cast_node.proofs.Showing.{carries, tells_taken}
 use Rattle.cast_desk.specs.declared.desk.OrderIn.{OrderIn}
 use Rattle.cast_engine.specs.declared.parcel.Parcel.{Parcel}
-use Rattle.cast_merge.specs.Linked.{Made, Trail, event_of, outcome_in, steps_in, made_in, kept_in, stamped, IsFor}
+use Rattle.cast_report.specs.Linked.{Made, Trail, event_of, outcome_in, steps_in, made_in, kept_in, stamped, IsFor}
 use Rattle.cast_engine.specs.Runs.{Has, Read, Moved, Served, Denied, Run, mark, trail_of, log_of, orders_of, IsRun, AreReceived, IsReceived, IsReceivedBy, IsMade, parcel, is_order, origin_of, EngineKeeps}
 use Rattle.cast_engine.specs.Journals.{JournalState, LogsStep, LogsRefusal, LogsOrder, OnlyEnds, Halts}
 use Rattle.cast_message.specs.declared.message.FrameKind.{FrameKind}

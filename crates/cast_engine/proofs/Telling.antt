@@ -13,15 +13,15 @@ use Rattle.cast_node.specs.Kept.{Kept}
 use Rattle.cast_desk.specs.declared.notice.Notice.{Notice}
 use Rattle.cast_desk.specs.Feed.{told_by, feed_from, feed, orders_in, orders_of as orders_in_log}
 use Rattle.cast_engine.specs.declared.parcel.Parcel.{Parcel}
-use Rattle.cast_merge.specs.declared.report.EngineEnd.{EngineEnd}
+use Rattle.cast_report.specs.declared.report.EngineEnd.{EngineEnd}
 use Rattle.cast_engine.specs.declared.feeding.Place.{Place}
-use Rattle.cast_merge.specs.Linked.{Taken, steps_in, taken_in, taken_by, taken, taken_of, AreTaken, IsRising, EachArrival, OnArrival}
+use Rattle.cast_report.specs.Linked.{Taken, steps_in, taken_in, taken_by, taken, taken_of, AreTaken, IsRising, EachArrival, OnArrival}
 use Rattle.cast_engine.specs.Runs.{Has, Moved, Served, Denied, Run, mark, parcel, trail_of, log_of, orders_of, entry_by, IsRun, AreReceived, IsReceivedBy}
 use Rattle.cast_engine.specs.Journals.{Rises}
 use Rattle.cast_engine.specs.Feeding.{told_here, told_at, told_to, IsPlaced, AreFed}
 use Rattle.cast_engine.specs.Engines.{EngineState, Leaves, Tells, WereTold, trays_at}
 use Rattle.cast_box.proofs.Closing.{found}
-use Rattle.cast_merge.proofs.Logging.{one_more}
+use Rattle.cast_report.proofs.Logging.{one_more}
 use Rattle.cast_engine.proofs.Answering.{run_fits, run_origins}
 use Rattle.cast_engine.specs.Serving.{Serves}
 use Rattle.cast_desk.specs.declared.desk.OrderIn.{OrderIn}

@@ -9,12 +9,12 @@ use Rattle.cast_desk.specs.declared.notice.Notice.{Notice}
 use Rattle.cast_engine.specs.declared.parcel.Parcel.{Parcel}
 use Rattle.cast_engine.specs.declared.feeding.Place.{Place}
 use Rattle.cast_engine.specs.Runs.{EngineKeeps, Has, parcel}
-use Rattle.cast_merge.specs.Linked.{Trail, IsLogOf, made_in, stamped, EachArrival}
+use Rattle.cast_report.specs.Linked.{Trail, IsLogOf, made_in, stamped, EachArrival}
 use Rattle.cast_box.specs.Lists.{StartsWith}
 use Rattle.cast_desk.specs.Feed.{feed}
 use Rattle.cast_engine.specs.Serving.{Serves}
 use Rattle.cast_engine.specs.Journals.{JournalState, LogsStep, OnlyEnds, Rises, EndsAs}
-use Rattle.cast_merge.specs.declared.report.EngineEnd.{EngineEnd}
+use Rattle.cast_report.specs.declared.report.EngineEnd.{EngineEnd}
 use Rattle.cast_node.specs.Kept.{Kept}
 use Rattle.cast_model.specs.Steps.{Arrived}
 use Rattle.cast_engine.specs.Feeding.{AreFed}

@@ -7,9 +7,9 @@ use Rattle.cast_box.specs.Ends.{PutterEnd, TakerEnd, IsNextToEnd, HaveAllEnded}
 use Rattle.cast_engine.specs.declared.parcel.Parcel.{Parcel}
 use Rattle.cast_message.specs.declared.config.Config.{Config}
 use Rattle.cast_script.specs.declared.script.Fault.{Fault}
-use Rattle.cast_merge.specs.declared.report.EngineEnd.{EngineEnd}
-use Rattle.cast_merge.specs.declared.report.EngineEnd.TheVariants.{Stopped, Crashed, TurnLimit, LogFull, ClockFull}
-use Rattle.cast_merge.specs.declared.report.NodeReport.{NodeReport}
+use Rattle.cast_report.specs.declared.report.EngineEnd.{EngineEnd}
+use Rattle.cast_report.specs.declared.report.EngineEnd.TheVariants.{Stopped, Crashed, TurnLimit, LogFull, ClockFull}
+use Rattle.cast_report.specs.declared.report.NodeReport.{NodeReport}
 use Rattle.cast_engine.specs.Engines.{EngineState, Leaves, Tells, WereTold, trays_at}
 use Rattle.cast_engine.specs.Carriers.{CarrierState, Brings}
 use Rattle.cast_engine.specs.Plans.{crash_from}

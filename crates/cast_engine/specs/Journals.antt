@@ -17,9 +17,9 @@ use Rattle.cast_node.specs.declared.entry.EntryKind.TheVariants.{Step as StepEnt
 use Rattle.cast_node.specs.Kept.{Kept}
 use Rattle.cast_node.specs.Turns.{Gives}
 use Rattle.cast_desk.specs.declared.desk.OrderIn.{OrderIn}
-use Rattle.cast_merge.specs.declared.report.EngineEnd.{EngineEnd}
-use Rattle.cast_merge.specs.declared.report.EngineEnd.TheVariants.{Crashed, LogFull}
-use Rattle.cast_merge.specs.Linked.{event_of, outcome_in_answer}
+use Rattle.cast_report.specs.declared.report.EngineEnd.{EngineEnd}
+use Rattle.cast_report.specs.declared.report.EngineEnd.TheVariants.{Crashed, LogFull}
+use Rattle.cast_report.specs.Linked.{event_of, outcome_in_answer}
 use Rattle.cast_engine.specs.Runs.{origin_of}
 
 pub record JournalState : Type 0 where

@@ -17,7 +17,7 @@ use Rattle.cast_node.specs.declared.entry.Entry.{Entry}
 use Rattle.cast_node.specs.declared.entry.EntryKind.{EntryKind}
 use Rattle.cast_node.specs.declared.entry.EntryKind.TheVariants.{Step as StepEntry, Refused}
 use Rattle.cast_desk.specs.declared.desk.OrderIn.{OrderIn}
-use Rattle.cast_merge.specs.Linked.{Trail, steps_in}
+use Rattle.cast_report.specs.Linked.{Trail, steps_in}
 use Rattle.cast_engine.specs.Runs.{Has, origin_of}
 
 abbrev pub is_of : ℕ → Option Origin → Bool

@@ -14,15 +14,15 @@ use crate::resend::{LAST_SENT, Resend};
 use crate::waiting::Waiting;
 use cast_box::{Full, Putter, Taker};
 use cast_desk::{Desk, OrderIn};
-use cast_merge::EngineEnd;
 use cast_message::{Config, FrameBody, FrameKind, NodeId};
 use cast_node::{Entry, EntryKind, Node};
+use cast_report::EngineEnd;
 use std::alloc::{AllocError, Global};
 use std::marker::Model;
 use std::sync::Wait;
 
 // So often in succession an engine that finds nothing to do gives up the processor. What it owes it sends again in less, so
-// after so many turns nothing is owed, and it waits for others alone.
+// after so many turns nothing is owed, or the outbox stays full, and it waits for others alone.
 const PATIENCE: u64 = 2 * LAST_SENT as u64;
 
 /// What came of a turn.
@@ -175,8 +175,9 @@ impl Engine {
         if moved { Turn::Moved } else { Turn::Idle }
     }
 
-    // Steps 2 to 7. Answers whether 2 to 6 did anything. The jobs are asked before the desk is found empty and the trays full: once
-    // no job is left, both stay so, and are looked at no more.
+    // What a turn does: exchanges parcels, takes an order, sends a slot that is due, puts notices, and tells the board whether the
+    // engine is quiet. Answers whether anything but the last was done. The jobs are asked before the desk is found empty and the
+    // trays full: once no job is left, both stay so, and are looked at no more.
     #[tactic(auto, using(crate::proofs::Again::desk_same))]
     fn work<R: Wait>(&mut self, rt: &R, board: &Board, quiet: &mut Quiet) -> bool
         ensures { IsSameEngine self.old self.new }
@@ -184,10 +185,11 @@ impl Engine {
         let exchanged = self.exchange(rt, board, quiet);
         let jobs_ended = quiet.jobs_ended(board);
         let ordered = self.take_order(rt);
+        let sent = self.resend(rt);
         let told = self.notify(rt);
         self.note_served(jobs_ended, ordered, told);
         quiet.write(board, jobs_ended && !ordered && self.is_settled(board));
-        exchanged || ordered || told
+        exchanged || ordered || sent || told
     }
 
     // Notes, where no job is left, whether the desk was empty and each client's next notice found its tray full.
@@ -200,18 +202,17 @@ impl Engine {
         self.trays_full = jobs_ended && !told && all_wait;
     }
 
-    // Steps 2, 3 and 5.
+    // Puts the parcel that waits, takes one and acknowledges it. Answers whether it did any of it.
     #[tactic(auto, using(crate::proofs::Again::desk_same))]
     fn exchange<R: Wait>(&mut self, rt: &R, board: &Board, quiet: &mut Quiet) -> bool
         ensures { IsSameEngine self.old self.new }
     {
         let put = self.flush(rt);
         let received = self.receive_and_acknowledge(rt, board, quiet);
-        let sent = self.resend(rt);
-        put || received || sent
+        put || received
     }
 
-    // Step 3. While a parcel waits, none is taken.
+    // Takes a parcel, where none waits to be put, and acknowledges it. Answers whether it did.
     #[tactic(auto, using(crate::proofs::Again::desk_same))]
     fn receive_and_acknowledge<R: Wait>(&mut self, rt: &R, board: &Board, quiet: &mut Quiet) -> bool
         ensures { IsSameEngine self.old self.new }
@@ -275,7 +276,7 @@ impl Engine {
         }
     }
 
-    /// Step 2: puts the parcel that the outbox refused last, where there is one. Answers whether it was put.
+    // Puts the parcel that the outbox refused last, where there is one. Answers whether it was put.
     #[tactic(auto, using(crate::proofs::Again::desk_same))]
     fn flush<R: Wait>(&mut self, rt: &R) -> bool
         ensures { IsSameEngine self.old self.new }
@@ -286,7 +287,7 @@ impl Engine {
         hand(rt, &mut self.outbox, &mut self.held, parcel)
     }
 
-    /// Step 3, the first half: takes one parcel, and logs its arrival. Answers what is to be acknowledged.
+    // Takes one parcel, and logs its arrival. Answers what is to be acknowledged.
     #[tactic(auto, using(crate::proofs::Again::desk_same))]
     fn receive<R: Wait>(&mut self, rt: &R) -> Option<Owing>
         ensures { IsSameEngine self.old self.new }
@@ -303,8 +304,7 @@ impl Engine {
         }
     }
 
-    // Makes a frame for a slot, and hands it on: in the second half of step 3 an acknowledgement, in step 5 what is sent. Answers
-    // whether it was made.
+    // Makes a frame for a slot, which it carries or acknowledges, and hands it on. Answers whether it was made.
     #[tactic(auto, using(crate::proofs::Again::desk_same))]
     fn make<R: Wait>(&mut self, rt: &R, kind: FrameKind, to: NodeId, slot: u64) -> bool
         ensures { IsSameEngine self.old self.new }
@@ -319,7 +319,7 @@ impl Engine {
         true
     }
 
-    /// Step 5: sends a slot that is due, to the next peer in cyclic order to which one is. Answers whether it did.
+    // Sends a slot that is due, to the next peer in cyclic order to which one is. Answers whether it did.
     #[tactic(auto, using(crate::proofs::Again::desk_same))]
     fn resend<R: Wait>(&mut self, rt: &R) -> bool
         ensures { IsSameEngine self.old self.new }
@@ -354,7 +354,7 @@ impl Engine {
         self.resend.next_turn(self.journal.node());
     }
 
-    /// Step 6: for each client, puts the next notice of its feed, where the tray has room. Answers whether one was put.
+    // For each client, puts the next notice of its feed, where the tray has room. Answers whether one was put.
     #[tactic(auto, using(crate::proofs::Again::desk_same))]
     fn notify<R: Wait>(&mut self, rt: &R) -> bool
         ensures { IsSameEngine self.old self.new }
@@ -368,7 +368,7 @@ impl Engine {
         }
     }
 
-    /// Whether the engine may go on: its log and its clock are not full, and no crash is due, which is logged here.
+    // Whether the engine may go on: its log and its clock are not full, and no crash is due, which is logged here.
     #[tactic(auto, using(crate::proofs::Again::desk_same))]
     fn may_go_on(&mut self) -> bool
         ensures { IsSameEngine self.old self.new }
@@ -376,7 +376,7 @@ impl Engine {
         self.journal.may_log()
     }
 
-    /// Notes that the engine ends.
+    // Notes that the engine ends.
     #[tactic(auto, using(crate::proofs::Again::desk_same))]
     fn end(&mut self, end: EngineEnd)
         requires { IsQuietEnd end }
@@ -385,7 +385,7 @@ impl Engine {
         self.journal.end(end);
     }
 
-    /// Step 1: counts the turn. Answers whether there was one left.
+    // Counts the turn. Answers whether there was one left.
     #[tactic(auto, using(crate::proofs::Again::desk_same))]
     fn count_turn(&mut self) -> bool
         ensures { IsSameEngine self.old self.new }
@@ -398,7 +398,7 @@ impl Engine {
         true
     }
 
-    /// Step 4: takes one order and logs it. Answers whether there was one.
+    // Takes one order and logs it. Answers whether there was one.
     #[tactic(auto, using(crate::proofs::Again::desk_same))]
     fn take_order<R: Wait>(&mut self, rt: &R) -> bool
         ensures { IsSameEngine self.old self.new }

@@ -1,7 +1,7 @@
 //! The node of an engine, with its log and its clock.
 ghost use Rattle.std.specs.Prelude.{◌≡◌, ◌+◌, ◌<◌, ◌^◌, [], length, Some, None, Ok, IfOk, OnOk, OnErr, IsTrue, IsFalse};
 ghost use Rattle.cast_model.specs.Steps.{Arrived, Stopped, making};
-ghost use Rattle.cast_merge.specs.Linked.{event_of};
+ghost use Rattle.cast_report.specs.Linked.{event_of};
 ghost use Rattle.cast_node.specs.Calls.{sent_reply};
 ghost use Rattle.cast_node.specs.Kept.{nothing_kept};
 ghost use Rattle.cast_node.specs.Turns.{Gives, frame_made};
@@ -10,9 +10,9 @@ ghost use Rattle.cast_engine.specs.Journals.{MayLog, LogsStep, LogsOrder, OnlyEn
 
 use crate::parcel::Parcel;
 use cast_desk::OrderIn;
-use cast_merge::EngineEnd;
 use cast_message::{Config, Event, Frame, FrameKind, Item, List, NodeId, Outcome, StepFault};
 use cast_node::{Entry, EntryKind, Node, Origin};
+use cast_report::EngineEnd;
 use std::alloc::{AllocError, Global};
 use std::marker::Model;
 
@@ -35,7 +35,7 @@ impl Model for Journal {
     ghost use Rattle.cast_message.specs.contracts.config.Config as configs;
     ghost use Rattle.cast_node.specs.contracts.node.Node as nodes;
     ghost use Rattle.cast_node.specs.contracts.entry.Entry as entries;
-    ghost use Rattle.cast_merge.specs.contracts.report.EngineEnd as engine_ends;
+    ghost use Rattle.cast_report.specs.contracts.report.EngineEnd as engine_ends;
 
     ghost Value = { JournalState };
 
@@ -253,13 +253,6 @@ impl Journal {
         ensures { result.now ≡ self.now.log }
     {
         self.log.as_slice()
-    }
-
-    /// Why the engine ended, where it has.
-    pub fn ended(&self) -> Option<EngineEnd>
-        ensures { result ≡ self.now.ended }
-    {
-        self.ended
     }
 
     /// The log, the node and the end, where the engine ended.

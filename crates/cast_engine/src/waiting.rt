@@ -14,7 +14,7 @@ const NAP: u64 = 20;
 /// How a thread waits: so many times in succession it gives up the processor, and then it sleeps, for a moment at a time.
 #[derive(Drop)]
 pub struct Waiting {
-    bed: Parker,
+    parker: Parker,
     patience: u64,
     // How often in succession there was nothing to do.
     waits: u64,
@@ -24,24 +24,24 @@ impl Waiting {
     /// A thread that sleeps once it has waited so often.
     pub fn new(patience: u64) -> Waiting {
         Waiting {
-            bed: Parker::new(),
+            parker: Parker::new(),
             patience,
             waits: 0,
         }
     }
 
-    /// There was something to do.
+    /// Notes that there was something to do.
     pub fn found(&mut self) {
         self.waits = 0;
     }
 
-    /// There was nothing to do: lets others run.
+    /// Lets others run, as there was nothing to do.
     pub fn wait<R: Wait>(&mut self, rt: &R) {
         if self.waits < self.patience {
             self.waits += 1;
             thread::yield_now();
         } else {
-            self.bed.park_timeout(rt, Duration::from_micros(NAP));
+            self.parker.park_timeout(rt, Duration::from_micros(NAP));
         }
     }
 }

@@ -5,7 +5,7 @@ use Rattle.std.proofs.lemmas.List.{drop_all}
 use Rattle.cast_message.specs.declared.config.Config.{Config}
 use Rattle.cast_model.specs.History.{History}
 use Rattle.cast_model.specs.Delivery.{delivered}
-use Rattle.cast_merge.specs.declared.report.NodeReport.{NodeReport}
+use Rattle.cast_report.specs.declared.report.NodeReport.{NodeReport}
 use Rattle.cast_model.specs.Replies.{history}
 use Rattle.cast_world.specs.Group.{Stands}
 use Rattle.cast_record.specs.VerdictText.{verdict_text}

@@ -18,10 +18,10 @@ use Rattle.cast_model.specs.Delivery.{delivered}
 use Rattle.cast_model.specs.Replies.{history, replies}
 use Rattle.cast_model.specs.Rounds.{AreAccepted, Rest}
 use Rattle.cast_world.specs.Group.{Stands}
-use Rattle.cast_merge.specs.declared.report.EngineEnd.{EngineEnd}
-use Rattle.cast_merge.specs.declared.report.EngineEnd.TheVariants.{Stopped, Crashed, TurnLimit, LogFull, ClockFull}
-use Rattle.cast_merge.specs.declared.report.NodeReport.{NodeReport}
-use Rattle.cast_merge.specs.Linked.{Linked}
+use Rattle.cast_report.specs.declared.report.EngineEnd.{EngineEnd}
+use Rattle.cast_report.specs.declared.report.EngineEnd.TheVariants.{Stopped, Crashed, TurnLimit, LogFull, ClockFull}
+use Rattle.cast_report.specs.declared.report.NodeReport.{NodeReport}
+use Rattle.cast_report.specs.Linked.{Linked}
 use Rattle.cast_merge.specs.Merge.{TellsMerge}
 use Rattle.cast_record.specs.declared.verdict.Verdict.TheVariants.{Good}
 use Rattle.cast_record.specs.VerdictText.{verdict_text}
@@ -30,7 +30,7 @@ use Rattle.cast_desk.specs.declared.notice.Notice.{Notice}
 use Rattle.cast_run.specs.declared.reports.ClientReport.{ClientReport}
 use Rattle.cast_run.specs.Faults.{JobsFit}
 use Rattle.cast_engine.specs.Plans.{ArePlanned, crash_from}
-use Rattle.cast_run.specs.Jobs.{Submits}
+use Rattle.cast_run.specs.Jobs.{SubmitsGiven}
 use Rattle.cast_engine.specs.Journals.{EndsAs}
 use Rattle.cast_run.specs.Serves.{AreServed, HaveOrigins}
 use Rattle.cast_script.specs.declared.live_fault.LiveFault.{LiveFault}
@@ -72,10 +72,8 @@ AreNewJobs jobs = (i : ℕ) (job : ℕ × SubmitAll) → slice_get jobs i ≡ So
 abbrev pub items_of : ℕ × SubmitAll → ℕ × List Item
 items_of job = (job.0, job.1.items)
 
-abbrev pub fact_of : SubmitAll → List OrderIn → List Notice → Bool → Type 0
-fact_of job sent got done = Submits job.items job.next job.replies sent got done
-
--- these are reports of a run of the script: each log ends as plan and limits say, and each job of the script had a client
+-- these are reports of a run of the script: each log ends as plan and limits say, and each job of the script had a client, which
+-- submitted the first of its items
 pub record IsRunOf (script : Script) (reports : List NodeReport) : Type 0 where
   pub logs : (p : ℕ) (report : NodeReport) → slice_get reports p ≡ Some report → EndsAs script.config.log_limit (crash_from p None script.plan.faults) (Some report.ended) report.log
   -- the jobs that were handed in, and what came back of them
@@ -84,7 +82,7 @@ pub record IsRunOf (script : Script) (reports : List NodeReport) : Type 0 where
   pub clients : List ClientReport
   pub items : map items_of handed ≡ script.jobs
   pub new : AreNewJobs handed
-  pub served : AreServed script.config fact_of handed reports back clients
+  pub served : AreServed script.config SubmitsGiven handed reports back clients
   pub origins : HaveOrigins handed reports
 
 -- ---- its summary

@@ -9,8 +9,9 @@ ghost use Rattle.cast_live.specs.Replayed.{record_of_accepted, RecordsReplay};
 
 use crate::replay::{is_replayed, write_run_record};
 use crate::summary::{Summary, summarize, write_summary};
-use cast_merge::{Assembly, GroupReport, assemble};
+use cast_merge::{Assembly, assemble};
 use cast_message::{Item, List, NodeId};
+use cast_report::GroupReport;
 use cast_run::{CountingGate, Progress, SubmitAll, run_live};
 use cast_script::{Script, write_script};
 use cast_text::{TextFault, read_script_text};
@@ -29,7 +30,7 @@ pub struct FinishedRun {
 
 /// Reads a script to its end, runs its group in threads, with its plan and a client for each of its jobs, and writes the
 /// summary of the run. The events of the script are left aside. Nothing is written before all threads have ended: after
-/// `Write` a front of the summary stands, or nothing, after any other fault nothing.
+/// `Write` a prefix of the summary stands, or nothing, after any other fault nothing.
 pub fn live_text<R: Read, W: Write, T: Threads + Wait + Copy + Send + 'static>(
     rt: T,
     alloc: Global,
@@ -88,7 +89,7 @@ fn merge_logs(alloc: Global, report: GroupReport) -> Result<FinishedRun, AllocEr
     Ok(FinishedRun { report, assembly })
 }
 
-/// Writes the record of what happened in the run: of the merged events, and the replies to them. After a fault a front of it
+/// Writes the record of what happened in the run: of the merged events, and the replies to them. After a fault a prefix of it
 /// was written, or nothing.
 pub fn write_record_of<W: Write>(run: &FinishedRun, writer: &mut Meter<W>) -> Result<(), TextFault>
     requires run { IsFinished run.now }
@@ -105,7 +106,7 @@ pub fn write_record_of<W: Write>(run: &FinishedRun, writer: &mut Meter<W>) -> Re
 }
 
 /// Writes the script that says what happened in the run: its configuration, and the merged events. It takes no memory. After
-/// a fault a front of it was written, or nothing.
+/// a fault a prefix of it was written, or nothing.
 pub fn write_replay_of<W: Write>(run: &FinishedRun, writer: &mut Meter<W>) -> Result<(), TextFault>
     requires run { IsFinished run.now }
     requires writer { writer.old.failed ≡ false }

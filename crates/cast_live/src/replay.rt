@@ -34,7 +34,7 @@ fn tell_event_ranges(events: &[Event])
     }
 }
 
-/// Writes the record of a run: its head, the lines of its events with these replies, and its end. After a fault a front of
+/// Writes the record of a run: its head, the lines of its events with these replies, and its end. After a fault a prefix of
 /// it was written, or nothing.
 pub fn write_run_record<W: Write>(
     config: &Config,

@@ -13,9 +13,9 @@ use crate::live::FinishedRun;
 use crate::replay::is_replayed;
 use crate::verdict::judge_run;
 use cast_judge::Verdict;
-use cast_merge::{EngineEnd, NodeReport};
 use cast_message::{Config, NodeId};
 use cast_record::write_verdict;
+use cast_report::{EngineEnd, NodeReport};
 use cast_words::{Meter, Written, write_bytes, write_number};
 use cast_world::World;
 use std::alloc::{AllocError, Global};
@@ -45,7 +45,7 @@ pub fn summarize(alloc: Global, run: &FinishedRun) -> Result<Summary, AllocError
     })
 }
 
-/// Writes the summary of the run. It takes no memory. A refusal comes only where the writer failed or took no byte; a front of
+/// Writes the summary of the run. It takes no memory. A refusal comes only where the writer failed or took no byte; a prefix of
 /// the text stands then.
 pub fn write_summary<W: Write>(run: &FinishedRun, said: Summary, writer: &mut Meter<W>) -> Written
     requires run { IsFinished run.now }

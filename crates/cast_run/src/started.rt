@@ -3,9 +3,9 @@ ghost use Rattle.std.specs.Prelude.{◌≡◌, ℕ, false, length, map, slice_ge
 ghost use Rattle.cast_run.specs.declared.jobs.Seat.{Seat};
 ghost use Rattle.cast_engine.specs.Engines.{IsSameEngine};
 ghost use Rattle.cast_engine.specs.Group.{IsGroup, AreSame};
-ghost use Rattle.cast_run.specs.Jobs.{told, submitted, got};
+ghost use Rattle.cast_run.specs.Jobs.{submitted, got};
 ghost use Rattle.cast_run.specs.Rooms.{IsRoomFor};
-ghost use Rattle.cast_run.specs.Seats.{seat_client, AreEnded};
+ghost use Rattle.cast_run.specs.Seats.{AreEnded};
 
 use crate::fault::StartFault;
 use crate::job::ClientJob;
@@ -61,7 +61,7 @@ impl<J: ClientJob + Send + Drop + 'static> Running<J> {
         turns: u64,
     ) -> Result<(), StartFault>
         requires facts { (i : ℕ) (s : Seat J) → slice_get seats.items i ≡ Some s →
-            J.fact s.job (submitted s.client) (got s.client) false }
+            J.fact s.job s.job (submitted s.client) (got s.client) false }
         requires gates { length gates.items ≡ length group.0.items }
         requires room { IsRoomFor (vec_len group.0) self.old.engines
             × IsRoomFor (vec_len group.1) self.old.carriers
@@ -71,8 +71,7 @@ impl<J: ClientJob + Send + Drop + 'static> Running<J> {
         ensures carriers { OnOk result
             (map (λ t. t.promise.was.value) self.new.carriers.items ≡ group.1.items) }
         ensures jobs { OnOk result
-            (map (λ t. told t.promise.node t.promise.was.value) self.new.jobs.items
-            ≡ map seat_client seats.items) }
+            (map (λ t. t.promise.was.value) self.new.jobs.items ≡ seats.items) }
     {
         let (engines, carriers) = group;
         start_engines(rt, alloc, board, &mut self.engines, engines, gates)?;
@@ -95,12 +94,12 @@ impl<J: ClientJob + Send + Drop + 'static> Running<J> {
             × (length group.1.items ≡ length group.0.items) }
         requires gates { length gates.items ≡ length group.0.items }
         requires facts { (i : ℕ) (s : Seat J) → slice_get seats.items i ≡ Some s →
-            J.fact s.job (submitted s.client) (got s.client) false }
+            J.fact s.job s.job (submitted s.client) (got s.client) false }
         ensures group { IfOk result (λ r. IsGroup r.0.0.items r.0.1.items) }
         ensures many { IfOk result (λ r. (length r.0.0.items ≡ length group.0.items)
             × (length r.0.1.items ≡ length group.1.items)) }
         ensures same { IfOk result (λ r. AreSame IsSameEngine group.0.items r.0.0.items) }
-        ensures jobs { IfOk result (λ r. AreEnded J.fact (map seat_client seats.items) r.1.items) }
+        ensures jobs { IfOk result (λ r. AreEnded J.fact seats.items r.1.items) }
     {
         let engines_back = Vec::with_capacity(alloc, group.0.len())?;
         let carriers_back = Vec::with_capacity(alloc, group.1.len())?;

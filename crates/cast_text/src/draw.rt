@@ -17,7 +17,7 @@ use std::alloc::Global;
 use std::io::{Read, Write};
 
 /// Reads a script to its end, and writes the picture of its events, of which those of the window are drawn. Nothing is written
-/// before all events were taken: after `Write` a front of the picture stands, or nothing, after any other fault nothing.
+/// before all events were taken: after `Write` a prefix of the picture stands, or nothing, after any other fault nothing.
 pub fn draw_text<R: Read, W: Write>(
     alloc: Global,
     window: Window,

@@ -12,7 +12,7 @@ use std::alloc::Global;
 use std::io::{Read, Write};
 
 /// Reads a text to its end, judges it as a record, and writes the verdict as a line. No more of the text is kept than an
-/// unfinished line. After a fault of reading, or want of memory, nothing was written, after `Write` a front of the line, or
+/// unfinished line. After a fault of reading, or want of memory, nothing was written, after `Write` a prefix of the line, or
 /// nothing.
 pub fn judge_text<R: Read, W: Write>(
     alloc: Global,

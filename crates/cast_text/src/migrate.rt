@@ -11,7 +11,7 @@ use std::alloc::Global;
 use std::io::{Read, Write};
 
 /// Reads a record `cast/1` to its end, and writes it with the head of `cast/2`. After a fault of reading, want of memory or
-/// `NotV1` nothing was written, after `Write` a front of the text, or nothing.
+/// `NotV1` nothing was written, after `Write` a prefix of the text, or nothing.
 pub fn migrate_text<R: Read, W: Write>(
     alloc: Global,
     reader: &mut Meter<R>,

@@ -1,7 +1,7 @@
 -- A world in which one node takes a step goes on as the definitions say.
 use Rattle.std.proofs.Common.{◌≡◌, ◌≢◌, ◌⊎◌, ℕ, zero, suc, ◌<◌, ◌≤◌, refl, sym, ◌∙◌, ap, subst, Bool, true, false, not, cond, List, [], ◌∷◌, ◌++◌, length, map, Option, Some, None, inl, inr, arith, Result, Ok, Err}
 use Rattle.std.specs.Prelude.{◌==◌, nat_lt, slice_get, slice_index_or, option_map, if◌then◌else◌}
-use Rattle.std.proofs.lemmas.Bool.{cases_eq, cases_lt, ne_eqb}
+use Rattle.std.proofs.lemmas.Bool.{cases_eq, cases_lt, ne_eqb, false≢true}
 use Rattle.std.proofs.lemmas.Bool.Decides.{nat_tests}
 use Rattle.std.proofs.lemmas.List.{append-nil, map-append}
 use Rattle.cast_message.specs.declared.config.Config.{Config}
@@ -9,7 +9,7 @@ use Rattle.cast_message.specs.declared.event.Event.{Event}
 use Rattle.cast_message.specs.declared.event.Event.TheVariants.{Order, Send, Ack, Arrive, Crash}
 use Rattle.cast_message.specs.declared.event.Answer.{Answer}
 use Rattle.cast_message.specs.declared.event.StepFault.{StepFault}
-use Rattle.cast_message.specs.declared.event.StepFault.TheVariants.{NoNode, NoFrame}
+use Rattle.cast_message.specs.declared.event.StepFault.TheVariants.{NoNode, NoFrame, Crashed, Memory}
 use Rattle.cast_message.specs.declared.message.Item.TheVariants.{Close}
 use Rattle.cast_message.specs.declared.message.Frame.{Frame}
 use Rattle.cast_message.specs.declared.message.FrameBody.{FrameBody}
@@ -28,7 +28,7 @@ use Rattle.cast_model.proofs.Dues.{none_from_absent}
 use Rattle.cast_model.proofs.OwnHeld.{steps_after}
 use Rattle.cast_model.proofs.OwnReplies.{own_fault-steps_of, own_frames-steps_of, frame_ends}
 use Rattle.cast_model.proofs.Possible.{node_reply-steps_of, node_after-steps_of}
-use Rattle.cast_node.specs.Kept.{nothing_kept}
+use Rattle.cast_node.specs.Kept.{Kept, nothing_kept}
 use Rattle.cast_node.specs.Turns.{kept_after, kept_fault}
 use Rattle.cast_node.specs.Stands.{Stands as NodeStands}
 use Rattle.cast_node.proofs.Places.{length-slice_set, at_set, same_number, other_number}
@@ -236,3 +236,22 @@ module _ (config : Config) (past : History) (world : State) (st : Stands config 
   continues_to (Ack from to slot) replied new t = steps from (Ack from to slot) (Acknowledged to slot) (acknowledges to slot) _ (λ l none. ap (map mark_of) (tells_taken config from (steps_of past from) (node_at world from) (st.nodes from l) to slot)) replied new (λ l. first_holds (no_node config from) _ (out_of_group from l)) t
   continues_to (Arrive from seq) replied new t = missed from seq (slice_get (frames past from) seq) refl replied new (subst (λ o. ArrivesBy world from seq o replied new) (ap (λ row. slice_get row seq) (made_all from) ∙ mark_at (frames past from) seq) t)
   continues_to (Crash node) replied new t = steps node (Crash node) Stopped stops [] (λ l none. refl) replied new (λ l. first_holds (no_node config node) _ (out_of_group node l)) t
+
+-- a reply that is no want of memory is that of the definitions
+pub is_answered : (config : Config) (past : History) (event : Event) (given : Result Answer StepFault) (new : State) → given ≢ Err Memory → Continues config past event given new → given ≡ reply config past event
+unfolding reply
+is_answered config past event (Ok answered) new sure goes_on = sym goes_on.0
+is_answered config past event (Err refusal) new sure goes_on = by_cause (fault config past event) goes_on.0
+  where
+    by_cause : (o : Option StepFault) → IsRefused o refusal → ◌≡◌ {A = Result Answer StepFault} (Err refusal) (reply_by o (answer config past event))
+    by_cause None refused = absurd (sure (ap Err refused))
+    by_cause (Some cause) refused = ap Err refused
+
+-- a node that does not live refuses to crash because it has crashed
+pub crash_refused : (kept : Kept) (refusal : StepFault) → kept.live ≡ false → IsRefused (kept_fault kept Stopped) refusal → refusal ≡ Crashed
+unfolding kept_fault first_fault
+crash_refused kept refusal down refused = by_life kept.live down refused
+  where
+    by_life : (b : Bool) → b ≡ false → IsRefused (cond (not b) (Some Crashed) None) refusal → refusal ≡ Crashed
+    by_life false e refused = refused
+    by_life true e refused = absurd (false≢true (sym e))

@@ -9,10 +9,11 @@
 --     Continues config past event reply world     what a world stands for after a step from there
 --     IsFar event                 its slot is greater than a mark can have
 --     IsRefusedForCause config past event reply   the reply is the cause of refusal that the definitions say
+--     IsCrash event               it crashes a node
 use Rattle.std.specs.Prelude.{◌≡◌, ℕ, ◌<◌, ◌≤◌, ◌^◌, Option, Some, None, List, [], ◌∷◌, length, map, ◌==◌, if◌then◌else◌, slice_index_or, Result, Ok, Err}
 use Rattle.cast_message.specs.declared.config.Config.{Config}
 use Rattle.cast_message.specs.declared.event.Event.{Event}
-use Rattle.cast_message.specs.declared.event.Event.TheVariants.{Send, Ack}
+use Rattle.cast_message.specs.declared.event.Event.TheVariants.{Send, Ack, Crash}
 use Rattle.cast_message.specs.declared.event.Answer.{Answer}
 use Rattle.cast_message.specs.declared.event.StepFault.{StepFault}
 use Rattle.cast_message.specs.declared.message.Item.{Item}
@@ -117,3 +118,7 @@ IsFar _ = ⊥
 abbrev pub IsRefusedForCause : Config → History → Event → Result Answer StepFault → Type 0
 IsRefusedForCause config past event (Ok answer) = ⊥
 IsRefusedForCause config past event (Err refusal) = fault config past event ≡ Some refusal
+
+abbrev pub IsCrash : Event → Type 0
+IsCrash (Crash node) = Unit {0}
+IsCrash _ = ⊥

@@ -1,12 +1,13 @@
 //! The group as one value: events go in, replies come out.
-ghost use Rattle.std.specs.Prelude.{◌≡◌, ◌<◌, ◌≤◌, ◌^◌, ◌∷◌, IsTrue, IsFalse, IfOk, IfSome, IfNone, OnErr, [], Some, None, length, slice_get, option_map, nat_lt, ◌&&◌, MatchOption, MatchResult};
+ghost use Rattle.std.specs.Prelude.{◌≡◌, ◌≢◌, ◌<◌, ◌≤◌, ◌^◌, ◌∷◌, IsTrue, IsFalse, IfOk, IfSome, IfNone, OnErr, [], Some, None, length, slice_get, option_map, nat_lt, ◌&&◌, MatchOption, MatchResult, Err};
 ghost use Rattle.std.specs.Option.{option_copied};
 ghost use Rattle.cast_message.specs.declared.config.Config.{Config as Settings};
+ghost use Rattle.cast_message.specs.declared.event.StepFault.TheVariants.{Memory};
 ghost use Rattle.cast_model.specs.History.{History, is_live};
 ghost use Rattle.cast_model.specs.Replies.{reply};
 ghost use Rattle.cast_model.specs.Delivery.{decision};
 ghost use Rattle.cast_model.specs.Shown.{ShowsDelivered, ShowsStream, ShowsOwed};
-ghost use Rattle.cast_world.specs.Group.{Stands, StandingFor, Continues, FindsNode, IsFar, IsRefusedForCause, node_at, marks_at};
+ghost use Rattle.cast_world.specs.Group.{Stands, StandingFor, Continues, FindsNode, IsCrash, IsFar, IsRefusedForCause, node_at, marks_at};
 ghost use Rattle.cast_node.specs.Calls.{number_reply, silent_reply};
 ghost use Rattle.cast_world.specs.Moves.{IsSilent, MakesFrame, StepsTo, TakesStep};
 
@@ -78,6 +79,10 @@ impl World {
         // No slot is given that a mark has no room for: its event has a cause of refusal, and never wants memory.
         ensures far { StandingFor self.old (λ config past.
             IsFar event.now → IsRefusedForCause config past event.now result) }
+
+        // A crash takes no memory.
+        ensures crash { StandingFor self.old (λ config past.
+            IsCrash event.now → result ≡ reply config past event.now) }
     {
         match event {
             Event::Order { node, item } => self.order(*node, item),
@@ -178,7 +183,8 @@ impl World {
     }
 
     fn crash(&mut self, node: NodeId) -> Reply
-        ensures { StepsTo self.old (Event.Crash node) result self.new }
+        ensures steps { StepsTo self.old (Event.Crash node) result self.new }
+        ensures sure { result ≢ Err Memory }
     {
         let place = usize::from(node.0);
         if place >= self.nodes.len() {

@@ -28,7 +28,7 @@ use Rattle.cast_box.specs.Lists.{StartsWith}
 use Rattle.cast_desk.specs.declared.notice.Notice.{Notice}
 use Rattle.cast_desk.specs.declared.notice.Notice.TheVariants.{Reply, Delivered, Decided}
 use Rattle.cast_desk.specs.Feed.{feed, feed_from, told_by, reply_of, orders_in}
-use Rattle.cast_merge.specs.Linked.{Trail, Taken, taken, taken_of, taken_in, taken_by, steps_in, AreTaken, IsLogOf, outcome_in, outcome_in_answer}
+use Rattle.cast_report.specs.Linked.{Trail, Taken, taken, taken_of, taken_in, taken_by, steps_in, AreTaken, IsLogOf, outcome_in, outcome_in_answer}
 use Rattle.cast_world.specs.Group.{State, Stands, node_at}
 use Rattle.example_ledger.specs.Applied.{of_sender}
 use Rattle.example_ledger.specs.Tellers.{told}

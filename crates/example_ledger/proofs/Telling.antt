@@ -6,7 +6,7 @@ use Rattle.cast_message.specs.declared.config.Config.{Config}
 use Rattle.cast_model.specs.History.{History, stream}
 use Rattle.cast_model.specs.Replies.{IsPrefixOf}
 use Rattle.cast_model.specs.Shown.{item_of}
-use Rattle.cast_merge.specs.declared.report.NodeReport.{NodeReport}
+use Rattle.cast_report.specs.declared.report.NodeReport.{NodeReport}
 use Rattle.cast_run.specs.declared.reports.ClientReport.{ClientReport}
 use Rattle.cast_run.specs.Jobs.{told_job}
 use Rattle.cast_run.specs.Serves.{AreServed, IsServed}

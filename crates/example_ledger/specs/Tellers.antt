@@ -33,8 +33,8 @@ pub record KeepsBook (book : BookState) (notices : List Notice) : Type 0 where
   pub sheet : IsSheetOf book.sheet book.journal
 
 -- the fact that a teller keeps about itself, whatever it has ordered: its book is that of the notices that it got
-abbrev pub teller_fact : Teller → List OrderIn → List Notice → Bool → Type 0
-teller_fact teller sent got done = KeepsBook teller.book got
+abbrev pub teller_fact : Teller → Teller → List OrderIn → List Notice → Bool → Type 0
+teller_fact given teller sent got done = KeepsBook teller.book got
 
 abbrev pub AreNewTellers : List (ℕ × Teller) → Type 0
 AreNewTellers tellers = (i node : ℕ) (teller : Teller) → slice_get tellers i ≡ Some (told_job node teller) → KeepsBook teller.book []

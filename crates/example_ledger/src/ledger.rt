@@ -17,7 +17,7 @@ pub struct Ledger {
     pub world: World,
     /// By node.
     pub books: Vec<Book>,
-    /// No live node owes a live node a message.
+    /// Whether no live node owes a live node a message.
     pub at_rest: bool,
 }
 

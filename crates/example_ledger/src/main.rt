@@ -62,7 +62,7 @@ fn in_threads<R: Threads + Wait + Print + Copy + Send + 'static>(
         let left = if teller.is_done() {
             ""
         } else {
-            ", not all that was to be ordered"
+            ", not done"
         };
         println!(&rt; "node {}{left}:{}", client.node.0, teller.book().sheet())?;
     }

@@ -7,8 +7,9 @@ ghost use Rattle.cast_run.specs.Serves.{AreServed};
 ghost use Rattle.example_ledger.specs.Tellers.{AreNewTellers, teller_fact, TellersApplyPrefixes, TellersKeepSheets};
 
 use crate::teller::Teller;
-use cast_merge::{Assembly, GroupReport, assemble};
+use cast_merge::{Assembly, assemble};
 use cast_message::{Config, NodeId};
+use cast_report::GroupReport;
 use cast_run::{ClientReport, LiveFault, OpenGate, run_live};
 use cast_script::FaultPlan;
 use std::alloc::{AllocError, Global};
@@ -23,7 +24,7 @@ const TURNS: u64 = 4_000_000;
 pub struct RunningLedger {
     /// The tellers, in the order in which they were handed in.
     pub tellers: Vec<Teller>,
-    /// At which node each was.
+    /// What became of each teller's orders, and at which node it was.
     pub clients: Vec<ClientReport>,
     /// The log of each node.
     pub report: GroupReport,
@@ -32,8 +33,8 @@ pub struct RunningLedger {
 }
 
 /// Runs a group in threads, with a plan of what goes wrong, until its nodes are at rest and its tellers done, and merges what
-/// its nodes logged. It is refused as `run_live` refuses it: for a teller at no node, more than 4 at one, or a plan that names no
-/// node; for want of memory; for a thread that isn't started.
+/// its nodes logged. It is refused as `run_live` refuses it: for a teller at a node that does not exist, more than 4 at one, or a
+/// plan that names a node that does not exist; for want of memory; for a thread that isn't started.
 pub fn run_tellers<R: Threads + Wait + Copy + Send + 'static>(
     rt: R,
     alloc: Global,

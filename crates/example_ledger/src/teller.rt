@@ -26,7 +26,7 @@ pub struct Teller {
 impl ClientJob for Teller {
     ghost use Rattle.example_ledger.specs.Tellers.{KeepsBook};
 
-    ghost fact = { λ teller sent got done. KeepsBook teller.book got };
+    ghost fact = { λ given teller sent got done. KeepsBook teller.book got };
 
     fn turn<R: Wait>(&mut self, rt: &R, client: &mut Client) -> bool {
         self.order_next(rt, client);

@@ -1,6 +1,6 @@
 -- Jobs that have not begun: none of these has submitted or got anything.
 use Rattle.std.specs.Prelude.{◌≡◌, ℕ, List, [], false}
-use Rattle.cast_run.specs.Jobs.{Submits}
+use Rattle.cast_run.specs.Jobs.{SubmitsGiven}
 use Rattle.run_setup.specs.NewJobs.{EachJob}
 use Rattle.test_run.specs.Silence.{IsSilent}
 use Rattle.test_run.specs.declared.clients.Keeper.{Keeper}
@@ -8,7 +8,7 @@ use Rattle.test_run.specs.declared.clients.Silent.{Silent}
 use Rattle.test_run.specs.declared.gates.SignalReply.{SignalReply}
 
 abbrev pub IsNewSignal : SignalReply → Type 0
-IsNewSignal job = Submits job.all.items job.all.next job.all.replies [] [] false
+IsNewSignal job = SubmitsGiven job.all job.all [] [] false
 
 abbrev pub AreNewSignals : List (ℕ × SignalReply) → Type 0
 AreNewSignals jobs = EachJob IsNewSignal jobs

@@ -31,7 +31,7 @@ impl ClientJob for Keeper {
     ghost use Rattle.std.specs.Prelude.{◌≡◌};
 
     // what it kept is what it got
-    ghost fact = { λ j sent got done. j.kept.items ≡ got };
+    ghost fact = { λ given j sent got done. j.kept.items ≡ got };
 
     fn turn<R: Wait>(&mut self, rt: &R, client: &mut Client) -> bool {
         self.next += submit_at(rt, client, self.items.as_slice(), self.next);
@@ -81,7 +81,7 @@ pub struct Silent {
 impl ClientJob for Silent {
     ghost use Rattle.test_run.specs.Silence.{IsSilent};
 
-    ghost fact = { λ j sent got done. IsSilent j sent got done };
+    ghost fact = { λ given j sent got done. IsSilent j sent got done };
 
     fn turn<R: Wait>(&mut self, rt: &R, client: &mut Client) -> bool {
         self.next += submit_at(rt, client, self.items.as_slice(), self.next);

@@ -2,9 +2,9 @@
 use crate::runs::{TURNS, expect_run, run_jobs};
 use crate::seen::see;
 use anyhow::Result;
-use cast_merge::{EngineEnd, NodeReport};
 use cast_message::{Event, NodeId};
 use cast_node::EntryKind;
+use cast_report::{EngineEnd, NodeReport};
 use cast_run::{LiveRun, SubmitAll};
 use cast_script::Fault;
 use run_setup::{Shape, lose_every};

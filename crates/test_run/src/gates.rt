@@ -88,9 +88,9 @@ pub struct SignalReply {
 }
 
 impl ClientJob for SignalReply {
-    ghost use Rattle.cast_run.specs.Jobs.{Submits};
+    ghost use Rattle.cast_run.specs.Jobs.{SubmitsGiven};
 
-    ghost fact = { λ j sent got done. Submits j.all.items j.all.next j.all.replies sent got done };
+    ghost fact = { λ given j sent got done. SubmitsGiven given.all j.all sent got done };
 
     fn turn<R: Wait>(&mut self, rt: &R, client: &mut Client) -> bool {
         let more = self.all.turn(rt, client);

@@ -2,9 +2,10 @@
 //! record of what it did.
 use anyhow::Result;
 use cast_judge::{Verdict, judge};
-use cast_merge::{Assembly, EngineEnd, GroupReport, assemble};
+use cast_merge::{Assembly, assemble};
 use cast_message::{Config, List, NodeId};
 use cast_record::{Line, lines_of, write_record};
+use cast_report::{EngineEnd, GroupReport};
 use cast_words::Meter;
 use std::alloc::{AllocError, Global};
 use std::fmt;

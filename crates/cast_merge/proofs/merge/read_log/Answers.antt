@@ -1,5 +1,5 @@
 use Rattle.std.proofs.Common.{◌∙◌, ◌++◌, ap, sym, map}
-use Rattle.cast_merge.specs.Linked.{taken_of}
+use Rattle.cast_report.specs.Linked.{taken_of}
 use Rattle.cast_merge.specs.ByStamp.{without_outcome}
 use Rattle.cast_merge.proofs.Loops.{none_logged, logged_more}
 use Rattle.cast_merge.proofs.merge.read_log.Goals as goal

@@ -5,10 +5,12 @@ use Rattle.cast_engine.proofs.engine.Engine.work.Goals as goal
 
 pub returns-then-ordered : goal.returns-then-ordered
 returns-then-ordered g c =
-    subst (IsSameEngine c.args.self.now) (sym c.note_served.ensures)
-    (engine_again c.args.self.now c.take_order-ordered.new.self c.notify-told.new.self (engine_again c.args.self.now c.exchange-exchanged.new.self c.take_order-ordered.new.self c.exchange-exchanged.ensures c.take_order-ordered.ensures) c.notify-told.ensures)
+    let ordered = engine_again c.args.self.now c.exchange-exchanged.new.self c.take_order-ordered.new.self c.exchange-exchanged.ensures c.take_order-ordered.ensures in
+    let sent = engine_again c.args.self.now c.take_order-ordered.new.self c.resend-sent.new.self ordered c.resend-sent.ensures in
+    subst (IsSameEngine c.args.self.now) (sym c.note_served.ensures) (engine_again c.args.self.now c.resend-sent.new.self c.notify-told.new.self sent c.notify-told.ensures)
 
 pub returns-else-ordered : goal.returns-else-ordered
 returns-else-ordered g c =
-    subst (IsSameEngine c.args.self.now) (sym c.note_served.ensures)
-    (engine_again c.args.self.now c.take_order-ordered.new.self c.notify-told.new.self (engine_again c.args.self.now c.exchange-exchanged.new.self c.take_order-ordered.new.self c.exchange-exchanged.ensures c.take_order-ordered.ensures) c.notify-told.ensures)
+    let ordered = engine_again c.args.self.now c.exchange-exchanged.new.self c.take_order-ordered.new.self c.exchange-exchanged.ensures c.take_order-ordered.ensures in
+    let sent = engine_again c.args.self.now c.take_order-ordered.new.self c.resend-sent.new.self ordered c.resend-sent.ensures in
+    subst (IsSameEngine c.args.self.now) (sym c.note_served.ensures) (engine_again c.args.self.now c.resend-sent.new.self c.notify-told.new.self sent c.notify-told.ensures)

@@ -1,7 +1,8 @@
 use Rattle.std.proofs.Common.{sym, subst}
 use Rattle.cast_message.specs.declared.event.Event.TheVariants.{Order, Send, Ack, Arrive, Crash}
 use Rattle.cast_world.specs.Moves.{StepsTo}
-use Rattle.cast_world.proofs.Stepping.{continues_to}
+use Rattle.cast_world.proofs.Stepping.{continues_to, is_answered}
+use Rattle.cast_world.specs.Group.{IsCrash}
 use Rattle.cast_world.proofs.Far.{refused_far}
 use Rattle.cast_world.proofs.world.World.step.Goals as goal
 
@@ -18,7 +19,7 @@ pub returns-in-Arrive-clause-stands : goal.returns-in-Arrive-clause-stands
 returns-in-Arrive-clause-stands c config past st = rw c.in-Arrive.is (continues_to config past c.args.self.now st (Arrive c.in-Arrive.from c.in-Arrive.seq) c.arrive.result c.arrive.new.self c.arrive.ensures)
 
 pub returns-in-Crash-clause-stands : goal.returns-in-Crash-clause-stands
-returns-in-Crash-clause-stands c config past st = rw c.in-Crash.is (continues_to config past c.args.self.now st (Crash c.in-Crash.node) c.crash.result c.crash.new.self c.crash.ensures)
+returns-in-Crash-clause-stands c config past st = rw c.in-Crash.is (continues_to config past c.args.self.now st (Crash c.in-Crash.node) c.crash.result c.crash.new.self c.crash.ensures.steps)
 
 pub returns-in-Order-clause-far : goal.returns-in-Order-clause-far
 returns-in-Order-clause-far c config past st far = refused_far config past st.accepted c.args.event.now c.order.result c.order.new.self far (returns-in-Order-clause-stands c config past st)
@@ -34,3 +35,18 @@ returns-in-Arrive-clause-far c config past st far = refused_far config past st.a
 
 pub returns-in-Crash-clause-far : goal.returns-in-Crash-clause-far
 returns-in-Crash-clause-far c config past st far = refused_far config past st.accepted c.args.event.now c.crash.result c.crash.new.self far (returns-in-Crash-clause-stands c config past st)
+
+pub returns-in-Order-clause-crash : goal.returns-in-Order-clause-crash
+returns-in-Order-clause-crash c config past st is = absurd (subst IsCrash c.in-Order.is is)
+
+pub returns-in-Send-clause-crash : goal.returns-in-Send-clause-crash
+returns-in-Send-clause-crash c config past st is = absurd (subst IsCrash c.in-Send.is is)
+
+pub returns-in-Ack-clause-crash : goal.returns-in-Ack-clause-crash
+returns-in-Ack-clause-crash c config past st is = absurd (subst IsCrash c.in-Ack.is is)
+
+pub returns-in-Arrive-clause-crash : goal.returns-in-Arrive-clause-crash
+returns-in-Arrive-clause-crash c config past st is = absurd (subst IsCrash c.in-Arrive.is is)
+
+pub returns-in-Crash-clause-crash : goal.returns-in-Crash-clause-crash
+returns-in-Crash-clause-crash c config past st is = is_answered config past c.args.event.now c.crash.result c.crash.new.self c.crash.ensures.sure (returns-in-Crash-clause-stands c config past st)

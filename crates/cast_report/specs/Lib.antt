@@ -1,0 +1,3 @@
+pub mod Linked
+pub mod Linking
+pub mod Group
