@@ -1,14 +1,14 @@
 /* Loaded before a program, this library refuses one allocation: the one whose number, from 1 on, the variable REFUSE_NTH
-   names. All others go to the C library. In the same way it refuses the thread that REFUSE_THREAD names. Threads may allocate
-   at the same time: each allocation has a number of its own. */
+   names. All others go to the C library. In the same way it refuses the thread that REFUSE_THREAD names, and the one that
+   REFUSE_THREADS names with all after it. Threads may allocate at the same time: each allocation has a number of its own. */
 #define _GNU_SOURCE
 #include <dlfcn.h>
 #include <errno.h>
 #include <pthread.h>
 #include <stdlib.h>
 
-/* Counts down to the one that is refused; at first the variable wasn't read. */
-static int counts_down(const char *variable, long *left) {
+/* Counts down to the one that is refused, and stays there where all after it are; at first the variable wasn't read. */
+static int counts_down(const char *variable, long *left, int stays) {
     const long unread = -1;
     long now = __atomic_load_n(left, __ATOMIC_SEQ_CST);
     if (now == unread) {
@@ -16,13 +16,13 @@ static int counts_down(const char *variable, long *left) {
         long wanted = number ? atol(number) : 0;
         if (__atomic_compare_exchange_n(left, &now, wanted, 0, __ATOMIC_SEQ_CST, __ATOMIC_SEQ_CST)) now = wanted;
     }
-    while (now > 0 && !__atomic_compare_exchange_n(left, &now, now - 1, 0, __ATOMIC_SEQ_CST, __ATOMIC_SEQ_CST)) {}
+    while (now > stays && !__atomic_compare_exchange_n(left, &now, now - 1, 0, __ATOMIC_SEQ_CST, __ATOMIC_SEQ_CST)) {}
     return now == 1;
 }
 
 static int refused(void) {
     static long left = -1;
-    if (!counts_down("REFUSE_NTH", &left)) return 0;
+    if (!counts_down("REFUSE_NTH", &left, 0)) return 0;
     errno = ENOMEM;
     return 1;
 }
@@ -31,9 +31,10 @@ static void *next_of(const char *name) { return dlsym(RTLD_NEXT, name); }
 
 int pthread_create(pthread_t *thread, const pthread_attr_t *attributes, void *(*start)(void *), void *argument) {
     static int (*next)(pthread_t *, const pthread_attr_t *, void *(*)(void *), void *);
-    static long left = -1;
+    static long left = -1, left_of_all = -1;
     if (!next) next = next_of("pthread_create");
-    return counts_down("REFUSE_THREAD", &left) ? EAGAIN : next(thread, attributes, start, argument);
+    if (counts_down("REFUSE_THREAD", &left, 0) || counts_down("REFUSE_THREADS", &left_of_all, 1)) return EAGAIN;
+    return next(thread, attributes, start, argument);
 }
 
 void *malloc(size_t size) {
