@@ -126,8 +126,9 @@ fn draw<'a>(alloc: Global, matches: &ArgMatches<'a>) -> Result<Request<'a>, Refu
     let from: Option<u64> = matches.get_one("from");
     let to: Option<u64> = matches.get_one("to");
     if from.unwrap_or(0) > to.unwrap_or(u64::MAX) {
+        let command = draw_command(alloc)?.bin_name("castgroup draw")?;
         return Err(fault(
-            draw_command(alloc),
+            command,
             "the first event that is drawn stands behind the last",
         ));
     }
@@ -139,10 +140,7 @@ fn draw<'a>(alloc: Global, matches: &ArgMatches<'a>) -> Result<Request<'a>, Refu
 }
 
 // A fault of the words that are handed to this command.
-fn fault(command: Result<Command<'_>, AllocError>, message: &str) -> Refusal {
-    let Ok(mut command) = command else {
-        return Refusal::Memory;
-    };
+fn fault(mut command: Command<'_>, message: &str) -> Refusal {
     match command.error(ErrorKind::ValueValidation, message) {
         Ok(error) => error.into(),
         Err(_) => Refusal::Memory,
