@@ -7,7 +7,7 @@ ghost use Rattle.std.specs.Prelude.{◌≡◌, ◌≤◌, IfOk};
 
 use anyhow::Result;
 use cast_box::{Full, Putter, Taker, make_box};
-use std::alloc::{AllocError, Global};
+use std::alloc::Global;
 use std::rt::Runtime;
 use std::sync::Wait;
 use std::thread::Threads;
@@ -66,10 +66,8 @@ fn pass_through<R: Threads + Wait + Copy + Send + 'static>(
     places: u64,
     putters: u64,
     count: u64,
-) -> Result<u64, AllocError> {
-    let Ok((ends, taker)) = make_box::<u64>(alloc, places, putters) else {
-        return Err(AllocError);
-    };
+) -> Result<u64> {
+    let (ends, taker) = make_box::<u64>(alloc, places, putters)?;
     let mut threads = Vec::new(alloc);
     for putter in ends {
         let thread = thread::spawn(&rt, move || put_numbers(&rt, putter, count))?;
