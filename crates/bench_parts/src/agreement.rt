@@ -1,5 +1,5 @@
 //! Set agreement.
-use crate::report;
+use crate::{report, report_sum};
 use anyhow::Result;
 use cast_agree::Agree;
 use cast_message::{Item, NodeId};
@@ -20,8 +20,10 @@ pub fn agreement(rt: &(impl Clock + Print), alloc: Global, calls: u64) -> Result
     }
     report(rt, "Agree::delivered", calls, &since)?;
     let since = Instant::now(rt)?;
+    let mut values = 0u64;
     for call in 0..calls {
-        let _decided = agree.decision(call / 64);
+        let decided = agree.decision(call / 64);
+        values = values.wrapping_add(decided.unwrap_or(0));
     }
-    report(rt, "Agree::decision", calls, &since)
+    report_sum(rt, "Agree::decision", calls, &since, values)
 }

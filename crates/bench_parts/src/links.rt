@@ -1,5 +1,5 @@
 //! Both ends of a link.
-use crate::report;
+use crate::{report, report_sum};
 use anyhow::Result;
 use cast_link::{LinkIn, LinkOut};
 use cast_message::{Item, Message, NodeId};
@@ -34,10 +34,12 @@ fn in_order(rt: &(impl Clock + Print), alloc: Global, calls: u64) -> Result<()> 
     give_all(&mut link, calls)?;
     report(rt, "LinkOut::give", calls, &since)?;
     let since = Instant::now(rt)?;
+    let mut numbers = 0u64;
     for slot in 0..calls {
-        let _message = link.carry(slot);
+        let message = link.carry(slot)?;
+        numbers = numbers.wrapping_add(message.number);
     }
-    report(rt, "LinkOut::carry", calls, &since)?;
+    report_sum(rt, "LinkOut::carry", calls, &since, numbers)?;
     let since = Instant::now(rt)?;
     for slot in 0..calls {
         link.acked(slot);
@@ -55,14 +57,17 @@ fn behind_a_gap(rt: &(impl Clock + Print), alloc: Global, calls: u64) -> Result<
     }
     report(rt, "LinkOut::acked, the last first", calls, &since)?;
     let since = Instant::now(rt)?;
+    let mut slots = 0u64;
     for call in 0..1_000 {
-        link.least_owed(call % 64 + 1);
+        let least = link.least_owed(call % 64 + 1);
+        slots = slots.wrapping_add(least.unwrap_or(calls));
     }
-    report(
+    report_sum(
         rt,
         "LinkOut::least_owed, past all these slots",
         1_000,
         &since,
+        slots,
     )?;
     let since = Instant::now(rt)?;
     link.acked(0);

@@ -32,10 +32,25 @@ fn main(rt: HostRuntime) -> Result<()> {
 
 // Prints the time since then, for each of these calls.
 fn report(rt: &(impl Clock + Print), what: &str, calls: u64, since: &Instant) -> Result<()> {
-    let nanos = since.elapsed(rt)?.as_nanos();
-    println!(rt;
-        "{what:<40} {calls:>8} calls {:>8} ns each",
-        nanos / u128::from(calls.max(1))
-    )?;
+    let each = nanos_each(rt, calls, since)?;
+    println!(rt; "{what:<40} {calls:>8} calls {each:>8} ns each")?;
     Ok(())
+}
+
+// The same for calls that change nothing, with the sum of their answers, without which the compiler
+// could leave the calls out.
+fn report_sum(
+    rt: &(impl Clock + Print),
+    what: &str,
+    calls: u64,
+    since: &Instant,
+    sum: u64,
+) -> Result<()> {
+    let each = nanos_each(rt, calls, since)?;
+    println!(rt; "{what:<40} {calls:>8} calls {each:>8} ns each, sum {sum}")?;
+    Ok(())
+}
+
+fn nanos_each(rt: &impl Clock, calls: u64, since: &Instant) -> Result<u128> {
+    Ok(since.elapsed(rt)?.as_nanos() / u128::from(calls.max(1)))
 }
