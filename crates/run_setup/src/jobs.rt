@@ -33,9 +33,5 @@ pub fn submit_each(
 
 /// A gate for each of so many nodes that lets every turn pass.
 pub fn open_gates(alloc: Global, nodes: u64) -> Result<Vec<OpenGate>, AllocError> {
-    let mut gates = Vec::new(alloc);
-    for _ in 0..nodes {
-        gates.push(OpenGate)?;
-    }
-    Ok(gates)
+    Ok(vec![in alloc; OpenGate; nodes as usize]?)
 }
