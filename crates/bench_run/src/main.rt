@@ -1,10 +1,12 @@
-//! Times of a group that runs in threads: so many nodes, each with a job of so many items, and every so many-th frame of
-//! either kind lost on each way. With no arguments short runs, which print what all of them deliver and are the same whatever
-//! the schedule; with the number of nodes, of items a node, and which frames are lost (0: none; 2: every second; 10: every
-//! tenth), one run, which prints deliveries, entries and microseconds. `bench/live` drives it.
+//! Times of a group that runs in threads, each node with a job of its own. With no arguments short
+//! runs, which print what all of them deliver and are the same whatever the schedule; with N nodes,
+//! M items a node and L (every L-th frame of either kind is lost on each link, none where L is 0)
+//! one run, which prints deliveries, entries, microseconds, and 1 where each node stopped.
+//! `bench/live` drives it.
 #![tactic(auto)]
 
-use anyhow::Result;
+use anyhow::{Context, Result, bail, ensure};
+use cast_message::NodeId;
 use cast_report::{EngineEnd, GroupReport};
 use cast_run::run_live;
 use run_setup::{Shape, lose_every, no_faults, open_gates, submit_each};
@@ -14,7 +16,6 @@ use std::rt::{Clock, Runtime};
 use std::sync::Wait;
 use std::thread::Threads;
 use std::time::Instant;
-use thiserror::Error;
 
 // As many turns as a run that loses half of its frames may want.
 const TURNS: u64 = 1_000_000_000;
@@ -22,17 +23,11 @@ const TURNS: u64 = 1_000_000_000;
 /// One run.
 #[derive(Clone, Copy)]
 struct Wanted {
-    nodes: u8,
+    nodes: u64,
+    /// How many items the job of each node submits.
     items: u64,
     /// Every so many-th frame is lost, or none where it is 0.
     lost: u64,
-}
-
-/// Why there is nothing to tell.
-#[derive(Clone, Copy, Debug, Error)]
-enum BenchFault {
-    #[error("the group did not run")]
-    NotRun,
 }
 
 /// What came of a run.
@@ -47,25 +42,28 @@ struct Outcome {
 }
 
 fn main(rt: HostRuntime) -> Result<()> {
-    match from_arguments(&rt)? {
+    match from_arguments(&rt, rt.alloc())? {
         Some(wanted) => timed(rt, rt.alloc(), wanted),
         None => short_runs(rt, rt.alloc()),
     }
 }
 
-// The run that the arguments name.
-fn from_arguments<R: Runtime>(rt: &R) -> Result<Option<Wanted>> {
-    let mut numbers = env::args(rt)?
-        .skip(1)
-        .map(|text| text.parse::<u64>().ok().unwrap_or(0));
-    let (Some(nodes), Some(items)) = (numbers.next(), numbers.next()) else {
-        return Ok(None);
-    };
-    Ok(Some(Wanted {
-        nodes: nodes.min(64) as u8,
-        items,
-        lost: numbers.next().unwrap_or(0),
-    }))
+// The run that the arguments name; none where there are no arguments.
+fn from_arguments<R: Runtime>(rt: &R, alloc: Global) -> Result<Option<Wanted>> {
+    let mut numbers = Vec::new(alloc);
+    for word in env::args(rt)?.skip(1) {
+        numbers.push(number(word.as_str())?)?;
+    }
+    match numbers.as_slice() {
+        [] => Ok(None),
+        &[nodes, items, lost] => Ok(Some(Wanted { nodes, items, lost })),
+        _ => bail!("usage: bench_run [NODES ITEMS LOST]"),
+    }
+}
+
+fn number(word: &str) -> Result<u64> {
+    word.parse::<u64>()
+        .context(format_args!("reading the argument {word:?}"))
 }
 
 fn short_runs<R: Threads + Wait + Print + Copy + Send + 'static>(
@@ -120,7 +118,11 @@ fn run<R: Threads + Wait + Copy + Send + 'static>(
     wanted: Wanted,
 ) -> Result<Outcome> {
     let Wanted { nodes, items, lost } = wanted;
-    let config = Shape::new(u64::from(nodes), 0, 1).config()?;
+    let config = Shape::new(nodes, 0, 1).config()?;
+    // The close of a node's stream counts among its items.
+    let limit = config.item_limit();
+    ensure!(items < limit, "the number of items is not below {limit}");
+    let nodes = config.nodes() as u8;
     let plan = if lost == 0 {
         no_faults(alloc)
     } else {
@@ -128,10 +130,8 @@ fn run<R: Threads + Wait + Copy + Send + 'static>(
     };
     let each = each_node(alloc, nodes)?;
     let jobs = submit_each(alloc, each.as_slice(), items)?;
-    let gates = open_gates(alloc, u64::from(nodes))?;
-    let Ok(run) = run_live(rt, alloc, config, &plan, jobs, gates, TURNS) else {
-        return Err(BenchFault::NotRun.into());
-    };
+    let gates = open_gates(alloc, config.nodes())?;
+    let run = run_live(rt, alloc, config, &plan, jobs, gates, TURNS)?;
     Ok(outcome_of(&run.report))
 }
 
@@ -149,12 +149,13 @@ fn outcome_of(report: &GroupReport) -> Outcome {
         entries: 0,
         stopped: true,
     };
+    let senders = report.config().nodes() as u8;
     for node in report.reports() {
         let entries = node.log.as_slice().len() as u64;
         outcome.entries = outcome.entries.saturating_add(entries);
         outcome.stopped = outcome.stopped && node.ended == EngineEnd::Stopped;
-        for sender in 0..64 {
-            let delivered = node.node.delivered(cast_message::NodeId(sender));
+        for sender in 0..senders {
+            let delivered = node.node.delivered(NodeId(sender));
             let count = delivered.map_or(0, |items| items.len() as u64);
             outcome.deliveries = outcome.deliveries.saturating_add(count);
         }
