@@ -14,6 +14,7 @@ use cast_live::{
 use cast_run::Progress;
 use cast_text::{INPUT_LIMIT, TextFault, Verdict, read_script_text};
 use cast_words::Meter;
+use std::alloc::Global;
 use std::io::{BufWriter, IsTerminal, Stderr, Write};
 use std::rt::Runtime;
 use std::sync::Wait;
@@ -46,8 +47,8 @@ pub fn live_script<R: Runtime + AllocGlobal + Threads + Wait + Copy + Send + 'st
     let told = tell_summary(rt, &run);
     let stop = match (told, kept) {
         (Ok(summary), Ok(())) => return tell_verdict(rt, &run, summary, call.explains),
-        (Err(_), Err(other)) if matches!(other.fault, TextFault::Memory) => other,
-        (Err(stop), _) | (_, Err(stop)) => stop,
+        (Err(summary), Err(file)) => summary.or_memory(file),
+        (Err(stop), Ok(())) | (Ok(_), Err(stop)) => stop,
     };
     let status = refuse(rt, stop.fault);
     if call.explains && matches!(stop.fault, TextFault::Write) {
@@ -61,6 +62,16 @@ pub fn live_script<R: Runtime + AllocGlobal + Threads + Wait + Copy + Send + 'st
 struct Stop<'a> {
     fault: TextFault,
     output: Failure<'a>,
+}
+
+impl<'a> Stop<'a> {
+    // Which of two is told: the other where it is want of memory, else this one.
+    fn or_memory(self, other: Stop<'a>) -> Stop<'a> {
+        match other.fault {
+            TextFault::Memory => other,
+            _ => self,
+        }
+    }
 }
 
 // The status of a run whose outputs were written, and where it is bad and that is asked for, why.
@@ -110,18 +121,36 @@ fn run_live_script<R: Runtime + AllocGlobal + Threads + Wait + Copy + Send + 'st
     run
 }
 
-/// What is written of a run.
+/// What is kept of a run in a file.
 #[derive(Clone, Copy)]
-enum Output {
+enum Kept {
     /// The record of what happened.
     Record,
     /// The script that says what happened.
     Replay,
+}
+
+impl Kept {
+    // What is said where it is longer than this program reads.
+    fn warning(self) -> &'static str {
+        match self {
+            Kept::Record => "record longer than judge reads",
+            Kept::Replay => "replay longer than run reads",
+        }
+    }
+}
+
+/// What is written of a run.
+#[derive(Clone, Copy)]
+enum Output {
+    /// What is kept of it in a file.
+    Kept(Kept),
     /// What became of it.
     Summary(Summary),
 }
 
 /// Writes the record and the replay to the files that are named, each whatever became of the other.
+/// Where neither is written, want of memory is told first, and else the record's fault.
 fn keep_files<'a, R: Runtime + AllocGlobal>(
     rt: &R,
     files: RunFiles<'a>,
@@ -129,10 +158,12 @@ fn keep_files<'a, R: Runtime + AllocGlobal>(
 ) -> Result<(), Stop<'a>>
     requires { IsFinished run.now }
 {
-    let record = keep(rt, files.record, run, Output::Record);
-    let replay = keep(rt, files.replay, run, Output::Replay);
-    record?;
-    replay
+    let record = keep(rt, files.record, run, Kept::Record);
+    let replay = keep(rt, files.replay, run, Kept::Replay);
+    match (record, replay) {
+        (Err(record), Err(replay)) => Err(record.or_memory(replay)),
+        (record, replay) => record.and(replay),
+    }
 }
 
 /// Writes to the file, if one is named, and says so where the text is longer than this program reads.
@@ -140,7 +171,7 @@ fn keep<'a, R: Runtime + AllocGlobal>(
     rt: &R,
     path: Option<&'a str>,
     run: &FinishedRun,
-    kept: Output,
+    kept: Kept,
 ) -> Result<(), Stop<'a>>
     requires { IsFinished run.now }
 {
@@ -161,17 +192,12 @@ fn keep<'a, R: Runtime + AllocGlobal>(
         Err(error) => return stop(TextFault::Write, Some(error)),
     };
     let mut heard = Heard::new(Counted::new(file));
-    match write_output(rt, &mut heard, run, kept) {
-        Ok(()) => {}
-        Err(fault) => return stop(fault, heard.error()),
+    if let Err(fault) = write_output(rt.alloc(), &mut heard, run, Output::Kept(kept)) {
+        return stop(fault, heard.error());
     }
     if heard.inner().count() > INPUT_LIMIT as u64 {
-        let said = match kept {
-            Output::Replay => eprintln!(rt; "castgroup: replay longer than run reads"),
-            _ => eprintln!(rt; "castgroup: record longer than judge reads"),
-        };
         // Where standard error fails there is nowhere left to say so.
-        let _ = said;
+        let _ = eprintln!(rt; "castgroup: {}", kept.warning());
     }
     Ok(())
 }
@@ -192,35 +218,32 @@ fn tell_summary<'a, R: Runtime + AllocGlobal>(
         return stop(TextFault::Memory, None);
     };
     let mut heard = Heard::new(io::writer(rt));
-    match write_output(rt, &mut heard, run, Output::Summary(summary)) {
+    match write_output(rt.alloc(), &mut heard, run, Output::Summary(summary)) {
         Ok(()) => Ok(summary),
         Err(fault) => stop(fault, heard.error()),
     }
 }
 
-fn write_output<R: AllocGlobal, W: Write + Drop>(
-    rt: &R,
+fn write_output<W: Write + Drop>(
+    alloc: Global,
     writer: &mut W,
     run: &FinishedRun,
     output: Output,
 ) -> Result<(), TextFault>
     requires { IsFinished run.now }
 {
-    let Ok(mut buffer) = BufWriter::new(rt.alloc(), writer) else {
+    let Ok(mut buffer) = BufWriter::new(alloc, writer) else {
         return Err(TextFault::Memory);
     };
     let mut meter = Meter::new(&mut buffer);
     let outcome = match output {
-        Output::Record => write_record_of(run, &mut meter),
-        Output::Replay => write_replay_of(run, &mut meter),
+        Output::Kept(Kept::Record) => write_record_of(run, &mut meter),
+        Output::Kept(Kept::Replay) => write_replay_of(run, &mut meter),
         Output::Summary(summary) => write_summary(run, summary, &mut meter).map_err(
             TextFault::from,
         ),
     };
     let flushed = buffer.flush();
     outcome?;
-    if flushed.is_err() {
-        return Err(TextFault::Write);
-    }
-    Ok(())
+    flushed.map_err(|_| TextFault::Write)
 }

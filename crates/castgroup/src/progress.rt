@@ -60,7 +60,7 @@ impl Teller {
         }
     }
 
-    /// The run has ended: nothing more is told.
+    /// Stops telling, as the run has ended, and joins the thread.
     pub fn stop<R: Threads>(self, rt: &R) {
         let Teller { bell, thread } = self;
         bell.ended.store(true, Ordering::SeqCst);

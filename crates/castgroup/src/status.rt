@@ -16,10 +16,10 @@ pub enum Status {
     Bad,
     /// The record is good, and the group is not at rest at the end.
     Restless,
-    /// Memory was wanted.
+    /// Memory or a thread was refused.
     Resources,
     /// A read or a write failed.
-    Channel,
+    Io,
 }
 
 impl Status {
@@ -32,7 +32,7 @@ impl Status {
             Status::Bad => 3,
             Status::Restless => 4,
             Status::Resources => 5,
-            Status::Channel => 6,
+            Status::Io => 6,
         }
     }
 }
@@ -68,7 +68,7 @@ pub fn refuse<R: Eprint>(rt: &R, fault: TextFault) -> Status {
 
 fn status_of(fault: TextFault) -> Status {
     match fault {
-        TextFault::Read | TextFault::Write => Status::Channel,
+        TextFault::Read | TextFault::Write => Status::Io,
         TextFault::Memory
         | TextFault::Script(ScriptFault::Memory)
         | TextFault::Live(LiveFault::Memory | LiveFault::Threads) => Status::Resources,

@@ -26,7 +26,7 @@ pub enum TextCommand {
 }
 
 impl TextCommand {
-    // Does what the command does. The verdict is that of the judge; all else is good.
+    // Performs the command. Answers the judge's verdict, and `Good` for every other command.
     fn perform<R: Read, W: Write>(
         self,
         alloc: Global,
