@@ -99,7 +99,7 @@ pub fn parse<'a>(
         Some(("draw", inner)) => draw(alloc, inner),
         Some(("migrate", inner)) => Ok(Request::Migrate(call_on(inner, "RECORD"))),
         // (a command line that names none was refused above)
-        _ => Err(fault(castgroup_command(alloc, rules), "a command is wanted")),
+        _ => Err(fault(castgroup_command(alloc, rules)?, "a command is wanted")),
     }
 }
 
