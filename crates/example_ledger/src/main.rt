@@ -59,11 +59,7 @@ fn in_threads<R: Threads + Wait + Print + Copy + Send + 'static>(
     let ledger = run_tellers(rt, alloc, config, &plan, story::tellers(alloc)?)?;
     println!(&rt; "in threads")?;
     for (teller, client) in ledger.tellers.iter().zip(ledger.clients.iter()) {
-        let left = if teller.is_done() {
-            ""
-        } else {
-            ", not done"
-        };
+        let left = if teller.is_done() { "" } else { ", not done" };
         println!(&rt; "node {}{left}:{}", client.node.0, teller.book().sheet())?;
     }
     println!(&rt; "at rest: {}", ledger.assembly.world.at_rest())?;

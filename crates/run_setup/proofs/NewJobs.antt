@@ -18,10 +18,13 @@ none_new P i node job e = absurd cc
 
 pub is_new : (job : SubmitAll) → job.next ≡ 0 → job.replies ≡ 0 → IsNew job
 unfolding replies_in
-is_new job n r = (refl, record {
-  first = subst (λ k. [] ≡ take k job.items) (sym n) refl;
-  within = subst (λ k. k ≤ length job.items) (sym n) (omega arith);
-  replied = sym r;
-  below = subst (λ k. k ≤ length job.items) (sym r) (omega arith);
-  all = λ e. absurd cc;
-})
+is_new job n r = (
+  refl,
+  record {
+    first = subst (λ k. [] ≡ take k job.items) (sym n) refl;
+    within = subst (λ k. k ≤ length job.items) (sym n) (omega arith);
+    replied = sym r;
+    below = subst (λ k. k ≤ length job.items) (sym r) (omega arith);
+    all = λ e. absurd cc;
+  },
+)
