@@ -3,7 +3,7 @@
 //! schedule; with how many numbers there shall be, and how many places the box shall have (else 256), it prints rates.
 #![tactic(auto)]
 
-ghost use Rattle.std.specs.Prelude.{◌≡◌, ◌≤◌, IfOk};
+ghost use Rattle.std.specs.Prelude.{◌≤◌};
 
 use anyhow::Result;
 use cast_box::{Full, Putter, Taker, make_box};

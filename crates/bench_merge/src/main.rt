@@ -55,7 +55,7 @@ fn measure(rt: &(impl Clock + Print), alloc: Global, logs: u64, entries: u64) ->
         let assembly = assemble(alloc, &report)?;
         assembling = assembling.min(since.elapsed(rt)?.as_nanos());
         let since = Instant::now(rt)?;
-        let _group = run_events(alloc, report.config().copy(), assembly.events.as_slice())?;
+        let _group = run_events(alloc, *report.config(), assembly.events.as_slice())?;
         replying = replying.min(since.elapsed(rt)?.as_nanos());
     }
     let all = (u128::from(logs) * u128::from(entries)).max(1);

@@ -10,4 +10,4 @@ mod rule;
 
 pub use ends::{Full, Putter, Taker};
 pub use gathered::{Gathered, gather};
-pub use opening::{BoxFault, make_box};
+pub use opening::{BoxFault, MOST_PLACES, MOST_PUTTERS, make_box};

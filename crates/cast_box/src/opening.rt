@@ -2,7 +2,7 @@
 ghost use Rattle.std.specs.Prelude.{◌≡◌, ◌+◌, ◌<◌, [], IfOk, IfErr};
 ghost use Rattle.crossbeam_queue.specs.Passes.{view as known, IsPassOf, IsSamePass};
 ghost use Rattle.cast_box.specs.Rule.{taker};
-ghost use Rattle.cast_box.specs.Ends.{PutterEnd, TakerEnd, OpeningBox, AreAllEnds, AreNew, IsSize, IsPutters, IsFaultOf};
+ghost use Rattle.cast_box.specs.Ends.{OpeningBox, AreAllEnds, AreNew, IsSize, IsPutters, IsFaultOf};
 
 use crate::ends::{Putter, Taker};
 use crate::rule::{BoxPass, BoxQueue, Limits, NextPutter, SetLimits};
@@ -11,12 +11,18 @@ use std::marker::{Brand, Model};
 use std::sync::Arc;
 use thiserror::Error;
 
+/// The most places in a box.
+pub const MOST_PLACES: u64 = 4_096;
+
+/// The most putters of a box.
+pub const MOST_PUTTERS: u64 = 64;
+
 /// Why a box is not made.
 #[derive(Clone, Copy, Debug, PartialEq, Eq, Error)]
 pub enum BoxFault {
     #[error("the size of the box is not 1 to 4096")]
     Size,
-    #[error("the number of putters is out of range")]
+    #[error("the number of putters is not 1 to 64")]
     Putters,
     #[error("out of memory")]
     Memory,
@@ -35,10 +41,10 @@ pub fn make_box<T: Drop>(
     ensures limits { IfOk result (λ _. IsSize size × IsPutters putters) }
     ensures fault { IfErr result (IsFaultOf size putters) }
 {
-    if size < 1 || size > 4096 {
+    if size < 1 || size > MOST_PLACES {
         return Err(BoxFault::Size);
     }
-    if putters < 1 || putters > 64 {
+    if putters < 1 || putters > MOST_PUTTERS {
         return Err(BoxFault::Putters);
     }
     open(alloc, size as usize, putters).map_err(|_| BoxFault::Memory)

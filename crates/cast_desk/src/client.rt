@@ -9,13 +9,16 @@ use cast_box::{Full, Putter, Taker};
 use cast_message::Item;
 use std::marker::Model;
 use std::sync::Wait;
+use thiserror::Error;
 
 /// Why an item is not submitted. It comes back.
-#[derive(Debug, Drop)]
+#[derive(Debug, Drop, Error)]
 pub enum DeskFault {
     /// The desk was full at one moment of the call.
+    #[error("the desk is full")]
     Full(Item),
     /// All tickets up to 2^64 - 2 were given.
+    #[error("all tickets were given")]
     Tickets(Item),
 }
 

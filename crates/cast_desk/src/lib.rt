@@ -13,6 +13,6 @@ mod told;
 
 pub use client::{Client, DeskFault};
 pub use desk::{Desk, OrderIn};
-pub use make::{end_desk, make_desk};
+pub use make::{MOST_CLIENTS, end_desk, make_desk};
 pub use notice::Notice;
 pub use told::{feed, orders_in, own_reply};

@@ -1,16 +1,19 @@
 //! The making of a desk with its clients, and its end.
-ghost use Rattle.std.specs.Prelude.{◌≡◌, ◌<◌, ◌≤◌, ◌∷◌, ◌++◌, [], ℕ, List, length, map, slice_get, Some, IfOk, IfErr};
+ghost use Rattle.std.specs.Prelude.{◌≡◌, ◌<◌, ◌≤◌, ◌∷◌, ◌++◌, [], ℕ, length, map, slice_get, Some, IfOk, IfErr};
 ghost use Rattle.cast_box.specs.Lists.{of, StartsWith, IsFair};
-ghost use Rattle.cast_box.specs.Ends.{PutterEnd, TakerEnd, AreAllEnds, AreNew, IsSize};
+ghost use Rattle.cast_box.specs.Ends.{PutterEnd, AreAllEnds, AreNew, IsSize};
 ghost use Rattle.cast_desk.specs.declared.notice.Notice.{Notice};
 ghost use Rattle.cast_desk.specs.Desk.{ClientState, IsDeskOf, IsNewDesk, IsClients, IsFaultOf};
 
 use crate::client::Client;
 use crate::desk::{Desk, OrderIn};
 use crate::notice::Notice;
-use cast_box::{BoxFault, Gathered, Putter, Taker, make_box};
+use cast_box::{BoxFault, Gathered, MOST_PLACES, Putter, Taker, make_box};
 use std::alloc::{AllocError, Global};
 use std::sync::Wait;
+
+/// The most clients of a desk.
+pub const MOST_CLIENTS: u64 = 4;
 
 /// A desk with `clients` clients, 1 to 4, in the order of their numbers from 0 on, each with a tray. The boxes have `size`
 /// places each, 1 to 4,096, and tickets count up from `first_ticket`. All memory that the boxes ever take is taken here. A
@@ -27,10 +30,10 @@ pub fn make_desk(
     ensures limits { IfOk result (λ _. IsSize size × IsClients clients) }
     ensures fault { IfErr result (IsFaultOf size clients) }
 {
-    if size < 1 || size > 4096 {
+    if size < 1 || size > MOST_PLACES {
         return Err(BoxFault::Size);
     }
-    if clients < 1 || clients > 4 {
+    if clients < 1 || clients > MOST_CLIENTS {
         return Err(BoxFault::Putters);
     }
     open(alloc, size, clients, first_ticket).map_err(|_| BoxFault::Memory)

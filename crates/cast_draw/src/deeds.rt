@@ -1,5 +1,5 @@
 //! What an event delivered and decided, below its node's line.
-ghost use Rattle.std.specs.Prelude.{◌≡◌, ◌<◌, ◌≤◌, ◌+◌, ◌^◌, ◌++◌, ◌∷◌, [], IfOk, OnOk, if◌then◌else◌, drop, length, map, true};
+ghost use Rattle.std.specs.Prelude.{◌≡◌, ◌<◌, ◌+◌, ◌^◌, ◌++◌, IfOk, OnOk, if◌then◌else◌, drop, length, map, true};
 ghost use Rattle.cast_draw.specs.Deeds.{Delivers, Decides, brought, deed_text, deeds, deeds_text, width_of};
 ghost use Rattle.cast_model.specs.Refusals.{proposes};
 

@@ -1,5 +1,5 @@
 //! What stands beside a mark: at most eight letters, whatever the bytes are.
-ghost use Rattle.std.specs.Prelude.{◌≡◌, ◌++◌, OnOk, take, codes};
+ghost use Rattle.std.specs.Prelude.{◌≡◌, ◌++◌, OnOk, take};
 ghost use Rattle.std.specs.List.{list_all};
 ghost use Rattle.cast_draw.specs.Labels.{item_label, value_label, proposal_label, data_label, text_label, hex_label, dots, is_printable, escaped, escape_of};
 
@@ -32,7 +32,7 @@ pub fn put_value_label(ink: &mut Ink, value: u64) -> Result<(), AllocError>
 {
     let mut buffer = Buffer::new();
     let digits = buffer.format(value).as_bytes();
-    put_front(ink, digits, LETTERS)?;
+    put_prefix(ink, digits, LETTERS)?;
     put_dots(ink, digits.len() > LETTERS)
 }
 
@@ -44,21 +44,21 @@ fn put_proposal(ink: &mut Ink, instance: u64, value: u64) -> Result<(), AllocErr
     let mut second = Buffer::new();
     let instance = first.format(instance).as_bytes();
     let value = second.format(value).as_bytes();
-    put_front(ink, instance, LETTERS)?;
-    put_front(ink, b":", LETTERS.saturating_sub(instance.len()))?;
-    put_front(ink, value, (LETTERS - 1).saturating_sub(instance.len()))?;
+    put_prefix(ink, instance, LETTERS)?;
+    put_prefix(ink, b":", LETTERS.saturating_sub(instance.len()))?;
+    put_prefix(ink, value, (LETTERS - 1).saturating_sub(instance.len()))?;
     put_dots(ink, instance.len() + 1 + value.len() > LETTERS)
 }
 
 // Puts the first bytes, as many as there is room for.
-fn put_front(ink: &mut Ink, bytes: &[u8], room: usize) -> Result<(), AllocError>
+fn put_prefix(ink: &mut Ink, bytes: &[u8], room: usize) -> Result<(), AllocError>
     ensures { OnOk result (ink.new ≡ ink.old ++ take room bytes.now) }
 {
-    ink.put_bytes(front(bytes, room))
+    ink.put_bytes(prefix(bytes, room))
 }
 
 // The first bytes, at most so many.
-fn front(bytes: &[u8], room: usize) -> &[u8]
+fn prefix(bytes: &[u8], room: usize) -> &[u8]
     ensures { result.now ≡ take room bytes.now }
 {
     &bytes[..bytes.len().min(room)]
@@ -84,7 +84,7 @@ fn put_data(ink: &mut Ink, bytes: &[u8]) -> Result<(), AllocError>
 fn put_text(ink: &mut Ink, bytes: &[u8]) -> Result<(), AllocError>
     ensures { OnOk result (ink.new ≡ ink.old ++ text_label bytes.now) }
 {
-    put_escaped(ink, front(bytes, LETTERS))?;
+    put_escaped(ink, prefix(bytes, LETTERS))?;
     put_dots(ink, bytes.len() > LETTERS)
 }
 
@@ -92,7 +92,7 @@ fn put_text(ink: &mut Ink, bytes: &[u8]) -> Result<(), AllocError>
 fn put_digits(ink: &mut Ink, bytes: &[u8]) -> Result<(), AllocError>
     ensures { OnOk result (ink.new ≡ ink.old ++ hex_label bytes.now) }
 {
-    ink.put_hex(front(bytes, LETTERS / 2))?;
+    ink.put_hex(prefix(bytes, LETTERS / 2))?;
     put_dots(ink, bytes.len() > LETTERS / 2)
 }
 

@@ -76,7 +76,7 @@ impl Picture {
 }
 
 /// Writes the picture. It takes no memory. A refusal comes only where the writer failed or took no byte; the meter tells so
-/// from then on, and a front of the text stands.
+/// from then on, and a prefix of the text stands.
 pub fn write_drawing<W: Write>(drawing: &Drawing, writer: &mut Meter<W>) -> Written
     requires { writer.old.failed ≡ false }
     ensures { Puts W.contents writer.old writer.new result drawing.now }

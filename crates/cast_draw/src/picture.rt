@@ -51,7 +51,7 @@ impl Picture {
         let nodes = config.nodes();
         Ok(Picture {
             alloc,
-            config: config.copy(),
+            config: *config,
             window,
             next: FIRST_COLUMN,
             settle: FIRST_COLUMN,

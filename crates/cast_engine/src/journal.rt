@@ -81,7 +81,7 @@ impl Journal {
         log.reserve(config.log_limit() as usize)?;
         Ok(Journal {
             alloc,
-            config: config.copy(),
+            config: *config,
             node,
             log,
             clock: config.first_stamp(),

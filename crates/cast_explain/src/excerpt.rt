@@ -9,18 +9,18 @@ const SHOWN: usize = 200;
 
 /// The first bytes, and how many there are where some were cut off.
 pub fn cut(alloc: Global, bytes: &[u8]) -> Result<String, AllocError> {
-    let text = escaped(alloc, front(bytes, SHOWN))?;
+    let text = escaped(alloc, prefix(bytes, SHOWN))?;
     with_count(alloc, text, bytes.len())
 }
 
 /// The first bytes between quotes, and how many there are where some were cut off.
 pub fn quoted(alloc: Global, bytes: &[u8]) -> Result<String, AllocError> {
-    let text = escaped(alloc, front(bytes, SHOWN))?;
+    let text = escaped(alloc, prefix(bytes, SHOWN))?;
     with_count(alloc, format!(in alloc; "\"{text}\"")?, bytes.len())
 }
 
 // The first bytes, at most so many.
-fn front(bytes: &[u8], room: usize) -> &[u8]
+fn prefix(bytes: &[u8], room: usize) -> &[u8]
     ensures { result.now ≡ take room bytes.now }
 {
     &bytes[..bytes.len().min(room)]

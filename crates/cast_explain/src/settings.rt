@@ -1,5 +1,5 @@
 //! What is wrong with a configuration: the rule that it breaks, and the values with which it does.
-use cast_message::ConfigFault;
+use cast_message::{ConfigFault, MOST_ENTRIES, MOST_ITEMS, MOST_NODES, MOST_PLACES};
 use serde_json::Value;
 use std::alloc::{AllocError, Global};
 
@@ -12,7 +12,7 @@ pub fn settings_words(
     let nodes = number(script, "nodes");
     let faults = number(script, "faults");
     match fault {
-        ConfigFault::Nodes => range_words(alloc, script, "nodes", 64),
+        ConfigFault::Nodes => range_words(alloc, script, "nodes", MOST_NODES),
         ConfigFault::Faults => format!(in alloc;
             "faults is {faults} and nodes is {nodes}; faults must be below nodes"
         ),
@@ -22,9 +22,9 @@ pub fn settings_words(
                 "choices is {choices} and nodes is {nodes}; choices must be from 1 to nodes"
             )
         }
-        ConfigFault::ItemLimit => range_words(alloc, script, "item_limit", 4_096),
-        ConfigFault::LogLimit => range_words(alloc, script, "log_limit", 65_536),
-        ConfigFault::BoxSize => range_words(alloc, script, "box_size", 4_096),
+        ConfigFault::ItemLimit => range_words(alloc, script, "item_limit", MOST_ITEMS),
+        ConfigFault::LogLimit => range_words(alloc, script, "log_limit", MOST_ENTRIES),
+        ConfigFault::BoxSize => range_words(alloc, script, "box_size", MOST_PLACES),
         ConfigFault::Mode => format!(in alloc;
             "mode is uniform, faults is {faults} and nodes is {nodes}; faults must be fewer than half of nodes"
         ),

@@ -1,7 +1,7 @@
 //! The values that were proposed in an instance.
 ghost use Rattle.std.specs.Prelude.{◌≡◌, [], position, length, OnOk};
 ghost use Rattle.std.specs.List.{list_any, filter};
-ghost use Rattle.cast_judge.specs.Candidates.{is_for, is_decided, decided_at, count_decided, with_candidate, with_decision, decision_at};
+ghost use Rattle.cast_judge.specs.Candidates.{is_for, is_decided, count_decided, with_candidate, with_decision};
 
 use std::alloc::{AllocError, Global};
 use std::marker::Model;

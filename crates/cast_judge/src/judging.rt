@@ -251,7 +251,7 @@ impl Judging {
         }
     }
 
-    // Keeps the front of a line that is not whole.
+    // Keeps the beginning of a line that is not whole.
     fn keep_tail(&mut self, part: &[u8]) -> Result<(), AllocError>
         requires reading { is_reading self.old ≡ true }
         requires clean { HasNone 10 part.now }

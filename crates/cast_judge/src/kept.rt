@@ -1,9 +1,8 @@
 //! What is kept of the lines read so far.
-ghost use Rattle.std.specs.Prelude.{◌≡◌, ℕ, ◌<◌, ◌≤◌, length, replicate, slice_set, slice_index, nat_lt, IfSome, IfOk, OnOk, MatchOption};
+ghost use Rattle.std.specs.Prelude.{◌≡◌, ℕ, ◌<◌, ◌≤◌, length, replicate, slice_set, slice_index, IfSome, OnOk, MatchOption};
 ghost use Rattle.cast_record.specs.WordLines.{line_said};
-ghost use Rattle.cast_message.specs.declared.message.Item.{Item};
-ghost use Rattle.cast_judge.specs.Kept.{rule_by, is_ended_at, is_out_of_place, breaks_prefix, is_after_close, is_not_proposed, is_of_too_many, is_after_crash, is_proposed_twice, is_second_proposal};
-ghost use Rattle.cast_judge.specs.Kept.{Delivers, IsDue, node_at, has_item, nobody, count_with, instance_at, item_changes, with_item, with_delivery, with_crash, Keeps, IsNew};
+ghost use Rattle.cast_judge.specs.Kept.{is_ended_at};
+ghost use Rattle.cast_judge.specs.Kept.{Delivers, IsDue, node_at, has_item, nobody, instance_at, item_changes, with_item, Keeps, IsNew};
 
 use crate::instances::{Addition, Instances, Proposal};
 use crate::sender::{Sender, new_nodes, put_crash, put_delivery, put_item};

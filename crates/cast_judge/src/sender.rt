@@ -4,7 +4,7 @@ ghost use Rattle.cast_judge.specs.ItemList.{BeginsWithWord};
 ghost use Rattle.cast_judge.specs.Kept.{node_at, has_item, nobody, with_item, with_delivery, with_crash};
 
 use crate::items::Items;
-use cast_message::NodeId;
+use cast_message::{MOST_NODES, NodeId};
 use cast_record::ItemWord;
 use std::alloc::{AllocError, Global};
 
@@ -16,7 +16,7 @@ pub struct Sender {
     pub closed: bool,
     pub crashed: bool,
     /// How many items it delivered, by their sender.
-    pub delivered: [u64; 64],
+    pub delivered: [u64; MOST_NODES as usize],
 }
 
 impl Sender {
@@ -27,7 +27,7 @@ impl Sender {
             items: Items::new(alloc),
             closed: false,
             crashed: false,
-            delivered: [0; 64],
+            delivered: [0; MOST_NODES as usize],
         }
     }
 
@@ -75,7 +75,7 @@ impl Sender {
     {
         let count = self.count_from(sender).saturating_add(1);
         let place = usize::from(sender.0);
-        if place < 64 {
+        if place < MOST_NODES as usize {
             self.delivered[place] = count;
         }
     }

@@ -1,9 +1,7 @@
 //! Bits in words, of which the front can go: the slots that a link took from its base on.
 ghost use Rattle.std.specs.Prelude.{◌≡◌, ◌+◌, ◌-◌, ◌≤◌, ◌<◌, ◌/◌, ◌%◌, ◌∷◌, ◌||◌, ℕ, ◌^◌, OnErr, IsTrue, true, false, take, drop, nat_eq, length, slice_index, OnOk};
-ghost use Rattle.std.specs.List.{All, list_any};
+ghost use Rattle.std.specs.List.{All};
 ghost use Rattle.std.specs.FinSet as set;
-ghost use Rattle.std.specs.Ordering.{nat_cmp};
-ghost use Rattle.std.specs.BTreeMap.{is_at};
 ghost use Rattle.std.specs.VecDeque.{deque_capacity};
 ghost use Rattle.cast_sets.specs.Bits.{is_set};
 ghost use Rattle.cast_link.specs.Taken.{bit_of, SetsBit, is_marked, MarksTheSame, IsFullWord, taken_set, IsWindow};

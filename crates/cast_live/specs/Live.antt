@@ -25,8 +25,6 @@ use Rattle.cast_report.specs.Linked.{Linked}
 use Rattle.cast_merge.specs.Merge.{TellsMerge}
 use Rattle.cast_record.specs.declared.verdict.Verdict.TheVariants.{Good}
 use Rattle.cast_record.specs.VerdictText.{verdict_text}
-use Rattle.cast_desk.specs.declared.desk.OrderIn.{OrderIn}
-use Rattle.cast_desk.specs.declared.notice.Notice.{Notice}
 use Rattle.cast_run.specs.declared.reports.ClientReport.{ClientReport}
 use Rattle.cast_run.specs.Faults.{JobsFit}
 use Rattle.cast_engine.specs.Plans.{ArePlanned, crash_from}

@@ -1,13 +1,12 @@
 //! The summary of a group that ran in threads: how each node ended, how many items it delivered from each, whether the group
 //! is at rest, and the verdict on the record of what happened.
 ghost use Rattle.std.specs.Prelude.{◌≡◌, ◌<◌, ◌++◌, false, IfOk, OnOk, codes, decimal, length};
-ghost use Rattle.std.specs.List.{range_with_len};
 ghost use Rattle.cast_model.specs.History.{History};
 ghost use Rattle.cast_model.specs.Delivery.{delivered};
 ghost use Rattle.cast_model.specs.Replies.{history};
 ghost use Rattle.cast_world.specs.Group.{Stands};
 ghost use Rattle.cast_words.specs.Written.{Puts};
-ghost use Rattle.cast_live.specs.Live.{IsFinished, IsSummaryOf, ends_of, end_word, end_text, counts_text, node_text, nodes_text, rest_text, summary_text};
+ghost use Rattle.cast_live.specs.Live.{IsFinished, IsSummaryOf, ends_of, end_word, end_text, node_text, nodes_text, rest_text, summary_text};
 
 use crate::live::FinishedRun;
 use crate::replay::is_replayed;

@@ -1,7 +1,8 @@
 -- The limits of a configuration and of a group, which are this project's own profile.
 --     first_config_fault (config_causes ..)   the first value that is outside its limits
 --     config_code fault                       the number of that refusal
---     payload_limit, frame_limit              the most bytes in a payload, the most frames that a node makes
+--     most_nodes, most_items, most_entries, most_places, payload_limit, frame_limit
+--                                             the limits themselves
 use Rattle.std.specs.Prelude.{◌*◌, ℕ, Bool, not, ◌&&◌, nat_le, if◌then◌else◌, List, [], ◌∷◌, Option, Some, None}
 use Rattle.cast_message.specs.declared.config.ConfigFault.{ConfigFault}
 use Rattle.cast_message.specs.declared.config.ConfigFault.TheVariants.{Nodes, Faults, Choices, ItemLimit, LogLimit, BoxSize, Mode as NotUniform}
@@ -25,20 +26,34 @@ unfoldable pub first_config_fault : List ConfigCause → Option ConfigFault
 first_config_fault [] = None
 first_config_fault (cause ∷ causes) = if cause.holds then Some cause.refusal else first_config_fault causes
 
+-- the most nodes in a group
+abbrev pub most_nodes : ℕ
+most_nodes = 64
+
 -- the causes of the counts of nodes, in front of others
 abbrev pub count_causes : ℕ → ℕ → ℕ → List ConfigCause → List ConfigCause
 count_causes nodes faults choices others =
-    record { holds = is_outside 1 64 nodes; refusal = Nodes }
+    record { holds = is_outside 1 most_nodes nodes; refusal = Nodes }
     ∷ record { holds = nat_le nodes faults; refusal = Faults }
     ∷ record { holds = is_outside 1 nodes choices; refusal = Choices }
     ∷ others
 
+-- the most items in a stream, entries in the log of a running node, and items in a box between threads
+abbrev pub most_items : ℕ
+most_items = 4096
+
+abbrev pub most_entries : ℕ
+most_entries = 65536
+
+abbrev pub most_places : ℕ
+most_places = 4096
+
 -- the causes of the sizes, in front of others
 abbrev pub size_causes : ℕ → ℕ → ℕ → List ConfigCause → List ConfigCause
 size_causes item_limit log_limit box_size others =
-    record { holds = is_outside 1 4096 item_limit; refusal = ItemLimit }
-    ∷ record { holds = is_outside 1 65536 log_limit; refusal = LogLimit }
-    ∷ record { holds = is_outside 1 4096 box_size; refusal = BoxSize }
+    record { holds = is_outside 1 most_items item_limit; refusal = ItemLimit }
+    ∷ record { holds = is_outside 1 most_entries log_limit; refusal = LogLimit }
+    ∷ record { holds = is_outside 1 most_places box_size; refusal = BoxSize }
     ∷ others
 
 -- the causes, in the order in which they are tried

@@ -2,6 +2,7 @@
 ghost use Rattle.std.specs.Prelude.{◌≡◌, ◌<◌, ◌≤◌, ◌*◌, List, Some, None, IfOk, OnOk, IfErr};
 ghost use Rattle.cast_message.specs.Limits.{ConfigCause, fault_factor, count_causes, size_causes, config_causes, first_config_fault, config_code};
 
+use crate::limits::{MOST_ENTRIES, MOST_ITEMS, MOST_NODES, MOST_PLACES};
 use thiserror::Error;
 
 /// When a message whose turn has come is delivered.
@@ -181,22 +182,6 @@ impl Config {
     {
         self.mode
     }
-
-    /// The same configuration once more.
-    pub fn copy(&self) -> Config
-        ensures { result ≡ self.now }
-    {
-        Config {
-            nodes: self.nodes,
-            faults: self.faults,
-            choices: self.choices,
-            item_limit: self.item_limit,
-            log_limit: self.log_limit,
-            box_size: self.box_size,
-            first_stamp: self.first_stamp,
-            mode: self.mode,
-        }
-    }
 }
 
 // Refuses the first of the counts of nodes that is outside its limits.
@@ -211,7 +196,7 @@ fn check_counts(nodes: u64, faults: u64, choices: u64) -> Result<(), ConfigFault
     ensures fault { IfErr result (λ fault. (others : List ConfigCause) →
         first_config_fault (count_causes nodes faults choices others) ≡ Some fault) }
 {
-    if nodes < 1 || nodes > 64 {
+    if nodes < 1 || nodes > MOST_NODES {
         return Err(ConfigFault::Nodes);
     }
     if faults >= nodes {
@@ -235,13 +220,13 @@ fn check_sizes(item_limit: u64, log_limit: u64, box_size: u64) -> Result<(), Con
     ensures fault { IfErr result (λ fault. (others : List ConfigCause) →
         first_config_fault (size_causes item_limit log_limit box_size others) ≡ Some fault) }
 {
-    if item_limit < 1 || item_limit > 4096 {
+    if item_limit < 1 || item_limit > MOST_ITEMS {
         return Err(ConfigFault::ItemLimit);
     }
-    if log_limit < 1 || log_limit > 65536 {
+    if log_limit < 1 || log_limit > MOST_ENTRIES {
         return Err(ConfigFault::LogLimit);
     }
-    if box_size < 1 || box_size > 4096 {
+    if box_size < 1 || box_size > MOST_PLACES {
         return Err(ConfigFault::BoxSize);
     }
     Ok(())

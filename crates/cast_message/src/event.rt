@@ -45,7 +45,7 @@ pub enum Answer {
 }
 
 /// Why a step is refused. Which refusals an event may get, and in which order they are tried, is said with the
-/// definition `causes` of `specs/Replies`.
+/// definition `causes` of `cast_model`.
 #[derive(Clone, Copy, Debug, PartialEq, Eq, Error)]
 pub enum StepFault {
     #[error("no such node")]

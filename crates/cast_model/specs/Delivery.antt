@@ -70,7 +70,7 @@ is_ready config past q s i = has_pair (first past q) s i && is_known_enough conf
 unfoldable pub next : Config → History → ℕ → ℕ → ℕ
 next config past q s = prefix_len (λ message. is_ready config past q s message.number) (broadcast past s)
 
--- what q has delivered from s: the longest front of what s broadcast that q may deliver
+-- what q has delivered from s: the longest prefix of what s broadcast that q may deliver
 unfoldable pub delivered : Config → History → ℕ → ℕ → List Message
 delivered config past q s = take_while (λ message. is_ready config past q s message.number) (broadcast past s)
 

@@ -1,6 +1,6 @@
 //! What a node keeps of the pairs that it holds: which nodes are known to hold them too, what waits for its turn, and what was
 //! delivered and decided.
-ghost use Rattle.std.specs.Prelude.{◌≡◌, ◌≢◌, ◌+◌, ◌-◌, ◌<◌, ◌≤◌, ◌++◌, true, false, suc, length, slice_index_or, slice_set, vec_len, vec_capacity, slice_get, option_map, IsTrue, IsFalse, IfOk, OnOk, OnErr};
+ghost use Rattle.std.specs.Prelude.{◌≡◌, ◌+◌, ◌-◌, ◌<◌, ◌≤◌, ◌++◌, true, false, suc, length, vec_len, vec_capacity, slice_get, option_map, IsTrue, IsFalse, IfOk, OnOk, OnErr};
 ghost use Rattle.std.specs.List.{All};
 ghost use Rattle.std.specs.Map.{keys_of};
 ghost use Rattle.std.specs.FinSet as set;

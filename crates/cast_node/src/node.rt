@@ -1,5 +1,5 @@
 //! A node of a broadcast group: what it holds, gives, waits for, delivers and decides.
-ghost use Rattle.std.specs.Prelude.{◌≡◌, ◌≢◌, ℕ, ◌==◌, ◌<◌, ◌≤◌, ◌+◌, ◌∷◌, ◌++◌, [], false, true, IsTrue, length, nat_lt, Some, None, option_map, slice_get, MatchOption, if◌then◌else◌, IfOk, IfErr, OnOk, OnErr, IsFalse};
+ghost use Rattle.std.specs.Prelude.{◌≡◌, ℕ, ◌==◌, ◌<◌, ◌+◌, ◌∷◌, [], false, true, IsTrue, nat_lt, Some, None, option_map, slice_get, if◌then◌else◌, IfOk, IfErr, OnOk, OnErr, IsFalse};
 ghost use Rattle.std.specs.FinMap as finite;
 ghost use Rattle.std.specs.FinSet as set;
 ghost use Rattle.cast_model.specs.Steps.{Ordered, Sent, Acknowledged, Arrived, Stopped};
@@ -22,17 +22,13 @@ use crate::outgoing::Outgoing;
 use crate::slot::NoSlot;
 use crate::taking::{Fresh, first_members, take_up_carried, take_up_own};
 use cast_link::LinkIn;
-use cast_message::{Config, Frame, FrameBody, Item, Message, NodeId, Outcome, StepFault};
+use cast_message::{
+    Config, FRAME_LIMIT, Frame, FrameBody, Item, Message, NodeId, Outcome, PAYLOAD_LIMIT, StepFault,
+};
 use cast_relay::Relay;
 use cast_sets::NumberSet;
 use std::alloc::{AllocError, Global};
 use std::marker::Model;
-
-// The most bytes in a payload.
-const PAYLOAD_LIMIT: usize = 1_024;
-
-// The most frames that a node makes.
-const FRAME_LIMIT: u64 = 1_048_576;
 
 /// A frame that carries a message, told by numbers.
 #[derive(Clone, Copy, Debug)]
@@ -105,7 +101,7 @@ impl Model for Node {
 }
 
 impl Node {
-    /// The node of this number, which has done nothing. Refused is a number that is no node's.
+    /// The node of this number, which has done nothing. Refused is a number that is no node's; else, want of memory.
     pub fn new(alloc: Global, config: &Config, id: NodeId) -> Result<Node, StepFault>
         ensures ok { IfOk result (λ node. node ≡ nothing_kept config.now id) }
         ensures refusal { IfErr result (λ refusal.
@@ -120,7 +116,8 @@ impl Node {
 
     /// Takes up an item of the node's own, and answers its number in the node's stream with what is delivered and decided.
     /// Refused is an order of a crashed node, after a close, of a payload that is too long, of a second proposal in an
-    /// instance, or where the stream is full; the first of these that holds is answered. A refusal changes nothing.
+    /// instance, or where the stream is full, and else want of memory; the first of these that holds is answered. A refusal
+    /// changes nothing.
     pub fn order(&mut self, item: Item) -> Result<(u64, Outcome), StepFault>
         ensures exact { Gives self.old (Ordered item) (ordered_reply result) self.new }
     {
@@ -134,7 +131,7 @@ impl Node {
 
     /// Makes a frame that carries to a peer the message in a slot of what the node gives it. Refused is a peer that is no
     /// node, or this node, a send of a crashed node, of a slot that was not given, or was acknowledged, or where the node has
-    /// made all frames that it can. A refusal changes nothing.
+    /// made all frames that it can, and else want of memory. A refusal changes nothing.
     pub fn send(&mut self, to: NodeId, slot: u64) -> Result<Frame, StepFault>
         ensures exact { Gives self.old (Sent to slot) (sent_reply result) self.new }
         ensures frame { IfOk result (λ frame. frame ≡ carry_of self.old to slot) }
@@ -202,8 +199,8 @@ impl Node {
     }
 
     /// Takes a frame that arrives, and answers what is delivered and decided. The frame is for this node. Refused is an arrival
-    /// at a crashed node. A frame that no node of the group could have made for this node changes nothing, and nothing comes of
-    /// it.
+    /// at a crashed node, and else want of memory. A refusal changes nothing, nor does a frame that no node of the group could
+    /// have made for this node, of which nothing comes.
     #[tactic(auto, using(std::proofs::lemmas::Bool::Decides::nat_tests), unfolding(cast_model::specs::Refusals::first_fault, crate::specs::Turns::kept_fault))]
     pub fn arrive(&mut self, frame: &Frame) -> Result<Outcome, StepFault>
         requires { frame.now.to ≡ self.old.me }
@@ -552,7 +549,7 @@ impl Node {
         }
         Ok(Node {
             alloc,
-            config: config.copy(),
+            config: *config,
             me: id,
             live: true,
             frames: 0,

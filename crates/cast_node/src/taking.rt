@@ -1,6 +1,6 @@
 //! A message that a node did not hold: it goes to the peers, waits for its turn, and is known to be held. All of it is done, or
 //! none where memory is wanting.
-ghost use Rattle.std.specs.Prelude.{◌≡◌, ◌≢◌, ◌≤◌, ◌<◌, ◌+◌, false, length, OnOk, OnErr};
+ghost use Rattle.std.specs.Prelude.{◌≡◌, ◌≢◌, ◌≤◌, ◌<◌, false, length, OnOk, OnErr};
 ghost use Rattle.std.specs.FinSet as set;
 ghost use Rattle.cast_relay.specs.Held.{with_pair, holds};
 ghost use Rattle.cast_node.specs.Outgoing.{links_of};

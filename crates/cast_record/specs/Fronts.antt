@@ -10,7 +10,7 @@ use Rattle.cast_words.specs.Numbers.{read_on, number_of}
 use Rattle.cast_record.specs.Nodes.{node_of}
 use Rattle.cast_record.specs.Reading.{item_of, line_of}
 
--- the bytes are a front that spells the line, and more
+-- the bytes are a prefix that spells the line, and more
 pub record BeginsWithLine (bytes more : List ℕ) (line : Line) : Type 0 where
   pub front : List ℕ
   pub cut : bytes ≡ front ++ more

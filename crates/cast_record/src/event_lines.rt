@@ -12,7 +12,7 @@ use std::io::Write;
 
 /// Writes the lines of the event, which has this index in its script, and its reply, each with its line feed: those that
 /// `lines_of` makes. It takes no memory. A refusal comes only where the writer failed or took no byte; the meter tells so from
-/// then on, and a front of the text stands.
+/// then on, and a prefix of the text stands.
 pub fn write_lines_of<W: Write>(
     index: u64,
     event: &Event,

@@ -6,8 +6,12 @@ ghost use Rattle.cast_record.specs.Rules.{is_close};
 ghost use Rattle.cast_record.specs.ItemWords.{kind_of, is_hex, is_hex_digit, proposal_in};
 
 use crate::parts::two_parts;
+use cast_message::PAYLOAD_LIMIT;
 use cast_words::number;
 use std::marker::Model;
+
+/// The most hexadecimal digits of a payload.
+pub const MOST_DIGITS: usize = 2 * PAYLOAD_LIMIT;
 
 /// How many digits are looked at before the first of them that is none may end it.
 const BLOCK: usize = 64;
@@ -102,7 +106,7 @@ fn kind_named(name: &[u8], rest: &[u8]) -> Option<ItemKind>
 fn data(digits: &[u8]) -> Option<ItemKind>
     ensures { result ≡ option_map kind_of (data_of digits.now) }
 {
-    if digits.len() > 2048 {
+    if digits.len() > MOST_DIGITS {
         return None;
     }
     if is_hex(digits) {

@@ -3,6 +3,9 @@ ghost use Rattle.std.specs.Prelude.{◌≡◌};
 
 use cast_message::{Config, Decision, Message, Mode, NodeId};
 
+/// The most nodes in the group of a record `cast/1`.
+pub const FIRST_MOST_NODES: u64 = 16;
+
 /// A line of a record.
 #[derive(Debug, Drop, PartialEq)]
 pub enum Line {
@@ -56,7 +59,7 @@ impl Line {
         let faults = config.faults();
         let choices = config.choices();
         match config.mode() {
-            Mode::Basic if nodes <= 16 => Line::Head {
+            Mode::Basic if nodes <= FIRST_MOST_NODES => Line::Head {
                 nodes,
                 faults,
                 choices,

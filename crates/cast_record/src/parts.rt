@@ -1,5 +1,5 @@
 //! The parts of bytes that one byte parts from one another, without memory.
-ghost use Rattle.std.specs.Prelude.{◌≡◌, ◌∷◌, [], ◌==◌, option_map, position};
+ghost use Rattle.std.specs.Prelude.{◌≡◌, ◌∷◌, ◌==◌, option_map, position};
 ghost use Rattle.std.specs.List.{slice_split};
 ghost use Rattle.cast_record.specs.Parts.{parts_of};
 ghost use Rattle.cast_record.specs.Reading.{one_of, two_of, three_of, four_of};

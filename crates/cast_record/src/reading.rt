@@ -1,16 +1,16 @@
 //! Reading a line, the inverse of writing it.
-ghost use Rattle.std.specs.Prelude.{◌≡◌, ◌==◌, IfOk, option_and_then, option_map};
+ghost use Rattle.std.specs.Prelude.{◌≡◌, ◌==◌, IfOk, option_and_then};
 ghost use Rattle.std.specs.List.{slice_split};
-ghost use Rattle.cast_record.specs.Parts.{parts_of};
 ghost use Rattle.cast_record.specs.Reading.{IsReadOf, line_of, line_named, item_of, item_named, data_of, proposal_of, message_of};
 ghost use Rattle.cast_record.specs.Reading.{broadcast_by, delivered_by, decided_by, crashed_by, refused_by, refusal_within, head_by, head_within, is_outside, head2_by, head2_within, mode_of, is_mode_outside};
 ghost use Rattle.cast_record.specs.Reading.{one_of, two_of, three_of, four_of, end_named, short_line_named, pair_of};
 
-use crate::line::Line;
+use crate::item_word::MOST_DIGITS;
+use crate::line::{FIRST_MOST_NODES, Line};
 use crate::node::node;
 use crate::parts::{four_parts, one_part, split_part, three_parts, two_parts};
 use bytes::Bytes;
-use cast_message::{Decision, Item, Message, Mode, NodeId, Payload};
+use cast_message::{Decision, Item, MOST_NODES, Message, Mode, NodeId, Payload};
 use cast_words::{bytes_of, number};
 use std::alloc::{AllocError, Global};
 
@@ -154,7 +154,7 @@ fn item_named(alloc: Global, name: &[u8], rest: &[u8]) -> Result<Option<Item>, A
 fn data(alloc: Global, digits: &[u8]) -> Result<Option<Item>, AllocError>
     ensures { IfOk result (λ item. item ≡ data_of digits.now) }
 {
-    if digits.len() > 2048 {
+    if digits.len() > MOST_DIGITS {
         return Ok(None);
     }
     match bytes_of(alloc, digits)? {
@@ -229,7 +229,7 @@ pub fn head(rest: &[u8]) -> Option<Line>
 fn head_within(nodes: u64, faults: u64, choices: u64) -> Option<Line>
     ensures { result ≡ head_within nodes faults choices }
 {
-    if is_outside(16, nodes, faults, choices) {
+    if is_outside(FIRST_MOST_NODES, nodes, faults, choices) {
         return None;
     }
     Some(Line::Head {
@@ -259,7 +259,7 @@ fn head2(rest: &[u8]) -> Option<Line>
 fn head2_within(nodes: u64, faults: u64, choices: u64, mode: Mode) -> Option<Line>
     ensures { result ≡ head2_within nodes faults choices mode }
 {
-    if is_outside(64, nodes, faults, choices) || is_mode_outside(mode, nodes, faults) {
+    if is_outside(MOST_NODES, nodes, faults, choices) || is_mode_outside(mode, nodes, faults) {
         return None;
     }
     Some(Line::Head2 {

@@ -18,7 +18,7 @@ pub enum Verdict {
 }
 
 /// Writes the verdict as a line: `good`, or `bad` with the line and the rule. It takes no memory. A refusal comes only where
-/// the writer failed or took no byte; the meter tells so from then on, and a front of the text stands.
+/// the writer failed or took no byte; the meter tells so from then on, and a prefix of the text stands.
 pub fn write_verdict<W: Write>(verdict: Verdict, writer: &mut Meter<W>) -> Written
     requires { writer.old.failed ≡ false }
     ensures { Puts W.contents writer.old writer.new result (verdict_text verdict ++ 10 ∷ []) }

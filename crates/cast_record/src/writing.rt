@@ -1,4 +1,4 @@
-//! Writing lines: without memory, each text whole or a front of it.
+//! Writing lines: without memory, each text whole or a prefix of it.
 ghost use Rattle.std.specs.Prelude.{◌≡◌, ◌++◌, [], ◌∷◌, false, map};
 ghost use Rattle.std.specs.List.{join_with_byte};
 ghost use Rattle.cast_words.specs.Written.{Puts};
@@ -13,7 +13,7 @@ use cast_words::{Meter, Written, mode_name, write_bytes, write_hex, write_number
 use std::io::Write;
 
 /// Writes the lines, each with a line feed. It takes no memory. A refusal comes only where the writer failed or took no
-/// byte; the meter tells so from then on, and a front of the text stands.
+/// byte; the meter tells so from then on, and a prefix of the text stands.
 pub fn write_record<W: Write>(lines: &[Line], writer: &mut Meter<W>) -> Written
     requires { writer.old.failed ≡ false }
     ensures { Puts W.contents writer.old writer.new result (record_text lines.now) }
@@ -25,7 +25,7 @@ pub fn write_record<W: Write>(lines: &[Line], writer: &mut Meter<W>) -> Written
 }
 
 /// Writes the line with its line feed. It takes no memory. A refusal comes only where the writer failed or took no byte;
-/// the meter tells so from then on, and a front of the text stands.
+/// the meter tells so from then on, and a prefix of the text stands.
 pub fn write_line<W: Write>(line: &Line, writer: &mut Meter<W>) -> Written
     requires { writer.old.failed ≡ false }
     ensures { Puts W.contents writer.old writer.new result (line_text line.now ++ 10 ∷ []) }

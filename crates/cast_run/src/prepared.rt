@@ -11,17 +11,17 @@ use crate::desks::make_desks;
 use crate::jobs::{Seat, seat_jobs};
 use crate::make::make_running;
 use crate::reports::{Row, make_rows};
-use cast_engine::{Board, Carrier, Engine};
+use crate::started::Group;
+use cast_engine::Board;
 use cast_message::{Config, NodeId};
 use cast_script::Fault;
 use std::alloc::{AllocError, Global};
 use std::sync::Arc;
 
-/// Engines and carriers with their boxes, jobs with their clients, and a row for each node's clients when they come back.
+/// A group with its boxes, jobs with their clients, and a row for each node's clients when they come back.
 #[derive(Drop)]
 pub struct Prepared<J> {
-    pub engines: Vec<Engine>,
-    pub carriers: Vec<Carrier>,
+    pub group: Group,
     pub seats: Vec<Seat<J>>,
     pub rows: Vec<Row>,
     pub board: Arc<Board, Global>,
@@ -38,11 +38,11 @@ pub fn prepare<J: Drop>(
 ) -> Result<Prepared<J>, AllocError>
     requires fit { JobsFit config.now.nodes jobs.items }
     requires counted { IsCount config.now.nodes jobs.items counts.now }
-    ensures group { IfOk result (λ r. IsGroup r.engines.items r.carriers.items
-        × (length r.engines.items ≡ config.now.nodes)
-        × (length r.carriers.items ≡ config.now.nodes)) }
-    ensures set { IfOk result (λ r. AreSetUp config.now faults.now r.engines.items) }
-    ensures seated { IfOk result (λ r. AreSeated r.engines.items (map seat_client r.seats.items)) }
+    ensures group { IfOk result (λ r. IsGroup r.group.engines.items r.group.carriers.items
+        × (length r.group.engines.items ≡ config.now.nodes)
+        × (length r.group.carriers.items ≡ config.now.nodes)) }
+    ensures set { IfOk result (λ r. AreSetUp config.now faults.now r.group.engines.items) }
+    ensures seated { IfOk result (λ r. AreSeated r.group.engines.items (map seat_client r.seats.items)) }
     ensures jobs { IfOk result (λ r. map seat_job r.seats.items ≡ jobs.items) }
     ensures fresh { IfOk result (λ r. (i : ℕ) (s : Seat J) → slice_get r.seats.items i ≡ Some s →
         IsFresh s.client) }
@@ -52,11 +52,10 @@ pub fn prepare<J: Drop>(
     let board = make_board(alloc, counts)?;
     let (desks, waiting) = make_desks(alloc, config.box_size(), counts)?;
     let seats = Vec::with_capacity(alloc, jobs.len())?;
-    let (engines, carriers) = make_running(alloc, config, faults, turns, desks)?;
+    let group = make_running(alloc, config, faults, turns, desks)?;
     let seats = seat_jobs(jobs, waiting, seats);
     Ok(Prepared {
-        engines,
-        carriers,
+        group,
         seats,
         rows,
         board,

@@ -1,9 +1,9 @@
 //! The lists that a run gives back, whose room is made before the threads start: once they have ended, nothing wants memory.
-ghost use Rattle.std.specs.Prelude.{◌≡◌, IfOk};
+ghost use Rattle.std.specs.Prelude.{IfOk};
 ghost use Rattle.cast_run.specs.Rooms.{HasEndRoom, HasRoom};
 
 use crate::ending::EndRoom;
-use crate::reports::{ClientReport, Draft};
+use crate::reports::{ClientReport, Draft, LeftCounts};
 use std::alloc::{AllocError, Global};
 
 /// Empty lists, with room for what is gathered.
@@ -12,7 +12,7 @@ pub struct Room<J> {
     pub ends: EndRoom,
     pub jobs: Vec<J>,
     pub drafts: Vec<Draft>,
-    pub left: Vec<[u64; 4]>,
+    pub left: Vec<LeftCounts>,
     pub clients: Vec<ClientReport>,
 }
 

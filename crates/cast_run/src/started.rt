@@ -18,8 +18,12 @@ use std::alloc::{AllocError, Global};
 use std::sync::{Arc, Wait};
 use std::thread::Threads;
 
-/// The engines and the carriers of a group.
-pub type Group = (Vec<Engine>, Vec<Carrier>);
+/// The engines and the carriers of a group, one of each for each node.
+#[derive(Drop)]
+pub struct Group {
+    pub engines: Vec<Engine>,
+    pub carriers: Vec<Carrier>,
+}
 
 /// The threads that were started.
 #[derive(Drop)]
@@ -62,18 +66,18 @@ impl<J: ClientJob + Send + Drop + 'static> Running<J> {
     ) -> Result<(), StartFault>
         requires facts { (i : ℕ) (s : Seat J) → slice_get seats.items i ≡ Some s →
             J.fact s.job s.job (submitted s.client) (got s.client) false }
-        requires gates { length gates.items ≡ length group.0.items }
-        requires room { IsRoomFor (vec_len group.0) self.old.engines
-            × IsRoomFor (vec_len group.1) self.old.carriers
+        requires gates { length gates.items ≡ length group.engines.items }
+        requires room { IsRoomFor (vec_len group.engines) self.old.engines
+            × IsRoomFor (vec_len group.carriers) self.old.carriers
             × IsRoomFor (vec_len seats) self.old.jobs }
         ensures engines { OnOk result
-            (map (λ t. t.promise.was.value) self.new.engines.items ≡ group.0.items) }
+            (map (λ t. t.promise.was.value) self.new.engines.items ≡ group.engines.items) }
         ensures carriers { OnOk result
-            (map (λ t. t.promise.was.value) self.new.carriers.items ≡ group.1.items) }
+            (map (λ t. t.promise.was.value) self.new.carriers.items ≡ group.carriers.items) }
         ensures jobs { OnOk result
             (map (λ t. t.promise.was.value) self.new.jobs.items ≡ seats.items) }
     {
-        let (engines, carriers) = group;
+        let Group { engines, carriers } = group;
         start_engines(rt, alloc, board, &mut self.engines, engines, gates)?;
         start_carriers(rt, board, &mut self.carriers, carriers)?;
         start_jobs(rt, board, &mut self.jobs, seats, turns)
@@ -90,21 +94,21 @@ impl<J: ClientJob + Send + Drop + 'static> Running<J> {
         board: Arc<Board, Global>,
         turns: u64,
     ) -> Result<(Group, Vec<Ended<J>>), StartFault>
-        requires group { IsGroup group.0.items group.1.items
-            × (length group.1.items ≡ length group.0.items) }
-        requires gates { length gates.items ≡ length group.0.items }
+        requires group { IsGroup group.engines.items group.carriers.items
+            × (length group.carriers.items ≡ length group.engines.items) }
+        requires gates { length gates.items ≡ length group.engines.items }
         requires facts { (i : ℕ) (s : Seat J) → slice_get seats.items i ≡ Some s →
             J.fact s.job s.job (submitted s.client) (got s.client) false }
-        ensures group { IfOk result (λ r. IsGroup r.0.0.items r.0.1.items) }
-        ensures many { IfOk result (λ r. (length r.0.0.items ≡ length group.0.items)
-            × (length r.0.1.items ≡ length group.1.items)) }
-        ensures same { IfOk result (λ r. AreSame IsSameEngine group.0.items r.0.0.items) }
+        ensures group { IfOk result (λ r. IsGroup r.0.engines.items r.0.carriers.items) }
+        ensures many { IfOk result (λ r. (length r.0.engines.items ≡ length group.engines.items)
+            × (length r.0.carriers.items ≡ length group.carriers.items)) }
+        ensures same { IfOk result (λ r. AreSame IsSameEngine group.engines.items r.0.engines.items) }
         ensures jobs { IfOk result (λ r. AreEnded J.fact seats.items r.1.items) }
     {
-        let engines_back = Vec::with_capacity(alloc, group.0.len())?;
-        let carriers_back = Vec::with_capacity(alloc, group.1.len())?;
+        let engines_back = Vec::with_capacity(alloc, group.engines.len())?;
+        let carriers_back = Vec::with_capacity(alloc, group.carriers.len())?;
         let jobs_back = Vec::with_capacity(alloc, seats.len())?;
-        let mut threads = Running::new(alloc, group.0.len(), seats.len())?;
+        let mut threads = Running::new(alloc, group.engines.len(), seats.len())?;
         if let Err(fault) = threads.start(rt, alloc, &board, group, seats, gates, turns) {
             board.stop();
             threads.abandon(&rt);
@@ -113,6 +117,6 @@ impl<J: ClientJob + Send + Drop + 'static> Running<J> {
         let engines = join_into(&rt, threads.engines, engines_back);
         let carriers = join_into(&rt, threads.carriers, carriers_back);
         let jobs = join_into(&rt, threads.jobs, jobs_back);
-        Ok(((engines, carriers), jobs))
+        Ok((Group { engines, carriers }, jobs))
     }
 }

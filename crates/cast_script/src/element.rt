@@ -1,9 +1,9 @@
 //! Elements of a script's lists: how one is read, and how a list of them is.
-ghost use Rattle.std.specs.Prelude.{◌≡◌, ℕ, ◌+◌, ◌<◌, ◌^◌, length, map, option_map, Option, OnErr};
+ghost use Rattle.std.specs.Prelude.{◌≡◌, ◌+◌, ◌<◌, ◌^◌, length, map, option_map, Option, OnErr};
 ghost use Rattle.serde_json.specs.Data.{Data};
 ghost use Rattle.serde_json.specs.View.{view};
 ghost use Rattle.cast_script.specs.declared.element.Unread.TheVariants.{Memory};
-ghost use Rattle.cast_script.specs.Element.{node_of, number_of, places_of};
+ghost use Rattle.cast_script.specs.Element.{node_of, places_of};
 ghost use Rattle.cast_script.specs.Unread.{Gives};
 ghost use Rattle.cast_script.specs.Faults.{Answers, elements_from};
 

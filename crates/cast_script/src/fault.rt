@@ -2,7 +2,6 @@
 ghost use Rattle.std.specs.Prelude.{◌≡◌, map};
 ghost use Rattle.serde_json.specs.View.{view};
 ghost use Rattle.cast_script.specs.Element.{fault_of, fault_at, kind_of, lose_of, repeat_of, delay_of, engine_crash_of};
-ghost use Rattle.cast_script.specs.Unread.{Gives};
 
 use crate::element::{Element, Unread, node, places};
 use crate::script::Fault;

@@ -1,5 +1,5 @@
 //! The jobs of a script.
-ghost use Rattle.std.specs.Prelude.{◌≡◌, map};
+ghost use Rattle.std.specs.Prelude.{map};
 ghost use Rattle.serde_json.specs.View.{view};
 ghost use Rattle.cast_script.specs.Element.{job_of, job_at, items_of};
 ghost use Rattle.cast_script.specs.Unread.{Gives};

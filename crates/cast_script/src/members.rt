@@ -7,7 +7,7 @@ ghost use Rattle.cast_script.specs.Members.{is_member, has_known_members, needed
 
 use crate::element::places;
 use crate::script::Settings;
-use cast_message::Mode;
+use cast_message::{MOST_ENTRIES, MOST_ITEMS, Mode};
 use serde_json::{Map, Value};
 
 /// Whether the value is an object and has no other members than a script's.
@@ -56,8 +56,8 @@ pub fn settings(value: &Value) -> Option<Settings>
         nodes: number(value, "nodes")?,
         faults: number(value, "faults")?,
         choices: number(value, "choices")?,
-        item_limit: number_or(value, "item_limit", 4096)?,
-        log_limit: number_or(value, "log_limit", 65536)?,
+        item_limit: number_or(value, "item_limit", MOST_ITEMS)?,
+        log_limit: number_or(value, "log_limit", MOST_ENTRIES)?,
         box_size: number_or(value, "box_size", 64)?,
         first_stamp: number_or(value, "first_stamp", 0)?,
         turns: number_or(value, "turns", 4_000_000)?,

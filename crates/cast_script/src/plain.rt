@@ -1,7 +1,7 @@
 //! The plain case of a script, read off its tokens, one event after another, so that the value of the whole text is never
 //! kept: an object of words, numbers, empty lists and one list of events, each of these an array of words and numbers.
 //! What isn't so plain is read as a value by `reading`, which also says what is wrong with it.
-ghost use Rattle.std.specs.Prelude.{◌≡◌, ◌∷◌, [], List as Tokens, Some, Ok, IfOk, IfSome, option_map};
+ghost use Rattle.std.specs.Prelude.{◌≡◌, ◌∷◌, List as Tokens, Some, Ok, IfOk, IfSome, option_map};
 ghost use Rattle.json.specs.Json.{read_key};
 ghost use Rattle.json.specs.Token.{Token as Read, begin_array, end_array, string};
 ghost use Rattle.serde_json.specs.Data.{Data, Members, unsigned as unsigned_num, object};

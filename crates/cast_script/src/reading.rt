@@ -1,5 +1,5 @@
 //! From the bytes of a text to its script.
-ghost use Rattle.std.specs.Prelude.{◌≡◌, ◌<◌, ◌+◌, length, map, IsErrOf};
+ghost use Rattle.std.specs.Prelude.{◌<◌, ◌+◌, length, map, IsErrOf};
 ghost use Rattle.serde_json.specs.View.{view};
 ghost use Rattle.cast_script.specs.Faults.{AnswersBy, TellsBy};
 ghost use Rattle.cast_script.specs.Script.{Reads, said, settings_in, checked, script_in, script_of};

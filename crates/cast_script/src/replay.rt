@@ -27,7 +27,7 @@ pub struct Member<'a> {
 }
 
 /// Writes the script with this configuration, in which these events happen. It takes no memory. A refusal comes only where
-/// the writer failed or took no byte; the meter tells so from then on, and a front of the text stands.
+/// the writer failed or took no byte; the meter tells so from then on, and a prefix of the text stands.
 pub fn write_script<W: Write>(config: &Config, events: &[Event], writer: &mut Meter<W>) -> Written
     requires { writer.old.failed ≡ false }
     ensures { Puts W.contents writer.old writer.new result (script_text config.now events.now) }

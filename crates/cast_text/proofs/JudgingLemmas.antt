@@ -1,5 +1,5 @@
 -- What was read so far, and what the judging of it stands for.
-use Rattle.std.proofs.Common.{◌≡◌, ℕ, ◌+◌, ◌<◌, ◌≤◌, List, [], ◌++◌, length, Bool, Option, ◌∙◌, refl, arith, length-append}
+use Rattle.std.proofs.Common.{◌≡◌, ℕ, ◌+◌, List, ◌++◌, length, Bool, Option, refl, arith, length-append}
 use Rattle.std.specs.Io.KnownBytes.{Consumes}
 use Rattle.cast_judge.specs.declared.judging.Judging.{Judging}
 use Rattle.cast_judge.specs.Judged.{Stands}

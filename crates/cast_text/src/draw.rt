@@ -43,7 +43,7 @@ fn draw_script(alloc: Global, script: &Script, window: Window) -> Result<Picture
     ensures ok { IfOk result (λ picture. sheet_of picture ≡ sheet_of_script script.now window) }
     ensures err { IfErr result (λ fault. fault ≡ TextFault.Memory) }
 {
-    let mut world = World::new(alloc, script.config.copy())?;
+    let mut world = World::new(alloc, script.config)?;
     let mut picture = Picture::new(alloc, &script.config, window)?;
     play(&mut world, script, &mut picture)?;
     Ok(picture)

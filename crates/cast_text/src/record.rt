@@ -24,7 +24,7 @@ pub fn write_script_record<W: Write>(
     requires { writer.old.failed ≡ false }
     ensures { Puts W.contents writer.old writer.new result (record_text (record_of script.now)) }
 {
-    let mut world = World::new(alloc, script.config.copy())?;
+    let mut world = World::new(alloc, script.config)?;
     put_head(&script.config, writer)?;
     play(&mut world, script, writer)?;
     put_line(&Line::End, writer)

@@ -1,5 +1,5 @@
 //! Numbers as decimal digits.
-ghost use Rattle.std.specs.Prelude.{◌≡◌, ◌<◌, ◌≤◌, ◌++◌, length, drop, decimal};
+ghost use Rattle.std.specs.Prelude.{◌≡◌, ◌≤◌, drop, decimal};
 
 /// A number of at most twenty digits, at the end of its bytes.
 #[derive(Drop)]

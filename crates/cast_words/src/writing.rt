@@ -1,5 +1,5 @@
 //! Writing words: without memory, each whole or a prefix of it.
-ghost use Rattle.std.specs.Prelude.{◌≡◌, ℕ, ◌+◌, ◌<◌, ◌++◌, [], ◌∷◌, false, decimal};
+ghost use Rattle.std.specs.Prelude.{◌≡◌, ◌<◌, false, decimal};
 ghost use Rattle.cast_words.specs.Hex.{hex};
 ghost use Rattle.cast_words.specs.Written.{Puts};
 
@@ -48,7 +48,7 @@ pub fn write_hex<W: Write>(bytes: &[u8], writer: &mut Meter<W>) -> Written
 }
 
 /// Writes all the bytes. It takes no memory. A refusal comes only where the writer failed or took no byte; the meter tells
-/// so from then on, and a front of the bytes stands.
+/// so from then on, and a prefix of the bytes stands.
 pub fn write_bytes<W: Write>(bytes: &[u8], writer: &mut Meter<W>) -> Written
     requires { writer.old.failed ≡ false }
     ensures { Puts W.contents writer.old writer.new result bytes.now }

@@ -1,13 +1,11 @@
 //! What is due in a round: the slots that live nodes owe live nodes, and the events that settle them.
-ghost use Rattle.std.specs.Prelude.{◌≡◌, ℕ, true, false, ◌<◌, ◌≤◌, ◌^◌, ◌++◌, OnOk, IfOk, length, map};
+ghost use Rattle.std.specs.Prelude.{◌≡◌, ℕ, true, ◌<◌, ◌^◌, ◌++◌, OnOk, IfOk, length, map};
 ghost use Rattle.std.specs.List.{flat_map};
 ghost use Rattle.std.specs.FinMap as finite;
 ghost use Rattle.cast_node.specs.Kept.{link_to};
 ghost use Rattle.cast_node.specs.Calls.{is_peer};
-ghost use Rattle.cast_message.specs.declared.config.Config.{Config as Settings};
-ghost use Rattle.cast_model.specs.History.{History};
 ghost use Rattle.cast_model.specs.Rounds.{due};
-ghost use Rattle.cast_world.specs.Group.{StandingFor, node_at};
+ghost use Rattle.cast_world.specs.Group.{StandingFor};
 ghost use Rattle.cast_world.specs.Plans.{live_at, due_of, due_between_at, due_at, owed_below, OwesNoneFrom, events_from, IsBounded};
 
 use crate::due_slots::{DueSlot, DueSlots};

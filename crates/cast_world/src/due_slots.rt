@@ -1,5 +1,5 @@
 //! The slots of a round, kept as runs: what a node owes a peer are mostly slots in succession, of which there may be millions.
-ghost use Rattle.std.specs.Prelude.{◌≡◌, ◌+◌, ◌<◌, ◌≤◌, ◌^◌, ◌++◌, ◌∷◌, [], length, IsTrue, IfSome, IfNone, IfOk, OnOk, OnErr};
+ghost use Rattle.std.specs.Prelude.{◌≡◌, ◌+◌, ◌<◌, ◌≤◌, ◌^◌, ◌++◌, ◌∷◌, [], length, IsTrue, IfSome, IfNone, OnOk, OnErr};
 ghost use Rattle.cast_world.specs.DueRuns.{slots_of, rest_of, slots_from};
 
 use crate::due_run::Run;

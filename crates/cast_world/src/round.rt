@@ -1,24 +1,20 @@
 //! Rounds: every slot that a live node owes another is sent, taken and acknowledged. Two of them without a loss bring rest,
 //! where all live nodes have delivered the same.
-ghost use Rattle.std.specs.Prelude.{◌≡◌, ℕ, true, ◌<◌, ◌+◌, ◌^◌, ◌++◌, ◌==◌, ◌||◌, ◌↔◌, cond, IsTrue, IfOk, OnOk, length, slice_index_or};
+ghost use Rattle.std.specs.Prelude.{◌≡◌, ℕ, ◌<◌, ◌+◌, ◌^◌, ◌++◌, ◌==◌, ◌||◌, cond, IfOk, OnOk, length, slice_index_or};
 ghost use Rattle.cast_message.specs.declared.config.Config.{Config as Settings};
-ghost use Rattle.cast_message.specs.declared.config.Mode.TheVariants.{Uniform};
 ghost use Rattle.cast_model.specs.History.{History};
 ghost use Rattle.cast_model.specs.Replies.{IsAccepted};
-ghost use Rattle.cast_model.specs.Rounds.{Rest, HoldTheSame, FewCrashedIn, AreAccepted, plan, after_round};
+ghost use Rattle.cast_model.specs.Rounds.{Rest, HoldTheSame, AreAccepted, plan, after_round};
 ghost use Rattle.cast_world.specs.Group.{Stands, StandingFor};
-ghost use Rattle.cast_world.specs.Rounds.{TakesAll, TakesRound, Spreads, AgreesAtRest, HaveWhatAnyDelivered, events_after};
+ghost use Rattle.cast_world.specs.Rounds.{TakesAll, TakesRound, Spreads, events_after};
 
 use crate::due_slots::DueSlot;
 use crate::world::World;
-use cast_message::{Event, List, NodeId, StepFault};
+use cast_message::{Event, FRAME_LIMIT, List, NodeId, StepFault};
 use std::alloc::AllocError;
 
 // How many numbers a `NodeId` can have.
 const NODE_IDS: usize = 256;
-
-// How many frames a node can make.
-const FRAME_LIMIT: u64 = 1_048_576;
 
 impl World {
     /// The events of one round from here: for each slot that a live node owes another, by the giver, then the taker,

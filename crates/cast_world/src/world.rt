@@ -1,15 +1,13 @@
 //! The group as one value: events go in, replies come out.
-ghost use Rattle.std.specs.Prelude.{◌≡◌, ◌≢◌, ◌<◌, ◌≤◌, ◌^◌, ◌∷◌, IsTrue, IsFalse, IfOk, IfSome, IfNone, OnErr, [], Some, None, length, slice_get, option_map, nat_lt, ◌&&◌, MatchOption, MatchResult, Err};
-ghost use Rattle.std.specs.Option.{option_copied};
-ghost use Rattle.cast_message.specs.declared.config.Config.{Config as Settings};
+ghost use Rattle.std.specs.Prelude.{◌≡◌, ◌≢◌, ◌<◌, ◌^◌, ◌∷◌, IsTrue, IsFalse, IfOk, IfSome, IfNone, OnErr, [], Some, None, length, option_map, nat_lt, ◌&&◌, Err};
 ghost use Rattle.cast_message.specs.declared.event.StepFault.TheVariants.{Memory};
-ghost use Rattle.cast_model.specs.History.{History, is_live};
+ghost use Rattle.cast_model.specs.History.{is_live};
 ghost use Rattle.cast_model.specs.Replies.{reply};
 ghost use Rattle.cast_model.specs.Delivery.{decision};
 ghost use Rattle.cast_model.specs.Shown.{ShowsDelivered, ShowsStream, ShowsOwed};
 ghost use Rattle.cast_world.specs.Group.{Stands, StandingFor, Continues, FindsNode, IsCrash, IsFar, IsRefusedForCause, node_at, marks_at};
 ghost use Rattle.cast_node.specs.Calls.{number_reply, silent_reply};
-ghost use Rattle.cast_world.specs.Moves.{IsSilent, MakesFrame, StepsTo, TakesStep};
+ghost use Rattle.cast_world.specs.Moves.{IsSilent, MakesFrame, StepsTo};
 
 use crate::frames::{self, Mark};
 use cast_message::FrameKind::{Carry, Took};

@@ -1,5 +1,5 @@
 //! The command `live`: a script's group in threads, the files that are kept of the run, and its summary.
-ghost use Rattle.std.specs.Prelude.{◌≡◌, IfOk};
+ghost use Rattle.std.specs.Prelude.{IfOk};
 ghost use Rattle.cast_live.specs.Live.{IsFinished};
 
 use crate::explain::{explain_fault, explain_output, explain_run};

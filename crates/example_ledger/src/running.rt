@@ -1,5 +1,5 @@
 //! The ledger of a group that runs in threads: each node has a teller, and the tellers' books come out.
-ghost use Rattle.std.specs.Prelude.{◌≡◌, IfOk, map};
+ghost use Rattle.std.specs.Prelude.{IfOk, map};
 ghost use Rattle.cast_model.specs.Replies.{history};
 ghost use Rattle.cast_world.specs.Group.{Stands};
 ghost use Rattle.cast_merge.specs.Merge.{TellsMerge};

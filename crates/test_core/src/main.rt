@@ -52,8 +52,8 @@ fn take_script(rt: &impl Runtime, alloc: Global, script: &Script) -> Result<Vec<
 
 fn make_worlds(alloc: Global, config: &Config) -> Result<Worlds> {
     Ok(Worlds {
-        stepped: World::new(alloc, config.copy())?,
-        whole: World::new(alloc, config.copy())?,
+        stepped: World::new(alloc, *config)?,
+        whole: World::new(alloc, *config)?,
     })
 }
 

@@ -1,11 +1,10 @@
-use Rattle.std.proofs.Common.{ap, ◌∙◌, sym, arith}
-use Rattle.cast_message.specs.declared.config.Config.{Config}
+use Rattle.std.proofs.Common.{ap, ◌∙◌, arith}
 use Rattle.cast_node.specs.Kept.{Kept}
 use Rattle.cast_engine.proofs.Journaling.{begun}
 use Rattle.cast_engine.proofs.journal.Journal.new.Goals as goal
 
 pub invariant_of-result : goal.invariant_of-result
 invariant_of-result c =
-    begun c.copy.result _ c.in-Ok.node _ c.first_stamp.result c.args.crash
-    (omega (arith, c.in_ok-reserve.ensures.ok, c.log_limit.ensures, ap (λ (x : Config). x.log_limit) c.copy.ensures, c.new-log.ensures.len))
-    (c.in_ok-reserve.ensures.items ∙ c.new-log.ensures.items) (c.first_stamp.ensures ∙ ap (λ (x : Config). x.first_stamp) (sym c.copy.ensures)) (ap (λ (k : Kept). k.live) c.in-Ok.ensures.ok)
+    begun c.args.config.now _ c.in-Ok.node _ c.first_stamp.result c.args.crash
+    (omega (arith, c.in_ok-reserve.ensures.ok, c.log_limit.ensures, c.new-log.ensures.len))
+    (c.in_ok-reserve.ensures.items ∙ c.new-log.ensures.items) c.first_stamp.ensures (ap (λ (k : Kept). k.live) c.in-Ok.ensures.ok)

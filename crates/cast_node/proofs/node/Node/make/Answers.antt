@@ -2,7 +2,6 @@ use Rattle.std.proofs.Common.{◌≡◌, subst, ◌∙◌, ap, length, sym, arit
 use Rattle.std.specs.FinSet as set
 use Rattle.std.specs.FinSet.{contains-empty}
 use Rattle.std.specs.Ordering.{nat_cmp}
-use Rattle.cast_message.specs.declared.config.Config.{Config}
 use Rattle.cast_model.specs.Refusals.{is_close, proposes}
 use Rattle.std.specs.List.{list_any}
 use Rattle.cast_relay.specs.Held.{Held}
@@ -15,26 +14,24 @@ use Rattle.cast_node.proofs.node.Node.make.Goals as goal
 
 pub invariant_of-result : goal.invariant_of-result
 invariant_of-result c =
-    let same = c.copy.ensures in
-    let count = ap (λ (k : Config). k.nodes) same in
     let none = c.new-2.ensures.items in
     let relay = c.in_ok-new.ensures in
     let ds = c.in_ok-new-3.ensures in
     let out = c.in_ok-new-2.ensures.links in
-    let peers : c.loop-peer._peer ≡ c.copy.result.nodes = omega (arith, c.loop-peer-test.false, c.loop-peer.auto._peer-end, c.nodes-peer-end.ensures, count) in
+    let peers : c.loop-peer._peer ≡ c.args.config.now.nodes = omega (arith, c.loop-peer-test.false, c.loop-peer.auto._peer-end, c.nodes-peer-end.ensures) in
     record {
-      place = omega (arith, c.requires, count);
+      place = c.requires;
       relay_me = ap (λ (h : Held). h.me) relay;
       relay_own = ap (λ (h : Held). h.own) relay ∙ sym (ap length none);
-      room = λ _. omega (arith, ap length none, c.copy.result.some_item);
+      room = λ _. omega (arith, ap length none, c.args.config.now.some_item);
       closes = sym (ap (list_any is_close) none);
       proposals = λ j. ap (λ s. set.contains s j) c.new-3.ensures ∙ contains-empty nat_cmp j ∙ sym (ap (list_any (proposes j)) none);
-      mode = ap (λ (d : Delivering). d.mode) ds ∙ sym (ap (λ (k : Config). k.mode) same);
-      faults = ap (λ (d : Delivering). d.faults) ds ∙ sym (ap (λ (k : Config). k.faults) same);
-      peers_out = ap length out ∙ length-replicate _ _ ∙ c.nodes-2.ensures ∙ sym count;
+      mode = ap (λ (d : Delivering). d.mode) ds;
+      faults = ap (λ (d : Delivering). d.faults) ds;
+      peers_out = ap length out ∙ length-replicate _ _ ∙ c.nodes-2.ensures;
       peers_in = ap length c.loop-peer.invariant ∙ length-replicate _ _ ∙ peers;
-      senders = ap (λ (d : Delivering). length d.hold_back) ds ∙ length-replicate _ _ ∙ sym count;
-      rows = ap (λ (d : Delivering). length d.knowers) ds ∙ length-replicate _ _ ∙ sym count;
-      owes = subst (Owes c.copy.result.nodes c.copy.result.item_limit) (sym out) (owes_none (IsWithin c.copy.result.nodes c.copy.result.item_limit) _);
+      senders = ap (λ (d : Delivering). length d.hold_back) ds ∙ length-replicate _ _;
+      rows = ap (λ (d : Delivering). length d.knowers) ds ∙ length-replicate _ _;
+      owes = subst (Owes c.args.config.now.nodes c.args.config.now.item_limit) (sym out) (owes_none (IsWithin c.args.config.now.nodes c.args.config.now.item_limit) _);
       silent = λ _. subst OwesNothing (sym out) (nothing_yet _);
     }
