@@ -20,5 +20,5 @@ make_running-requires g c = let d = c.in_ok-desks in record { many = d.ensures.0
 pub returns-clause-seated : goal.returns-clause-seated
 returns-clause-seated g c =
     let d = c.in_ok-desks in
-    all_seated c.args.config.now.nodes c.box_size.result c.args.jobs.items c.args.counts.now d.desks.items d.waiting.items c.seat_jobs-seats.result.items c.in_ok-engines.engines.items
-    (let e = c.box_size.ensures in let some = c.args.config.now.some_place in let most = c.args.config.now.box_in_range in (omega arith, omega arith)) c.requires.counted d.ensures c.seat_jobs-seats.ensures c.in_ok-engines.ensures.desks
+    all_seated c.args.config.now.nodes c.box_size.result c.args.jobs.items c.args.counts.now d.desks.items d.waiting.items c.seat_jobs-seats.result.items c.in_ok-group.group.engines.items
+    (let e = c.box_size.ensures in let some = c.args.config.now.some_place in let most = c.args.config.now.box_in_range in (omega arith, omega arith)) c.requires.counted d.ensures c.seat_jobs-seats.ensures c.in_ok-group.ensures.desks
