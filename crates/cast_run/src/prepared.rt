@@ -42,7 +42,8 @@ pub fn prepare<J: Drop>(
         × (length r.group.engines.items ≡ config.now.nodes)
         × (length r.group.carriers.items ≡ config.now.nodes)) }
     ensures set { IfOk result (λ r. AreSetUp config.now faults.now r.group.engines.items) }
-    ensures seated { IfOk result (λ r. AreSeated r.group.engines.items (map seat_client r.seats.items)) }
+    ensures seated { IfOk result (λ r.
+        AreSeated r.group.engines.items (map seat_client r.seats.items)) }
     ensures jobs { IfOk result (λ r. map seat_job r.seats.items ≡ jobs.items) }
     ensures fresh { IfOk result (λ r. (i : ℕ) (s : Seat J) → slice_get r.seats.items i ≡ Some s →
         IsFresh s.client) }

@@ -102,7 +102,8 @@ impl<J: ClientJob + Send + Drop + 'static> Running<J> {
         ensures group { IfOk result (λ r. IsGroup r.0.engines.items r.0.carriers.items) }
         ensures many { IfOk result (λ r. (length r.0.engines.items ≡ length group.engines.items)
             × (length r.0.carriers.items ≡ length group.carriers.items)) }
-        ensures same { IfOk result (λ r. AreSame IsSameEngine group.engines.items r.0.engines.items) }
+        ensures same { IfOk result (λ r.
+            AreSame IsSameEngine group.engines.items r.0.engines.items) }
         ensures jobs { IfOk result (λ r. AreEnded J.fact seats.items r.1.items) }
     {
         let engines_back = Vec::with_capacity(alloc, group.engines.len())?;
