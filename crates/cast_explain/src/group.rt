@@ -1,10 +1,8 @@
 //! What is wrong with a group that is to run in threads: the job or the fault of the plan that does not fit its nodes.
+use cast_desk::MOST_CLIENTS;
 use cast_message::NodeId;
 use cast_script::{Fault, LiveFault, Script, read_script};
 use std::alloc::{AllocError, Global};
-
-/// The most jobs of a node.
-const MOST_JOBS: u8 = 4;
 
 /// Why the group of these bytes does not run; none where it does.
 pub fn group_words(
@@ -38,9 +36,9 @@ fn jobs_words(alloc: Global, script: &Script) -> Result<Option<String>, AllocErr
             return Ok(Some(format!(in alloc; "jobs, element {place} (counted from 0): {words}")?));
         }
         let count = &mut counts[node as usize];
-        if *count >= MOST_JOBS {
+        if u64::from(*count) >= MOST_CLIENTS {
             return Ok(Some(format!(in alloc;
-                "jobs, element {place} (counted from 0): node {node} has {MOST_JOBS} jobs already, the most of a node"
+                "jobs, element {place} (counted from 0): node {node} has {MOST_CLIENTS} jobs already, the most of a node"
             )?));
         }
         *count += 1;

@@ -14,13 +14,10 @@ use Rattle.cast_record.specs.declared.line.Line.{Line}
 use Rattle.cast_record.specs.declared.line.Line.TheVariants.{Head, Head2, Broadcast, Delivered, Decided, Crashed, Refused, End}
 use Rattle.cast_record.specs.Nodes.{node_of}
 use Rattle.cast_words.specs.Numbers.{number_of}
+use Rattle.cast_words.specs.Options.{◌>>=◌}
 use Rattle.cast_words.specs.Unhex.{unhex}
 use Rattle.cast_record.specs.Ranges.{IsWithin}
 use Rattle.cast_record.specs.Text.{line_text}
-
-infixl 10 ◌>>=◌
-abbrev pub ◌>>=◌ : {A B : Type 0} → Option A → (A → Option B) → Option B
-o >>= f = option_and_then f o
 
 -- ---- exactly so many words
 

@@ -1,5 +1,5 @@
 -- The items of a job read so far, and those that are left.
-use Rattle.std.proofs.Common.{◌≡◌, ℕ, ◌+◌, ◌<◌, List, [], ◌∷◌, ◌++◌, length, get_or, drop, map, Option, Some, None, option_map, option_and_then, append_assoc, ap, sym, ◌∙◌, refl}
+use Rattle.std.proofs.Common.{◌≡◌, ℕ, ◌+◌, ◌<◌, List, [], ◌∷◌, ◌++◌, length, get_or, drop, map, Option, Some, None, option_map, option_and_then, ap, sym, ◌∙◌, refl}
 use Rattle.serde_json.specs.declared.value.Value.{Value}
 use Rattle.serde_json.specs.View.{view}
 use Rattle.cast_message.specs.declared.message.Item.{Item}
@@ -8,10 +8,6 @@ use Rattle.cast_script.proofs.ElementLemmas.{next_value}
 
 abbrev pub after_items : List Item → Option (List Item) → Option (List Item)
 after_items front others = option_map (λ items. front ++ items) others
-
-after-before : (front : List Item) (item : Item) (o : Option (List Item)) → after_items (front ++ item ∷ []) o ≡ after_items front (before (Some item) o)
-after-before front item None = refl
-after-before front item (Some items) = ap Some (append_assoc front (item ∷ []) items)
 
 -- reading stands at i
 pub record IsListing (items : List Item) (i : ℕ) (values : List Value) : Type 0 where

@@ -18,12 +18,9 @@ use Rattle.cast_script.specs.declared.script.Fault.{Fault}
 use Rattle.cast_script.specs.declared.script.Fault.TheVariants.{Lose, Repeat, Delay, Crash}
 use Rattle.cast_message.specs.declared.message.FrameKind.{FrameKind}
 use Rattle.cast_message.specs.declared.message.FrameKind.TheVariants.{Carry, Took}
+use Rattle.cast_words.specs.Options.{◌>>=◌}
 use Rattle.cast_words.specs.Unhex.{unhex}
 use Rattle.cast_script.specs.Places.{places}
-
-infixl 10 ◌>>=◌
-abbrev pub ◌>>=◌ : {A B : Type 0} → Option A → (A → Option B) → Option B
-o >>= f = option_and_then f o
 
 -- the places of an array
 abbrev pub places_of : Data → Option (List Data)

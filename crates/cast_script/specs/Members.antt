@@ -9,7 +9,8 @@ use Rattle.serde_json.specs.Find.{get, as_object, as_str}
 use Rattle.cast_message.specs.declared.config.Mode.{Mode}
 use Rattle.cast_message.specs.declared.config.Mode.TheVariants.{Basic, Uniform}
 use Rattle.cast_script.specs.declared.script.Settings.{Settings}
-use Rattle.cast_script.specs.Element.{◌>>=◌, number_of, places_of}
+use Rattle.cast_words.specs.Options.{◌>>=◌}
+use Rattle.cast_script.specs.Element.{number_of, places_of}
 
 abbrev pub is_member : List ℕ → Bool
 is_member name =

@@ -4,3 +4,4 @@ pub mod Numbers
 pub mod Modes
 pub mod Written
 pub mod Shown
+pub mod Options
