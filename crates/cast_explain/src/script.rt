@@ -10,14 +10,14 @@ use cast_script::{ScriptFault, read_script};
 use serde_json::Value;
 use std::alloc::{AllocError, Global};
 
-/// Why these bytes are no script; none where that is not the fault of these bytes, or out of memory is.
+/// Why these bytes are no script; none where that is not their fault, or out of memory is.
 pub fn script_words(
     alloc: Global,
     name: &str,
     bytes: &[u8],
     fault: ScriptFault,
 ) -> Result<Option<String>, AllocError>
-    ensures { IfOk result (λ words. IfSome words (λ _. IsNoScript bytes.now)) }
+    ensures { IfOk result (λ words. IfSome words (λ _. IsNoScript bytes.now fault)) }
 {
     let found = match read_script(alloc, bytes) {
         Ok(_) | Err(ScriptFault::Memory) => return Ok(None),

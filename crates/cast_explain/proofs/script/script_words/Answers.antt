@@ -1,5 +1,8 @@
-use Rattle.std.proofs.Common.{rules}
+use Rattle.std.proofs.Common.{rules, sym}
+use Rattle.cast_explain.proofs.Faults.{same_fault}
 use Rattle.cast_explain.proofs.script.script_words.Goals as goal
 
 pub returns : goal.returns
-returns c = record { fault = c.in-Err.found; reads = c.in-Err.ensures; own = search rules }
+returns c =
+    rw (sym (same_fault c.in-Err.found c.args.fault (search rules)))
+    (record { reads = c.in-Err.ensures; own = search rules })
