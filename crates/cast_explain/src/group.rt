@@ -1,28 +1,44 @@
 //! What is wrong with a group that is to run in threads: the job or the fault of the plan that does not fit its nodes.
+ghost use Rattle.std.specs.Prelude.{IfOk, IfSome, IfNone};
+ghost use Rattle.cast_explain.specs.Refused.{IsNoGroup};
+
 use cast_desk::MOST_CLIENTS;
 use cast_message::NodeId;
-use cast_script::{Fault, LiveFault, Script, read_script};
+use cast_run::find_misfit;
+use cast_script::{Fault, LiveFault, Script, ScriptFault, read_script};
 use std::alloc::{AllocError, Global};
 
-/// Why the group of these bytes does not run; none where it does.
+/// Why no group is run of the script that stands in these bytes; none exactly where they are no script, or this is not the first
+/// cause that holds of its jobs and its plan.
 pub fn group_words(
     alloc: Global,
     name: &str,
     bytes: &[u8],
     fault: LiveFault,
-) -> Result<Option<String>, AllocError> {
-    let Ok(script) = read_script(alloc, bytes) else {
-        return Ok(None);
+) -> Result<Option<String>, AllocError>
+    ensures some { IfOk result (λ words. IfSome words (λ _. IsNoGroup bytes.now fault)) }
+    ensures none { IfOk result (λ words. IfNone words (IsNoGroup bytes.now fault → ⊥)) }
+{
+    let script = match read_script(alloc, bytes) {
+        Ok(script) => script,
+        Err(ScriptFault::Memory) => return Err(AllocError),
+        Err(_) => return Ok(None),
     };
+    let gates = script.config.nodes() as usize;
+    match find_misfit(&script.config, &script.plan, script.jobs.as_slice(), gates) {
+        Some(found) if found == fault => {}
+        _ => return Ok(None),
+    }
     let words = match fault {
         LiveFault::Jobs => jobs_words(alloc, &script)?,
         LiveFault::Plan => plan_words(alloc, &script)?,
         LiveFault::Gates | LiveFault::Memory | LiveFault::Threads => None,
     };
-    match words {
-        Some(words) => Ok(Some(format!(in alloc; "{name}: {words}")?)),
-        None => Ok(None),
-    }
+    let words = match words {
+        Some(words) => words,
+        None => format!(in alloc; "{fault}")?,
+    };
+    Ok(Some(format!(in alloc; "{name}: {words}")?))
 }
 
 // The first job that is at no node, or one too many at its node.

@@ -1,5 +1,5 @@
 //! What is wrong with a record: the line that offends, and the rule that it breaks in words.
-ghost use Rattle.std.specs.Prelude.{◌≡◌, IfOk, IfSome};
+ghost use Rattle.std.specs.Prelude.{◌≡◌, ◌≢◌, IfOk, IfSome, IfNone};
 ghost use Rattle.cast_record.specs.Migration.{HasNoHead};
 ghost use Rattle.cast_record.specs.Verdicts.{verdict};
 ghost use Rattle.cast_record.specs.declared.verdict.Verdict.TheVariants.{Bad};
@@ -27,7 +27,7 @@ struct TextLine<'a> {
     is_ended: bool,
 }
 
-/// Which line of the text breaks which rule, in words; none where that is not the verdict on these bytes.
+/// Which line of the text breaks which rule, in words; none exactly where that is not the verdict on these bytes.
 pub fn verdict_words(
     alloc: Global,
     name: &str,
@@ -35,7 +35,8 @@ pub fn verdict_words(
     line: u64,
     rule: u64,
 ) -> Result<Option<String>, AllocError>
-    ensures { IfOk result (λ words. IfSome words (λ _. verdict text.now ≡ Bad line rule)) }
+    ensures some { IfOk result (λ words. IfSome words (λ _. verdict text.now ≡ Bad line rule)) }
+    ensures none { IfOk result (λ words. IfNone words (verdict text.now ≢ Bad line rule)) }
 {
     match judge(alloc, text)? {
         Verdict::Bad {
@@ -44,24 +45,22 @@ pub fn verdict_words(
         } if offending == line && broken == rule => {}
         _ => return Ok(None),
     }
-    let (Some(words), Some(offending)) = (rule_words(rule), line_at(text, line)) else {
-        return Ok(None);
-    };
-    let shown = line_words(alloc, offending)?;
+    let words = rule_words(rule);
+    let shown = line_words(alloc, line_at(text, line))?;
     Ok(Some(format!(in alloc; "{name}: line {line} breaks rule {rule} ({words}): {shown}")?))
 }
 
-/// Why a text has no head of the first format; none where these bytes have one.
+/// Why a text has no head of the first format; none exactly where these bytes have one.
 pub fn head_words(alloc: Global, name: &str, text: &[u8]) -> Result<Option<String>, AllocError>
-    ensures { IfOk result (λ words. IfSome words (λ _. HasNoHead text.now)) }
+    ensures some { IfOk result (λ words. IfSome words (λ _. HasNoHead text.now)) }
+    ensures none { IfOk result (λ words. IfNone words (HasNoHead text.now → ⊥)) }
 {
-    let Err(MigrateFault::NotV1) = migrate(alloc, text) else {
-        return Ok(None);
-    };
-    let Some(first) = line_at(text, 1) else {
-        return Ok(None);
-    };
-    let shown = line_words(alloc, first)?;
+    match migrate(alloc, text) {
+        Ok(_) => return Ok(None),
+        Err(MigrateFault::Memory) => return Err(AllocError),
+        Err(MigrateFault::NotV1) => {}
+    }
+    let shown = line_words(alloc, line_at(text, 1))?;
     Ok(Some(format!(in alloc;
         "{name}: line 1 is not cast/1 N F K, with N 1 to 16, F below N and K 1 to N: {shown}"
     )?))
@@ -78,8 +77,16 @@ fn line_words(alloc: Global, line: TextLine<'_>) -> Result<String, AllocError> {
     format!(in alloc; "{shown}, with no line feed behind it")
 }
 
-// The line with this number, counted from 1; the last is what stands after the last line feed, if only nothing.
-fn line_at(text: &[u8], number: u64) -> Option<TextLine<'_>> {
+// The line with this number, counted from 1; the last is what stands after the last line feed, if only nothing, and so is each
+// one after it.
+fn line_at(text: &[u8], number: u64) -> TextLine<'_> {
+    find_line(text, number).unwrap_or(TextLine {
+        bytes: &[],
+        is_ended: false,
+    })
+}
+
+fn find_line(text: &[u8], number: u64) -> Option<TextLine<'_>> {
     let place = number.checked_sub(1)? as usize;
     let mut lines = text.split(|byte| *byte == b'\n');
     let bytes = lines.nth(place)?;
@@ -88,7 +95,11 @@ fn line_at(text: &[u8], number: u64) -> Option<TextLine<'_>> {
 }
 
 // What breaks the rule, in words.
-fn rule_words(rule: u64) -> Option<&'static str> {
+fn rule_words(rule: u64) -> &'static str {
+    find_rule(rule).unwrap_or("no rule has this number")
+}
+
+fn find_rule(rule: u64) -> Option<&'static str> {
     let line = RULES.lines().skip(1).nth(rule as usize)?;
     let (_number, words) = line.trim_start().split_once("  ")?;
     Some(words)

@@ -1,5 +1,5 @@
 //! What is wrong with a script: where it is no JSON, which member or element is not as it should be, or which limit it breaks.
-ghost use Rattle.std.specs.Prelude.{IfOk, IfSome};
+ghost use Rattle.std.specs.Prelude.{IfOk, IfSome, IfNone};
 ghost use Rattle.cast_explain.specs.Refused.{IsNoScript};
 
 use crate::element::{Flaw, event_flaw, fault_flaw, job_flaw};
@@ -10,17 +10,20 @@ use cast_script::{ScriptFault, read_script};
 use serde_json::Value;
 use std::alloc::{AllocError, Global};
 
-/// Why these bytes are no script; none where that is not their fault, or out of memory is.
+/// Why these bytes are refused as a script with this fault; none exactly where they are not, as where the fault is want of
+/// memory.
 pub fn script_words(
     alloc: Global,
     name: &str,
     bytes: &[u8],
     fault: ScriptFault,
 ) -> Result<Option<String>, AllocError>
-    ensures { IfOk result (λ words. IfSome words (λ _. IsNoScript bytes.now fault)) }
+    ensures some { IfOk result (λ words. IfSome words (λ _. IsNoScript bytes.now fault)) }
+    ensures none { IfOk result (λ words. IfNone words (IsNoScript bytes.now fault → ⊥)) }
 {
     let found = match read_script(alloc, bytes) {
-        Ok(_) | Err(ScriptFault::Memory) => return Ok(None),
+        Ok(_) => return Ok(None),
+        Err(ScriptFault::Memory) => return Err(AllocError),
         Err(found) => found,
     };
     if found != fault {

@@ -1,6 +1,7 @@
 -- Why a group is not run.
 --     Fits nodes jobs gates faults                what was handed in for so many nodes fits: the jobs, the number of gates, the plan
 --     IsFaultOf nodes jobs gates faults fault     the first cause that holds; where all fits, memory or threads were wanting
+--     IsMisfit nodes jobs gates faults fault      the first cause that holds in what was handed in, which does not fit
 --     fault_by fault                               the refusal that threads which were not started are
 use Rattle.std.specs.Prelude.{◌≡◌, ◌≢◌, ◌≤◌, ◌<◌, ℕ, List, length, slice_get, Some}
 use Rattle.cast_script.specs.declared.script.Fault.{Fault}
@@ -27,6 +28,9 @@ IsFaultOf nodes jobs gates faults Gates = JobsFit nodes jobs × (gates ≢ nodes
 IsFaultOf nodes jobs gates faults Plan = JobsFit nodes jobs × (gates ≡ nodes) × ¬ ArePlanned nodes faults
 IsFaultOf nodes jobs gates faults Memory = Fits nodes jobs gates faults
 IsFaultOf nodes jobs gates faults Threads = Fits nodes jobs gates faults
+
+abbrev pub IsMisfit : {J : Type 0} → ℕ → List (ℕ × J) → ℕ → List Fault → LiveFault → Type 0
+IsMisfit nodes jobs gates faults fault = IsFaultOf nodes jobs gates faults fault × ¬ Fits nodes jobs gates faults
 
 -- threads that are not started are a group that is not run
 abbrev pub fault_by : StartFault → LiveFault
