@@ -2,10 +2,12 @@
 //! threads (`test_run`) and their benchmark (`bench_run`).
 #![tactic(auto)]
 
+mod clients;
 mod jobs;
 mod plan;
 mod shape;
 
+pub use clients::{Keeper, Silent};
 pub use jobs::{data_items, open_gates, submit_each};
 pub use plan::{Link, links, lose_every, no_faults};
 pub use shape::Shape;

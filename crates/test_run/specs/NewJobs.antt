@@ -2,9 +2,9 @@
 use Rattle.std.specs.Prelude.{◌≡◌, ℕ, List, [], false}
 use Rattle.cast_run.specs.Jobs.{SubmitsGiven}
 use Rattle.run_setup.specs.NewJobs.{EachJob}
-use Rattle.test_run.specs.Silence.{IsSilent}
-use Rattle.test_run.specs.declared.clients.Keeper.{Keeper}
-use Rattle.test_run.specs.declared.clients.Silent.{Silent}
+use Rattle.run_setup.specs.Silence.{IsSilent}
+use Rattle.run_setup.specs.declared.clients.Keeper.{Keeper}
+use Rattle.run_setup.specs.declared.clients.Silent.{Silent}
 use Rattle.test_run.specs.declared.gates.SignalReply.{SignalReply}
 
 abbrev pub IsNewSignal : SignalReply → Type 0

@@ -1,109 +1,20 @@
 //! Rows of jobs of their own: one keeps each notice, one never takes any.
-ghost use Rattle.std.specs.Prelude.{◌≡◌, ◌<◌, ◌+◌, ◌^◌, [], IfOk, length};
-ghost use Rattle.cast_desk.specs.Desk.{IsSameClient};
-ghost use Rattle.cast_run.specs.Jobs.{submitted, got};
+ghost use Rattle.std.specs.Prelude.{IfOk};
 ghost use Rattle.test_run.specs.NewJobs.{AreNewKeepers, AreNewSilent};
 ghost use Rattle.test_run.specs.Silence.{KeptSilent};
 
 use crate::runs::{RowFault, TURNS};
 use anyhow::Result;
-use cast_desk::{Client, Notice};
-use cast_message::{Item, List, NodeId};
+use cast_desk::Notice;
+use cast_message::NodeId;
 use cast_node::EntryKind;
-use cast_run::{ClientJob, LiveRun, run_live};
-use run_setup::{Shape, data_items, no_faults, open_gates};
+use cast_run::{LiveRun, run_live};
+use run_setup::{Keeper, Shape, Silent, no_faults, open_gates};
 use std::alloc::{AllocError, Global};
 use std::fmt;
 use std::fmt::{Display, Formatter, Write};
 use std::sync::Wait;
 use std::thread::Threads;
-
-/// Submits items, keeps each notice while there is room, and is done with the reply to the last.
-#[derive(Drop)]
-pub struct Keeper {
-    items: List<Item>,
-    next: usize,
-    replies: usize,
-    kept: Vec<Notice>,
-}
-
-impl ClientJob for Keeper {
-    ghost use Rattle.std.specs.Prelude.{◌≡◌};
-
-    // what it kept is what it got
-    ghost fact = { λ given j sent got done. j.kept.items ≡ got };
-
-    fn turn<R: Wait>(&mut self, rt: &R, client: &mut Client) -> bool {
-        self.next += submit_at(rt, client, self.items.as_slice(), self.next);
-        self.keep_next(rt, client);
-        self.replies < self.items.as_slice().len()
-    }
-}
-
-impl Keeper {
-    fn new(alloc: Global, items: u64) -> Result<Keeper, AllocError>
-        ensures { IfOk result (λ job. job.kept.items ≡ []) }
-    {
-        Ok(Keeper {
-            items: data_items(alloc, items)?,
-            next: 0,
-            replies: 0,
-            kept: Vec::with_capacity(alloc, 16)?,
-        })
-    }
-
-    // Takes a notice, where there is one and room for it.
-    fn keep_next<R: Wait>(&mut self, rt: &R, client: &mut Client)
-        requires { self.old.kept.items ≡ got client.old }
-        ensures same { IsSameClient client.old client.new }
-        ensures kept { self.new.kept.items ≡ got client.new }
-    {
-        if self.kept.len() >= self.kept.capacity() {
-            return;
-        }
-        let Some(notice) = client.next(rt) else {
-            return;
-        };
-        if matches!(&notice, Notice::Reply { .. }) {
-            self.replies = self.replies.saturating_add(1);
-        }
-        self.kept.push_reserved(notice);
-    }
-}
-
-/// Submits items and never takes a notice; it is done with the last that its desk had room for.
-#[derive(Drop)]
-pub struct Silent {
-    items: List<Item>,
-    next: usize,
-}
-
-impl ClientJob for Silent {
-    ghost use Rattle.test_run.specs.Silence.{IsSilent};
-
-    ghost fact = { λ given j sent got done. IsSilent j sent got done };
-
-    fn turn<R: Wait>(&mut self, rt: &R, client: &mut Client) -> bool {
-        self.next += submit_at(rt, client, self.items.as_slice(), self.next);
-        self.next != self.items.as_slice().len()
-    }
-}
-
-// Submits the item of this number, where there is one and the desk has room. The answer is how many it submitted.
-fn submit_at<R: Wait>(rt: &R, client: &mut Client, items: &[Item], at: usize) -> usize
-    ensures same { IsSameClient client.old client.new }
-    ensures tray { client.new.tray ≡ client.old.tray }
-    ensures sent { length (submitted client.new) ≡ length (submitted client.old) + result }
-    ensures within { at + result < 2 ^ 64 }
-{
-    match items.get(at).map(Item::copy) {
-        Some(Ok(item)) => match client.submit(rt, item) {
-            Ok(_) => 1,
-            Err(_) => 0,
-        },
-        _ => 0,
-    }
-}
 
 /// A notice on one word or two.
 #[derive(Clone, Copy)]
@@ -145,7 +56,7 @@ pub fn replies_kept<R: Threads + Wait + Print + Copy + Send + 'static>(
     };
     print!(&rt; "replies-kept:")?;
     for job in run.jobs.iter() {
-        for notice in job.kept.iter() {
+        for notice in job.kept().iter() {
             print!(&rt; " {},", Told { notice })?;
         }
     }
@@ -159,8 +70,7 @@ fn one_silent(alloc: Global) -> Result<Vec<(NodeId, Silent)>, AllocError>
     ensures { IfOk result (λ jobs. AreNewSilent jobs.items) }
 {
     let mut jobs = Vec::new(alloc);
-    let items = data_items(alloc, 100)?;
-    jobs.push((NodeId(0), Silent { items, next: 0 }))?;
+    jobs.push((NodeId(0), Silent::new(alloc, 100)?))?;
     Ok(jobs)
 }
 
