@@ -2,20 +2,15 @@
 ghost use Rattle.std.specs.Prelude.{IfOk, IfSome, IfNone};
 ghost use Rattle.cast_explain.specs.Refused.{IsNoGroup};
 
+use crate::Explanation;
 use cast_desk::MOST_CLIENTS;
 use cast_message::NodeId;
 use cast_run::find_misfit;
 use cast_script::{Fault, LiveFault, Script, ScriptFault, read_script};
 use std::alloc::{AllocError, Global};
 
-/// Why no group is run of the script that stands in these bytes; none exactly where they are no script, or this is not the first
-/// cause that holds of its jobs and its plan.
-pub fn group_words(
-    alloc: Global,
-    name: &str,
-    bytes: &[u8],
-    fault: LiveFault,
-) -> Result<Option<String>, AllocError>
+/// Why no group is run of the script in these bytes; none exactly where this is not the first cause that holds of it.
+pub fn group_words(alloc: Global, name: &str, bytes: &[u8], fault: LiveFault) -> Explanation
     ensures some { IfOk result (λ words. IfSome words (λ _. IsNoGroup bytes.now fault)) }
     ensures none { IfOk result (λ words. IfNone words (IsNoGroup bytes.now fault → ⊥)) }
 {

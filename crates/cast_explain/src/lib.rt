@@ -13,3 +13,7 @@ mod settings;
 pub use group::group_words;
 pub use record::{RULES, head_words, verdict_words};
 pub use script::script_words;
+use std::alloc::AllocError;
+
+/// Why an input is refused, in words, or nothing where it is not; or want of memory.
+pub type Explanation = Result<Option<String>, AllocError>;

@@ -4,6 +4,7 @@ ghost use Rattle.cast_record.specs.Migration.{HasNoHead};
 ghost use Rattle.cast_record.specs.Verdicts.{verdict};
 ghost use Rattle.cast_record.specs.declared.verdict.Verdict.TheVariants.{Bad};
 
+use crate::Explanation;
 use crate::excerpt::quoted;
 use cast_judge::{Verdict, judge};
 use cast_record::{MigrateFault, migrate};
@@ -28,13 +29,7 @@ struct TextLine<'a> {
 }
 
 /// Which line of the text breaks which rule, in words; none exactly where that is not the verdict on these bytes.
-pub fn verdict_words(
-    alloc: Global,
-    name: &str,
-    text: &[u8],
-    line: u64,
-    rule: u64,
-) -> Result<Option<String>, AllocError>
+pub fn verdict_words(alloc: Global, name: &str, text: &[u8], line: u64, rule: u64) -> Explanation
     ensures some { IfOk result (λ words. IfSome words (λ _. verdict text.now ≡ Bad line rule)) }
     ensures none { IfOk result (λ words. IfNone words (verdict text.now ≢ Bad line rule)) }
 {
@@ -51,7 +46,7 @@ pub fn verdict_words(
 }
 
 /// Why a text has no head of the first format; none exactly where these bytes have one.
-pub fn head_words(alloc: Global, name: &str, text: &[u8]) -> Result<Option<String>, AllocError>
+pub fn head_words(alloc: Global, name: &str, text: &[u8]) -> Explanation
     ensures some { IfOk result (λ words. IfSome words (λ _. HasNoHead text.now)) }
     ensures none { IfOk result (λ words. IfNone words (HasNoHead text.now → ⊥)) }
 {

@@ -2,6 +2,7 @@
 ghost use Rattle.std.specs.Prelude.{IfOk, IfSome, IfNone};
 ghost use Rattle.cast_explain.specs.Refused.{IsNoScript};
 
+use crate::Explanation;
 use crate::element::{Flaw, event_flaw, fault_flaw, job_flaw};
 use crate::excerpt::cut;
 use crate::members::members_words;
@@ -12,12 +13,7 @@ use std::alloc::{AllocError, Global};
 
 /// Why these bytes are refused as a script with this fault; none exactly where they are not, as where the fault is want of
 /// memory.
-pub fn script_words(
-    alloc: Global,
-    name: &str,
-    bytes: &[u8],
-    fault: ScriptFault,
-) -> Result<Option<String>, AllocError>
+pub fn script_words(alloc: Global, name: &str, bytes: &[u8], fault: ScriptFault) -> Explanation
     ensures some { IfOk result (λ words. IfSome words (λ _. IsNoScript bytes.now fault)) }
     ensures none { IfOk result (λ words. IfNone words (IsNoScript bytes.now fault → ⊥)) }
 {
