@@ -5,11 +5,10 @@ mod stream;
 ghost use Rattle.cast_live.specs.Live.{IsFinished};
 
 use crate::source::{Failure, Source};
-use cast_explain::{group_words, head_words, script_words, verdict_words};
+use cast_explain::{Explanation, group_words, head_words, script_words, verdict_words};
 use cast_live::{FinishedRun, write_record_of};
 use cast_text::{INPUT_LIMIT, TextFault};
 use cast_words::Meter;
-use std::alloc::AllocError;
 use std::rt::Runtime;
 use stream::{failure_words, stream_name};
 
@@ -81,7 +80,7 @@ fn words_on_input<R: Runtime + AllocGlobal>(
     rt: &R,
     fault: TextFault,
     source: Source<'_, R::File, R::Reader>,
-) -> Result<Option<String>, AllocError> {
+) -> Explanation {
     let alloc = rt.alloc();
     let name = stream_name(alloc, source.name())?;
     if let TextFault::TooLong = fault {
@@ -100,7 +99,7 @@ fn words_on_input<R: Runtime + AllocGlobal>(
     }
 }
 
-fn tell<R: Eprint>(rt: &R, words: Result<Option<String>, AllocError>) {
+fn tell<R: Eprint>(rt: &R, words: Explanation) {
     if let Ok(Some(words)) = words {
         // Where standard error fails there is nowhere left to say so.
         let _ = eprintln!(rt; "castgroup: {words}");

@@ -1,5 +1,6 @@
 //! What is wrong with a stream: its name, and the system's own words.
 use crate::source::{Failure, StreamName};
+use cast_explain::Explanation;
 use cast_words::escaped;
 use std::alloc::{AllocError, Global};
 
@@ -13,7 +14,7 @@ pub fn stream_name(alloc: Global, name: StreamName<'_>) -> Result<String, AllocE
 }
 
 /// What the system said of a stream that failed.
-pub fn failure_words(alloc: Global, failure: Failure<'_>) -> Result<Option<String>, AllocError> {
+pub fn failure_words(alloc: Global, failure: Failure<'_>) -> Explanation {
     let name = stream_name(alloc, failure.name)?;
     let words = match failure.error {
         Some(error) => format!(in alloc; "{name}: {error}")?,
