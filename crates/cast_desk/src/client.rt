@@ -83,7 +83,8 @@ impl Client {
     pub fn submit<R: Wait>(&mut self, rt: &R, item: Item) -> Result<u64, DeskFault>
         ensures same { IsSameClient self.old self.new }
         ensures tray { self.new.tray ≡ self.old.tray }
-        ensures ticket { IfOk result (λ ticket. ticket ≡ next_ticket self.old) }
+        ensures ticket { IfOk result
+            (λ ticket. (ticket ≡ next_ticket self.old) × (ticket + 1 < 2 ^ 64)) }
         ensures put { IfOk result
             (λ ticket. self.new.orders.put ≡ self.old.orders.put
             ++ record { client = self.old.number; ticket = ticket; item = item } ∷ []) }

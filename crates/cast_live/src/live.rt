@@ -89,13 +89,14 @@ fn merge_logs(alloc: Global, report: GroupReport) -> Result<FinishedRun, AllocEr
     Ok(FinishedRun { report, assembly })
 }
 
-/// Writes the record of what happened in the run: of the merged events, and the replies to them. After a fault a prefix of it
-/// was written, or nothing.
+/// Writes the record of what happened in the run: of the merged events, and the replies to them. It takes no memory. After a
+/// fault a prefix of it was written, or nothing.
 pub fn write_record_of<W: Write>(run: &FinishedRun, writer: &mut Meter<W>) -> Result<(), TextFault>
     requires run { IsFinished run.now }
     requires writer { writer.old.failed ≡ false }
-    ensures { Puts W.contents writer.old writer.new result
+    ensures text { Puts W.contents writer.old writer.new result
         (record_text (record_of_accepted run.now.report.config run.now.assembly.events)) }
+    ensures fault { IfErr result (λ fault. fault ≡ TextFault.Write) }
 {
     write_run_record(
         run.report.config(),
@@ -112,6 +113,7 @@ pub fn write_replay_of<W: Write>(run: &FinishedRun, writer: &mut Meter<W>) -> Re
     requires writer { writer.old.failed ≡ false }
     ensures text { Puts W.contents writer.old writer.new result
         (script_text run.now.report.config run.now.assembly.events) }
+    ensures fault { IfErr result (λ fault. fault ≡ TextFault.Write) }
     // Running that script writes the record of the run, and no line of it is a refusal.
     ensures law { RecordsReplay run.now.report.config run.now.assembly.events }
 {

@@ -1,5 +1,5 @@
 //! The record of a run whose events and replies are at hand, and that of the script which says what happened in it.
-ghost use Rattle.std.specs.Prelude.{◌≡◌, ◌^◌, ◌<◌, false, length};
+ghost use Rattle.std.specs.Prelude.{◌≡◌, ◌^◌, ◌<◌, false, length, IfErr};
 ghost use Rattle.std.specs.List.{All};
 ghost use Rattle.cast_record.specs.Lines.{lines_for};
 ghost use Rattle.cast_record.specs.Text.{record_text};
@@ -34,8 +34,8 @@ fn tell_event_ranges(events: &[Event])
     }
 }
 
-/// Writes the record of a run: its head, the lines of its events with these replies, and its end. After a fault a prefix of
-/// it was written, or nothing.
+/// Writes the record of a run: its head, the lines of its events with these replies, and its end. It takes no memory. After a
+/// fault a prefix of it was written, or nothing.
 pub fn write_run_record<W: Write>(
     config: &Config,
     events: &[Event],
@@ -44,8 +44,9 @@ pub fn write_run_record<W: Write>(
 ) -> Result<(), TextFault>
     requires sound { writer.old.failed ≡ false }
     requires replies { length replies.now ≡ length events.now }
-    ensures { Puts W.contents writer.old writer.new result
+    ensures text { Puts W.contents writer.old writer.new result
         (record_text (run_record config.now events.now replies.now)) }
+    ensures fault { IfErr result (λ fault. fault ≡ TextFault.Write) }
 {
     put_head(config, writer)?;
     for (index, event) in events.iter().enumerate() {
@@ -61,8 +62,9 @@ fn put_lines<W: Write>(
     writer: &mut Meter<W>,
 ) -> Result<(), TextFault>
     requires { writer.old.failed ≡ false }
-    ensures { Puts W.contents writer.old writer.new result
+    ensures text { Puts W.contents writer.old writer.new result
         (record_text (lines_for index event.now reply.now)) }
+    ensures fault { IfErr result (λ fault. fault ≡ TextFault.Write) }
 {
     write_lines_of(index, event, reply, writer)?;
     Ok(())

@@ -81,6 +81,11 @@ send_fine kept to slot e =
     let causes = kept_causes kept (Sent to slot) in
     (below to kept.config.nodes (no_cause _ causes e here), above kept.frames 1048576 (no_cause _ causes e (there (there (there (there (there here)))))))
 
+-- the slot is owed
+pub send_owed : (kept : Kept) (to slot : ℕ) → kept_fault kept (Sent to slot) ≡ None → not (finite.contains_key (link_to kept to).owed slot) ≡ false
+unfolding kept_fault
+send_owed kept to slot e = no_cause _ (kept_causes kept (Sent to slot)) e (there (there (there (there here))))
+
 pub ack_fine : (kept : Kept) (to slot : ℕ) → kept_fault kept (Acknowledged to slot) ≡ None → kept.frames < 1048576
 unfolding kept_fault
 ack_fine kept to slot e = above kept.frames 1048576 (no_cause _ (kept_causes kept (Acknowledged to slot)) e (there (there (there (there here)))))

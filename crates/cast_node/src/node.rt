@@ -169,6 +169,7 @@ impl Node {
             (sent.sender ≡ (message_owed self.old to slot).sender)
             × (sent.number ≡ (message_owed self.old to slot).number)) }
         ensures small { IfOk result (λ sent. sent.number < 4096) }
+        ensures refused { IfErr result (λ fault. kept_fault self.old (Sent to slot) ≡ Some fault) }
     {
         if let Some(refusal) = self.send_fault(to, slot) {
             return Err(refusal);
@@ -200,12 +201,14 @@ impl Node {
 
     /// Takes a frame that arrives, and answers what is delivered and decided. The frame is for this node. Refused is an arrival
     /// at a crashed node, and else want of memory. A refusal changes nothing, nor does a frame that no node of the group could
-    /// have made for this node, of which nothing comes.
+    /// have made for this node, of which nothing comes, not even want of memory.
     #[tactic(auto, using(std::proofs::lemmas::Bool::Decides::nat_tests), unfolding(cast_model::specs::Refusals::first_fault, crate::specs::Turns::kept_fault))]
     pub fn arrive(&mut self, frame: &Frame) -> Result<Outcome, StepFault>
         requires { frame.now.to ≡ self.old.me }
         ensures exact { Gives self.old (Arrived frame.now)
             (arrived_reply self.old.me result) self.new }
+        ensures possible { OnErr result
+            (self.old.live ≡ true → may_arrive self.old frame.now ≡ true) }
     {
         if !self.live {
             return Err(StepFault::Crashed);

@@ -49,11 +49,6 @@ pub mapped : {A B : Type 0} (o : Option A) (f : A → B) (y : B) → option_map 
 mapped None f y e = absurd (cc)
 mapped (Some x) f y e = record { first = x; was = refl; is = cc }
 
--- the test held, or it did not
-pub record Chosen {A : Type 0} (b : Bool) (x y z : A) : Type 0 where
-  pub yes : b ≡ true → x ≡ z
-  pub no : b ≡ false → y ≡ z
-
 pub text_same : (xs ys : List ℕ) → bytes_eq xs ys ≡ true → xs ≡ ys
 text_same xs ys e = (bytes_eq-Decides xs ys).0 e
 

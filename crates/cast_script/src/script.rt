@@ -6,7 +6,7 @@ use thiserror::Error;
 #[derive(Debug, Drop)]
 pub struct Script {
     pub config: Config,
-    /// How many turns an engine may take, where the script is run by threads.
+    /// How many turns an engine may take, and a client's job, where the script is run by threads.
     pub turns: u64,
     /// What happens, in order, where the script is run step by step.
     pub events: List<ScriptEvent>,

@@ -15,10 +15,6 @@ pub shows_none : (picture : Picture) → Shows picture picture (Ok tt) []
 unfolding drawn
 shows_none picture = refl
 
-pub shows_one : (sheet : Sheet) (one : Played) → drawn sheet (one ∷ []) ≡ drawn_at sheet one
-unfolding drawn
-shows_one sheet one = refl
-
 pub shows_more : (o p q : Picture) (result : Result (Unit {0}) TextFault) (first rest : List Played) → Shows o p (Ok tt) first → Shows p q result rest → Shows o q result (first ++ rest)
 shows_more o p q (Ok done) first rest one two = two ∙ ap (λ sheet. drawn sheet rest) one ∙ sym (drawn-append (sheet_of o) first rest)
 shows_more o p q (Err why) first rest one two = two

@@ -84,7 +84,7 @@ pub record Observes {O : Type 0} (saw : Seeing O) (ready : O → Type 0) : Type 
   pub broken : (o p : O) (why : TextFault) (first rest : List Played) → saw o p (Err why) first → saw o p (Err why) (first ++ rest)
   pub wants : (o : O) (whole : List Played) → ready o → saw o o (Err Memory) whole
 
--- an event that is accepted, and at which nothing is ordered, delivered or decided, is nothing to it
+-- a send, an acknowledgement, or an arrival that delivers and decides nothing, which is accepted, is nothing to it
 abbrev pub Overlooks : {O : Type 0} → Seeing O → (O → Type 0) → O → Type 0
 Overlooks saw ready o = (index : ℕ) (event : Event) (answer : Answer) → ready o → IsSilent (Ok answer) → saw o o (Ok tt) (Taken index event (Ok answer) ∷ [])
 

@@ -39,7 +39,8 @@ pub trait Observer {
         ensures ready { OnOk result (ready self.new) }
         ensures saw { saw self.old self.new result (SettleEnded index ∷ []) };
 
-    /// Whether it need not be shown an event that is accepted, and at which nothing is ordered, delivered or decided.
+    /// Whether it need not be shown a send, an acknowledgement, or an arrival at which nothing is delivered or decided, that is
+    /// accepted.
     fn overlooks_silence(&self) -> bool
         ensures { IsTrue result → Overlooks saw ready self.now };
 

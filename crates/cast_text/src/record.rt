@@ -1,5 +1,5 @@
 //! Making the record of a script, line by line, as it is played.
-ghost use Rattle.std.specs.Prelude.{◌≡◌, ◌++◌, ◌∷◌, [], false};
+ghost use Rattle.std.specs.Prelude.{◌≡◌, ◌++◌, ◌∷◌, [], false, IfErr};
 ghost use Rattle.cast_record.specs.Lines.{head_of};
 ghost use Rattle.cast_record.specs.Text.{record_text, line_text};
 ghost use Rattle.cast_text.specs.Recorded.{lines_of, record_of};
@@ -30,18 +30,22 @@ pub fn write_script_record<W: Write>(
     put_line(&Line::End, writer)
 }
 
+/// Writes the head of a record of this group. It takes no memory. After a fault a prefix of the line was written, or nothing.
 pub fn put_head<W: Write>(config: &Config, writer: &mut Meter<W>) -> Result<(), TextFault>
     requires { writer.old.failed ≡ false }
-    ensures { Puts W.contents writer.old writer.new result
+    ensures text { Puts W.contents writer.old writer.new result
         (line_text (head_of config.now) ++ 10 ∷ []) }
+    ensures fault { IfErr result (λ fault. fault ≡ TextFault.Write) }
 {
     let head = Line::head(config);
     put_line(&head, writer)
 }
 
+/// Writes the line, and a line feed. It takes no memory. After a fault a prefix of that was written, or nothing.
 pub fn put_line<W: Write>(line: &Line, writer: &mut Meter<W>) -> Result<(), TextFault>
     requires { writer.old.failed ≡ false }
-    ensures { Puts W.contents writer.old writer.new result (line_text line.now ++ 10 ∷ []) }
+    ensures text { Puts W.contents writer.old writer.new result (line_text line.now ++ 10 ∷ []) }
+    ensures fault { IfErr result (λ fault. fault ≡ TextFault.Write) }
 {
     write_line(line, writer)?;
     Ok(())

@@ -30,7 +30,8 @@ pub fn run_text<R: Read, W: Write>(
     write_script_record(alloc, &script, writer)
 }
 
-/// The script that is all the reader has left.
+/// The script that is all the reader has left. Refused are a reader that fails, more than 67,108,864 bytes, bytes that are no
+/// script, each with its fault, and want of memory, which is `Memory` alone.
 pub fn read_script_text<R: Read>(alloc: Global, reader: &mut Meter<R>) -> Result<Script, TextFault>
     requires { reader.old.failed ≡ false }
     ensures ok { IfOk result (IsScriptIn (R.remaining reader.old.inner)) }

@@ -2,7 +2,7 @@
 --     TakesStep world p step made reply new     node p is asked for the step, and makes frames with these marks where it takes it
 --     MakesFrame world kind from to slot reply new   a node makes a frame of this kind for a slot, whose mark is kept
 --     StepsTo world event reply new             the world answers the event so, and is this then
---     IsSilent reply                            the event was accepted, and nothing was ordered, delivered or decided by it
+--     IsSilent reply                            a send, an acknowledgement, or an arrival that delivers and decides nothing was accepted
 --     IsSound world                             the nodes are those of the group, and frames go to them
 use Rattle.std.specs.Prelude.{◌≡◌, ◌⊎◌, ℕ, ◌<◌, ◌≤◌, nat_lt, if◌then◌else◌, List, [], ◌∷◌, ◌++◌, length, slice_get, slice_index_or, slice_set, Option, Some, None, Result, Ok, Err}
 use Rattle.cast_message.specs.declared.event.Event.{Event}

@@ -91,8 +91,9 @@ impl World {
         }
     }
 
-    /// Takes one event, where it is accepted and nothing is ordered, delivered or decided by it. Says whether it did; else
-    /// nothing changed, and `step` says what becomes of the event. Most events are so, and for them it is faster than `step`.
+    /// Takes one event, where it is a send, an acknowledgement, or an arrival at which nothing is delivered or decided, and is
+    /// accepted. Says whether it did; else nothing changed, and `step` says what becomes of the event. Most events are so, and
+    /// for them it is faster than `step`.
     pub fn step_if_silent(&mut self, event: &Event) -> bool
         ensures took { IsTrue result → StandingFor self.old (λ config past.
             IsSilent (reply config past event.now)

@@ -2,7 +2,7 @@ use Rattle.std.proofs.lemmas.Result.{err_from_is_err_and}
 use Rattle.cast_text.proofs.Recording.{prefix_breaks}
 use Rattle.cast_text.proofs.record.put_line.Goals as goal
 
-pub returns-in_err-write_line : goal.returns-in_err-write_line
-returns-in_err-write_line g c =
+pub returns-in_err-write_line-clause-text : goal.returns-in_err-write_line-clause-text
+returns-in_err-write_line-clause-text g c =
     let p = err_from_is_err_and c.from_residual.result c.from_residual.ensures.1 in
     rw (p.1, p.2) (prefix_breaks c.in_err-write_line.ensures)
