@@ -11,7 +11,8 @@ use cast_run::ClientJob;
 use std::alloc::{AllocError, Global};
 use std::sync::Wait;
 
-/// Submits items, keeps each notice while there is room, and is done with the reply to the last.
+/// Submits items, keeps each notice while there is room, and is done with the reply to the last. Where more notices come before
+/// that than there is room for, it takes no more, and is never done.
 #[derive(Drop)]
 pub struct Keeper {
     items: List<Item>,

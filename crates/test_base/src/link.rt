@@ -6,8 +6,6 @@ use cast_message::{Item, Message, NodeId};
 use std::alloc::AllocError;
 use std::test::Fail;
 
-const MOST: u64 = 18446744073709551615;
-
 fn message(number: u64) -> Message {
     Message {
         sender: NodeId(1),
@@ -77,9 +75,9 @@ fn takes_each_slot_once(rt: HostRuntime) -> Result<(), Fail> {
     assert!(rt; link.take(5)?);
     assert!(rt; !link.take(5)?);
     assert!(rt; !link.may_ack(4));
-    assert!(rt; link.take(MOST)?);
-    assert!(rt; !link.take(MOST)?);
-    assert!(rt; !link.may_ack(MOST - 1));
+    assert!(rt; link.take(u64::MAX)?);
+    assert!(rt; !link.take(u64::MAX)?);
+    assert!(rt; !link.may_ack(u64::MAX - 1));
     assert!(rt; link.take(0)?);
     assert!(rt; link.may_ack(0));
     Ok(())

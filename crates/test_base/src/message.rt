@@ -118,15 +118,10 @@ fn refuses_sizes_outside_the_limits(rt: HostRuntime) {
 
 #[test]
 fn reads_what_was_checked(rt: HostRuntime) -> Result<(), Fail> {
-    match Config::check(5, 2, 3, 7, 11, 13, 17, Mode::Uniform) {
-        Ok(config) => {
-            let copy = config;
-            assert!(rt; (copy.nodes(), copy.faults(), copy.choices()) == (5, 2, 3));
-            assert!(rt; (copy.item_limit(), copy.log_limit(), copy.box_size()) == (7, 11, 13));
-            assert!(rt; (copy.first_stamp(), copy.mode()) == (17, Mode::Uniform));
-        }
-        Err(fault) => assert!(rt; false, "{fault}"),
-    }
+    let config = Config::check(5, 2, 3, 7, 11, 13, 17, Mode::Uniform)?;
+    assert!(rt; (config.nodes(), config.faults(), config.choices()) == (5, 2, 3));
+    assert!(rt; (config.item_limit(), config.log_limit(), config.box_size()) == (7, 11, 13));
+    assert!(rt; (config.first_stamp(), config.mode()) == (17, Mode::Uniform));
     Ok(())
 }
 

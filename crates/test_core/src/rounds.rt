@@ -1,5 +1,5 @@
 //! Rounds, taken by both worlds, and what must hold at rest.
-use crate::shown::{MOST_NODES, same_shown};
+use crate::shown::{PAST_THE_LAST_NODE, same_shown};
 use crate::stepping::{Worlds, step_once_more};
 use anyhow::{Result, bail};
 use cast_message::{Answer, Config, Event, Mode, NodeId, Reply, StepFault};
@@ -69,38 +69,37 @@ fn made_by(
 }
 
 /// Checks what two rounds must bring: rest, and, unless too many nodes have crashed, the same deliveries at all live nodes.
-pub fn check_rest(config: &Config, fast: &World) -> Result<()> {
-    if !fast.at_rest() {
+pub fn check_rest(config: &Config, world: &World) -> Result<()> {
+    if !world.at_rest() {
         bail!("two rounds did not bring rest");
     }
-    if has_few_crashed(config, fast) && !delivers_alike(fast) {
+    if has_few_crashed(config, world) && !delivers_alike(world) {
         bail!("at rest the live nodes have delivered different lists");
     }
     Ok(())
 }
 
-fn has_few_crashed(config: &Config, fast: &World) -> bool {
-    match config.mode() {
-        Mode::Basic => true,
-        Mode::Uniform => {
-            let live = (0..MOST_NODES)
-                .filter(|node| fast.live(NodeId(*node)))
-                .count() as u64;
-            live.saturating_add(config.faults()) >= config.nodes()
-        }
+// In uniform mode no more nodes may have crashed than are tolerated, where any is.
+fn has_few_crashed(config: &Config, world: &World) -> bool {
+    if matches!(config.mode(), Mode::Basic) || config.faults() == 0 {
+        return true;
     }
+    let live = (0..PAST_THE_LAST_NODE)
+        .filter(|node| world.live(NodeId(*node)))
+        .count() as u64;
+    live.saturating_add(config.faults()) >= config.nodes()
 }
 
-fn delivers_alike(fast: &World) -> bool {
-    let Some(first) = (0..MOST_NODES).find(|node| fast.live(NodeId(*node))) else {
+fn delivers_alike(world: &World) -> bool {
+    let Some(first) = (0..PAST_THE_LAST_NODE).find(|node| world.live(NodeId(*node))) else {
         return true;
     };
-    (first..MOST_NODES).all(|node| !fast.live(NodeId(node))
-        || same_lists(fast, NodeId(first), NodeId(node)))
+    (first..PAST_THE_LAST_NODE).all(|node| !world.live(NodeId(node))
+        || same_lists(world, NodeId(first), NodeId(node)))
 }
 
-fn same_lists(fast: &World, one: NodeId, other: NodeId) -> bool {
-    (0..MOST_NODES).all(|sender| {
-        fast.delivered(one, NodeId(sender)) == fast.delivered(other, NodeId(sender))
+fn same_lists(world: &World, one: NodeId, other: NodeId) -> bool {
+    (0..PAST_THE_LAST_NODE).all(|sender| {
+        world.delivered(one, NodeId(sender)) == world.delivered(other, NodeId(sender))
     })
 }

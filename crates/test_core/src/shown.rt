@@ -2,17 +2,21 @@
 use cast_message::{Item, NodeId};
 use cast_world::World;
 
-/// The number past the last of the nodes that a group can have. Nodes that a group has not are asked for too.
-pub const MOST_NODES: u8 = 64;
+/// The number past the last of the nodes that a group can have. Of a smaller group, nodes that it has not are asked for too.
+pub const PAST_THE_LAST_NODE: u8 = 64;
 
 pub fn same_shown(one: &World, other: &World) -> bool {
     is_at_rest(one) == other.at_rest()
-        && (0..MOST_NODES).all(|node| same_node(one, other, NodeId(node)))
+        && (0..PAST_THE_LAST_NODE).all(|node| same_node(one, other, NodeId(node)))
 }
 
 // Whether no live node owes a live node, by the other readers.
 fn is_at_rest(one: &World) -> bool {
-    (0..MOST_NODES).all(|from| (0..MOST_NODES).all(|to| is_settled(one, NodeId(from), NodeId(to))))
+    (0..PAST_THE_LAST_NODE).all(|from| (0..PAST_THE_LAST_NODE).all(|to| is_settled(
+        one,
+        NodeId(from),
+        NodeId(to),
+    )))
 }
 
 fn is_settled(one: &World, from: NodeId, to: NodeId) -> bool {
@@ -25,7 +29,7 @@ fn same_node(one: &World, other: &World, node: NodeId) -> bool {
     }
     one.live(node) == other.live(node)
         && one.stream(node) == other.stream(node)
-        && (0..MOST_NODES).all(|peer| same_pair(one, other, node, NodeId(peer)))
+        && (0..PAST_THE_LAST_NODE).all(|peer| same_pair(one, other, node, NodeId(peer)))
 }
 
 fn same_pair(one: &World, other: &World, node: NodeId, peer: NodeId) -> bool {

@@ -1,6 +1,6 @@
 //! Items and lines by the words that spell them: worked words, worked lines, and lines that are cut.
-use cast_message::NodeId;
-use cast_record::{ItemWord, WordLine, read_delivery, read_words};
+use cast_message::{Mode, NodeId};
+use cast_record::{ItemWord, Line, WordLine, read_delivery, read_line, read_words};
 use cast_words::mode_name;
 use std::process::Abort;
 use std::test::Fail;
@@ -306,5 +306,33 @@ fn a_cut_delivery_is_read_from_its_last_blank_on(rt: HostRuntime) -> Result<(), 
             "{end} bytes"
         );
     }
+    Ok(())
+}
+
+#[test]
+fn reads_a_crash(rt: HostRuntime) -> Result<(), Fail> {
+    for (text, wanted) in [("x 0", true), ("x 00", false)] {
+        let line = read_line(rt.alloc(), text.as_bytes())?;
+        let is_told = matches!(line, Some(Line::Crashed { node: NodeId(0) }));
+        assert_eq!(rt; is_told, wanted, "{text}");
+    }
+    Ok(())
+}
+
+// In uniform mode fewer than half of the nodes may crash.
+#[test]
+fn reads_a_head_of_uniform_mode(rt: HostRuntime) -> Result<(), Fail> {
+    assert!(rt; read_line(rt.alloc(), b"cast/2 2 1 1 uniform")?.is_none());
+    let line = read_line(rt.alloc(), b"cast/2 3 1 1 uniform")?;
+    let is_told = matches!(
+        line,
+        Some(Line::Head2 {
+            nodes: 3,
+            faults: 1,
+            choices: 1,
+            mode: Mode::Uniform
+        })
+    );
+    assert!(rt; is_told);
     Ok(())
 }

@@ -347,7 +347,8 @@ fn reads_what_it_wrote(rt: HostRuntime) -> Result<(), Fail> {
     Ok(())
 }
 
-/// The same events, read off the tokens, and by the value, where a plan is beside them. The last list of events counts.
+/// The same events, read off the tokens, and by the value, where a plan is beside them. The last list of events counts. What is
+/// read is compared; that the first was read off its tokens, and not by its value too, cannot be seen from here.
 const PLAIN: &str =
     r#"{"events":[["settle"]],"\u006eodes":3,"events":[["order",0,"data","0aff"],["order",1,"propose",7,18446744073709551615],["order",2,"close"],["send",255,0,1],["ack",0,1,2],["arrive",1,3],["crash",2],["settle"]],"faults":1,"choices":2,"plan":[],"jobs":[]}"#;
 

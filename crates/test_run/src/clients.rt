@@ -16,7 +16,7 @@ use std::fmt::{Display, Formatter, Write};
 use std::sync::Wait;
 use std::thread::Threads;
 
-/// A notice on one word or two.
+/// A notice in a word or two.
 #[derive(Clone, Copy)]
 struct Told<'a> {
     notice: &'a Notice,

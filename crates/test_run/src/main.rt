@@ -12,7 +12,7 @@ mod refusals;
 mod runs;
 mod seen;
 
-use anyhow::Result;
+use anyhow::{Result, bail};
 use std::alloc::Global;
 use std::env;
 use std::sync::Wait;
@@ -69,9 +69,6 @@ fn run_row<R: Threads + Wait + Print + Copy + Send + 'static>(
         "one-place" => losses::one_place(rt, alloc),
         "every-fault-on-every-link" => losses::every_fault(rt, alloc),
         "crash-at-each-entry" => crashes::at_each_entry(rt, alloc),
-        other => {
-            println!(&rt; "{other}: no such row")?;
-            Ok(())
-        }
+        other => bail!("{other}: no such row"),
     }
 }

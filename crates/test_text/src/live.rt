@@ -59,9 +59,7 @@ fn both_records<T: Threads + Wait + Copy + Send + 'static>(
 
 #[test]
 fn a_replay_writes_the_record_of_its_run(rt: HostRuntime) -> Result<(), Fail> {
-    let Ok((record, again)) = both_records(rt, rt.alloc()) else {
-        return Err(Fail::from(std::alloc::AllocError));
-    };
+    let (record, again) = both_records(rt, rt.alloc())?;
     assert!(rt; record.as_slice().starts_with(b"cast/1 2 0 1\n"));
     assert!(rt; record.as_slice() == again.as_slice());
     Ok(())

@@ -3,6 +3,9 @@ use bytes::Bytes;
 use cast_message::{Config, ConfigFault, Event, Item, Mode, NodeId, Payload};
 use std::alloc::{AllocError, Global};
 
+/// How many frames a node can make.
+pub const MOST_FRAMES: u64 = 1_048_576;
+
 /// An event as a row tells it. Each proposal is one in instance 7.
 #[derive(Clone, Copy)]
 pub enum Act {

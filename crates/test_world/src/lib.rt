@@ -1,11 +1,9 @@
-//! One node, a group of them, the lines about a crash, and the merge of logs, by worked rows. The tests stand
-//! here and not beside what they test, since a crate with tests in it is proved once more for them.
+//! One node, a group of them, and the merge of logs, by worked rows. The tests stand here and not beside what they test, since
+//! a crate with tests in it is proved once more for them.
 #![tactic(auto)]
 
 #[cfg(test)]
 mod events;
-#[cfg(test)]
-mod lines;
 #[cfg(test)]
 mod merge;
 #[cfg(test)]

@@ -1,14 +1,11 @@
 //! Nodes by hand: rows of the worked examples, frames that no node could have made, and each refusal; and the same of frames
 //! that are told by their numbers.
-use crate::events::{config, propose};
+use crate::events::{MOST_FRAMES, config, propose};
 use cast_message::{Frame, FrameBody, Item, Message, Mode, NodeId, StepFault};
 use cast_node::Node;
 use std::alloc::Global;
 use std::process::Abort;
 use std::test::Fail;
-
-// How often a node can make a frame.
-const MOST_FRAMES: u64 = 1_048_576;
 
 // What a row asks of a node. Nodes, slots and messages are told by their numbers; each message that is brought is a Close.
 #[derive(Clone, Copy)]
@@ -450,12 +447,5 @@ fn is_one_of_its_group(rt: HostRuntime) -> Result<(), Fail> {
     let config = config(2, 0, 1, Mode::Basic)?;
     let none = Node::new(rt.alloc(), &config, NodeId(2));
     assert_eq!(rt; none.err(), Some(StepFault::NoNode));
-    Ok(())
-}
-
-#[test]
-fn copies_a_frame(rt: HostRuntime) -> Result<(), Fail> {
-    let frame = carry_of_close();
-    assert_eq!(rt; frame.copy()?, frame);
     Ok(())
 }

@@ -2,7 +2,7 @@
 mod rounds;
 
 use crate::events::{Act, config, data, event, events, order};
-use cast_message::{Item, Mode, NodeId, Reply};
+use cast_message::{Item, Mode, NodeId, StepFault};
 use cast_world::{DueSlot, World, run_events};
 use std::alloc::{AllocError, Global};
 use std::process::Abort;
@@ -238,51 +238,43 @@ fn stops_at_a_crash(rt: HostRuntime) -> Result<(), Fail> {
 /// The least slot that a mark has no room for.
 const PAST_MARKS: u64 = 4_294_967_296;
 
-/// The code of a refusal, 0 of an answer.
-fn code_of(reply: Reply) -> u64 {
-    match reply {
-        Ok(_) => 0,
-        Err(fault) => fault.code(),
-    }
-}
-
-// What a group of two is asked, and the code of the answer.
-const CODES: &[(Act, u64)] = &[
-    // It took nothing.
-    (Act::Close(2), 1),
-    (Act::Send(0, 0, 0), 2),
-    (Act::Send(0, 1, 0), 8),
-    (Act::Send(0, 1, PAST_MARKS), 8),
-    (Act::Arrive(0, 0), 11),
-    (Act::Ack(1, 0, 0), 10),
-    (Act::Ack(1, 0, PAST_MARKS), 10),
+// What a group of two is asked, and why it is refused, where it is.
+const REFUSALS: &[(Act, Option<StepFault>)] = &[
+    // Nothing was ordered, made or taken so far.
+    (Act::Close(2), Some(StepFault::NoNode)),
+    (Act::Send(0, 0, 0), Some(StepFault::SelfLink)),
+    (Act::Send(0, 1, 0), Some(StepFault::NoSlot)),
+    (Act::Send(0, 1, PAST_MARKS), Some(StepFault::NoSlot)),
+    (Act::Arrive(0, 0), Some(StepFault::NoFrame)),
+    (Act::Ack(1, 0, 0), Some(StepFault::NotTaken)),
+    (Act::Ack(1, 0, PAST_MARKS), Some(StepFault::NotTaken)),
     // Node 0 proposes once, and closes once.
-    (Act::Propose(0, 4), 0),
-    (Act::Propose(0, 5), 6),
-    (Act::Close(0), 0),
-    (Act::Close(0), 4),
+    (Act::Propose(0, 4), None),
+    (Act::Propose(0, 5), Some(StepFault::AlreadyProposed)),
+    (Act::Close(0), None),
+    (Act::Close(0), Some(StepFault::Closed)),
     // The first slot goes to node 1, and is not sent once it was acknowledged.
-    (Act::Send(0, 1, 0), 0),
-    (Act::Arrive(0, 0), 0),
-    (Act::Ack(1, 0, 0), 0),
-    (Act::Arrive(1, 0), 0),
-    (Act::Send(0, 1, 0), 9),
+    (Act::Send(0, 1, 0), None),
+    (Act::Arrive(0, 0), None),
+    (Act::Ack(1, 0, 0), None),
+    (Act::Arrive(1, 0), None),
+    (Act::Send(0, 1, 0), Some(StepFault::Acked)),
     // Node 0 crashes. Its frames still arrive.
-    (Act::Crash(0), 0),
-    (Act::Close(0), 3),
-    (Act::Crash(0), 3),
-    (Act::Arrive(1, 0), 3),
-    (Act::Arrive(0, 0), 0),
+    (Act::Crash(0), None),
+    (Act::Close(0), Some(StepFault::Crashed)),
+    (Act::Crash(0), Some(StepFault::Crashed)),
+    (Act::Arrive(1, 0), Some(StepFault::Crashed)),
+    (Act::Arrive(0, 0), None),
 ];
 
 #[test]
 fn refuses_with_the_first_cause(rt: HostRuntime) -> Result<(), Fail> {
     let mut world = group(rt.alloc(), (2, 1, 2), &[])?;
     let long = order(0, data(rt.alloc(), &[0; 1_025])?);
-    assert_eq!(rt; code_of(world.step(&long)), 5);
-    for (place, (act, code)) in CODES.iter().enumerate() {
+    assert_eq!(rt; world.step(&long).err(), Some(StepFault::TooLong));
+    for (place, (act, refusal)) in REFUSALS.iter().enumerate() {
         let event = event(rt.alloc(), *act)?;
-        assert_eq!(rt; code_of(world.step(&event)), *code, "row {place}");
+        assert_eq!(rt; world.step(&event).err(), *refusal, "row {place}");
     }
     Ok(())
 }

@@ -1,13 +1,10 @@
 //! Rounds and rest, by worked rows: what a plan is, how many frames its round makes, and where the group is at rest.
 use super::{expect_delivered, group, group_of, take_all};
-use crate::events::{Act, data, event, events};
+use crate::events::{Act, MOST_FRAMES, data, event, events};
 use cast_message::{Mode, StepFault};
 use cast_world::World;
 use std::process::Abort;
 use std::test::Fail;
-
-/// How often a node can make a frame.
-const MOST_FRAMES: u64 = 1_048_576;
 
 // Each round makes so many frames, and brings rest or does not.
 fn expect_rounds(rt: &impl Abort, world: &mut World, rounds: &[(u64, bool)]) -> Result<(), Fail> {
