@@ -1,5 +1,7 @@
-"""What the scripts of this folder share: how they are called, how they run a program, and how they refuse it memory and threads."""
+"""What the scripts of this folder share: how they are called, how they run a program, how they refuse it memory and threads, and
+how they read the summary of a group in threads."""
 import os
+import re
 import subprocess
 import sys
 from pathlib import Path
@@ -8,6 +10,9 @@ SCRIPTS = Path(__file__).resolve().parent
 TOP = SCRIPTS.parent
 # Each allocation of a program is refused in turn, up to this one: those that are run so make some hundreds.
 MOST_ALLOCATIONS = 5000
+# So many runs in succession that were refused nothing are past the last allocation.
+PAST_THE_LAST = 50
+NODE_LINE = re.compile(r"node (\d+) (stopped|crashed|turnlimit|logfull|clockfull)((?: \d+)+)")
 
 
 def end(usage, why):
@@ -48,3 +53,30 @@ def refusing(folder):
     made = f"{folder}/refuse.so"
     subprocess.run(["gcc", "-shared", "-fPIC", "-O1", "-o", made, SCRIPTS / "refuse.c", "-ldl"], check=True)
     return made
+
+
+def each_refused(run, library, is_quiet, least=0):
+    """The outcomes of runs with allocation 1, 2, 3 .. refused, each with its number, up to the last allocation, and so many at
+    least; or up to a run that does not end. `run` takes variables, and answers a status first; `is_quiet` says of an outcome
+    that nothing was refused."""
+    quiet = 0
+    for number in range(1, MOST_ALLOCATIONS + 1):
+        outcome = run(LD_PRELOAD=library, REFUSE_NTH=str(number))
+        yield number, outcome
+        quiet = quiet + 1 if is_quiet(outcome) else 0
+        if outcome[0] is None or quiet >= PAST_THE_LAST and number >= least:
+            return
+    sys.exit(f"{MOST_ALLOCATIONS} runs, and none past the last allocation")
+
+
+def read_summary(out, nodes):
+    """How each node ended, how many items it delivered of each, and the lines of rest and verdict. None where a line of a node
+    is missing or is no such line."""
+    *told, rest, verdict, end = ["", ""] + out.decode().split("\n")
+    read = [NODE_LINE.fullmatch(line) for line in told[2:]]
+    if end or not all(read) or [int(found[1]) for found in read] != list(range(nodes)):
+        return None
+    counts = [[int(word) for word in found[3].split()] for found in read]
+    if any(len(line) != nodes for line in counts):
+        return None
+    return [found[2] for found in read], counts, rest, verdict

@@ -1,5 +1,5 @@
 //! The ends of a node's client.
-ghost use Rattle.std.specs.Prelude.{◌≡◌, ◌<◌, ◌++◌, ◌∷◌, [], ℕ, length, IfOk, IfErr, IfNone, OnErr, MatchOption};
+ghost use Rattle.std.specs.Prelude.{◌≡◌, ◌+◌, ◌^◌, ◌<◌, ◌++◌, ◌∷◌, [], ℕ, length, IfOk, IfErr, IfNone, OnErr, MatchOption};
 ghost use Rattle.cast_box.specs.Lists.{HasTakenOfEnded};
 ghost use Rattle.cast_desk.specs.Desk.{ClientState, IsSameClient, IsRefusal, AreInTurn, next_ticket};
 

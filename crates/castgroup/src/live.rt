@@ -22,8 +22,8 @@ use std::thread::Threads;
 use std::{fs, io};
 
 /// Runs the group of the script in the file, or of that on standard input, in threads, writes the files that are asked for,
-/// and then the summary. A file that can't be made or written takes nothing from the rest. How far the run is is told where
-/// that is asked for, and where standard error is a terminal.
+/// and then the summary. A file that can't be made or written takes nothing from the rest. Progress is told where that is asked
+/// for, and where standard error is a terminal.
 pub fn live_script<R: Runtime + AllocGlobal + Threads + Wait + Copy + Send + 'static>(
     rt: &R,
     call: Call<'_>,
@@ -178,6 +178,24 @@ fn keep<'a, R: Runtime + AllocGlobal>(
     let Some(path) = path else {
         return Ok(());
     };
+    // The file is closed when something is said: where the program began without standard error, the file stands in its place.
+    let count = write_file(rt, path, run, kept)?;
+    if count > INPUT_LIMIT as u64 {
+        // Where standard error fails there is nowhere left to say so.
+        let _ = eprintln!(rt; "castgroup: {}", kept.warning());
+    }
+    Ok(())
+}
+
+// Writes to the file of this name, closes it, and answers how many bytes it has.
+fn write_file<'a, R: Runtime + AllocGlobal>(
+    rt: &R,
+    path: &'a str,
+    run: &FinishedRun,
+    kept: Kept,
+) -> Result<u64, Stop<'a>>
+    requires { IsFinished run.now }
+{
     let stop = |fault, error| {
         Err(Stop {
             fault,
@@ -192,14 +210,10 @@ fn keep<'a, R: Runtime + AllocGlobal>(
         Err(error) => return stop(TextFault::Write, Some(error)),
     };
     let mut heard = Heard::new(Counted::new(file));
-    if let Err(fault) = write_output(rt.alloc(), &mut heard, run, Output::Kept(kept)) {
-        return stop(fault, heard.error());
+    match write_output(rt.alloc(), &mut heard, run, Output::Kept(kept)) {
+        Ok(()) => Ok(heard.inner().count()),
+        Err(fault) => stop(fault, heard.error()),
     }
-    if heard.inner().count() > INPUT_LIMIT as u64 {
-        // Where standard error fails there is nowhere left to say so.
-        let _ = eprintln!(rt; "castgroup: {}", kept.warning());
-    }
-    Ok(())
 }
 
 fn tell_summary<'a, R: Runtime + AllocGlobal>(

@@ -1,4 +1,6 @@
 //! The streams of a command, which remember what the system said when they failed, and the input once more.
+ghost use Rattle.std.specs.Prelude.{◌≡◌};
+
 use cast_command::Call;
 use cast_text::INPUT_LIMIT;
 use std::fs::OpenFile;
@@ -78,10 +80,7 @@ pub fn open_source<'a, R: Runtime + AllocGlobal>(
 // A pipe has a name too, and gives what was read to nobody again.
 fn can_be_read_again<F: OpenFile, S>(stream: &Stream<F, S>) -> bool {
     match stream {
-        Stream::File(file) => match file.metadata() {
-            Ok(metadata) => metadata.is_file(),
-            Err(_) => false,
-        },
+        Stream::File(file) => matches!(file.metadata(), Ok(metadata) if metadata.is_file()),
         Stream::Standard(_) => false,
         Stream::Refused(_) => true,
     }
@@ -146,17 +145,20 @@ impl<F: Read + Drop, S: Read + Drop> Read for Source<'_, F, S> {
             Stream::Standard(input) => input.read(buf),
             Stream::Refused(error) => Err(*error),
         };
-        match outcome {
-            Ok(count) => {
-                self.keep(&buf[..count]);
-                Ok(count)
-            }
-            Err(error) => {
-                self.error = Some(error);
-                Err(error)
-            }
-        }
+        let count = remember(&mut self.error, outcome)?;
+        self.keep(&buf[..count]);
+        Ok(count)
     }
+}
+
+// Remembers the error of a call that failed, and hands on what came of the call.
+fn remember<T>(error: &mut Option<io::Error>, outcome: io::Result<T>) -> io::Result<T>
+    ensures { result ≡ outcome }
+{
+    if let Err(failure) = &outcome {
+        *error = Some(*failure);
+    }
+    outcome
 }
 
 /// Hands all on to a writer, and remembers what the system said when it failed.
@@ -187,22 +189,10 @@ impl<W: Write> Write for Heard<W> {
     ghost contents = { λ w. W.contents w.inner };
 
     fn write(&mut self, buf: &[u8]) -> io::Result<usize> {
-        match self.inner.write(buf) {
-            Ok(count) => Ok(count),
-            Err(error) => {
-                self.error = Some(error);
-                Err(error)
-            }
-        }
+        remember(&mut self.error, self.inner.write(buf))
     }
 
     fn flush(&mut self) -> io::Result<()> {
-        match self.inner.flush() {
-            Ok(()) => Ok(()),
-            Err(error) => {
-                self.error = Some(error);
-                Err(error)
-            }
-        }
+        remember(&mut self.error, self.inner.flush())
     }
 }
