@@ -1,2 +1,3 @@
--- When there is something to explain.
+-- When there is something to explain, and what words begin with.
 pub mod Refused
+pub mod Words

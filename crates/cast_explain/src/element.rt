@@ -1,5 +1,10 @@
 //! What is wrong with an element of a script's lists: the value that stands where something else is expected.
+use crate::excerpt::cut;
 use serde_json::Value;
+use std::alloc::{AllocError, Global};
+
+/// What is expected of a number.
+pub const NUMBER: &str = "a number from 0 to 18446744073709551615";
 
 const EVENT: &str =
     "an event: [\"order\",NODE,ITEM..], [\"send\",FROM,TO,SLOT], [\"ack\",FROM,TO,SLOT], \
@@ -22,6 +27,16 @@ const ITEM: &str = "an item: [\"data\",HEX] or [\"propose\",INSTANCE,VALUE] or [
 pub struct Flaw<'a> {
     pub value: &'a Value,
     pub expected: &'static str,
+}
+
+impl Flaw<'_> {
+    /// What stands there, and what is expected.
+    pub fn words(self, alloc: Global) -> Result<String, AllocError> {
+        let Flaw { value, expected } = self;
+        let text = value.to_string(alloc)?;
+        let found = cut(alloc, text.as_bytes())?;
+        format!(in alloc; "{found} is not {expected}")
+    }
 }
 
 /// What is wrong with the value as an event.
@@ -164,12 +179,9 @@ fn not_node(value: &Value) -> Option<Flaw<'_>> {
     unless(is_node, value, "a node, a number from 0 to 255")
 }
 
-fn not_number(value: &Value) -> Option<Flaw<'_>> {
-    unless(
-        value.as_u64().is_some(),
-        value,
-        "a number from 0 to 18446744073709551615",
-    )
+/// That the value is no number.
+pub fn not_number(value: &Value) -> Option<Flaw<'_>> {
+    unless(value.as_u64().is_some(), value, NUMBER)
 }
 
 fn not_kind(value: &Value) -> Option<Flaw<'_>> {
@@ -196,7 +208,8 @@ fn is_digit(byte: u8) -> bool {
     matches!(byte, b'0'..=b'9' | b'a'..=b'f')
 }
 
-fn unless<'a>(is_right: bool, value: &'a Value, expected: &'static str) -> Option<Flaw<'a>> {
+/// What is expected of the value, where it isn't right.
+pub fn unless<'a>(is_right: bool, value: &'a Value, expected: &'static str) -> Option<Flaw<'a>> {
     if is_right {
         None
     } else {

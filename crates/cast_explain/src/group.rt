@@ -1,8 +1,10 @@
 //! What is wrong with a group that is to run in threads: the job or the fault of the plan that does not fit its nodes.
-ghost use Rattle.std.specs.Prelude.{IfOk, IfSome, IfNone};
+ghost use Rattle.std.specs.Prelude.{IfOk, IfSome, IfNone, string_bytes};
 ghost use Rattle.cast_explain.specs.Refused.{IsNoGroup};
+ghost use Rattle.cast_explain.specs.Words.{IsNamed};
 
 use crate::Explanation;
+use crate::named::named;
 use cast_desk::MOST_CLIENTS;
 use cast_message::NodeId;
 use cast_run::find_misfit;
@@ -13,6 +15,8 @@ use std::alloc::{AllocError, Global};
 pub fn group_words(alloc: Global, name: &str, bytes: &[u8], fault: LiveFault) -> Explanation
     ensures some { IfOk result (λ words. IfSome words (λ _. IsNoGroup bytes.now fault)) }
     ensures none { IfOk result (λ words. IfNone words (IsNoGroup bytes.now fault → ⊥)) }
+    ensures named { IfOk result (λ words. IfSome words (λ text.
+        IsNamed name.now (string_bytes text))) }
 {
     let script = match read_script(alloc, bytes) {
         Ok(script) => script,
@@ -33,7 +37,7 @@ pub fn group_words(alloc: Global, name: &str, bytes: &[u8], fault: LiveFault) ->
         Some(words) => words,
         None => format!(in alloc; "{fault}")?,
     };
-    Ok(Some(format!(in alloc; "{name}: {words}")?))
+    Ok(Some(named(alloc, name, words.as_str())?))
 }
 
 // The first job that is at no node, or one too many at its node.
@@ -76,21 +80,23 @@ fn fault_words(alloc: Global, fault: &Fault, nodes: u64) -> Result<Option<String
         Fault::Crash {
             node: NodeId(node),
             ..
-        } => {
-            if u64::from(*node) >= nodes {
-                return Ok(Some(missing_words(alloc, *node, nodes)?));
-            }
-            return Ok(None);
-        }
+        } => return find_missing(alloc, &[*node], nodes),
     };
-    if u64::from(from) >= nodes {
-        return Ok(Some(missing_words(alloc, from, nodes)?));
-    }
-    if u64::from(to) >= nodes {
-        return Ok(Some(missing_words(alloc, to, nodes)?));
+    if let Some(words) = find_missing(alloc, &[from, to], nodes)? {
+        return Ok(Some(words));
     }
     if from == to {
         return Ok(Some(format!(in alloc; "there is no link from node {from} to itself")?));
+    }
+    Ok(None)
+}
+
+// The first of these numbers that is no node's.
+fn find_missing(alloc: Global, numbers: &[u8], nodes: u64) -> Result<Option<String>, AllocError> {
+    for number in numbers {
+        if u64::from(*number) >= nodes {
+            return Ok(Some(missing_words(alloc, *number, nodes)?));
+        }
     }
     Ok(None)
 }

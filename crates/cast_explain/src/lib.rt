@@ -6,6 +6,7 @@ mod element;
 mod excerpt;
 mod group;
 mod members;
+mod named;
 mod record;
 mod script;
 mod settings;

@@ -1,9 +1,8 @@
 //! What is wrong with a script as a whole: it is no object, or a member is unknown, missing or of a wrong kind.
-use crate::excerpt::{cut, quoted};
+use crate::element::{Flaw, NUMBER, not_number, unless};
+use crate::excerpt::quoted;
 use serde_json::Value;
 use std::alloc::{AllocError, Global};
-
-const NUMBER: &str = "a number from 0 to 18446744073709551615";
 
 /// The members that a script must have, each a number.
 const NEEDED: [&str; 3] = ["nodes", "faults", "choices"];
@@ -23,9 +22,8 @@ const LISTS: [&str; 3] = ["events", "plan", "jobs"];
 /// What is wrong with the value as a whole.
 pub fn members_words(alloc: Global, value: &Value) -> Result<String, AllocError> {
     let Some(members) = value.as_object() else {
-        let text = value.to_string(alloc)?;
-        let found = cut(alloc, text.as_bytes())?;
-        return format!(in alloc; "{found} is not an object");
+        let expected = "an object";
+        return Flaw { value, expected }.words(alloc);
     };
     for name in members.keys() {
         if !is_known(name.as_str()) {
@@ -52,15 +50,13 @@ fn is_known(name: &str) -> bool {
 #[derive(Clone, Copy)]
 struct Wrong<'a> {
     name: &'static str,
-    value: &'a Value,
-    expected: &'static str,
+    flaw: Flaw<'a>,
 }
 
 fn wrong_words(alloc: Global, wrong: Wrong<'_>) -> Result<String, AllocError> {
-    let text = wrong.value.to_string(alloc)?;
-    let found = cut(alloc, text.as_bytes())?;
-    let (name, expected) = (wrong.name, wrong.expected);
-    format!(in alloc; "member \"{name}\": {found} is not {expected}")
+    let Wrong { name, flaw } = wrong;
+    let words = flaw.words(alloc)?;
+    format!(in alloc; "member \"{name}\": {words}")
 }
 
 // The first member that is not of its kind.
@@ -87,37 +83,19 @@ fn wrong_member(value: &Value) -> Option<Wrong<'_>> {
 }
 
 fn wrong_number<'a>(value: &'a Value, name: &'static str) -> Option<Wrong<'a>> {
-    let member = value.get(name)?;
-    if member.as_u64().is_some() {
-        return None;
-    }
-    Some(Wrong {
-        name,
-        value: member,
-        expected: NUMBER,
-    })
+    let flaw = not_number(value.get(name)?)?;
+    Some(Wrong { name, flaw })
 }
 
 fn wrong_mode(value: &Value) -> Option<Wrong<'_>> {
-    let member = value.get("mode")?;
-    match member.as_str() {
-        Some("basic" | "uniform") => None,
-        _ => Some(Wrong {
-            name: "mode",
-            value: member,
-            expected: "\"basic\" or \"uniform\"",
-        }),
-    }
+    let mode = value.get("mode")?;
+    let is_known = matches!(mode.as_str(), Some("basic" | "uniform"));
+    let flaw = unless(is_known, mode, "\"basic\" or \"uniform\"")?;
+    Some(Wrong { name: "mode", flaw })
 }
 
 fn wrong_list<'a>(value: &'a Value, name: &'static str) -> Option<Wrong<'a>> {
-    let member = value.get(name)?;
-    if member.is_array() {
-        return None;
-    }
-    Some(Wrong {
-        name,
-        value: member,
-        expected: "a list",
-    })
+    let list = value.get(name)?;
+    let flaw = unless(list.is_array(), list, "a list")?;
+    Some(Wrong { name, flaw })
 }

@@ -1,11 +1,13 @@
 //! What is wrong with a record: the line that offends, and the rule that it breaks in words.
-ghost use Rattle.std.specs.Prelude.{◌≡◌, ◌≢◌, IfOk, IfSome, IfNone};
+ghost use Rattle.std.specs.Prelude.{◌≡◌, ◌≢◌, IfOk, IfSome, IfNone, string_bytes};
 ghost use Rattle.cast_record.specs.Migration.{HasNoHead};
 ghost use Rattle.cast_record.specs.Verdicts.{verdict};
 ghost use Rattle.cast_record.specs.declared.verdict.Verdict.TheVariants.{Bad};
+ghost use Rattle.cast_explain.specs.Words.{IsNamed, NamesLine};
 
 use crate::Explanation;
 use crate::excerpt::quoted;
+use crate::named::{named, named_line};
 use cast_judge::{Verdict, judge};
 use cast_record::{MigrateFault, migrate};
 use std::alloc::{AllocError, Global};
@@ -32,6 +34,8 @@ struct TextLine<'a> {
 pub fn verdict_words(alloc: Global, name: &str, text: &[u8], line: u64, rule: u64) -> Explanation
     ensures some { IfOk result (λ words. IfSome words (λ _. verdict text.now ≡ Bad line rule)) }
     ensures none { IfOk result (λ words. IfNone words (verdict text.now ≢ Bad line rule)) }
+    ensures named { IfOk result (λ words. IfSome words (λ text.
+        NamesLine name.now line rule (string_bytes text))) }
 {
     match judge(alloc, text)? {
         Verdict::Bad {
@@ -40,15 +44,18 @@ pub fn verdict_words(alloc: Global, name: &str, text: &[u8], line: u64, rule: u6
         } if offending == line && broken == rule => {}
         _ => return Ok(None),
     }
-    let words = rule_words(rule);
+    let broken = rule_words(rule);
     let shown = line_words(alloc, line_at(text, line))?;
-    Ok(Some(format!(in alloc; "{name}: line {line} breaks rule {rule} ({words}): {shown}")?))
+    let words = format!(in alloc; "({broken}): {shown}")?;
+    Ok(Some(named_line(alloc, name, line, rule, words.as_str())?))
 }
 
 /// Why a text has no head of the first format; none exactly where these bytes have one.
 pub fn head_words(alloc: Global, name: &str, text: &[u8]) -> Explanation
     ensures some { IfOk result (λ words. IfSome words (λ _. HasNoHead text.now)) }
     ensures none { IfOk result (λ words. IfNone words (HasNoHead text.now → ⊥)) }
+    ensures named { IfOk result (λ words. IfSome words (λ text.
+        IsNamed name.now (string_bytes text))) }
 {
     match migrate(alloc, text) {
         Ok(_) => return Ok(None),
@@ -56,9 +63,10 @@ pub fn head_words(alloc: Global, name: &str, text: &[u8]) -> Explanation
         Err(MigrateFault::NotV1) => {}
     }
     let shown = line_words(alloc, line_at(text, 1))?;
-    Ok(Some(format!(in alloc;
-        "{name}: line 1 is not cast/1 N F K, with N 1 to 16, F below N and K 1 to N: {shown}"
-    )?))
+    let words = format!(in alloc;
+        "line 1 is not cast/1 N F K, with N 1 to 16, F below N and K 1 to N: {shown}"
+    )?;
+    Ok(Some(named(alloc, name, words.as_str())?))
 }
 
 fn line_words(alloc: Global, line: TextLine<'_>) -> Result<String, AllocError> {

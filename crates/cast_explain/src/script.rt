@@ -1,11 +1,12 @@
 //! What is wrong with a script: where it is no JSON, which member or element is not as it should be, or which limit it breaks.
-ghost use Rattle.std.specs.Prelude.{IfOk, IfSome, IfNone};
+ghost use Rattle.std.specs.Prelude.{IfOk, IfSome, IfNone, string_bytes};
 ghost use Rattle.cast_explain.specs.Refused.{IsNoScript};
+ghost use Rattle.cast_explain.specs.Words.{IsNamed};
 
 use crate::Explanation;
 use crate::element::{Flaw, event_flaw, fault_flaw, job_flaw};
-use crate::excerpt::cut;
 use crate::members::members_words;
+use crate::named::named;
 use crate::settings::settings_words;
 use cast_script::{ScriptFault, read_script};
 use serde_json::Value;
@@ -16,6 +17,8 @@ use std::alloc::{AllocError, Global};
 pub fn script_words(alloc: Global, name: &str, bytes: &[u8], fault: ScriptFault) -> Explanation
     ensures some { IfOk result (λ words. IfSome words (λ _. IsNoScript bytes.now fault)) }
     ensures none { IfOk result (λ words. IfNone words (IsNoScript bytes.now fault → ⊥)) }
+    ensures named { IfOk result (λ words. IfSome words (λ text.
+        IsNamed name.now (string_bytes text))) }
 {
     let found = match read_script(alloc, bytes) {
         Ok(_) => return Ok(None),
@@ -30,7 +33,7 @@ pub fn script_words(alloc: Global, name: &str, bytes: &[u8], fault: ScriptFault)
         Err(error) if error.is_memory() => return Err(AllocError),
         Err(error) => format!(in alloc; "{error}")?,
     };
-    Ok(Some(format!(in alloc; "{name}: {words}")?))
+    Ok(Some(named(alloc, name, words.as_str())?))
 }
 
 fn value_words(alloc: Global, value: &Value, fault: ScriptFault) -> Result<String, AllocError> {
@@ -75,8 +78,6 @@ fn flaw_words(
     place: usize,
     flaw: Flaw<'_>,
 ) -> Result<String, AllocError> {
-    let text = flaw.value.to_string(alloc)?;
-    let found = cut(alloc, text.as_bytes())?;
-    let expected = flaw.expected;
-    format!(in alloc; "{list}, element {place} (counted from 0): {found} is not {expected}")
+    let words = flaw.words(alloc)?;
+    format!(in alloc; "{list}, element {place} (counted from 0): {words}")
 }

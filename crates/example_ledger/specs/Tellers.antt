@@ -1,12 +1,17 @@
--- What a teller applies.
+-- What a teller orders and applies.
 --     told notices                what these notices say was delivered, in order
 --     KeepsBook book notices      the book is that of these notices
---     AreNewTellers tellers       none of these has applied anything
+--     HasOrdered teller sent      it has ordered the first of its items
+--     TellerFact                  what a teller keeps of itself
+--     AreNewTellers tellers       none of these has ordered or applied anything
+--     IsGiven tellers s item      the item is one that a teller at node s was given
+--     OrdersAreGiven              each item that a node ordered was given to a teller there
 --     TellersApplyPrefixes        what a teller applied of a sender is a prefix of what that sender ordered
 --     TellersKeepSheets tellers   each sheet is the sheet of what was applied
-use Rattle.std.specs.Prelude.{◌≡◌, ℕ, ◌<◌, List, [], map, slice_get, Bool, Option, Some, None}
-use Rattle.std.specs.List.{filter_map}
+use Rattle.std.specs.Prelude.{◌≡◌, ℕ, ◌<◌, ◌≤◌, List, [], length, map, take, slice_get, Bool, true, false, Option, Some, None}
+use Rattle.std.specs.List.{All, Contains, filter_map}
 use Rattle.cast_message.specs.declared.config.Config.{Config}
+use Rattle.cast_message.specs.declared.message.Item.{Item}
 use Rattle.cast_message.specs.declared.message.Message.{Message}
 use Rattle.cast_model.specs.History.{History, stream}
 use Rattle.cast_model.specs.Replies.{IsPrefixOf}
@@ -32,12 +37,30 @@ pub record KeepsBook (book : BookState) (notices : List Notice) : Type 0 where
   pub applied : book.journal ≡ told notices
   pub sheet : IsSheetOf book.sheet book.journal
 
--- the fact that a teller keeps about itself, whatever it has ordered: its book is that of the notices that it got
-abbrev pub teller_fact : Teller → Teller → List OrderIn → List Notice → Bool → Type 0
-teller_fact given teller sent got done = KeepsBook teller.book got
+-- the first of its items, in order, are what was submitted
+abbrev pub HasOrdered : Teller → List OrderIn → Type 0
+HasOrdered teller sent = map (λ order. order.item) sent ≡ take teller.next teller.items
+
+-- the fact that a teller keeps about itself: its items are those that it was given, and the first of them are ordered; its book
+-- is that of the notices that it got; and once it is done, no item is left, and it has applied as many messages as it waits for
+pub record TellerFact (given teller : Teller) (sent : List OrderIn) (got : List Notice) (done : Bool) : Type 0 where
+  pub same : (teller.items ≡ given.items) × (teller.expected ≡ given.expected)
+  pub ordered : HasOrdered teller sent
+  pub book : KeepsBook teller.book got
+  pub all : done ≡ true → (length teller.items ≤ teller.next) × (teller.expected ≤ length teller.book.journal)
+
+abbrev pub IsNewTeller : Teller → Type 0
+IsNewTeller teller = TellerFact teller teller [] [] false
 
 abbrev pub AreNewTellers : List (ℕ × Teller) → Type 0
-AreNewTellers tellers = (i node : ℕ) (teller : Teller) → slice_get tellers i ≡ Some (told_job node teller) → KeepsBook teller.book []
+AreNewTellers tellers = (i node : ℕ) (teller : Teller) → slice_get tellers i ≡ Some (told_job node teller) → IsNewTeller teller
+
+-- the item is one of those that a teller at node s was given
+abbrev pub IsGiven : List (ℕ × Teller) → ℕ → Item → Type 0
+IsGiven tellers s item = (i : ℕ) × (teller : Teller) × (slice_get tellers i ≡ Some (told_job s teller)) × Contains teller.items item
+
+abbrev pub OrdersAreGiven : Config → History → List (ℕ × Teller) → Type 0
+OrdersAreGiven config past tellers = (s : ℕ) → s < config.nodes → All (IsGiven tellers s) (stream past s)
 
 abbrev pub TellersApplyPrefixes : Config → History → List Teller → Type 0
 TellersApplyPrefixes config past tellers =

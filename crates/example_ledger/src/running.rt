@@ -4,7 +4,7 @@ ghost use Rattle.cast_model.specs.Replies.{history};
 ghost use Rattle.cast_world.specs.Group.{Stands};
 ghost use Rattle.cast_merge.specs.Merge.{TellsMerge};
 ghost use Rattle.cast_run.specs.Serves.{AreServed};
-ghost use Rattle.example_ledger.specs.Tellers.{AreNewTellers, teller_fact, TellersApplyPrefixes, TellersKeepSheets};
+ghost use Rattle.example_ledger.specs.Tellers.{AreNewTellers, TellerFact, OrdersAreGiven, TellersApplyPrefixes, TellersKeepSheets};
 
 use crate::teller::Teller;
 use cast_merge::{Assembly, assemble};
@@ -44,13 +44,16 @@ pub fn run_tellers<R: Threads + Wait + Copy + Send + 'static>(
 ) -> Result<RunningLedger, LiveFault>
     requires { AreNewTellers tellers.items }
 
-    // What a teller has applied of a sender is a prefix of what that sender ordered, and its sheet is the sheet of it.
+    // What a teller has applied of a sender is a prefix of what that sender ordered, and its sheet is the sheet of it; and each
+    // item that a sender ordered was given to a teller there.
     ensures prefix { IfOk result (λ ledger. TellersApplyPrefixes config
         (history config ledger.assembly.events) ledger.tellers.items) }
     ensures sheets { IfOk result (λ ledger. TellersKeepSheets ledger.tellers.items) }
+    ensures given { IfOk result (λ ledger. OrdersAreGiven config
+        (history config ledger.assembly.events) tellers.items) }
 
     // These are the tellers that were handed in, each served by its node.
-    ensures served { IfOk result (λ ledger. AreServed config teller_fact tellers.items
+    ensures served { IfOk result (λ ledger. AreServed config TellerFact tellers.items
         ledger.report.reports ledger.tellers.items ledger.clients.items) }
 
     // The events are what the nodes logged, and the world shows what became of the group.
@@ -72,9 +75,5 @@ pub fn run_tellers<R: Threads + Wait + Copy + Send + 'static>(
 }
 
 fn open_gates(alloc: Global, nodes: u64) -> Result<Vec<OpenGate>, AllocError> {
-    let mut gates = Vec::new(alloc);
-    for _node in 0..nodes {
-        gates.push(OpenGate)?;
-    }
-    Ok(gates)
+    Ok(vec![in alloc; OpenGate; nodes as usize]?)
 }

@@ -1,8 +1,8 @@
 //! A client in a thread of its own, which orders transfers and keeps a book by what its node tells it.
-ghost use Rattle.std.specs.Prelude.{◌≡◌, ◌<◌, ◌++◌, ◌∷◌, [], length};
+ghost use Rattle.std.specs.Prelude.{◌≡◌, ◌<◌, ◌≤◌, ◌++◌, ◌∷◌, [], length, IsTrue};
 ghost use Rattle.cast_desk.specs.Desk.{IsSameClient};
-ghost use Rattle.cast_run.specs.Jobs.{got};
-ghost use Rattle.example_ledger.specs.Tellers.{told};
+ghost use Rattle.cast_run.specs.Jobs.{submitted, got};
+ghost use Rattle.example_ledger.specs.Tellers.{told, HasOrdered};
 
 use crate::book::Book;
 use cast_desk::{Client, Notice};
@@ -12,7 +12,8 @@ use std::alloc::Global;
 use std::sync::Wait;
 
 /// Orders its items, one in a turn where the desk has room, and applies what it is told was delivered, one message in a turn,
-/// until all was ordered and so many messages are applied. Its book is at any time that of what it was told.
+/// until all was ordered and so many messages are applied. What it has ordered are at any time the first of its items, and its
+/// book is that of what it was told.
 #[derive(Drop)]
 pub struct Teller {
     items: List<Item>,
@@ -24,9 +25,9 @@ pub struct Teller {
 }
 
 impl ClientJob for Teller {
-    ghost use Rattle.example_ledger.specs.Tellers.{KeepsBook};
+    ghost use Rattle.example_ledger.specs.Tellers.{TellerFact};
 
-    ghost fact = { λ given teller sent got done. KeepsBook teller.book got };
+    ghost fact = { TellerFact };
 
     fn turn<R: Wait>(&mut self, rt: &R, client: &mut Client) -> bool {
         self.order_next(rt, client);
@@ -38,11 +39,12 @@ impl ClientJob for Teller {
 }
 
 impl Teller {
-    ghost use Rattle.example_ledger.specs.Tellers.{KeepsBook};
+    ghost use Rattle.example_ledger.specs.Tellers.{IsNewTeller};
 
     /// The teller that orders these items, and is done once so many messages are applied. It has done nothing yet.
     pub fn new(alloc: Global, items: List<Item>, expected: usize) -> Teller
-        ensures { KeepsBook result.book [] }
+        ensures given { (result.items ≡ items) × (result.expected ≡ expected) }
+        ensures new { IsNewTeller result }
     {
         Teller {
             items,
@@ -61,8 +63,11 @@ impl Teller {
 
     // Without memory for a copy, or room at the desk, the item waits for the next turn.
     fn order_next<R: Wait>(&mut self, rt: &R, client: &mut Client)
+        requires { HasOrdered self.old (submitted client.old) }
+        ensures given { (self.new.items ≡ self.old.items) × (self.new.expected ≡ self.old.expected) }
         ensures same { IsSameClient client.old client.new }
         ensures tray { client.new.tray ≡ client.old.tray }
+        ensures ordered { HasOrdered self.new (submitted client.new) }
         ensures book { self.new.book ≡ self.old.book }
     {
         let Some(item) = self.items.as_slice().get(self.next) else {
@@ -79,7 +84,10 @@ impl Teller {
     // Without memory for one more message no notice is taken: it waits in the tray.
     fn apply_next<R: Wait>(&mut self, rt: &R, client: &mut Client)
         requires { self.old.book.journal ≡ told (got client.old) }
+        ensures given { (self.new.items ≡ self.old.items) × (self.new.expected ≡ self.old.expected)
+            × (self.new.next ≡ self.old.next) }
         ensures same { IsSameClient client.old client.new }
+        ensures orders { client.new.orders ≡ client.old.orders }
         ensures book { self.new.book.journal ≡ told (got client.new) }
     {
         if self.book.reserve().is_err() {
@@ -93,7 +101,9 @@ impl Teller {
     // Applies what the notice says was delivered, if it says so.
     fn hear(&mut self, notice: Notice)
         requires { length self.old.book.journal < self.old.book.room }
-        ensures { self.new.book.journal ≡ self.old.book.journal ++ told (notice ∷ []) }
+        ensures given { (self.new.items ≡ self.old.items) × (self.new.expected ≡ self.old.expected)
+            × (self.new.next ≡ self.old.next) }
+        ensures book { self.new.book.journal ≡ self.old.book.journal ++ told (notice ∷ []) }
     {
         match notice {
             Notice::Delivered(message) => self.book.apply(message),
@@ -103,7 +113,10 @@ impl Teller {
 
     /// Whether all was ordered and so many messages were applied. An order that its node refused, for want of memory, is not
     /// made again: then the teller is not done when the run ends.
-    pub fn is_done(&self) -> bool {
+    pub fn is_done(&self) -> bool
+        ensures { IsTrue result → (length self.now.items ≤ self.now.next)
+            × (self.now.expected ≤ length self.now.book.journal) }
+    {
         self.next >= self.items.as_slice().len() && self.book.journal().len() >= self.expected
     }
 }

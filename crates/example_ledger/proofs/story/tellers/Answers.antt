@@ -6,4 +6,4 @@ use Rattle.example_ledger.proofs.story.tellers.Goals as goal
 pub loop-node-preserved : goal.loop-node-preserved
 loop-node-preserved c =
     subst AreNewTellers (sym c.in_ok-push.ensures.items)
-    (tellers_with c.loop-node.tellers.items _ c.new-teller.result c.loop-node.invariant c.new-teller.ensures)
+    (tellers_with c.loop-node.tellers.items _ c.new-teller.result c.loop-node.invariant c.new-teller.ensures.new)

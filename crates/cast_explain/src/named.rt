@@ -1,0 +1,25 @@
+//! What words begin with: the name of the input that they are of, and of a record the line that offends and its rule.
+ghost use Rattle.std.specs.Prelude.{IfOk, string_bytes};
+ghost use Rattle.cast_explain.specs.Words.{IsNamed, NamesLine};
+
+use std::alloc::{AllocError, Global};
+
+/// The words behind the name of their input.
+pub fn named(alloc: Global, name: &str, words: &str) -> Result<String, AllocError>
+    ensures { IfOk result (λ text. IsNamed name.now (string_bytes text)) }
+{
+    format!(in alloc; "{name}: {words}")
+}
+
+/// The words behind the name of their input, the line that offends and the rule that it breaks.
+pub fn named_line(
+    alloc: Global,
+    name: &str,
+    line: u64,
+    rule: u64,
+    words: &str,
+) -> Result<String, AllocError>
+    ensures { IfOk result (λ text. NamesLine name.now line rule (string_bytes text)) }
+{
+    format!(in alloc; "{name}: line {line} breaks rule {rule} {words}")
+}
