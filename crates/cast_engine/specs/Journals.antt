@@ -18,7 +18,7 @@ use Rattle.cast_node.specs.Kept.{Kept}
 use Rattle.cast_node.specs.Turns.{Gives}
 use Rattle.cast_desk.specs.declared.desk.OrderIn.{OrderIn}
 use Rattle.cast_report.specs.declared.report.EngineEnd.{EngineEnd}
-use Rattle.cast_report.specs.declared.report.EngineEnd.TheVariants.{Crashed, LogFull}
+use Rattle.cast_report.specs.declared.report.EngineEnd.TheVariants.{Crashed, LogFull, ClockFull}
 use Rattle.cast_report.specs.Linked.{event_of, outcome_in_answer}
 use Rattle.cast_engine.specs.Runs.{origin_of}
 
@@ -80,6 +80,13 @@ OnlyEnds old new = new ≡ record old { ended = new.ended }
 -- the engine ends here, by a crash or without one
 abbrev pub Halts : JournalState → JournalState → Type 0
 Halts old new = OnlyEnds old new ⊎ LogsStep old new Stopped None old.clock
+
+-- why it ends, where nothing may be logged any more: the log is full, the clock is, or the crash is due
+abbrev pub HaltsBy : JournalState → Option EngineEnd → Type 0
+HaltsBy j (Some LogFull) = j.config.log_limit ≤ length j.log
+HaltsBy j (Some ClockFull) = j.clock + 1 ≡ 2 ^ 64
+HaltsBy j (Some Crashed) = j.crash ≡ Some (length j.log)
+HaltsBy j _ = ⊥
 
 -- the stamps rise from `first` on and end at the clock
 unfoldable pub Rises : ℕ → List Entry → ℕ → Type 0

@@ -1,12 +1,13 @@
 //! The node of an engine, with its log and its clock.
-ghost use Rattle.std.specs.Prelude.{◌≡◌, ◌+◌, ◌<◌, ◌^◌, [], length, Some, None, Ok, IfOk, OnOk, OnErr, IsTrue, IsFalse};
+ghost use Rattle.std.specs.Prelude.{◌≡◌, ◌+◌, ◌<◌, ◌^◌, [], length, Some, None, Ok, IfOk, OnOk, OnErr, IsTrue, IsFalse, IsSome};
 ghost use Rattle.cast_model.specs.Steps.{Arrived, Stopped, making};
 ghost use Rattle.cast_report.specs.Linked.{event_of};
 ghost use Rattle.cast_node.specs.Calls.{sent_reply};
 ghost use Rattle.cast_node.specs.Kept.{nothing_kept};
 ghost use Rattle.cast_node.specs.Turns.{Gives, frame_made};
 ghost use Rattle.cast_model.specs.OwnSteps.{nothing};
-ghost use Rattle.cast_engine.specs.Journals.{MayLog, LogsStep, LogsOrder, OnlyEnds, Halts, Rises, EndsAs, AsksOrder, IsQuietEnd};
+ghost use Rattle.cast_report.specs.declared.report.EngineEnd.TheVariants.{Crashed};
+ghost use Rattle.cast_engine.specs.Journals.{MayLog, LogsStep, LogsOrder, OnlyEnds, Halts, HaltsBy, Rises, EndsAs, AsksOrder, IsQuietEnd};
 
 use crate::parcel::Parcel;
 use cast_desk::OrderIn;
@@ -94,6 +95,8 @@ impl Journal {
     pub fn may_log(&mut self) -> bool
         ensures may { IsTrue result → (self.new ≡ self.old) × MayLog self.old }
         ensures halts { IsFalse result → Halts self.old self.new }
+        ensures kept { IsSome self.old.ended → self.new ≡ self.old }
+        ensures cause { IsFalse result → self.old.ended ≡ None → HaltsBy self.old self.new.ended }
     {
         if self.ended.is_some() {
             return false;
@@ -119,7 +122,8 @@ impl Journal {
         requires room { length self.old.log < self.old.config.log_limit }
         requires time { self.old.clock + 1 < 2 ^ 64 }
         requires due { self.old.crash ≡ Some (length self.old.log) }
-        ensures { LogsStep self.old self.new Stopped None self.old.clock }
+        ensures step { LogsStep self.old self.new Stopped None self.old.clock }
+        ensures ended { self.new.ended ≡ Some Crashed }
     {
         let me = self.node.id();
         let crashed = self.node.crash().is_ok();
@@ -144,6 +148,7 @@ impl Journal {
         requires stamp { parcel.now.stamp + 1 < 2 ^ 64 }
         ensures ok { OnOk result
             (LogsStep self.old self.new (Arrived parcel.now.frame) None parcel.now.stamp) }
+        ensures ended { self.new.ended ≡ self.old.ended }
         ensures err { OnErr result (self.new ≡ self.old) }
     {
         let outcome = self.node.arrive(&parcel.frame)?;
@@ -172,6 +177,7 @@ impl Journal {
         ensures parcel { IfOk result (λ parcel.
             (parcel.frame ≡ frame_made kind self.old.node to slot)
             × (parcel.stamp ≡ self.new.clock)) }
+        ensures ended { self.new.ended ≡ self.old.ended }
         ensures err { OnErr result (self.new ≡ self.old) }
     {
         let from = self.node.id();
@@ -192,7 +198,8 @@ impl Journal {
     /// Takes up a client's order, and logs it, or logs that it was refused.
     pub fn order(&mut self, order: OrderIn)
         requires { MayLog self.old }
-        ensures { LogsOrder self.old self.new order }
+        ensures logs { LogsOrder self.old self.new order }
+        ensures ended { self.new.ended ≡ self.old.ended }
     {
         let node = self.node.id();
         let OrderIn {
@@ -227,7 +234,9 @@ impl Journal {
     /// Notes that the engine ends, where it has not.
     pub fn end(&mut self, end: EngineEnd)
         requires { IsQuietEnd end }
-        ensures { OnlyEnds self.old self.new }
+        ensures only { OnlyEnds self.old self.new }
+        ensures noted { self.old.ended ≡ None → self.new.ended ≡ Some end }
+        ensures kept { IsSome self.old.ended → self.new ≡ self.old }
     {
         if self.ended.is_none() {
             self.ended = Some(end);

@@ -11,7 +11,7 @@ use Rattle.cast_message.specs.declared.message.Item.{Item}
 use Rattle.cast_box.specs.Lists.{of}
 use Rattle.cast_script.specs.declared.live_fault.LiveFault.{LiveFault}
 use Rattle.cast_script.specs.declared.live_fault.LiveFault.TheVariants as lives
-use Rattle.cast_run.specs.Faults.{JobsFit, IsFaultOf}
+use Rattle.cast_run.specs.Faults.{JobsFit, IsFaultOf, IsMisfit}
 use Rattle.cast_run.specs.Jobs.{Submits, told_job, replies_in}
 use Rattle.cast_script.specs.declared.script.Script.{Script}
 use Rattle.cast_live.specs.declared.live.FinishedRun.{FinishedRun}
@@ -69,15 +69,24 @@ fit_handed : (nodes : ℕ) (handed : List (ℕ × SubmitAll)) → JobsFit nodes 
 fit_handed nodes handed fit = record { placed = placed_back nodes handed fit.placed; few = λ p l. subst (λ n. n ≤ 4) (length-of p handed) (fit.few p l) }
 
 module _ (script : Script) (handed : List (ℕ × SubmitAll)) (same : map items_of handed ≡ script.jobs) (gates : ℕ) (many : gates ≡ script.config.nodes) where
-  fits : JobsFit script.config.nodes handed → JobsFit script.config.nodes script.jobs
+  pub fits : JobsFit script.config.nodes handed → JobsFit script.config.nodes script.jobs
   fits fit = subst (JobsFit script.config.nodes) same (fit_items script.config.nodes handed fit)
 
   pub refused_for : (why : LiveFault) → IsFaultOf script.config.nodes handed gates script.plan.faults why → IsOfRunning script (fault_of_live why)
   refused_for lives.Jobs is = λ fit. is (fit_handed script.config.nodes handed (subst (JobsFit script.config.nodes) (sym same) fit))
   refused_for lives.Gates is = absurd (is.1 many)
   refused_for lives.Plan is = (fits is.0, is.2)
-  refused_for lives.Memory is = tt
-  refused_for lives.Threads is = (fits is.jobs_fit, is.plan_fits)
+  refused_for lives.Memory is = record { jobs = fits is.jobs_fit; plan = is.plan_fits }
+  refused_for lives.Threads is = record { jobs = fits is.jobs_fit; plan = is.plan_fits }
+
+-- what does not fit is refused for that
+pub misfit_for : (script : Script) (gates : ℕ) → gates ≡ script.config.nodes → (why : LiveFault) → IsMisfit script.config.nodes script.jobs gates script.plan.faults why
+    → IsOfRunning script (fault_of_live why)
+misfit_for script gates many lives.Jobs is = is.0
+misfit_for script gates many lives.Gates is = absurd (is.0.1 many)
+misfit_for script gates many lives.Plan is = (is.0.0, is.0.1.1)
+misfit_for script gates many lives.Memory is = absurd (is.1 is.0)
+misfit_for script gates many lives.Threads is = absurd (is.1 is.0)
 
 -- ---- what is told of a run
 

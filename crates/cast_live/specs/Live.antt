@@ -70,9 +70,15 @@ AreNewJobs jobs = (i : ℕ) (job : ℕ × SubmitAll) → slice_get jobs i ≡ So
 abbrev pub items_of : ℕ × SubmitAll → ℕ × List Item
 items_of job = (job.0, job.1.items)
 
--- these are reports of a run of the script: each log ends as plan and limits say, and each job of the script had a client, which
--- submitted the first of its items
+-- what is planned and the jobs fit the script's group
+pub record FitsGroup (script : Script) : Type 0 where
+  pub jobs : JobsFit script.config.nodes script.jobs
+  pub plan : ArePlanned script.config.nodes script.plan.faults
+
+-- these are reports of a run of the script, which fits its group: each log ends as plan and limits say, and each job of the script
+-- had a client, which submitted the first of its items
 pub record IsRunOf (script : Script) (reports : List NodeReport) : Type 0 where
+  pub fits : FitsGroup script
   pub logs : (p : ℕ) (report : NodeReport) → slice_get reports p ≡ Some report → EndsAs script.config.log_limit (crash_from p None script.plan.faults) (Some report.ended) report.log
   -- the jobs that were handed in, and what came back of them
   pub handed : List (ℕ × SubmitAll)
@@ -144,12 +150,12 @@ pub record WritesSummary (input old new : Option (List ℕ)) (said : Summary) : 
 abbrev pub IsRefusedFor : Script → LiveFault → Type 0
 IsRefusedFor script lives.Jobs = ¬ JobsFit script.config.nodes script.jobs
 IsRefusedFor script lives.Plan = JobsFit script.config.nodes script.jobs × ¬ ArePlanned script.config.nodes script.plan.faults
-IsRefusedFor script lives.Threads = JobsFit script.config.nodes script.jobs × ArePlanned script.config.nodes script.plan.faults
+IsRefusedFor script lives.Threads = FitsGroup script
 IsRefusedFor script _ = ⊥
 
 abbrev pub IsOfRunning : Script → TextFault → Type 0
 IsOfRunning script (faults.Live why) = IsRefusedFor script why
-IsOfRunning script faults.Memory = Unit {0}
+IsOfRunning script faults.Memory = FitsGroup script
 IsOfRunning script fault = ⊥
 
 -- the script that was read is not run for this

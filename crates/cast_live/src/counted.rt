@@ -1,5 +1,7 @@
 //! A writer that counts.
-ghost use Rattle.std.specs.Prelude.{◌≡◌};
+ghost use Rattle.std.specs.Prelude.{◌≡◌, ◌+◌, ◌-◌, ◌^◌, min, IfOk, OnErr};
+ghost use Rattle.std.specs.Io.{WritesAtMost};
+ghost use Rattle.std.specs.Io.KnownBytes.{WriteAppends};
 
 use std::io::{self, Write};
 
@@ -29,7 +31,14 @@ impl<W> Counted<W> {
 impl<W: Write> Write for Counted<W> {
     ghost contents = { λ w. W.contents w.inner };
 
-    fn write(&mut self, buf: &[u8]) -> io::Result<usize> {
+    fn write(&mut self, buf: &[u8]) -> io::Result<usize>
+        ensures bound { WritesAtMost result buf.now }
+        ensures bytes { WriteAppends (W.contents self.old.inner) (W.contents self.new.inner)
+            result buf.now }
+        ensures count { IfOk result (λ taken.
+            self.new.count ≡ min (self.old.count + taken) (2 ^ 64 - 1)) }
+        ensures same { OnErr result (self.new.count ≡ self.old.count) }
+    {
         let taken = self.inner.write(buf)?;
         self.count = self.count.saturating_add(taken as u64);
         Ok(taken)

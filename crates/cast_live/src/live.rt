@@ -12,7 +12,7 @@ use crate::summary::{Summary, summarize, write_summary};
 use cast_merge::{Assembly, assemble};
 use cast_message::{Item, List, NodeId};
 use cast_report::GroupReport;
-use cast_run::{CountingGate, Progress, SubmitAll, run_live};
+use cast_run::{CountingGate, Progress, SubmitAll, find_misfit, run_live};
 use cast_script::{Script, write_script};
 use cast_text::{TextFault, read_script_text};
 use cast_words::Meter;
@@ -74,6 +74,10 @@ pub fn run_script<T: Threads + Wait + Copy + Send + 'static>(
         jobs,
         ..
     } = script;
+    // What does not fit is told before any memory is asked for.
+    if let Some(misfit) = find_misfit(&config, &plan, jobs.as_slice(), config.nodes() as usize) {
+        return Err(TextFault::from(misfit));
+    }
     let gates = CountingGate::for_nodes(alloc, config.nodes(), progress)?;
     let jobs = submit_all(alloc, jobs)?;
     let run = run_live(rt, alloc, config, &plan, jobs, gates, turns)?;

@@ -13,14 +13,15 @@ use Rattle.cast_message.specs.declared.message.Item.{Item}
 use Rattle.cast_message.specs.declared.message.Item.TheVariants.{Data, Propose, Close}
 use Rattle.cast_message.specs.declared.message.Message.{Message}
 use Rattle.cast_model.specs.History.{History, items_ordered, stream}
-use Rattle.cast_model.specs.Delivery.{nodes_of, value_in, votes, least, delivery_log}
+use Rattle.cast_model.specs.Delivery.{nodes_of, value_in, votes, least, delivery_log, decision}
+use Rattle.cast_model.specs.RunLaws.{decisions_shown}
 use Rattle.cast_model.specs.Replies.{fault, history, replies, decided, IsAccepted, is_from, AtMost}
 use Rattle.cast_model.proofs.Members.{Member, here, there, Member-one, Member-uncons, Member-append_left, Member-append_right, list_any-Member, Member-list_any, filter-Member, Member-get_or, place_of_Member}
 use Rattle.cast_model.proofs.Accepted.{Order-node}
 use Rattle.cast_model.proofs.Answered.{IsAccepted-history_from}
 use Rattle.cast_model.proofs.AtRest.{Member-range_with_len}
 use Rattle.cast_model.proofs.Votes.{proposals, proposes_once, votes_from, voters, voter_in, length-voters, voters_distinct}
-use Rattle.cast_model.proofs.Decisions.{DecidedBy, decided_from, Member-filter_map}
+use Rattle.cast_model.proofs.Decisions.{DecidedBy, decided_from, shown_by_votes, Member-filter_map}
 
 -- numbers without repetition that stand in a list are no more than it has
 pub pigeonhole : (xs ys : List ℕ) → IsDistinct nat_eq xs → ((x : ℕ) → Member x xs → Member x ys) → length xs ≤ length ys
@@ -144,12 +145,8 @@ module _ (config : Config) (past : History) (accepted : IsAccepted config past) 
       omega (arith, once, whole))
 
 -- a decided value is proposed by a node
-pub decided_proposed : (config : Config) (events : List Event) (j v : ℕ) → Member v (decided (replies config events) j) → (s : ℕ) × (s < config.nodes) × Member v (proposals (history config events) j s)
-unfolding IsAccepted
-decided_proposed config events j v m =
-    let past = history config events in
-    let accepted = IsAccepted-history_from config [] events tt in
-    let d = decided_from config [] events j v m in
+proposed : (config : Config) (past : History) → IsAccepted config past → (j v : ℕ) → DecidedBy config past j v → (s : ℕ) × (s < config.nodes) × Member v (proposals past j s)
+proposed config past accepted j v d =
     let some : 0 < length (votes j d.front) = (let f = config.faults_in_range in let c = d.complete in omega (arith, f, c)) in
     let r = vote_proposed config past accepted d.node j d.front d.rest d.log_is (least (votes j d.front)) (Member-least (votes j d.front) some) in
     (r.0, r.1, subst (λ w. Member w (proposals past j r.0)) (sym d.value_is) r.2)
@@ -227,25 +224,22 @@ module _ (config : Config) (past : History) (accepted : IsAccepted config past) 
       omega (arith, many, all, count, faults, length-voters j d.front, length-range_with_len 0 config.nodes)
 
 -- at most one more value is decided than there are tolerated faults
-pub decided_at_most : (config : Config) (events : List Event) (j : ℕ) → AtMost (config.faults + 1) (decided (replies config events) j)
-unfolding IsAccepted less
-decided_at_most config events j [] distinct_values all = omega arith
-decided_at_most config events j (x ∷ xs) distinct_values all =
-    let past = history config events in
-    let accepted : IsAccepted config past = IsAccepted-history_from config [] events tt in
+at_most : (config : Config) (past : History) → IsAccepted config past → (j : ℕ) (values : List ℕ) → ((v : ℕ) → Member v values → DecidedBy config past j v) → AtMost (config.faults + 1) values
+unfolding less
+at_most config past accepted j values by [] distinct_values all = omega arith
+at_most config past accepted j values by (x ∷ xs) distinct_values all =
     let top = greatest x xs in
-    let values = decided (replies config events) j in
     let is_decided : (v : ℕ) → Member v (x ∷ xs) → Member v values = λ v m.
     (let at = place_of_Member v (x ∷ xs) 0 m in
     let in_values = all at.0 0 at.1 in
     subst (λ w. Member w values) (in_values.2 ∙ at.2) (Member-get_or values in_values.0 _ in_values.1)) in
-    let evidence = decided_from config [] events j top.0 (is_decided top.0 top.1) in
+    let evidence = by top.0 (is_decided top.0 top.1) in
     let lower = flat_map (λ s. proposals past j s) (filter (less config past accepted j top.0) (nodes_of config)) in
     let within : (v : ℕ) → Member v (x ∷ xs) → Member v (top.0 ∷ lower) = λ v m.
     elim (cases_lt v top.0) [
       | inr above ↦ (let h = top.2 v m in let e : v ≡ top.0 = omega (arith, h, above) in subst (λ w. Member w (top.0 ∷ lower)) (sym e) here)
       | inl below ↦
-          (let r = decided_proposed config events j v (is_decided v m) in
+          (let r = proposed config past accepted j v (by v (is_decided v m)) in
           there (Member-flat_map (λ s. proposals past j s) r.0 v (filter (less config past accepted j top.0) (nodes_of config))
           (filter-Member (less config past accepted j top.0) r.0 (nodes_of config)
           (Member-range_with_len config.nodes 0 r.0 (omega arith) (let h = r.1 in omega (arith, h)))
@@ -257,11 +251,21 @@ decided_at_most config events j (x ∷ xs) distinct_values all =
     let total = pigeonhole (x ∷ xs) (top.0 ∷ lower) distinct_values within in
     omega (arith, few, short, total)
 
--- so at most k, where the faults are fewer than k
-pub decided_at_most_choices : (config : Config) → config.faults < config.choices → (events : List Event) (j : ℕ) → AtMost config.choices (decided (replies config events) j)
-decided_at_most_choices config fewer events j chosen distinct_values all =
-    let bound = decided_at_most config events j chosen distinct_values all in
+-- so at most k, where the faults are fewer than k: of the values in replies, and of those that nodes show
+at_most_choices : (config : Config) (past : History) → IsAccepted config past → config.faults < config.choices → (j : ℕ) (values : List ℕ) → ((v : ℕ) → Member v values → DecidedBy config past j v) → AtMost config.choices values
+at_most_choices config past accepted fewer j values by chosen distinct_values all =
+    let bound = at_most config past accepted j values by chosen distinct_values all in
     omega (arith, bound)
+
+pub decided_at_most_choices : (config : Config) → config.faults < config.choices → (events : List Event) (j : ℕ) → AtMost config.choices (decided (replies config events) j)
+unfolding IsAccepted
+decided_at_most_choices config fewer events j =
+    at_most_choices config (history config events) (IsAccepted-history_from config [] events tt) fewer j (decided (replies config events) j) (decided_from config [] events j)
+
+pub shown_at_most_choices : (config : Config) (past : History) → IsAccepted config past → config.faults < config.choices → (j : ℕ) → AtMost config.choices (decisions_shown config past j)
+shown_at_most_choices config past accepted fewer j = at_most_choices config past accepted fewer j (decisions_shown config past j) (λ v m.
+    let found = Member-filter_map (λ q. decision config past q j) v (nodes_of config) m in
+    shown_by_votes config past found.0 j v found.2)
 
 -- an item whose value in instance j is v proposes it there
 value_in-Propose : (j v : ℕ) (item : Item) → value_in j item ≡ Some v → item ≡ Propose j v
@@ -273,10 +277,17 @@ value_in-Propose j v (Propose instance value) e = by_test (instance == j) refl e
     by_test true same e = let i : instance ≡ j = eqb-true instance j same in let w : value ≡ v = cc in cc
     by_test false differs e = absurd (cc)
 
--- a decided value stands as a proposal in a node's stream
-pub decided_in_stream : (config : Config) (events : List Event) (j v : ℕ) → Member v (decided (replies config events) j) → (s : ℕ) × (s < config.nodes) × Member (Propose j v) (stream (history config events) s)
+-- a decided value stands as a proposal in a node's stream: one in a reply, and one that a node shows
+in_stream : (config : Config) (past : History) → IsAccepted config past → (j v : ℕ) → DecidedBy config past j v → (s : ℕ) × (s < config.nodes) × Member (Propose j v) (stream past s)
 unfolding proposals
-decided_in_stream config events j v m =
-    let r = decided_proposed config events j v m in
-    let found = Member-filter_map (value_in j) v (stream (history config events) r.0) r.2 in
-    (r.0, r.1, subst (λ item. Member item (stream (history config events) r.0)) (value_in-Propose j v found.0 found.2) found.1)
+in_stream config past accepted j v d =
+    let r = proposed config past accepted j v d in
+    let found = Member-filter_map (value_in j) v (stream past r.0) r.2 in
+    (r.0, r.1, subst (λ item. Member item (stream past r.0)) (value_in-Propose j v found.0 found.2) found.1)
+
+pub decided_in_stream : (config : Config) (events : List Event) (j v : ℕ) → Member v (decided (replies config events) j) → (s : ℕ) × (s < config.nodes) × Member (Propose j v) (stream (history config events) s)
+unfolding IsAccepted
+decided_in_stream config events j v m = in_stream config (history config events) (IsAccepted-history_from config [] events tt) j v (decided_from config [] events j v m)
+
+pub shown_in_stream : (config : Config) (past : History) → IsAccepted config past → (q j v : ℕ) → decision config past q j ≡ Some v → (s : ℕ) × (s < config.nodes) × Member (Propose j v) (stream past s)
+shown_in_stream config past accepted q j v e = in_stream config past accepted j v (shown_by_votes config past q j v e)

@@ -1,8 +1,8 @@
 -- Each decided value is the least of the votes in a front of some node's log, which are as many as a decision asks for.
-use Rattle.std.proofs.Common.{◌≡◌, ℕ, ◌-◌, refl, sym, ◌∙◌, ap, subst, false, cond, List, [], ◌∷◌, ◌++◌, length, Option, Some, None, inl, inr, append_assoc}
-use Rattle.std.specs.Prelude.{◌==◌}
+use Rattle.std.proofs.Common.{◌≡◌, ◌≤◌, ℕ, zero, suc, ◌-◌, refl, sym, ◌∙◌, ap, subst, Bool, true, false, cond, List, [], ◌∷◌, ◌++◌, length, take, Option, Some, None, inl, inr, append_assoc, length-take-le, arith}
+use Rattle.std.specs.Prelude.{◌==◌, nat_le}
 use Rattle.std.specs.List.{filter_map, cons_option}
-use Rattle.std.proofs.lemmas.Bool.{eq-eqb, eqb-true, ne_eqb, cases_eq, cond-true}
+use Rattle.std.proofs.lemmas.Bool.{eq-eqb, eqb-true, leb-true, ne_eqb, cases_eq, cond-true}
 use Rattle.cast_message.specs.declared.config.Config.{Config}
 use Rattle.cast_message.specs.declared.event.Event.{Event}
 use Rattle.cast_message.specs.declared.event.Event.TheVariants.{Order, Send, Ack, Arrive, Crash}
@@ -12,7 +12,7 @@ use Rattle.cast_message.specs.declared.message.Item.TheVariants.{Data, Propose, 
 use Rattle.cast_message.specs.declared.message.Message.{Message}
 use Rattle.cast_message.specs.declared.message.Decision.{Decision}
 use Rattle.cast_model.specs.History.{History}
-use Rattle.cast_model.specs.Delivery.{Concerned, concerned, turns_of, deliveries, is_node, delivery_log, votes, least, decision_on, decisions_of, log_of, outcome}
+use Rattle.cast_model.specs.Delivery.{Concerned, concerned, turns_of, deliveries, is_node, delivery_log, value_in, votes, least, decision, decision_on, decisions_of, log_of, outcome}
 use Rattle.cast_model.specs.Replies.{fault, answer, reply, reply_by, after, after_by, history_from, replies_from, decisions_in, decisions_in_answer, value_for, decided}
 use Rattle.cast_model.proofs.Members.{Member, here, there, Member-append, Member-uncons, Member-if}
 
@@ -158,3 +158,47 @@ decided_from config past (event ∷ events) j v m =
         let is = value_of j v found.0 found.2 in
         subst (λ w. DecidedBy config (event ∷ past) j w) is.1 (subst (λ k. DecidedBy config (event ∷ past) k found.0.value) is.0 (decisions_by config past event found.0 found.1))
     by_fault (Some refusal) found = elim found.1 [ ]
+
+-- ---- what a node shows as decided
+
+-- so many votes are those in a front of the messages
+cut : (j k : ℕ) (messages : List Message) → k ≤ length (votes j messages) → (front : List Message) × (rest : List Message) × (messages ≡ front ++ rest) × (votes j front ≡ take k (votes j messages))
+unfolding votes
+cut j zero messages many = ([], messages, refl, refl)
+cut j (suc k) [] many = absurd (omega (arith, many))
+cut j (suc k) (message ∷ messages) many = by_value (value_in j message.item) refl many (λ n more. cut j n messages more)
+  where
+    by_value : (o : Option ℕ) → value_in j message.item ≡ o → suc k ≤ length (cons_option o (votes j messages))
+        → ((n : ℕ) → n ≤ length (votes j messages) → (front : List Message) × (rest : List Message) × (messages ≡ front ++ rest) × (votes j front ≡ take n (votes j messages)))
+        → (front : List Message) × (rest : List Message) × (message ∷ messages ≡ front ++ rest) × (votes j front ≡ take (suc k) (cons_option o (votes j messages)))
+    by_value None e more ih =
+        let r = ih (suc k) more in
+        (message ∷ r.0, r.1, ap (λ l. message ∷ l) r.2, ap (λ o. cons_option o (votes j r.0)) e ∙ r.3)
+    by_value (Some v) e more ih =
+        let r = ih k (omega (arith, more)) in
+        (message ∷ r.0, r.1, ap (λ l. message ∷ l) r.2, ap (λ o. cons_option o (votes j r.0)) e ∙ ap (λ l. v ∷ l) r.3)
+
+pub shown_by_votes : (config : Config) (past : History) (q j v : ℕ) → decision config past q j ≡ Some v → DecidedBy config past j v
+unfolding decision
+shown_by_votes config past q j v e = by_test (nat_le k (length values)) refl e
+  where
+    k : ℕ
+    k = config.nodes - config.faults
+
+    values : List ℕ
+    values = votes j (delivery_log config past q)
+
+    by_test : (b : Bool) → nat_le k (length values) ≡ b → cond b (Some (least (take k values))) None ≡ Some v → DecidedBy config past j v
+    by_test true many is =
+        let enough = leb-true k (length values) many in
+        let r = cut j k (delivery_log config past q) enough in
+        let value : least (take k values) ≡ v = cc in
+        record {
+          node = q;
+          front = r.0;
+          rest = r.1;
+          log_is = r.2;
+          complete = ap length r.3 ∙ length-take-le k values enough;
+          value_is = sym value ∙ ap least (sym r.3);
+        }
+    by_test false few is = absurd (cc)

@@ -4,11 +4,11 @@ use Rattle.cast_message.specs.declared.config.Config.{Config}
 use Rattle.cast_message.specs.declared.config.Mode.TheVariants.{Uniform}
 use Rattle.cast_message.specs.declared.event.Event.{Event}
 use Rattle.cast_model.specs.History.{History, broadcast, has_pair, first, frames}
-use Rattle.cast_model.specs.Delivery.{delivered, decision, known_by}
+use Rattle.cast_model.specs.Delivery.{delivered, decision, knows, known_by}
 use Rattle.cast_model.specs.Replies.{IsAccepted, IsPrefixOf, reply, after}
 use Rattle.cast_model.specs.Rounds.{owed, Rest, Live, HoldTheSame, HaveFewCrashed, FewCrashedIn, AreAccepted, AcceptedUntilFull, due, plan, after_round, proposers}
 use Rattle.cast_model.specs.Steps.{Step, steps_of}
-use Rattle.cast_model.specs.OwnSteps.{IsStep, node_reply, node_after, own_frames, own_delivered, own_decision, own_owed, own_known_by}
+use Rattle.cast_model.specs.OwnSteps.{IsStep, node_reply, node_after, own_frames, own_delivered, own_decision, own_owed, own_knows, own_known_by}
 
 -- an event of a round is refused only where its node's frames are full
 abbrev pub RefusesRoundsAsFullAlone : Type 0
@@ -94,3 +94,7 @@ NodesOweAsTheGroup = (past : History) (me q : ℕ) → own_owed me (steps_of pas
 -- it knows as many holders of a pair as the group says that it does
 abbrev pub NodesKnowHoldersAsTheGroup : Type 0
 NodesKnowHoldersAsTheGroup = (config : Config) (past : History) (me s i : ℕ) → own_known_by config me (steps_of past me) s i ≡ known_by config past me s i
+
+-- and which nodes they are
+abbrev pub NodesKnowWhoHoldsAsTheGroup : Type 0
+NodesKnowWhoHoldsAsTheGroup = (past : History) (me s i r : ℕ) → own_knows me (steps_of past me) s i r ≡ knows past me s i r

@@ -1,11 +1,13 @@
 -- The main promise, over every list of events and the replies that the definitions give, and what it stands on: what was answered
--- is what readers show, and only slots that were taken are acknowledged.
-use Rattle.std.specs.Prelude.{◌≡◌, ℕ, true, List}
+-- as delivered is what readers show, what they show as decided keeps the promise too, and only slots that were taken are acknowledged.
+use Rattle.std.specs.Prelude.{◌≡◌, ◌<◌, ℕ, true, List, Some}
+use Rattle.std.specs.List.{Contains, filter_map}
 use Rattle.cast_message.specs.declared.config.Config.{Config}
 use Rattle.cast_message.specs.declared.event.Event.{Event}
-use Rattle.cast_model.specs.History.{History, acked, taken}
-use Rattle.cast_model.specs.Delivery.{delivered}
-use Rattle.cast_model.specs.Replies.{IsAccepted, answered, history, replies}
+use Rattle.cast_message.specs.declared.message.Item.TheVariants.{Propose}
+use Rattle.cast_model.specs.History.{History, stream, acked, taken}
+use Rattle.cast_model.specs.Delivery.{nodes_of, delivered, decision}
+use Rattle.cast_model.specs.Replies.{IsAccepted, AtMost, answered, history, replies}
 use Rattle.cast_model.specs.Headline.{DeliversPrefixes, DeliversNothingAfterClose, DecidesProposals, DecidesFewValues}
 
 abbrev pub AllRunsDeliverPrefixes : Type 0
@@ -24,6 +26,20 @@ AllRunsDecideFewValues = (config : Config) (events : List Event) → DecidesFewV
 abbrev pub AllRunsAnswerWhatIsDelivered : Type 0
 AllRunsAnswerWhatIsDelivered = (config : Config) (events : List Event) (q s : ℕ) →
     answered events (replies config events) q s ≡ delivered config (history config events) q s
+
+-- what nodes show as decided in an instance
+abbrev pub decisions_shown : Config → History → ℕ → List ℕ
+decisions_shown config past j = filter_map (λ q. decision config past q j) (nodes_of config)
+
+-- a value that a node shows as decided was proposed in its instance by a node of the group
+abbrev pub AllNodesShowProposals : Type 0
+AllNodesShowProposals = (config : Config) (past : History) → IsAccepted config past →
+    (q j v : ℕ) → decision config past q j ≡ Some v → (s : ℕ) × (s < config.nodes) × Contains (stream past s) (Propose j v)
+
+-- nodes show at most k values of an instance, where the faults are fewer than k
+abbrev pub AllNodesShowFewValues : Type 0
+AllNodesShowFewValues = (config : Config) (past : History) → IsAccepted config past → config.faults < config.choices →
+    (j : ℕ) → AtMost config.choices (decisions_shown config past j)
 
 -- a slot of which p has q's acknowledgement was taken by q
 abbrev pub OnlyTakenSlotsAreAcknowledged : Type 0

@@ -4,21 +4,24 @@
 #![tactic(auto)]
 
 ghost use Rattle.cast_model.specs.RunLaws.{AllRunsDeliverPrefixes, AllRunsCloseStreams, AllRunsDecideProposals, AllRunsDecideFewValues};
-ghost use Rattle.cast_model.specs.RunLaws.{AllRunsAnswerWhatIsDelivered, OnlyTakenSlotsAreAcknowledged};
+ghost use Rattle.cast_model.specs.RunLaws.{AllRunsAnswerWhatIsDelivered, AllNodesShowProposals, AllNodesShowFewValues, OnlyTakenSlotsAreAcknowledged};
 ghost use Rattle.cast_model.specs.RestLaws.{RefusesRoundsAsFullAlone, RoundsSpread, RoundsAddNothing, RoundsRest, TwoRoundsRest};
 ghost use Rattle.cast_model.specs.RestLaws.{RestsWhereNothingIsDue, NothingIsDueAtRest, DeliversTheSameAtRest, DeliversWholeStreamsAtRest, DeliversWhatAnyDeliveredAtRest};
 ghost use Rattle.cast_model.specs.RestLaws.{DecidesTheSameAtRest, DecidesWhatIsProposedAtRest, NodesAnswerAsTheGroup, NodesStepAsTheGroup};
-ghost use Rattle.cast_model.specs.RestLaws.{NodesMakeTheFrames, NodesDeliverAsTheGroup, NodesDecideAsTheGroup, NodesOweAsTheGroup, NodesKnowHoldersAsTheGroup};
+ghost use Rattle.cast_model.specs.RestLaws.{NodesMakeTheFrames, NodesDeliverAsTheGroup, NodesDecideAsTheGroup, NodesOweAsTheGroup, NodesKnowHoldersAsTheGroup, NodesKnowWhoHoldsAsTheGroup};
 
 /// What a node delivers from a sender is a prefix of what that sender broadcast, with nothing after its close; each
 /// decided value was proposed in its instance; and where the faults are fewer than k, at most k values are decided. What the
-/// replies say of deliveries is what each node has delivered, and what is acknowledged was taken.
+/// replies say of deliveries is what each node has delivered, the last two hold of what nodes show as decided too, and what is
+/// acknowledged was taken.
 pub fn keeps_order_and_agrees()
     ensures prefix { AllRunsDeliverPrefixes }
     ensures closed { AllRunsCloseStreams }
     ensures proposed { AllRunsDecideProposals }
     ensures few { AllRunsDecideFewValues }
     ensures shown { AllRunsAnswerWhatIsDelivered }
+    ensures shown_proposed { AllNodesShowProposals }
+    ensures shown_few { AllNodesShowFewValues }
     ensures acknowledged { OnlyTakenSlotsAreAcknowledged }
 {}
 
@@ -56,4 +59,5 @@ pub fn answers_by_own_steps()
     ensures decided { NodesDecideAsTheGroup }
     ensures owed { NodesOweAsTheGroup }
     ensures known { NodesKnowHoldersAsTheGroup }
+    ensures holders { NodesKnowWhoHoldsAsTheGroup }
 {}

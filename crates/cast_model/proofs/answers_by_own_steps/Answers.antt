@@ -1,6 +1,6 @@
 use Rattle.cast_model.proofs.Possible.{node_reply-steps_of, node_after-steps_of}
 use Rattle.cast_model.proofs.OwnReplies.{own_frames-steps_of, own_owed-steps_of}
-use Rattle.cast_model.proofs.OwnTurns.{own_delivered-steps_of, own_decision-steps_of, own_known_by-steps_of}
+use Rattle.cast_model.proofs.OwnTurns.{own_delivered-steps_of, own_decision-steps_of, own_known_by-steps_of, own_knows-steps_of}
 use Rattle.cast_model.proofs.answers_by_own_steps.Goals as goal
 
 pub returns : goal.returns
@@ -12,4 +12,5 @@ returns c = record {
   decided = own_decision-steps_of;
   owed = own_owed-steps_of;
   known = own_known_by-steps_of;
+  holders = own_knows-steps_of;
 }

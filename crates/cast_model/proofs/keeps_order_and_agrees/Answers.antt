@@ -4,7 +4,7 @@ use Rattle.cast_model.proofs.Answered.{answered_is_prefix, answered-delivered}
 use Rattle.cast_model.proofs.AtRest.{acked_taken}
 use Rattle.cast_model.proofs.Sound.{sound}
 use Rattle.cast_model.proofs.Closed.{answered_closed}
-use Rattle.cast_model.proofs.Agreement.{decided_in_stream, decided_at_most_choices}
+use Rattle.cast_model.proofs.Agreement.{decided_in_stream, decided_at_most_choices, shown_in_stream, shown_at_most_choices}
 use Rattle.cast_model.proofs.keeps_order_and_agrees.Goals as goal
 
 pub returns-clause-prefix : goal.returns-clause-prefix
@@ -23,6 +23,14 @@ returns-clause-few c config events fewer = decided_at_most_choices config fewer 
 
 pub returns-clause-shown : goal.returns-clause-shown
 returns-clause-shown c = answered-delivered
+
+pub returns-clause-shown_proposed : goal.returns-clause-shown_proposed
+returns-clause-shown_proposed c config past accepted q j v shown =
+    let r = shown_in_stream config past accepted q j v shown in
+    (r.0, r.1, Member-Contains (Propose j v) _ r.2)
+
+pub returns-clause-shown_few : goal.returns-clause-shown_few
+returns-clause-shown_few c = shown_at_most_choices
 
 pub returns-clause-acknowledged : goal.returns-clause-acknowledged
 returns-clause-acknowledged c config past accepted = acked_taken past (sound config past accepted)

@@ -2,7 +2,7 @@ use Rattle.std.proofs.Common.{◌∙◌, ap, refl, sym, subst}
 use Rattle.std.proofs.lemmas.Result.{err_from_is_err_and}
 use Rattle.cast_run.specs.Jobs.{told_job}
 use Rattle.cast_live.specs.Live.{IsRunOf}
-use Rattle.cast_live.proofs.LiveLemmas.{new_fact, refused_for}
+use Rattle.cast_live.proofs.LiveLemmas.{new_fact, fits, refused_for, misfit_for}
 use Rattle.cast_live.proofs.live.run_script.Goals as goal
 
 pub run_live-requires-clause-facts : goal.run_live-requires-clause-facts
@@ -16,7 +16,12 @@ returns-in_err-run-clause-err g c =
 pub returns-clause-ran : goal.returns-clause-ran
 returns-clause-ran g c =
     let run = c.in_ok-run.run' in
+    let handed = c.in_ok-jobs.jobs.items in
     subst (IsRunOf c.args.script) (ap (λ report. report.reports) (sym c.in_ok-merge_logs.ensures.report)) (record {
+      fits = record {
+        jobs = fits c.args.script handed c.in_ok-jobs.ensures.items _ (c.in_ok-gates.ensures ∙ c.nodes.ensures) c.in_ok-run.ensures.fits.jobs_fit;
+        plan = c.in_ok-run.ensures.fits.plan_fits;
+      };
       logs = c.in_ok-run.ensures.logs;
       handed = c.in_ok-jobs.jobs.items;
       back = run.jobs.items;

@@ -5,4 +5,4 @@ use Rattle.cast_engine.proofs.engine.Engine.end.Goals as goal
 pub invariant_of-self : goal.invariant_of-self
 invariant_of-self c =
     let i = c.self.inside in
-    stays_halt i.journal _ i.outbox.put i.held i.inbox.taken _ i.places.items c.self.invariant (inl c.end.ensures)
+    stays_halt i.journal _ i.outbox.put i.held i.inbox.taken _ i.places.items c.self.invariant (inl c.end.ensures.only)

@@ -18,4 +18,4 @@ invariant_of-self-2 g c =
     let i = c.self.inside in
     let j = c.may_log.new.self in
     stays_ordered j c.order.new.self i.outbox.put i.held i.inbox.taken _ i.places.items (stays_same i.journal j i.outbox.put i.held i.inbox.taken _ i.places.items c.self.invariant (c.if-not-may_log.ensures.may refl).0)
-    c.in-Some.order _ c.in-Some.ensures.taken c.order.ensures
+    c.in-Some.order _ c.in-Some.ensures.taken c.order.ensures.logs
