@@ -84,7 +84,7 @@ pub misfit_for : (script : Script) (gates : ℕ) → gates ≡ script.config.nod
     → IsOfRunning script (fault_of_live why)
 misfit_for script gates many lives.Jobs is = is.0
 misfit_for script gates many lives.Gates is = absurd (is.0.1 many)
-misfit_for script gates many lives.Plan is = (is.0.0, is.0.1.1)
+misfit_for script gates many lives.Plan is = (is.0.0, is.0.2)
 misfit_for script gates many lives.Memory is = absurd (is.1 is.0)
 misfit_for script gates many lives.Threads is = absurd (is.1 is.0)
 

@@ -1,5 +1,5 @@
 -- Each item that a node has ordered was given to a teller there.
-use Rattle.std.proofs.Common.{◌≡◌, ◌<◌, ◌+◌, ℕ, zero, suc, Bool, true, false, cond, List, [], ◌∷◌, ◌++◌, length, map, reverse, take, Option, Some, None, refl, sym, ap, ◌∙◌, subst, eqb, eq-eqb, eqb-eq, arith}
+use Rattle.std.proofs.Common.{◌≡◌, ◌<◌, ◌+◌, ℕ, zero, suc, Bool, true, false, cond, List, [], ◌∷◌, ◌++◌, length, map, reverse, take, Option, Some, None, refl, sym, ap, ◌∙◌, subst, eqb, eq-eqb, eqb-true, arith}
 use Rattle.std.specs.Prelude.{is_some, ◌||◌, if◌then◌else◌, slice_get}
 use Rattle.std.specs.List.{All, Contains, filter}
 use Rattle.std.proofs.lemmas.List.{reverse-append}
@@ -36,7 +36,7 @@ use Rattle.example_ledger.proofs.Telling.{something_at}
 
 module _ (P : Item → Type 0) (p : ℕ) where
   -- if the step is an order, it is of such an item
-  OnOrder : Taken → Type 0
+  abbrev OnOrder : Taken → Type 0
   OnOrder t = (item : Item) → t.event ≡ Order p item → P item
 
   after : (b : Bool) (steps : Steps) (step : Step) → All P (own_items steps) → ((item : Item) → event_of p step ≡ Order p item → P item)
@@ -76,7 +76,7 @@ module _ (P : Item → Type 0) (p : ℕ) where
 
 -- ---- from an order in the log to the teller that it is of
 
-module _ {A B : Type 0} where
+module _ {A : Type 0} where
   -- what passes a test is kept
   kept_by : (test : A → Bool) (xs : List A) (x : A) → Has xs x → test x ≡ true → Has (filter test xs) x
   kept_by test [] x at passes = absurd cc
@@ -89,6 +89,7 @@ module _ {A B : Type 0} where
       let rest = kept_by test ys x (i, e) passes in
       elim (test y) as (λ b. Has (cond b (y ∷ filter test ys) (filter test ys)) x) [ true ↦ (suc rest.0, rest.1) | false ↦ rest ]
 
+module _ {A B : Type 0} where
   -- of lists that are related one for one, what one has is related to one of the other
   matched : (R : A → B → Type 0) (S : B → Type 0) (xs : List A) (ys : List B) (x : A) → Matches R xs ys → All S ys → Has xs x → (y : B) × S y × R x y
   unfolding Matches
@@ -103,19 +104,20 @@ module _ {A B : Type 0} where
 job_of : {J : Type 0} (jobs : List (ℕ × J)) (s c : ℕ) → c < length (of s jobs)
     → (i : ℕ) × (job : J) × (slice_get jobs i ≡ Some (told_job s job)) × (length (of s (take i jobs)) ≡ c)
 job_of [] s c within = absurd (omega (arith, within))
-job_of {J} ((n, job) ∷ jobs) s c within = by_node (eqb s n) refl c within
+job_of {J} ((n, job) ∷ jobs) s c within = by_node (eqb s n) refl c within (λ k below. job_of jobs s k below)
   where
     by_node : (b : Bool) → eqb s n ≡ b → (c : ℕ) → c < length (cond b (job ∷ of s jobs) (of s jobs))
+        → ((k : ℕ) → k < length (of s jobs) → (i : ℕ) × (j : J) × (slice_get jobs i ≡ Some (told_job s j)) × (length (of s (take i jobs)) ≡ k))
         → (i : ℕ) × (j : J) × (slice_get ((n, job) ∷ jobs) i ≡ Some (told_job s j)) × (length (of s (take i ((n, job) ∷ jobs))) ≡ c)
-    by_node true is zero below =
-        let same : n ≡ s = sym (eqb-eq s n is) in
+    by_node true is zero below ih =
+        let same : n ≡ s = sym (eqb-true s n is) in
         (zero, job, ap (λ m. Some (told_job m job)) same, refl)
-    by_node true is (suc c) below =
-        let rest = job_of jobs s c (omega (arith, below)) in
-        (suc rest.0, rest.1.0, rest.1.1.0, ap (λ b. length (cond b (job ∷ of s (take rest.0 jobs)) (of s (take rest.0 jobs)))) is ∙ ap suc rest.1.1.1)
-    by_node false is c below =
-        let rest = job_of jobs s c below in
-        (suc rest.0, rest.1.0, rest.1.1.0, ap (λ b. length (cond b (job ∷ of s (take rest.0 jobs)) (of s (take rest.0 jobs)))) is ∙ rest.1.1.1)
+    by_node true is (suc c) below ih =
+        let rest = ih c (omega (arith, below)) in
+        (suc rest.0, rest.1, rest.2, ap (λ b. length (cond b (job ∷ of s (take rest.0 jobs)) (of s (take rest.0 jobs)))) is ∙ ap suc rest.3)
+    by_node false is c below ih =
+        let rest = ih c below in
+        (suc rest.0, rest.1, rest.2, ap (λ b. length (cond b (job ∷ of s (take rest.0 jobs)) (of s (take rest.0 jobs)))) is ∙ rest.3)
 
 items_of_orders : (P : Item → Type 0) (orders : List OrderIn) → All P (map (λ order. order.item) orders) → All (λ order. P order.item) orders
 items_of_orders P [] all = All-nil (λ (order : OrderIn). P order.item)
@@ -147,27 +149,27 @@ module _ (config : Config) (handed : List (ℕ × Teller)) (reports : List NodeR
   entry_is_given s report at entry item origin outcome has kind =
       let from = origins s report entry s item origin outcome at has kind in
       let number = from.0.client in
-      let job = job_of handed s number from.1.1 in
+      let job = job_of handed s number from.2 in
       let i = job.0 in
-      let given = job.1.0 in
-      let within : i < length handed = slice_get_within handed i (told_job s given) job.1.1.0 in
+      let given = job.1 in
+      let within : i < length handed = slice_get_within handed i (told_job s given) job.2 in
       let back = something_at tellers i (omega (arith, within, served.0)) in
       let client = something_at clients i (omega (arith, within, served.1)) in
       let is = served.2 i back.0 client.0 back.1 client.1 in
-      let same = some_pair_parts client.0.node s is.handed given (sym is.node ∙ job.1.1.0) in
-      let c : client.0.client ≡ number = is.number ∙ ap (λ n. length (of n (take i handed))) same.0 ∙ job.1.1.1 in
+      let same = some_pair_parts client.0.node s is.handed given (sym is.node ∙ job.2) in
+      let c : client.0.client ≡ number = is.number ∙ ap (λ n. length (of n (take i handed))) same.0 ∙ job.3 in
       let own : report ≡ is.report = let there = is.report_at in let on = ap (slice_get reports) same.0 in cc in
       let there = subst (λ (r : NodeReport). Has r.log entry) own has in
       let passes : is_of client.0.client (origin_in entry.kind) ≡ true =
-      ap (λ k. is_of client.0.client (origin_in k)) kind ∙ ap (is_of client.0.client) from.1.0 ∙ eq-eqb number client.0.client (sym c) in
+      ap (λ k. is_of client.0.client (origin_in k)) kind ∙ ap (is_of client.0.client) from.1 ∙ eq-eqb number client.0.client (sym c) in
       let P : Item → Type 0 = IsGiven handed s in
-      let all : All P given.items = All-weaker (Contains given.items) P (λ x has. (i, given, job.1.1.0, has)) given.items (All-contains_itself given.items) in
+      let all : All P given.items = All-weaker (Contains given.items) P (λ x has. (i, given, job.2, has)) given.items (All-contains_itself given.items) in
       let sent = orders_of_teller P is.handed back.0 is.sent is.holds.same.0 is.holds.ordered (subst (λ (t : Teller). All P t.items) (sym same.1) all) in
       let R = IsAnswered config client.0.node is.trail in
       let found = matched R (λ (order : OrderIn). P order.item) (entries_of client.0.client is.report.log) (take client.0.tickets is.sent) entry is.entries
       (All-take (λ (order : OrderIn). P order.item) client.0.tickets is.sent sent)
-      (kept_by {A = Entry} {B = OrderIn} (λ e. is_of client.0.client (origin_in e.kind)) is.report.log entry there passes) in
-      subst P (item_answered config client.0.node s (steps_in config client.0.node (before entry.stamp is.trail)) entry.kind found.0 item origin outcome kind found.1.1) found.1.0
+      (kept_by (λ (e : Entry). is_of client.0.client (origin_in e.kind)) is.report.log entry there passes) in
+      subst P (item_answered config client.0.node s (steps_in config client.0.node (before entry.stamp is.trail)) entry.kind found.0 item origin outcome kind found.2) found.1
 
   pub orders_are_given : (past : History) (world : State) → Stands config past world
       → ((p : ℕ) (report : NodeReport) → slice_get reports p ≡ Some report → node_at world p ≡ report.node)

@@ -1,14 +1,11 @@
--- What is known of tellers, turn by turn and when their group has ended.
-use Rattle.std.proofs.Common.{◌≡◌, ◌+◌, ◌<◌, ℕ, zero, suc, List, [], ◌∷◌, ◌++◌, length, map, take, Some, refl, sym, ap, ◌∙◌, subst, arith}
+-- What is known of tellers whose group has ended.
+use Rattle.std.proofs.Common.{◌≡◌, ◌<◌, ℕ, zero, suc, List, [], ◌∷◌, ◌++◌, length, map, Some, refl, sym, subst, arith}
 use Rattle.std.specs.Prelude.{slice_get}
-use Rattle.std.proofs.lemmas.List.{map-append, take_more}
-use Rattle.std.proofs.lemmas.Option.{slice_get_within, get_or_from_slice_get}
+use Rattle.std.proofs.lemmas.Option.{slice_get_within}
 use Rattle.cast_message.specs.declared.config.Config.{Config}
-use Rattle.cast_message.specs.declared.message.Item.{Item}
 use Rattle.cast_model.specs.History.{History, stream}
 use Rattle.cast_model.specs.Replies.{IsPrefixOf}
 use Rattle.cast_model.specs.Shown.{item_of}
-use Rattle.cast_desk.specs.declared.desk.OrderIn.{OrderIn}
 use Rattle.cast_report.specs.declared.report.NodeReport.{NodeReport}
 use Rattle.cast_run.specs.declared.reports.ClientReport.{ClientReport}
 use Rattle.cast_run.specs.Jobs.{told_job}
@@ -18,16 +15,6 @@ use Rattle.example_ledger.specs.declared.teller.Teller.{Teller}
 use Rattle.example_ledger.specs.Applied.{of_sender}
 use Rattle.example_ledger.specs.Tellers.{IsNewTeller, TellerFact, AreNewTellers, TellersApplyPrefixes, TellersKeepSheets}
 use Rattle.example_ledger.proofs.Logged.{told_begins_stream}
-
--- the next item was ordered
-pub ordered_next : (items : List Item) (next : ℕ) (sent : List OrderIn) (order : OrderIn) → slice_get items next ≡ Some order.item
-    → map (λ o. o.item) sent ≡ take next items → map (λ o. o.item) (sent ++ order ∷ []) ≡ take (next + 1) items
-ordered_next items next sent order at ordered =
-    let item_in : OrderIn → Item = λ o. o.item in
-    map-append item_in sent (order ∷ [])
-    ∙ ap (λ front. front ++ order.item ∷ []) ordered
-    ∙ ap (λ item. take next items ++ item ∷ []) (sym (get_or_from_slice_get items next order.item order.item at))
-    ∙ sym (take_more items next order.item (slice_get_within items next order.item at))
 
 -- one more teller that has done nothing
 pub tellers_with : (tellers : List (ℕ × Teller)) (node : ℕ) (teller : Teller) → AreNewTellers tellers → IsNewTeller teller → AreNewTellers (tellers ++ (node, teller) ∷ [])

@@ -11,7 +11,7 @@ run_live-requires-clause-facts g c lifetimes within i node job at = (refl, new_f
 pub returns-in_err-run-clause-err : goal.returns-in_err-run-clause-err
 returns-in_err-run-clause-err g c =
     let p = err_from_is_err_and c.from_residual-in_err-run.result c.from_residual-in_err-run.ensures.1 in
-    rw (p.1, p.2) (refused_for c.args.script c.in_ok-jobs.jobs.items c.in_ok-jobs.ensures.items _ (c.in_ok-gates.ensures ∙ c.nodes.ensures) c.in_err-run.field-0.0 c.in_err-run.ensures.fault)
+    rw (p.1, p.2) (refused_for c.args.script c.in_ok-jobs.jobs.items c.in_ok-jobs.ensures.items _ (c.in_ok-gates.ensures ∙ c.nodes-2.ensures) c.in_err-run.field-0.0 c.in_err-run.ensures.fault)
 
 pub returns-clause-ran : goal.returns-clause-ran
 returns-clause-ran g c =
@@ -19,7 +19,7 @@ returns-clause-ran g c =
     let handed = c.in_ok-jobs.jobs.items in
     subst (IsRunOf c.args.script) (ap (λ report. report.reports) (sym c.in_ok-merge_logs.ensures.report)) (record {
       fits = record {
-        jobs = fits c.args.script handed c.in_ok-jobs.ensures.items _ (c.in_ok-gates.ensures ∙ c.nodes.ensures) c.in_ok-run.ensures.fits.jobs_fit;
+        jobs = fits c.args.script handed c.in_ok-jobs.ensures.items _ (c.in_ok-gates.ensures ∙ c.nodes-2.ensures) c.in_ok-run.ensures.fits.jobs_fit;
         plan = c.in_ok-run.ensures.fits.plan_fits;
       };
       logs = c.in_ok-run.ensures.logs;
