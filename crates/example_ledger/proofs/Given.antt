@@ -140,12 +140,29 @@ item_answered config p node earlier (StepEntry event from outcome) order item or
     cc
 item_answered config p node earlier (Refused from fault) order item origin done is answered = absurd cc
 
+-- an order of a client is of an item that its teller was given
+module _ (config : Config) (handed : List (ℕ × Teller)) (reports : List NodeReport) (i : ℕ) (teller : Teller) (client : ClientReport)
+    (is : IsServed config TellerFact handed reports i teller client) where
+  order_is_given : (P : Item → Type 0) → All P is.handed.items
+      → (entry : Entry) (node : ℕ) (item : Item) (origin : Option Origin) (outcome : Outcome) → Has is.report.log entry
+      → entry.kind ≡ StepEntry (Order node item) origin outcome → is_of client.client origin ≡ true → P item
+  unfolding entries_of
+  order_is_given P all entry node item origin outcome has kind own =
+      let Q : OrderIn → Type 0 = λ order. P order.item in
+      let sent = orders_of_teller P is.handed teller is.sent is.holds.same.0 is.holds.ordered all in
+      let passes : is_of client.client (origin_in entry.kind) ≡ true = ap (λ k. is_of client.client (origin_in k)) kind ∙ own in
+      let found = matched (IsAnswered config client.node is.trail) Q (entries_of client.client is.report.log) (take client.tickets is.sent) entry is.entries
+      (All-take Q client.tickets is.sent sent)
+      (kept_by (λ (e : Entry). is_of client.client (origin_in e.kind)) is.report.log entry has passes) in
+      let order = found.0 in
+      let same : order.item ≡ item = item_answered config client.node node (steps_in config client.node (before entry.stamp is.trail)) entry.kind order item origin outcome kind found.2 in
+      subst P same found.1
+
 module _ (config : Config) (handed : List (ℕ × Teller)) (reports : List NodeReport) (tellers : List Teller) (clients : List ClientReport)
     (served : AreServed config TellerFact handed reports tellers clients) (origins : HaveOrigins handed reports) (linked : Linked config reports) where
   entry_is_given : (s : ℕ) (report : NodeReport) → slice_get reports s ≡ Some report
       → (entry : Entry) (item : Item) (origin : Option Origin) (outcome : Outcome) → Has report.log entry → entry.kind ≡ StepEntry (Order s item) origin outcome
       → IsGiven handed s item
-  unfolding entries_of
   entry_is_given s report at entry item origin outcome has kind =
       let from = origins s report entry s item origin outcome at has kind in
       let number = from.0.client in
@@ -159,17 +176,11 @@ module _ (config : Config) (handed : List (ℕ × Teller)) (reports : List NodeR
       let same = some_pair_parts client.0.node s is.handed given (sym is.node ∙ job.2) in
       let c : client.0.client ≡ number = is.number ∙ ap (λ n. length (of n (take i handed))) same.0 ∙ job.3 in
       let own : report ≡ is.report = let there = is.report_at in let on = ap (slice_get reports) same.0 in cc in
-      let there = subst (λ (r : NodeReport). Has r.log entry) own has in
-      let passes : is_of client.0.client (origin_in entry.kind) ≡ true =
-      ap (λ k. is_of client.0.client (origin_in k)) kind ∙ ap (is_of client.0.client) from.1 ∙ eq-eqb number client.0.client (sym c) in
       let P : Item → Type 0 = IsGiven handed s in
       let all : All P given.items = All-weaker (Contains given.items) P (λ x has. (i, given, job.2, has)) given.items (All-contains_itself given.items) in
-      let sent = orders_of_teller P is.handed back.0 is.sent is.holds.same.0 is.holds.ordered (subst (λ (t : Teller). All P t.items) (sym same.1) all) in
-      let R = IsAnswered config client.0.node is.trail in
-      let found = matched R (λ (order : OrderIn). P order.item) (entries_of client.0.client is.report.log) (take client.0.tickets is.sent) entry is.entries
-      (All-take (λ (order : OrderIn). P order.item) client.0.tickets is.sent sent)
-      (kept_by (λ (e : Entry). is_of client.0.client (origin_in e.kind)) is.report.log entry there passes) in
-      subst P (item_answered config client.0.node s (steps_in config client.0.node (before entry.stamp is.trail)) entry.kind found.0 item origin outcome kind found.2) found.1
+      order_is_given config handed reports i back.0 client.0 is P (subst (λ (t : Teller). All P t.items) (sym same.1) all)
+      entry s item origin outcome (subst (λ (r : NodeReport). Has r.log entry) own has) kind
+      (ap (is_of client.0.client) from.1 ∙ eq-eqb number client.0.client (sym c))
 
   pub orders_are_given : (past : History) (world : State) → Stands config past world
       → ((p : ℕ) (report : NodeReport) → slice_get reports p ≡ Some report → node_at world p ≡ report.node)

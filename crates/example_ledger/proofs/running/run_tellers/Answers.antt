@@ -1,6 +1,5 @@
 use Rattle.std.proofs.Common.{subst}
 use Rattle.cast_model.specs.Replies.{history}
-use Rattle.cast_report.specs.Linked.{Linked}
 use Rattle.cast_world.specs.Group.{Stands}
 use Rattle.example_ledger.proofs.Given.{orders_are_given}
 use Rattle.example_ledger.proofs.Telling.{tellers_apply_prefixes, tellers_keep_sheets}
@@ -29,5 +28,5 @@ returns-clause-given g c =
     let assembly = c.in_ok-assembly.assembly in
     let config = c.args.config in
     orders_are_given config c.args.tellers.items live.report.reports live.jobs.items live.clients.items c.in_ok-live.ensures.jobs c.in_ok-live.ensures.origins
-    (subst (λ config. Linked config live.report.reports) c.in_ok-live.ensures.config c.in_ok-live.ensures.linked)
+    c.in_ok-live.ensures.linked
     (history config assembly.events) assembly.world (returns-clause-world g c) c.in_ok-assembly.ensures.nodes
