@@ -42,7 +42,7 @@ log_answer config past (Arrive from seq) q = by_frame (slice_get (frames past fr
     by_frame None = either (0 == q)
     by_frame (Some frame) = refl
 
-delivery_log-after : (config : Config) (past : History) (event : Event) (q : ℕ) → delivery_log config (after config past event) q ≡ delivery_log config past q ++ deliveries_for q event (reply config past event)
+pub delivery_log-after : (config : Config) (past : History) (event : Event) (q : ℕ) → delivery_log config (after config past event) q ≡ delivery_log config past q ++ deliveries_for q event (reply config past event)
 unfolding after reply delivery_log
 delivery_log-after config past event q = by_fault (fault config past event)
   where

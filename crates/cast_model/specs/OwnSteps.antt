@@ -72,7 +72,7 @@ own_acked steps r slot = list_any (λ frame. frame.from == r && is_took_of slot 
 unfoldable pub own_owed : ℕ → Steps → ℕ → List ℕ
 own_owed me steps q = filter (λ slot. not (own_acked steps q slot)) (range_with_len 0 (length (own_given me steps q)))
 
--- it knows that r holds the pair
+-- of a pair that it holds, it knows that r holds it
 unfoldable pub own_knows : ℕ → Steps → ℕ → ℕ → ℕ → Bool
 own_knows me steps s i r = is_told (own_given_copies me steps r) (frames_in steps) me s i r
 

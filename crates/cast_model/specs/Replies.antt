@@ -6,6 +6,7 @@
 --     replies config events        the replies in order
 --     answered events replies q s  what q delivered from s, by the replies
 --     decided replies j            the values decided in instance j, by the replies
+--     decided_at events replies q j  those that q decided
 --     IsPrefixOf, AtMost           the words of the main promise
 use Rattle.std.specs.Prelude.{◌≡◌, ℕ, suc, ◌==◌, ◌≤◌, nat_eq, Bool, true, false, if◌then◌else◌, List, [], ◌∷◌, ◌++◌, length, reverse, slice_get}
 use Rattle.std.specs.Prelude.{Option, Some, None, Result, Ok, Err}
@@ -15,6 +16,7 @@ use Rattle.cast_message.specs.declared.event.Event.{Event}
 use Rattle.cast_message.specs.declared.event.Event.TheVariants.{Order, Send, Ack, Arrive, Crash}
 use Rattle.cast_message.specs.declared.event.Answer.{Answer}
 use Rattle.cast_message.specs.declared.event.Answer.TheVariants.{Ordered as AnswerOrdered, Sent as AnswerSent, Arrived as AnswerArrived, Down}
+use Rattle.cast_message.specs.declared.event.Outcome.{Outcome}
 use Rattle.cast_message.specs.declared.event.StepFault.{StepFault}
 use Rattle.cast_message.specs.declared.event.StepFault.TheVariants.{NoFrame, Memory}
 use Rattle.cast_message.specs.declared.message.Item.TheVariants.{Close}
@@ -108,11 +110,15 @@ unfoldable pub IsAccepted : Config → History → Type 0
 IsAccepted config [] = Unit {0}
 IsAccepted config (event ∷ past) = IsAccepted config past × (fault config past event ≡ None)
 
+-- of what an answer to an event brought at q, this
+abbrev pub brought_at : {X : Type 0} → (Outcome → List X) → ℕ → Event → Answer → List X
+brought_at read q (Order node item) (AnswerOrdered number outcome) = if node == q then read outcome else []
+brought_at read q event (AnswerArrived node outcome) = if node == q then read outcome else []
+brought_at read q event _ = []
+
 -- what an answer to an event delivered at q
 abbrev pub deliveries_at : ℕ → Event → Answer → List Message
-deliveries_at q (Order node item) (AnswerOrdered number outcome) = if node == q then outcome.deliveries else []
-deliveries_at q event (AnswerArrived node outcome) = if node == q then outcome.deliveries else []
-deliveries_at q event _ = []
+deliveries_at = brought_at (λ outcome. outcome.deliveries)
 
 abbrev pub deliveries_for : ℕ → Event → Result Answer StepFault → List Message
 deliveries_for q event (Ok a) = deliveries_at q event a
@@ -144,6 +150,20 @@ value_for j decision = if decision.instance == j then Some decision.value else N
 unfoldable pub decided : List (Result Answer StepFault) → ℕ → List ℕ
 decided [] j = []
 decided (result ∷ results) j = filter_map (value_for j) (decisions_in result) ++ decided results j
+
+-- what an answer to an event decided at q
+abbrev pub decisions_at : ℕ → Event → Answer → List Decision
+decisions_at = brought_at (λ outcome. outcome.decisions)
+
+abbrev pub decisions_for : ℕ → Event → Result Answer StepFault → List Decision
+decisions_for q event (Ok a) = decisions_at q event a
+decisions_for q event (Err refusal) = []
+
+-- the values that q decided in instance j, by the replies to its events, in order
+unfoldable pub decided_at : List Event → List (Result Answer StepFault) → ℕ → ℕ → List ℕ
+decided_at [] results q j = []
+decided_at (event ∷ events) [] q j = []
+decided_at (event ∷ events) (result ∷ results) q j = filter_map (value_for j) (decisions_for q event result) ++ decided_at events results q j
 
 abbrev pub IsPrefixOf : {X : Type 0} → List X → List X → Type 0
 IsPrefixOf {X} xs ys = (rest : List X) × (xs ++ rest ≡ ys)

@@ -1,6 +1,6 @@
 -- Rest, and the events of one round.
 --     owed past p q        the slots of p's gifts to q that are not acknowledged
---     Rest config past     no live node owes another
+--     Rest config past     no live node owes another live node
 --     plan config past     the events of one round
 --     HoldTheSame config past          all live nodes hold the same pairs
 --     AreAccepted config past events   the events are accepted, one after the other

@@ -1,13 +1,14 @@
 -- The main promise, over every list of events and the replies that the definitions give, and what it stands on: what was answered
--- as delivered is what readers show, what they show as decided keeps the promise too, and only slots that were taken are acknowledged.
-use Rattle.std.specs.Prelude.{◌≡◌, ◌<◌, ℕ, true, List, Some}
-use Rattle.std.specs.List.{Contains, filter_map}
+-- as delivered and as decided is what readers show, what they show as decided keeps the promise too, and only slots that were taken are
+-- acknowledged.
+use Rattle.std.specs.Prelude.{◌≡◌, ◌<◌, ℕ, true, List, [], Some}
+use Rattle.std.specs.List.{Contains, cons_option, filter_map}
 use Rattle.cast_message.specs.declared.config.Config.{Config}
 use Rattle.cast_message.specs.declared.event.Event.{Event}
 use Rattle.cast_message.specs.declared.message.Item.TheVariants.{Propose}
 use Rattle.cast_model.specs.History.{History, stream, acked, taken}
 use Rattle.cast_model.specs.Delivery.{nodes_of, delivered, decision}
-use Rattle.cast_model.specs.Replies.{IsAccepted, AtMost, answered, history, replies}
+use Rattle.cast_model.specs.Replies.{IsAccepted, AtMost, answered, decided_at, history, replies}
 use Rattle.cast_model.specs.Headline.{DeliversPrefixes, DeliversNothingAfterClose, DecidesProposals, DecidesFewValues}
 
 abbrev pub AllRunsDeliverPrefixes : Type 0
@@ -26,6 +27,11 @@ AllRunsDecideFewValues = (config : Config) (events : List Event) → DecidesFewV
 abbrev pub AllRunsAnswerWhatIsDelivered : Type 0
 AllRunsAnswerWhatIsDelivered = (config : Config) (events : List Event) (q s : ℕ) →
     answered events (replies config events) q s ≡ delivered config (history config events) q s
+
+-- what was answered as decided in an instance is the value that the node shows, once, or nothing
+abbrev pub AllRunsAnswerWhatIsDecided : Type 0
+AllRunsAnswerWhatIsDecided = (config : Config) (events : List Event) (q j : ℕ) →
+    decided_at events (replies config events) q j ≡ cons_option (decision config (history config events) q j) []
 
 -- what nodes show as decided in an instance
 abbrev pub decisions_shown : Config → History → ℕ → List ℕ

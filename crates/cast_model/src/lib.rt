@@ -4,7 +4,7 @@
 #![tactic(auto)]
 
 ghost use Rattle.cast_model.specs.RunLaws.{AllRunsDeliverPrefixes, AllRunsCloseStreams, AllRunsDecideProposals, AllRunsDecideFewValues};
-ghost use Rattle.cast_model.specs.RunLaws.{AllRunsAnswerWhatIsDelivered, AllNodesShowProposals, AllNodesShowFewValues, OnlyTakenSlotsAreAcknowledged};
+ghost use Rattle.cast_model.specs.RunLaws.{AllRunsAnswerWhatIsDelivered, AllRunsAnswerWhatIsDecided, AllNodesShowProposals, AllNodesShowFewValues, OnlyTakenSlotsAreAcknowledged};
 ghost use Rattle.cast_model.specs.RestLaws.{RefusesRoundsAsFullAlone, RoundsSpread, RoundsAddNothing, RoundsRest, TwoRoundsRest};
 ghost use Rattle.cast_model.specs.RestLaws.{RestsWhereNothingIsDue, NothingIsDueAtRest, DeliversTheSameAtRest, DeliversWholeStreamsAtRest, DeliversWhatAnyDeliveredAtRest};
 ghost use Rattle.cast_model.specs.RestLaws.{DecidesTheSameAtRest, DecidesWhatIsProposedAtRest, NodesAnswerAsTheGroup, NodesStepAsTheGroup};
@@ -12,14 +12,15 @@ ghost use Rattle.cast_model.specs.RestLaws.{NodesMakeTheFrames, NodesDeliverAsTh
 
 /// What a node delivers from a sender is a prefix of what that sender broadcast, with nothing after its close; each
 /// decided value was proposed in its instance; and where the faults are fewer than k, at most k values are decided. What the
-/// replies say of deliveries is what each node has delivered, the last two hold of what nodes show as decided too, and what is
-/// acknowledged was taken.
+/// replies say of deliveries is what each node has delivered, and what they say of decisions what it shows as decided, each once;
+/// the last two hold of what nodes show as decided too, and what is acknowledged was taken.
 pub fn keeps_order_and_agrees()
     ensures prefix { AllRunsDeliverPrefixes }
     ensures closed { AllRunsCloseStreams }
     ensures proposed { AllRunsDecideProposals }
     ensures few { AllRunsDecideFewValues }
     ensures shown { AllRunsAnswerWhatIsDelivered }
+    ensures shown_decided { AllRunsAnswerWhatIsDecided }
     ensures shown_proposed { AllNodesShowProposals }
     ensures shown_few { AllNodesShowFewValues }
     ensures acknowledged { OnlyTakenSlotsAreAcknowledged }
@@ -50,7 +51,7 @@ pub fn agrees_at_rest()
 {}
 
 /// Each node of a group answers by its own steps as the group does, and makes, delivers, decides and owes what the group
-/// says, and knows the holders of each pair that the group says.
+/// says, and knows of each pair that it holds the holders that the group says.
 pub fn answers_by_own_steps()
     ensures reply { NodesAnswerAsTheGroup }
     ensures steps { NodesStepAsTheGroup }

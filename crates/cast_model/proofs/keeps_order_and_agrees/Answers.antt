@@ -1,6 +1,7 @@
 use Rattle.cast_message.specs.declared.message.Item.TheVariants.{Propose}
 use Rattle.cast_model.proofs.Members.{Member-Contains, Contains-Member}
 use Rattle.cast_model.proofs.Answered.{answered_is_prefix, answered-delivered}
+use Rattle.cast_model.proofs.Shown.{answered-decided}
 use Rattle.cast_model.proofs.AtRest.{acked_taken}
 use Rattle.cast_model.proofs.Sound.{sound}
 use Rattle.cast_model.proofs.Closed.{answered_closed}
@@ -23,6 +24,9 @@ returns-clause-few c config events fewer = decided_at_most_choices config fewer 
 
 pub returns-clause-shown : goal.returns-clause-shown
 returns-clause-shown c = answered-delivered
+
+pub returns-clause-shown_decided : goal.returns-clause-shown_decided
+returns-clause-shown_decided c = answered-decided
 
 pub returns-clause-shown_proposed : goal.returns-clause-shown_proposed
 returns-clause-shown_proposed c config past accepted q j v shown =
