@@ -11,8 +11,9 @@ use Rattle.cast_message.specs.declared.message.Item.TheVariants.{Close}
 use Rattle.cast_message.specs.declared.message.Message.{Message}
 use Rattle.cast_model.specs.History.{numbered}
 use Rattle.cast_fifo.specs.Held.{Held, nothing_held, held_of, came, with_item, known_items, known_after, offered_items, offered_after}
+use Rattle.cast_fifo.specs.HoldsBack.{HoldsBack}
 use Rattle.cast_fifo.specs.Calls.{Call, Hold, Known, Offer, is_pair, is_offer_of, is_hold_of, is_mark_of, is_ready, first_of, item_of, message_of, between, sender_of, held_after, held_by, answer, MayCall, MayBeCalled, GivesInOrder}
-use Rattle.cast_fifo.proofs.Stands.{Stands, same_stands, came_is, holds, knows, with_one, numbered-map, first_none, or_true}
+use Rattle.cast_fifo.proofs.Stands.{same_stands, came_is, holds, knows, with_one, numbered-map, first_none, or_true}
 use Rattle.cast_fifo.proofs.Turns.{or_false}
 use Rattle.cast_fifo.proofs.Came.{held_of-set}
 
@@ -118,14 +119,14 @@ next_kept held k item = go (came held k)
 
 -- the stand of one sender after a call of its own, and what the call answers
 record Step (call : Call) (past : List Call) (before after : Held) (given : List Message) : Type 0 where
-  stands : Stands (item_of (call ∷ past) (sender_of call)) (is_ready (call ∷ past) (sender_of call)) after
+  stands : HoldsBack (item_of (call ∷ past) (sender_of call)) (is_ready (call ∷ past) (sender_of call)) after
   answers : given ≡ between (call ∷ past) (sender_of call) before.next after.next
 
 none_between : (calls : List Call) (s n m : ℕ) → m ≡ n → [] ≡ between calls s n m
 none_between calls s n m e = ap (λ k. map (message_of calls s) (range_with_len n k)) (let z : 0 ≡ m - n = omega (arith, e) in z)
 
 module _ (nodes : ℕ) (past : List Call) (may : MayBeCalled nodes past) where
-  hold_step : (m : Message) (held : Held) → Stands (item_of past m.sender) (is_ready past m.sender) held → Step (Hold m) past held (with_item held m.number m.item) []
+  hold_step : (m : Message) (held : Held) → HoldsBack (item_of past m.sender) (is_ready past m.sender) held → Step (Hold m) past held (with_item held m.number m.item) []
   hold_step m held h =
       let s = m.sender in
       let kept = holds (item_of past s) (is_ready past s) held m.number m.item h (ready_came past s) in
@@ -137,7 +138,7 @@ module _ (nodes : ℕ) (past : List Call) (may : MayBeCalled nodes past) where
         answers = none_between (Hold m ∷ past) s held.next (with_item held m.number m.item).next (next_kept held m.number m.item);
       }
 
-  known_step : (s k : ℕ) (held : Held) → is_some (item_of past s k) ≡ true → Stands (item_of past s) (is_ready past s) held → Step (Known s k) past held (known_after held k) (numbered s held.next (known_items held k))
+  known_step : (s k : ℕ) (held : Held) → is_some (item_of past s k) ≡ true → HoldsBack (item_of past s) (is_ready past s) held → Step (Known s k) past held (known_after held k) (numbered s held.next (known_items held k))
   known_step s k held e h =
       let calls = Known s k ∷ past in
       let kept = same_stands (item_of past s) (item_of calls s) (is_ready past s) (is_ready past s) held (λ i. first_none (item_of past s i)) (λ i. refl) h in
@@ -149,7 +150,7 @@ module _ (nodes : ℕ) (past : List Call) (may : MayBeCalled nodes past) where
         answers = ap (numbered s held.next) t.run_is ∙ numbered-map s (λ i. unwrap_or (item_of calls s i) Close) held.next ((known_after held k).next - held.next);
       }
 
-  offer_step : (m : Message) (held : Held) → Stands (item_of past m.sender) (is_ready past m.sender) held → Step (Offer m) past held (offered_after held m.number m.item) (numbered m.sender held.next (offered_items held m.number m.item))
+  offer_step : (m : Message) (held : Held) → HoldsBack (item_of past m.sender) (is_ready past m.sender) held → Step (Offer m) past held (offered_after held m.number m.item) (numbered m.sender held.next (offered_items held m.number m.item))
   offer_step m held h =
       let s = m.sender in
       let k = m.number in
@@ -219,18 +220,18 @@ sender_within nodes past (Hold m) may = omega (arith, may, length-held_by nodes 
 sender_within nodes past (Known t k) may = omega (arith, may.0, length-held_by nodes past)
 sender_within nodes past (Offer m) may = omega (arith, may, length-held_by nodes past)
 
-own_step : (nodes : ℕ) (past : List Call) (call : Call) → MayBeCalled nodes past → MayCall nodes past call → Stands (item_of past (sender_of call)) (is_ready past (sender_of call)) (held_of (held_by nodes past) (sender_of call)) → Step call past (held_of (held_by nodes past) (sender_of call)) (held_of (held_by nodes (call ∷ past)) (sender_of call)) (answer (held_by nodes past) call)
+own_step : (nodes : ℕ) (past : List Call) (call : Call) → MayBeCalled nodes past → MayCall nodes past call → HoldsBack (item_of past (sender_of call)) (is_ready past (sender_of call)) (held_of (held_by nodes past) (sender_of call)) → Step call past (held_of (held_by nodes past) (sender_of call)) (held_of (held_by nodes (call ∷ past)) (sender_of call)) (answer (held_by nodes past) call)
 own_step nodes past (Hold m) may call h = subst (λ after. Step (Hold m) past (held_of (held_by nodes past) m.sender) after []) (sym (held_of-set (held_by nodes past) m.sender _ (sender_within nodes past (Hold m) call))) (hold_step nodes past may m (held_of (held_by nodes past) m.sender) h)
 own_step nodes past (Known s k) may call h = subst (λ after. Step (Known s k) past (held_of (held_by nodes past) s) after (answer (held_by nodes past) (Known s k))) (sym (held_of-set (held_by nodes past) s _ (sender_within nodes past (Known s k) call))) (known_step nodes past may s k (held_of (held_by nodes past) s) call.1 h)
 own_step nodes past (Offer m) may call h = subst (λ after. Step (Offer m) past (held_of (held_by nodes past) m.sender) after (answer (held_by nodes past) (Offer m))) (sym (held_of-set (held_by nodes past) m.sender _ (sender_within nodes past (Offer m) call))) (offer_step nodes past may m (held_of (held_by nodes past) m.sender) h)
 
-stands : (nodes : ℕ) (calls : List Call) → MayBeCalled nodes calls → (s : ℕ) → Stands (item_of calls s) (is_ready calls s) (held_of (held_by nodes calls) s)
+stands : (nodes : ℕ) (calls : List Call) → MayBeCalled nodes calls → (s : ℕ) → HoldsBack (item_of calls s) (is_ready calls s) (held_of (held_by nodes calls) s)
 stands nodes [] may s =
-    subst (Stands (item_of [] s) (is_ready [] s)) (sym (nothing_of nodes s)) record { below = λ i l. absurd (omega (arith, l)); stops = refl; waits = λ i l. refl; ascends = tt; closed = refl }
+    subst (HoldsBack (item_of [] s) (is_ready [] s)) (sym (nothing_of nodes s)) record { below = λ i l. absurd (omega (arith, l)); stops = refl; waits = λ i l. refl; ascends = tt; closed = refl }
 stands nodes (call ∷ past) may s = elim (eqb_tells (sender_of call) s) [
-  | inl e ↦ subst (λ t. Stands (item_of (call ∷ past) t) (is_ready (call ∷ past) t) (held_of (held_by nodes (call ∷ past)) t)) e.1 (own_step nodes past call may.0 may.1 (stands nodes past may.0 (sender_of call))).stands
+  | inl e ↦ subst (λ t. HoldsBack (item_of (call ∷ past) t) (is_ready (call ∷ past) t) (held_of (held_by nodes (call ∷ past)) t)) e.1 (own_step nodes past call may.0 may.1 (stands nodes past may.0 (sender_of call))).stands
   | inr e ↦
-      subst (Stands (item_of (call ∷ past) s) (is_ready (call ∷ past) s)) (sym (held_elsewhere (held_by nodes past) call s e.1))
+      subst (HoldsBack (item_of (call ∷ past) s) (is_ready (call ∷ past) s)) (sym (held_elsewhere (held_by nodes past) call s e.1))
       (same_stands (item_of past s) (item_of (call ∷ past) s) (is_ready past s) (is_ready (call ∷ past) s) (held_of (held_by nodes past) s) (λ i. item_elsewhere call past s i e.1) (λ i. ready_elsewhere call past s i e.1) (stands nodes past may.0 s))
 ]
 

@@ -17,10 +17,11 @@ use Rattle.cast_message.specs.declared.message.Message.{Message}
 use Rattle.cast_model.specs.History.{numbered}
 use Rattle.cast_fifo.specs.declared.waiting.Waiting.{Waiting}
 use Rattle.cast_fifo.specs.Held.{Held, waiting_at, marked, with_mark, item_due, run_from, advanced, known_items, known_after}
+use Rattle.cast_fifo.specs.HoldsBack.{Ascends}
 use Rattle.cast_fifo.specs.Windows.{entries_of, due_front, IsWindow}
 use Rattle.cast_fifo.proofs.Entries.{Places, Entries, seen, with_known, seen_marked_near, within_ring, no_run, past_ring, look_up, or_else}
 use Rattle.cast_fifo.proofs.Turns.{same_test, tells, marked_elsewhere, marked_before, none_ready, advanced_none}
-use Rattle.cast_fifo.proofs.Stands.{Ascends, Ascends-set, lower, less_tells, look_changed, item_in, known_in, Released, released, numbered-map}
+use Rattle.cast_fifo.proofs.Stands.{Ascends-set, lower, less_tells, look_changed, item_in, known_in, Released, released, numbered-map}
 
 some_none : (x : Item) → ◌≡◌ {A = Option Item} (Some x) None → ⊥
 some_none x e = cc

@@ -15,13 +15,9 @@ use Rattle.cast_model.specs.History.{numbered}
 use Rattle.cast_fifo.specs.declared.waiting.Waiting.{Waiting}
 use Rattle.cast_fifo.specs.Held.{Held, waiting_at, came, marked, with_mark, with_item, run_from, rest_from, is_close, advanced, known_items, known_after}
 use Rattle.cast_fifo.specs.Calls.{first_of}
+use Rattle.cast_fifo.specs.HoldsBack.{Ascends, waiting_of, close_at, HoldsBack}
 use Rattle.cast_fifo.proofs.Entries.{Entries, at_true, at_false}
 use Rattle.cast_fifo.proofs.Turns.{numbered-cons, numbered-none, or_false, or_or}
-
--- numbers that rise from one on
-abbrev pub Ascends : ℕ → Entries → Type 0
-Ascends n [] = Unit {0}
-Ascends n (e ∷ es) = (n ≤ e.0) × Ascends (e.0 + 1) es
 
 pub lower : (n m : ℕ) (es : Entries) → m ≤ n → Ascends n es → Ascends m es
 lower n m [] l h = tt
@@ -200,28 +196,12 @@ released n (e ∷ es) h = go (e.0 == n && e.1.known) refl (λ f. released (n + 1
           | inr g ↦ ap known_in (ap (λ b. cond b (Some e.1) (waiting_at es n)) (at_false n e.0 (λ k. g.1 (sym k))) ∙ none_below (e.0 + 1) n es h.1 (omega (arith, h.0)))
         ]
 
--- what waits of an item that came, and may be ready
-abbrev pub waiting_of : Option Item → Bool → Option Waiting
-waiting_of None ready = None
-waiting_of (Some item) ready = Some (record { item = item; known = ready })
-
-abbrev pub close_at : (ℕ → Option Item) → ℕ → Bool
-close_at items i = is_close (unwrap_or (items i) Close)
-
--- what is held, where these are the items that came, by number, and whether they are ready
-pub record Stands (items : ℕ → Option Item) (ready : ℕ → Bool) (held : Held) : Type 0 where
-  pub below : (i : ℕ) → i < held.next → ready i ≡ true
-  pub stops : ready held.next ≡ false
-  pub waits : (i : ℕ) → held.next ≤ i → waiting_at held.waiting i ≡ waiting_of (items i) (ready i)
-  pub ascends : Ascends held.next held.waiting
-  pub closed : held.closed ≡ list_any (close_at items) (range_with_len 0 held.next)
-
 same_any : (f g : ℕ → Bool) (a n : ℕ) → ((i : ℕ) → a ≤ i → i < a + n → f i ≡ g i) → list_any f (range_with_len a n) ≡ list_any g (range_with_len a n)
 same_any f g a zero h = refl
 same_any f g a (suc n) h = λ k. h a (omega arith) (omega arith) k || same_any f g (a + 1) n (λ i l m. h i (omega (arith, l)) (omega (arith, m))) k
 
 -- the same items and marks
-pub same_stands : (items items' : ℕ → Option Item) (ready ready' : ℕ → Bool) (held : Held) → ((i : ℕ) → items' i ≡ items i) → ((i : ℕ) → ready' i ≡ ready i) → Stands items ready held → Stands items' ready' held
+pub same_stands : (items items' : ℕ → Option Item) (ready ready' : ℕ → Bool) (held : Held) → ((i : ℕ) → items' i ≡ items i) → ((i : ℕ) → ready' i ≡ ready i) → HoldsBack items ready held → HoldsBack items' ready' held
 same_stands items items' ready ready' held a b h = record {
   below = λ i l. b i ∙ h.below i l;
   stops = b held.next ∙ h.stops;
@@ -240,7 +220,7 @@ lt_true i n l = grind (arith, nat_tests)
 ge_false : (i n : ℕ) → n ≤ i → nat_lt i n ≡ false
 ge_false i n l = grind (arith, nat_tests)
 
-module _ (items : ℕ → Option Item) (ready : ℕ → Bool) (held : Held) (h : Stands items ready held) (some : (i : ℕ) → ready i ≡ true → is_some (items i) ≡ true) where
+module _ (items : ℕ → Option Item) (ready : ℕ → Bool) (held : Held) (h : HoldsBack items ready held) (some : (i : ℕ) → ready i ≡ true → is_some (items i) ≡ true) where
   -- what came is what had its turn or waits
   pub came_is : (i : ℕ) → came held i ≡ is_some (items i)
   came_is i = elim (leb_tells held.next i) [
@@ -275,7 +255,7 @@ not_ready o true e f = absurd (true≢false (sym (f refl) ∙ ap is_some e))
 not_ready o false e f = refl
 
 -- a message is kept
-pub holds : (items : ℕ → Option Item) (ready : ℕ → Bool) (held : Held) (k : ℕ) (item : Item) → Stands items ready held → ((i : ℕ) → ready i ≡ true → is_some (items i) ≡ true) → Stands (with_one items k item) ready (with_item held k item)
+pub holds : (items : ℕ → Option Item) (ready : ℕ → Bool) (held : Held) (k : ℕ) (item : Item) → HoldsBack items ready held → ((i : ℕ) → ready i ≡ true → is_some (items i) ≡ true) → HoldsBack (with_one items k item) ready (with_item held k item)
 holds items ready held k item h some = go (came held k) refl
   where
     there : ℕ → Bool
@@ -293,7 +273,7 @@ holds items ready held k item h some = go (came held k) refl
     unchanged : is_some (items k) ≡ true → (i : ℕ) → with_one items k item i ≡ items i
     unchanged e i = elim (eqb_tells i k) [ inl f ↦ old_item i (ap (λ m. is_some (items m)) f.1 ∙ e) | inr f ↦ other_item i f.1 ]
 
-    go : (b : Bool) → came held k ≡ b → Stands (with_one items k item) ready (if b then held else kept)
+    go : (b : Bool) → came held k ≡ b → HoldsBack (with_one items k item) ready (if b then held else kept)
     go true e = same_stands items (with_one items k item) ready ready held (unchanged (sym (came_is items ready held h some k) ∙ e)) (λ i. refl) h
     go false e = record {
       below = h.below;
@@ -332,7 +312,7 @@ there_is : (o : Option Item) (b : Bool) (es : Entries) (k : ℕ) → is_some o �
 there_is None b es k e f = absurd (true≢false (sym e))
 there_is (Some x) b es k e f = (record { item = x; known = b }, f, refl)
 
-pub marks : (items : ℕ → Option Item) (ready ready' : ℕ → Bool) (held : Held) (k : ℕ) → Stands items ready held → is_some (items k) ≡ true → ((i : ℕ) → ready' i ≡ (ready i || i == k)) → Marked items ready' held.next (with_mark held k).waiting
+pub marks : (items : ℕ → Option Item) (ready ready' : ℕ → Bool) (held : Held) (k : ℕ) → HoldsBack items ready held → is_some (items k) ≡ true → ((i : ℕ) → ready' i ≡ (ready i || i == k)) → Marked items ready' held.next (with_mark held k).waiting
 marks items ready ready' held k h e is = elim (leb_tells held.next k) [ inl l ↦ later l.1 | inr l ↦ before l.1 ]
   where
     n : ℕ
@@ -392,7 +372,7 @@ numbered-map s f n (suc k) = numbered-cons s n (f n) (map f (range_with_len (n +
 
 -- what is marked has its turn
 pub record Turned (items : ℕ → Option Item) (ready : ℕ → Bool) (n : ℕ) (run : List Item) (held : Held) : Type 0 where
-  pub stands : Stands items ready held
+  pub stands : HoldsBack items ready held
   pub run_is : run ≡ map (λ i. unwrap_or (items i) Close) (range_with_len n (held.next - n))
   pub from : n ≤ held.next
 
@@ -418,6 +398,6 @@ turns items ready n closed es m below shut some =
     }
 
 -- a number that came is marked
-pub knows : (items : ℕ → Option Item) (ready ready' : ℕ → Bool) (held : Held) (k : ℕ) → Stands items ready held → is_some (items k) ≡ true → ((i : ℕ) → ready' i ≡ (ready i || i == k)) → ((i : ℕ) → ready' i ≡ true → is_some (items i) ≡ true) → Turned items ready' held.next (known_items held k) (known_after held k)
+pub knows : (items : ℕ → Option Item) (ready ready' : ℕ → Bool) (held : Held) (k : ℕ) → HoldsBack items ready held → is_some (items k) ≡ true → ((i : ℕ) → ready' i ≡ (ready i || i == k)) → ((i : ℕ) → ready' i ≡ true → is_some (items i) ≡ true) → Turned items ready' held.next (known_items held k) (known_after held k)
 knows items ready ready' held k h e is some =
     turns items ready' held.next held.closed (with_mark held k).waiting (marks items ready ready' held k h e is) (λ i l. is i ∙ ap (λ b. b || i == k) (h.below i l)) h.closed some

@@ -416,6 +416,18 @@ marked_before n closed ring far held k h is l =
     let none : waiting_at es k ≡ None = below_ring n ring far k l ∙ none_at far k (past k (n + 4096) (keys_of far) (omega (arith, l)) h.beyond) in
     ap (λ h. with_mark h k) (sym is) ∙ (λ i. record { next = n; closed = closed; waiting = marked es k (none i) }) ∙ is
 
+-- a mark of a number that neither had its turn nor waits
+pub marked_new : (n : ℕ) (closed : Bool) (ring : Places) (far : Entries) (held : Held) (k : ℕ) → IsWindow n ring far → seen n closed ring far ≡ held → came held k ≡ false → known_items held k ≡ []
+marked_new n closed ring far held k h is new =
+    let es = entries_of n ring far in
+    let none : waiting_at es k ≡ None = not_found (nat_lt k n) (waiting_at es k) (ap (λ h. came h k) is ∙ new) in
+    ap (λ h. known_items h k) (sym is) ∙ ap (λ o. run_from n (marked es k o)) none ∙ none_ready n ring far h
+  where
+    not_found : (b : Bool) (o : Option Waiting) → (b || is_some o) ≡ false → o ≡ None
+    not_found b None e = refl
+    not_found true (Some w) e = absurd (true≢false e)
+    not_found false (Some w) e = absurd (true≢false e)
+
 -- an offer past the next number
 pub offered_elsewhere : (n : ℕ) (closed : Bool) (ring : Places) (far : Entries) (held : Held) (k : ℕ) (item : Item) → IsWindow n ring far → seen n closed ring far ≡ held → came held k ≡ false → k ≢ n → (offered_items held k item ≡ []) × (offered_after held k item ≡ record held { waiting = insert_entry nat_cmp held.waiting k (marked_item item) })
 offered_elsewhere n closed ring far held k item h is new e =

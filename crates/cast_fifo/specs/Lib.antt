@@ -1,3 +1,4 @@
 pub mod Held
 pub mod Windows
 pub mod Calls
+pub mod HoldsBack

@@ -3,7 +3,7 @@
 //! first and marked later, so that it goes only once its node knows enough of it.
 #![tactic(auto)]
 
-ghost use Rattle.std.specs.Prelude.{[], nat_lt, IsTrue, ◌≡◌, ◌+◌, ◌<◌, ◌≤◌, ◌^◌, ◌++◌, true, length, replicate, slice_set, vec_len, vec_capacity, IfOk, OnOk, OnErr};
+ghost use Rattle.std.specs.Prelude.{[], nat_lt, IsTrue, ◌≡◌, ◌+◌, ◌<◌, ◌≤◌, ◌^◌, ◌++◌, true, false, length, replicate, slice_set, vec_len, vec_capacity, IfOk, OnOk, OnErr};
 ghost use Rattle.cast_fifo.specs.Held.{nothing_held, held_of, came, without_item, known_items, known_after, IsNear};
 ghost use Rattle.cast_fifo.specs.Calls.{Hold, Known, Offer, held_after, answer, GivesInOrder};
 
@@ -125,8 +125,10 @@ impl HoldBack {
     /// sender is below the number of nodes.
     pub fn ready(&self, sender: NodeId, number: u64) -> Result<Vec<Message>, AllocError>
         requires { sender < length self.now }
-        ensures { IfOk result (λ messages.
+        ensures messages { IfOk result (λ messages.
             messages.items ≡ answer self.now (Known sender number)) }
+        ensures none { came (held_of self.now sender) number ≡ false →
+            IfOk result (λ messages. messages.items ≡ []) }
     {
         self.senders[usize::from(sender.0)].ready(self.alloc, sender, number)
     }
@@ -166,9 +168,9 @@ impl HoldBack {
     }
 }
 
-/// A law of every list of calls: Next is the least number that was not offered and was not both held and marked, `closed`
-/// says whether a Close is among the first Next messages, and each call answers the messages from Next before it up to
-/// Next after it. Of two messages of one pair the first counts.
+/// A law of every list of calls of `hold`, `known` and `offer`: Next is the least number that was not offered and was not both
+/// held and marked, `closed` says whether a Close is among the first Next messages, and each call answers the messages from Next
+/// before it up to Next after it. Of two messages of one pair the first counts.
 pub fn gives_in_order()
     ensures { GivesInOrder }
 {}

@@ -166,8 +166,10 @@ impl Queue {
         sender: NodeId,
         number: u64,
     ) -> Result<Vec<Message>, AllocError>
-        ensures { IfOk result (λ messages.
+        ensures messages { IfOk result (λ messages.
             messages.items ≡ numbered sender self.now.next (known_items self.now number)) }
+        ensures none { came self.now number ≡ false →
+            IfOk result (λ messages. messages.items ≡ []) }
     {
         let mut messages = Vec::new(alloc);
         if number != self.next {

@@ -1,4 +1,4 @@
--- For callers: a message that is given and taken back.
+-- A message that is given and taken back.
 use Rattle.std.specs.Prelude.{◌≡◌, ◌+◌, ◌-◌, true, Some, None, is_some, cond, if◌then◌else◌}
 use Rattle.std.specs.Ordering.{nat_cmp, eq_by_cmp}
 use Rattle.std.specs.Cmp.{nat_cmp_total}

@@ -36,6 +36,7 @@ pub fn has_bit(words: &VecDeque<u64>, bit: u64) -> bool
 pub fn full_word(words: &VecDeque<u64>, bit: u64) -> u64
     ensures set { (k : ℕ) → k < result → is_set words.now.items (bit + k) ≡ true }
     ensures full { IsFullWord words.now.items (bit / 64) → result ≡ 64 - bit % 64 }
+    ensures none { ¬ IsFullWord words.now.items (bit / 64) → result ≡ 0 }
 {
     match words.get((bit / 64) as usize) {
         Some(&word) if has_all_bits(word) => 64 - bit % 64,

@@ -1,4 +1,4 @@
--- Logs merged by stamp, as the program does it: by two, however many there are.
+-- Logs merged by stamp, two by two: one after the other, which is the same in whatever order pairs of them are merged.
 --     before key n ys          the first of these, as long as their keys are below n
 --     from key n ys            the others
 --     merge key xs ys          both by key; of equal keys the first list's come first

@@ -16,7 +16,8 @@ use Rattle.cast_model.proofs.Dues.{range_bounds}
 use Rattle.cast_model.proofs.OwnFronts.{own_below_next, own_not_at_next, own_held_below}
 use Rattle.cast_fifo.specs.Held.{Held as HeldBack, with_item, known_items, known_after}
 use Rattle.cast_fifo.specs.Calls.{first_of}
-use Rattle.cast_fifo.proofs.Stands.{Stands as HoldsBack, same_stands, with_one, holds, Turned, knows, numbered-map}
+use Rattle.cast_fifo.specs.HoldsBack.{HoldsBack}
+use Rattle.cast_fifo.proofs.Stands.{same_stands, with_one, holds, Turned, knows, numbered-map}
 use Rattle.cast_model.proofs.OwnGrowth.{own_ready_kept}
 use Rattle.cast_model.specs.Shown.{item_of}
 use Rattle.cast_node.specs.Stands.{item_at}

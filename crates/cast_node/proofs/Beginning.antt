@@ -13,7 +13,7 @@ use Rattle.cast_model.specs.History.{has_pair}
 use Rattle.cast_model.specs.Steps.{each, frame_count, held}
 use Rattle.cast_model.specs.OwnSteps.{own_live, own_given, own_taken, own_acked, own_owed, own_is_ready, own_log, message_in, message_at, IsOwnAccepted}
 use Rattle.cast_fifo.specs.Held.{nothing_held}
-use Rattle.cast_fifo.proofs.Stands.{Stands as HoldsBack}
+use Rattle.cast_fifo.specs.HoldsBack.{HoldsBack}
 use Rattle.cast_node.specs.Kept.{nothing_kept}
 use Rattle.cast_node.specs.Stands.{item_at, newest_first, StandsOut, Stands}
 use Rattle.cast_node.proofs.Places.{at_replicate, length-replicated}

@@ -16,7 +16,8 @@ use Rattle.cast_model.proofs.Members.{Member}
 use Rattle.cast_model.proofs.Fronts.{filter_all, filter_none}
 use Rattle.cast_model.proofs.OwnFronts.{messages_sender, no_messages}
 use Rattle.cast_fifo.specs.Held.{Held as HeldBack, held_of, nothing_held, known_items, known_after}
-use Rattle.cast_fifo.proofs.Stands.{Stands as HoldsBack, Turned}
+use Rattle.cast_fifo.specs.HoldsBack.{HoldsBack}
+use Rattle.cast_fifo.proofs.Stands.{Turned}
 use Rattle.cast_agree.specs.Journal.{counted_all, decisions_all}
 use Rattle.cast_agree.specs.Counted.{Counted}
 use Rattle.cast_agree.specs.Proposals.{counted_of}

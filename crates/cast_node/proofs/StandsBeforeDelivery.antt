@@ -20,7 +20,7 @@ use Rattle.cast_model.proofs.OwnGrowth.{brought, held-more, own_given-more}
 use Rattle.cast_link.specs.Links.{Link, with_given}
 use Rattle.cast_relay.specs.Held.{Held as HeldPairs, holds, relays_to}
 use Rattle.cast_fifo.specs.Held.{Held as HeldBack, held_of, nothing_held, with_item}
-use Rattle.cast_fifo.proofs.Stands.{Stands as HoldsBack}
+use Rattle.cast_fifo.specs.HoldsBack.{HoldsBack}
 use Rattle.cast_agree.specs.Proposals.{counted_of}
 use Rattle.cast_node.specs.Kept.{Kept, link_to, knowers_of}
 use Rattle.cast_node.specs.Turns.{with_knower, spread, given_from}

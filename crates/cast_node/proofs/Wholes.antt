@@ -18,12 +18,12 @@ use Rattle.cast_model.proofs.Members.{here, there}
 use Rattle.cast_link.specs.Links.{Link, with_acknowledged}
 use Rattle.cast_node.specs.Giving.{link_in}
 use Rattle.cast_node.proofs.Gifts.{length_given}
-use Rattle.cast_relay.specs.Held.{Held, holds, with_pair}
+use Rattle.cast_relay.specs.Held.{Held, holds, with_pair, with_own}
 use Rattle.cast_node.specs.Kept.{Kept, link_to, knowers_in, is_enough_in}
 use Rattle.cast_node.specs.Turns.{told, released, unmoved, with_knowers, with_knower, known_row, given_from, taken_up, carried, with_taken, with_acked, acknowledged, ordered, kept_causes, kept_fault}
 use Rattle.cast_node.specs.Delivering.{Delivering, noted, let_go, told_in, told_with, outcome_in, outcome_with, waiting_in}
 use Rattle.cast_node.specs.Calls.{is_peer}
-use Rattle.cast_node.specs.Taking.{with_own, message_of, first_members}
+use Rattle.cast_node.specs.Taking.{message_of, first_members}
 
 -- a node with these deliveries
 abbrev pub with_deliveries : Kept → Delivering → Kept

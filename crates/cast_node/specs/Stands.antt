@@ -20,7 +20,7 @@ use Rattle.cast_model.specs.OwnSteps.{own_live, own_copies, own_given, own_taken
 use Rattle.cast_link.specs.Links.{Link}
 use Rattle.cast_relay.specs.Held.{holds}
 use Rattle.cast_fifo.specs.Held.{held_of}
-use Rattle.cast_fifo.proofs.Stands.{Stands as HoldsBack}
+use Rattle.cast_fifo.specs.HoldsBack.{HoldsBack}
 use Rattle.cast_agree.specs.Proposals.{counted_of}
 use Rattle.cast_node.specs.Kept.{Kept, link_to, taken_from, knowers_of}
 

@@ -1,19 +1,15 @@
 -- A message that a node did not hold.
-use Rattle.std.specs.Prelude.{◌≡◌, ℕ, ◌+◌, Result, IfOk, OnOk, OnErr}
+use Rattle.std.specs.Prelude.{◌≡◌, ℕ, Result, IfOk, OnOk, OnErr}
 use Rattle.std.specs.Ordering.{nat_cmp}
 use Rattle.std.specs.FinSet as set
 use Rattle.cast_message.specs.declared.event.Outcome.{Outcome}
 use Rattle.cast_message.specs.declared.message.Item.{Item}
 use Rattle.cast_message.specs.declared.message.Item.TheVariants.{Propose}
 use Rattle.cast_message.specs.declared.message.Message.{Message}
-use Rattle.cast_relay.specs.Held.{Held, with_pair}
+use Rattle.cast_relay.specs.Held.{Held}
 use Rattle.cast_node.specs.Delivering.{Delivering, told_with, outcome_with}
 use Rattle.cast_node.specs.Outgoing.{Outbound, links_of}
 use Rattle.cast_node.specs.Turns.{given_from}
-
--- the node's next item is held
-abbrev pub with_own : Held → Held
-with_own held = record (with_pair held held.me held.own) { own = held.own + 1 }
 
 -- its message
 abbrev pub message_of : Held → Item → Message

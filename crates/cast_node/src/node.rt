@@ -346,7 +346,8 @@ impl Node {
         self.outgoing.least_owed(to, from)
     }
 
-    /// Whether it is known to owe no peer anything: so it is once the last slot owed was acknowledged. It takes no memory.
+    /// Whether it is known to owe no peer anything: so it is right after the last slot owed was acknowledged, until more is taken
+    /// up. It takes no memory.
     pub fn owes_nothing(&self) -> bool
         ensures { IsTrue result → (q : ℕ) → (link_to self.now q).owed ≡ finite.empty }
     {

@@ -2,9 +2,9 @@
 //! none where memory is wanting.
 ghost use Rattle.std.specs.Prelude.{◌≡◌, ◌≢◌, ◌≤◌, ◌<◌, false, length, OnOk, OnErr};
 ghost use Rattle.std.specs.FinSet as set;
-ghost use Rattle.cast_relay.specs.Held.{with_pair, holds};
+ghost use Rattle.cast_relay.specs.Held.{with_pair, with_own, holds};
 ghost use Rattle.cast_node.specs.Outgoing.{links_of};
-ghost use Rattle.cast_node.specs.Taking.{IsSpread, with_own, message_of, first_members};
+ghost use Rattle.cast_node.specs.Taking.{IsSpread, message_of, first_members};
 
 use crate::deliveries::Deliveries;
 use crate::outgoing::Outgoing;

@@ -1,10 +1,10 @@
--- For callers: a pair that is held and then forgotten.
+-- A pair that is held and then forgotten.
 use Rattle.std.specs.Prelude.{◌≡◌, ℕ, zero, suc, ◌+◌, ◌-◌, false, List, [], ◌∷◌, slice_set, refl}
 use Rattle.std.specs.Ordering.{nat_cmp}
 use Rattle.std.specs.FinSet as set
 use Rattle.std.proofs.Common.{ap, ◌∙◌, arith}
 use Rattle.cast_sets.specs.Members.{remove-inserted}
-use Rattle.cast_relay.specs.Held.{Held, holds, numbers_of, with_pair, without_pair}
+use Rattle.cast_relay.specs.Held.{Held, holds, numbers_of, with_pair, without_pair, with_own, without_own}
 
 abbrev Numbers : Type 0
 Numbers = set.FinSet nat_cmp
@@ -18,14 +18,6 @@ set_back f (x ∷ sets) (suc s) v e = ap (λ xs. x ∷ xs) (set_back f sets s v 
 pub forgotten : (held : Held) (s i : ℕ) → holds held s i ≡ false → without_pair (with_pair held s i) s i ≡ held
 forgotten held s i h =
     λ k. record { me = held.me; own = held.own; numbers = set_back (λ n. set.remove n i) held.numbers s (set.insert (numbers_of held.numbers s) i) (remove-inserted (numbers_of held.numbers s) i h) k }
-
--- what a call of `own` leaves
-abbrev pub with_own : Held → Held
-with_own held = record (with_pair held held.me held.own) { own = held.own + 1 }
-
--- what a call of `disown` leaves
-abbrev pub without_own : Held → Held
-without_own held = record (without_pair held held.me (held.own - 1)) { own = held.own - 1 }
 
 -- after `own` and `disown`
 pub disowned : (held : Held) → holds held held.me held.own ≡ false → without_own (with_own held) ≡ held

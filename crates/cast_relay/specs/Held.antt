@@ -3,9 +3,10 @@
 --     holds held s i           the node holds the pair
 --     with_pair held s i       the same with one pair more
 --     without_pair held s i    the same without a pair
+--     with_own, without_own    the same with one message more of the node's own, or without the last of them
 --     relays_to held s r q     a pair of s that first came from r goes on to q
 --     by_sender sets           sets for the first senders, as a list for all 256 that a `NodeId` can name
-use Rattle.std.specs.Prelude.{◌≡◌, ℕ, ◌-◌, ◌≤◌, ◌==◌, Bool, false, not, ◌&&◌, List, ◌++◌, length, replicate, slice_index_or, slice_set, refl}
+use Rattle.std.specs.Prelude.{◌≡◌, ℕ, ◌+◌, ◌-◌, ◌≤◌, ◌==◌, Bool, false, not, ◌&&◌, List, ◌++◌, length, replicate, slice_index_or, slice_set, refl}
 use Rattle.std.specs.Ordering.{nat_cmp}
 use Rattle.std.specs.FinSet as set
 use Rattle.std.specs.Coded.{Coded, code_by, coded×, coded_ℕ, coded_list}
@@ -30,7 +31,13 @@ with_pair held sender number = record held { numbers = slice_set held.numbers se
 abbrev pub without_pair : Held → ℕ → ℕ → Held
 without_pair held sender number = record held { numbers = slice_set held.numbers sender (set.remove (numbers_of held.numbers sender) number) }
 
--- the numbers held of the node itself are those of its own messages
+abbrev pub with_own : Held → Held
+with_own held = record (with_pair held held.me held.own) { own = held.own + 1 }
+
+abbrev pub without_own : Held → Held
+without_own held = record (without_pair held held.me (held.own - 1)) { own = held.own - 1 }
+
+-- of the node itself no number is held that it has not given yet
 abbrev pub HoldsOwnBelow : ℕ → ℕ → List (set.FinSet nat_cmp) → Type 0
 HoldsOwnBelow me own sets = (i : ℕ) → own ≤ i → set.contains (numbers_of sets me) i ≡ false
 

@@ -5,7 +5,7 @@
 
 ghost use Rattle.std.specs.Prelude.{◌≡◌, ◌≢◌, ◌+◌, ◌-◌, ◌<◌, false, ◌≤◌, ◌^◌, length, replicate, IfOk, OnOk, OnErr};
 ghost use Rattle.std.specs.FinSet as set;
-ghost use Rattle.cast_relay.specs.Held.{by_sender, holds, with_pair, without_pair, relays_to};
+ghost use Rattle.cast_relay.specs.Held.{by_sender, holds, with_pair, without_pair, with_own, without_own, relays_to};
 ghost use Rattle.cast_relay.specs.Answers.{taken_of};
 
 use cast_message::{Item, Message, NodeId};
@@ -75,11 +75,9 @@ impl Relay {
         ensures message { IfOk result
             (λ message. message
             ≡ record { sender = self.old.me; number = self.old.own; item = item }) }
-        ensures ok { OnOk result
-            (self.new ≡ record
-            (with_pair self.old self.old.me self.old.own) { own = self.old.own + 1 }) }
+        ensures ok { OnOk result (self.new ≡ with_own self.old) }
+        ensures back { OnOk result (without_own self.new ≡ self.old) }
         ensures err { OnErr result (self.new ≡ self.old) }
-        ensures fresh { holds self.old self.old.me self.old.own ≡ false }
     {
         let number = self.own;
         let place = place_of(self.me);
@@ -100,6 +98,8 @@ impl Relay {
             (λ taken. taken ≡ taken_of self.old message.now.sender message.now.number) }
         ensures ok { OnOk result
             (self.new ≡ with_pair self.old message.now.sender message.now.number) }
+        ensures back { holds self.old message.now.sender message.now.number ≡ false → OnOk result
+            (without_pair self.new message.now.sender message.now.number ≡ self.old) }
         ensures err { OnErr result (self.new ≡ self.old) }
     {
         let place = place_of(message.sender);
@@ -115,8 +115,7 @@ impl Relay {
     /// item. It takes no memory.
     pub fn disown(&mut self)
         requires { 0 < self.old.own }
-        ensures { self.new ≡ record
-            (without_pair self.old self.old.me (self.old.own - 1)) { own = self.old.own - 1 } }
+        ensures { self.new ≡ without_own self.old }
     {
         self.own -= 1;
         let place = place_of(self.me);

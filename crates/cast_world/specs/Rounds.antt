@@ -1,7 +1,7 @@
 -- What a round leaves, and what holds after it and at rest.
 --     TakesAll config past events result world   the events were taken, or those before one that was refused
 --     TakesRound config past result world        the same of the plan of a round
---     Spreads config past                        after the round each live node holds what some live node held before it
+--     Spreads config past                        after the round each live node holds exactly what some live node held before it
 --     IsSettled past p q                         p and q are not both live, or p owes q nothing
 --     IsFirstGiver config past p                 the least live node that owes a live node a slot
 --     AgreesAtRest config past                   the live nodes have delivered the same, and decided the same instances

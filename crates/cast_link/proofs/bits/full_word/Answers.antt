@@ -1,4 +1,5 @@
-use Rattle.std.proofs.Common.{◌<◌, ◌/◌, length, refl, sym, ◌∙◌, arith}
+use Rattle.std.proofs.Common.{◌≡◌, ◌*◌, ◌<◌, ◌/◌, length, refl, sym, ap, ◌∙◌, arith}
+use Rattle.std.specs.Prelude.{slice_index}
 use Rattle.std.specs.VecDeque.{deque_len}
 use Rattle.std.proofs.lemmas.List.{get_or_default}
 use Rattle.cast_link.proofs.Marks.{full_bits, full_by_bits}
@@ -11,6 +12,15 @@ returns-in-Some-clause-set c k l =
     let inside : place < deque_len c.args.words.now = c.in-Some.ensures.variant.0 refl in
     let within : place < length words = omega (arith, inside, c.args.words.now.ok) in
     full_bits words c.args.bit k (sym (c.in-Some.ensures.lookup ∙ get_or_default words place c.in-Some.field-0.now 0 within) ∙ c.has_all_bits.ensures.all c.if-has_all_bits.true) l
+
+pub returns-in-Some-clause-none : goal.returns-in-Some-clause-none
+returns-in-Some-clause-none c part =
+    let words = c.args.words.now.items in
+    let place = c.args.bit / 64 in
+    let inside : place < deque_len c.args.words.now = c.in-Some.ensures.variant.0 refl in
+    let within : place < length words = omega (arith, inside, c.args.words.now.ok) in
+    let front : (64 * place) / 64 ≡ place = omega arith in
+    absurd (part (λ k l. full_bits words (64 * place) k (ap (slice_index words) front ∙ sym (c.in-Some.ensures.lookup ∙ get_or_default words place c.in-Some.field-0.now 0 within) ∙ c.has_all_bits.ensures.all c.if-has_all_bits.true) (omega (arith, l))))
 
 pub returns-in_default-clause-full : goal.returns-in_default-clause-full
 returns-in_default-clause-full c full =

@@ -4,7 +4,8 @@ use Rattle.std.specs.Prelude.{slice_set}
 use Rattle.std.specs.FinSet as set
 use Rattle.std.proofs.lemmas.List.{get_or_default}
 use Rattle.cast_relay.specs.declared.Taken.TheVariants.{New, Known}
-use Rattle.cast_relay.specs.Held.{Held, HoldsOwnBelow, holds, with_pair}
+use Rattle.cast_relay.specs.Held.{Held, HoldsOwnBelow, holds, with_pair, without_pair}
+use Rattle.cast_relay.proofs.TakenBack.{forgotten}
 use Rattle.cast_relay.proofs.Senders.{seen, put, answer, own_grown, own_other}
 use Rattle.cast_relay.proofs.Relay.arrive.Goals as goal
 use Rattle.cast_relay.proofs.Relay.arrive.Goals.{After-insert, In_ok-added}
@@ -29,11 +30,21 @@ was_held c =
 pub returns-clause-ok : goal.returns-clause-ok
 returns-clause-ok c = with_it (goal.at.returns-clause-ok c).In_ok-added
 
+pub returns-clause-back : goal.returns-clause-back
+returns-clause-back c new =
+    let message = c.args.message.now in
+    ap (λ held. without_pair held message.sender message.number) (returns-clause-ok c) ∙ forgotten c.args.self.now message.sender message.number new
+
 pub returns-clause-taken : goal.returns-clause-taken
 returns-clause-taken c = sym (ap (λ b. if b then Known else New) (was_held (goal.at.returns-clause-taken c).In_ok-added ∙ ap not c.if-not-added.false))
 
 pub returns-then-not-added-clause-ok : goal.returns-then-not-added-clause-ok
 returns-then-not-added-clause-ok c = with_it (goal.at.returns-then-not-added-clause-ok c).In_ok-added
+
+pub returns-then-not-added-clause-back : goal.returns-then-not-added-clause-back
+returns-then-not-added-clause-back c new =
+    let message = c.args.message.now in
+    ap (λ held. without_pair held message.sender message.number) (returns-then-not-added-clause-ok c) ∙ forgotten c.args.self.now message.sender message.number new
 
 pub returns-then-not-added-clause-taken : goal.returns-then-not-added-clause-taken
 returns-then-not-added-clause-taken c = sym (ap (λ b. if b then Known else New) (was_held (goal.at.returns-then-not-added-clause-taken c).In_ok-added ∙ ap not c.if-not-added.true))

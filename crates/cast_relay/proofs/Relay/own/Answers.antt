@@ -2,6 +2,8 @@ use Rattle.std.proofs.Math.ListN.{length-set}
 use Rattle.std.proofs.Common.{◌<◌, length, ap, ◌∙◌, arith}
 use Rattle.std.specs.FinSet as set
 use Rattle.std.proofs.lemmas.List.{get_or_default}
+use Rattle.cast_relay.specs.Held.{without_own}
+use Rattle.cast_relay.proofs.TakenBack.{disowned}
 use Rattle.cast_relay.proofs.Senders.{put_own, own_more, own_fresh}
 use Rattle.cast_relay.proofs.Relay.own.Goals as goal
 
@@ -23,8 +25,7 @@ invariant_of-self-2 c =
       own_more sets c.self.inside.me c.self.inside.own place c.insert.new.self c.place_of-place.ensures.value within (c.in_ok-insert.ensures.ok ∙ ap (λ n. set.insert n c.self.inside.own) (c.index_mut.ensures.value ∙ get_or_default sets place _ set.empty within)) c.self.invariant.2,
     )
 
-pub returns-in_err-insert-clause-fresh : goal.returns-in_err-insert-clause-fresh
-returns-in_err-insert-clause-fresh c = own_fresh c.self.inside.numbers.items c.args.self.now c.self.inside.me c.self.inside.own c.self.view_is c.self.invariant.2
-
-pub returns-clause-fresh : goal.returns-clause-fresh
-returns-clause-fresh c = own_fresh c.self.inside.numbers.items c.args.self.now c.self.inside.me c.self.inside.own c.self.view_is c.self.invariant.2
+pub returns-clause-back : goal.returns-clause-back
+returns-clause-back c =
+    let fresh = own_fresh c.self.inside.numbers.items c.args.self.now c.self.inside.me c.self.inside.own c.self.view_is c.self.invariant.2 in
+    ap without_own (returns-clause-ok c) ∙ disowned c.args.self.now fresh

@@ -2,13 +2,13 @@ use Rattle.std.proofs.Common.{◌≡◌, ◌-◌, ◌++◌, ◌∷◌, [], sym, 
 use Rattle.std.specs.Option.{option_copied}
 use Rattle.cast_model.specs.History.{numbered}
 use Rattle.cast_fifo.specs.Held.{with_mark}
-use Rattle.cast_fifo.proofs.Turns.{marked_elsewhere, numbered-none, append_none}
+use Rattle.cast_fifo.proofs.Turns.{marked_elsewhere, marked_new, numbered-none, append_none}
 use Rattle.cast_fifo.proofs.Releases.{messages_at, turns_end, turn_more, turn_none, turn_last, all_turns}
 use Rattle.cast_fifo.proofs.queue.Queue.ready.Goals as goal
 use Rattle.cast_fifo.proofs.queue.Queue.ready.Goals.{else-loop-turn-test, then-loop-turn-test+in_default}
 
-pub returns-then-number-self : goal.returns-then-number-self
-returns-then-number-self c =
+pub returns-then-number-self-clause-messages : goal.returns-then-number-self-clause-messages
+returns-then-number-self-clause-messages c =
     let none = marked_elsewhere c.self.inside.next c.self.inside.closed c.self.inside.ring.items c.self.inside.far.entries c.args.self.now c.args.number c.self.invariant c.self.view_is c.if-number-self.true in
     c.new-messages.ensures.items ∙ sym (ap (numbered c.args.sender c.args.self.now.next) none.0 ∙ numbered-none c.args.sender c.args.self.now.next)
 
@@ -19,8 +19,8 @@ loop-turn-preserved c =
     let more = turn_more _ _ _ _ c.args.self.now c.self.invariant c.self.view_is c.len-most.ensures.ordered c.args.number c.args.sender c.loop-turn.turn c.in-Some.item.now c.loop-turn.messages.items c.push.new.self.items i.from i.upto (sym c.in-Some.ensures) pushed in
     record { from = omega (arith, i.from); upto = more.0; messages = more.1 ∙ i.messages }
 
-pub returns : goal.returns
-returns c =
+pub returns-clause-messages : goal.returns-clause-messages
+returns-clause-messages c =
     let i = c.loop-turn.invariant in
     let held = c.args.self.now in
     let last = turns_end held c.args.number in
@@ -33,3 +33,8 @@ returns c =
     ∙ ap (λ n. c.loop-turn.messages.items ++ messages_at c.args.sender (with_mark held c.args.number).waiting c.loop-turn.turn n) (sym rest)
     ∙ i.messages
     ∙ all_turns _ _ _ _ held c.self.invariant c.self.view_is c.len-most.ensures.ordered c.args.number c.args.sender
+
+pub returns-clause-none : goal.returns-clause-none
+returns-clause-none c new =
+    let none = marked_new c.self.inside.next c.self.inside.closed c.self.inside.ring.items c.self.inside.far.entries c.args.self.now c.args.number c.self.invariant c.self.view_is new in
+    returns-clause-messages c ∙ ap (numbered c.args.sender c.args.self.now.next) none ∙ numbered-none c.args.sender c.args.self.now.next

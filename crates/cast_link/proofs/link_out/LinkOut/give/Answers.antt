@@ -1,7 +1,8 @@
 use Rattle.std.proofs.Common.{◌≡◌, ℕ, ◌+◌, ◌≤◌, ◌<◌, ◌/◌, List, [], ◌∷◌, ◌++◌, length, Option, Some, sym, ap, ◌∙◌, subst, arith, length-append}
 use Rattle.std.specs.FinMap as map
 use Rattle.cast_link.specs.Taken.{bit_of}
-use Rattle.cast_link.specs.Links.{Link, owed_map, KeepsOwed}
+use Rattle.cast_link.specs.Links.{Link, without_last, owed_map, KeepsOwed}
+use Rattle.cast_link.proofs.TakenBack.{taken_back}
 use Rattle.cast_link.proofs.Windows.{owed_map-push, len-owed_map, get-owed_map, none_past}
 use Rattle.cast_link.proofs.Marks.{more_room, one_given}
 use Rattle.cast_link.proofs.link_out.LinkOut.give.Goals as goal
@@ -44,11 +45,7 @@ returns-clause-ok g c =
     ap (λ (ps : List (Option g.row.T.Denot)). let link : Link g.row.T.Denot = record { given = base + length ps; owed = owed_map base ps } in link) c.in_ok-push_back.ensures.items
     ∙ (λ i. record { given = given i; owed = (owed_map-push base places c.args.kept ∙ (λ k. map.insert (view k).owed (view k).given c.args.kept)) i })
 
-pub returns-in_err-make_room-clause-fresh : goal.returns-in_err-make_room-clause-fresh
-returns-in_err-make_room-clause-fresh g c = sym (λ i. map.get (c.self.view_is i).owed (c.self.view_is i).given) ∙ get-owed_map c.self.inside.base c.self.inside.places.items _ ∙ none_past c.self.inside.base c.self.inside.places.items _ (omega arith)
-
-pub returns-in_err-push_back-clause-fresh : goal.returns-in_err-push_back-clause-fresh
-returns-in_err-push_back-clause-fresh g c = sym (λ i. map.get (c.self.view_is i).owed (c.self.view_is i).given) ∙ get-owed_map c.self.inside.base c.self.inside.places.items _ ∙ none_past c.self.inside.base c.self.inside.places.items _ (omega arith)
-
-pub returns-clause-fresh : goal.returns-clause-fresh
-returns-clause-fresh g c = sym (λ i. map.get (c.self.view_is i).owed (c.self.view_is i).given) ∙ get-owed_map c.self.inside.base c.self.inside.places.items _ ∙ none_past c.self.inside.base c.self.inside.places.items _ (omega arith)
+pub returns-clause-back : goal.returns-clause-back
+returns-clause-back g c =
+    let fresh = sym (λ i. map.get (c.self.view_is i).owed (c.self.view_is i).given) ∙ get-owed_map c.self.inside.base c.self.inside.places.items _ ∙ none_past c.self.inside.base c.self.inside.places.items _ (omega arith) in
+    ap without_last (returns-clause-ok g c) ∙ taken_back c.args.self.now c.args.kept fresh

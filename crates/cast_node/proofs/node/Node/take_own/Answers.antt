@@ -1,7 +1,7 @@
 use Rattle.std.proofs.Common.{◌<◌, ◌∙◌, ◌++◌, ◌∷◌, [], ap, sym, subst, length, arith, rules}
-use Rattle.cast_relay.specs.Held.{Held}
+use Rattle.cast_relay.specs.Held.{Held, with_own}
 use Rattle.cast_node.specs.Delivering.{Delivering, waiting_in}
-use Rattle.cast_node.specs.Taking.{with_own, message_of, first_members, with_proposal, without_proposal}
+use Rattle.cast_node.specs.Taking.{message_of, first_members, with_proposal, without_proposal}
 use Rattle.cast_node.proofs.Wholes.{OrderFine, order_fine, own_item, length-given, told_keeps}
 use Rattle.std.proofs.Math.ListN.{length-set}
 use Rattle.cast_model.specs.Refusals.{is_close}
