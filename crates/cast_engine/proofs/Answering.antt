@@ -1,24 +1,25 @@
 -- What became of the orders of a client, read off what the engine did.
-use Rattle.std.proofs.Common.{◌≡◌, ℕ, zero, suc, ◌<◌, Bool, true, false, List, [], ◌∷◌, ◌++◌, map, Option, Some, sym, refl, ap, ◌∙◌, subst, ⊎_elim, arith}
+use Rattle.std.proofs.Common.{◌≡◌, ℕ, zero, suc, ◌<◌, Bool, true, false, List, [], ◌∷◌, ◌++◌, map, Option, None, sym, refl, ap, ◌∙◌, subst, ⊎_elim, arith}
 use Rattle.std.specs.Prelude.{if◌then◌else◌, nat_lt, ◌==◌}
 use Rattle.std.specs.List.{filter}
 use Rattle.std.proofs.lemmas.List.{append-nil}
 use Rattle.std.proofs.lemmas.Bool.{false≢true, ltb-true, eqb-true, eq-eqb}
 use Rattle.std.proofs.lemmas.Bool.Decides.{nat_tests}
 use Rattle.cast_message.specs.declared.config.Config.{Config}
-use Rattle.cast_message.specs.declared.event.Event.TheVariants.{Order}
+use Rattle.cast_message.specs.declared.event.Event.TheVariants.{Order, Send, Ack, Arrive, Crash}
 use Rattle.cast_message.specs.declared.event.Outcome.{Outcome}
-use Rattle.cast_message.specs.declared.message.Item.{Item}
-use Rattle.cast_model.specs.Steps.{Step, Ordered}
+use Rattle.cast_model.specs.Steps.{Step, Ordered, Sent, Acknowledged, Arrived, Stopped}
+use Rattle.cast_model.specs.OwnSteps.{node_reply}
 use Rattle.cast_node.specs.declared.entry.Origin.{Origin}
 use Rattle.cast_node.specs.declared.entry.Entry.{Entry}
-use Rattle.cast_node.specs.declared.entry.EntryKind.TheVariants.{Step as StepEntry}
+use Rattle.cast_node.specs.declared.entry.EntryKind.{EntryKind}
+use Rattle.cast_node.specs.declared.entry.EntryKind.TheVariants.{Step as StepEntry, Refused}
 use Rattle.cast_desk.specs.declared.desk.OrderIn.{OrderIn}
 use Rattle.cast_box.specs.Lists.{of}
-use Rattle.cast_report.specs.Linked.{Mark, Trail, steps_in, event_of}
-use Rattle.cast_engine.specs.Runs.{Has, Moved, Served, Denied, Run, mark, trail_of, log_of, orders_of, entry_by, IsRun, is_order, origin_of}
+use Rattle.cast_report.specs.Linked.{Mark, Trail, steps_in, event_of, outcome_in}
+use Rattle.cast_engine.specs.Runs.{Has, Read, Moved, Served, Denied, Run, mark, trail_of, log_of, orders_of, order_by, entry_by, IsRead, IsRun, is_order, origin_of}
 use Rattle.cast_engine.specs.Journals.{Rises}
-use Rattle.cast_engine.specs.Serving.{is_of, origin_in, entries_of, orders_by, before, IsAnswered, IsAnsweredBy, Matches}
+use Rattle.cast_engine.specs.Serving.{is_of, origin_in, entries_of, orders_by, before, HasOriginOf, IsOriginIn, IsAnswered, IsAnsweredBy, Matches}
 use Rattle.cast_engine.proofs.Lists.{has_left, has_last, has_snoc, has_none}
 
 module _ {A B : Type 0} where
@@ -160,29 +161,36 @@ module _ (config : Config) (p : ℕ) (c : ℕ) where
       (subst (Matches S (entries_of c log ++ (if order.client == c then e ∷ [] else []))) (sym (orders_snoc (orders_of rs) order))
       (both_or_none S (entries_of c log) (orders_by c (orders_of rs)) e order (order.client == c) old now))
 
-not_order : (p : ℕ) (step : Step) (node : ℕ) (item : Item) → is_order step ≡ false → event_of p step ≡ Order node item → ⊥
-not_order p (Ordered i) node item h e = false≢true (sym h)
-not_order p step node item h e = cc
+-- what is no order has no origin to tell of
+moved_origin : (P : Origin → Type 0) (p : ℕ) (step : Step) (origin : Option Origin) (outcome : Outcome) → is_order step ≡ false → HasOriginOf P (StepEntry (event_of p step) origin outcome)
+moved_origin P p (Ordered item) origin outcome h = absurd (false≢true (sym h))
+moved_origin P p (Sent to slot) origin outcome h = tt
+moved_origin P p (Acknowledged to slot) origin outcome h = tt
+moved_origin P p (Arrived frame) origin outcome h = tt
+moved_origin P p Stopped origin outcome h = tt
 
-pub run_origins : (config : Config) (p : ℕ) (run : Run) → IsRun config p run → (e : Entry) (node : ℕ) (item : Item) (origin : Option Origin) (outcome : Outcome)
-    → Has (log_of config p run) e → e.kind ≡ StepEntry (Order node item) origin outcome → (order : OrderIn) × Has (orders_of run) order × (origin ≡ Some (origin_of order))
+pub origin_still : (P Q : Origin → Type 0) (kind : EntryKind) → ((o : Origin) → P o → Q o) → HasOriginOf P kind → HasOriginOf Q kind
+origin_still P Q (StepEntry (Order node item) origin outcome) f h = (h.0, h.1, f h.0 h.2)
+origin_still P Q (StepEntry (Send from to slot) origin outcome) f h = tt
+origin_still P Q (StepEntry (Ack from to slot) origin outcome) f h = tt
+origin_still P Q (StepEntry (Arrive from seq) origin outcome) f h = tt
+origin_still P Q (StepEntry (Crash node) origin outcome) f h = tt
+origin_still P Q (Refused origin fault) f h = f origin h
+
+pub run_origins : (config : Config) (p : ℕ) (run : Run) → IsRun config p run → (e : Entry) → Has (log_of config p run) e → HasOriginOf (IsOriginIn (orders_of run)) e.kind
 unfolding trail_of log_of orders_of IsRun
-run_origins config p [] is e node item origin outcome h k = absurd (has_none e h)
-run_origins config p (Moved stamp step ∷ rs) is e node item origin outcome h k =
-    let new = entry_by config p (steps_in config p (trail_of rs)) (Moved stamp step) in
-    ⊎_elim (λ (x : Has (log_of config p rs) e). let it = run_origins config p rs is.0 e node item origin outcome x k in (it.0, has_left (orders_of rs) [] it.0 it.1, it.2))
-    (λ (x : new ≡ e). let kind = ap (λ (z : Entry). z.kind) x ∙ k in let event : event_of p step ≡ Order node item = cc in absurd (not_order p step node item is.1.2 event))
+run_origins config p [] is e h = absurd (has_none e h)
+run_origins config p (r ∷ rs) is e h =
+    let new = entry_by config p (steps_in config p (trail_of rs)) r in
+    ⊎_elim (λ (x : Has (log_of config p rs) e).
+    origin_still (IsOriginIn (orders_of rs)) (IsOriginIn (orders_of rs ++ order_by r)) e.kind (λ o it. (it.0, has_left (orders_of rs) (order_by r) it.0 it.1, it.2)) (run_origins config p rs is.0 e x))
+    (λ (x : new ≡ e). subst (λ (z : Entry). HasOriginOf (IsOriginIn (orders_of rs ++ order_by r)) z.kind) x (last r is.1))
     (has_snoc (log_of config p rs) new e h)
-run_origins config p (Served stamp order ∷ rs) is e node item origin outcome h k =
-    let new = entry_by config p (steps_in config p (trail_of rs)) (Served stamp order) in
-    ⊎_elim (λ (x : Has (log_of config p rs) e). let it = run_origins config p rs is.0 e node item origin outcome x k in (it.0, has_left (orders_of rs) (order ∷ []) it.0 it.1, it.2))
-    (λ (x : new ≡ e). let kind = ap (λ (z : Entry). z.kind) x ∙ k in let o : Some (origin_of order) ≡ origin = cc in (order, has_last (orders_of rs) order, sym o))
-    (has_snoc (log_of config p rs) new e h)
-run_origins config p (Denied stamp order fault ∷ rs) is e node item origin outcome h k =
-    let new = entry_by config p (steps_in config p (trail_of rs)) (Denied stamp order fault) in
-    ⊎_elim (λ (x : Has (log_of config p rs) e). let it = run_origins config p rs is.0 e node item origin outcome x k in (it.0, has_left (orders_of rs) (order ∷ []) it.0 it.1, it.2))
-    (λ (x : new ≡ e). let kind = ap (λ (z : Entry). z.kind) x ∙ k in absurd cc)
-    (has_snoc (log_of config p rs) new e h)
+  where
+    last : (r : Read) → IsRead config p (steps_in config p (trail_of rs)) r → HasOriginOf (IsOriginIn (orders_of rs ++ order_by r)) (entry_by config p (steps_in config p (trail_of rs)) r).kind
+    last (Moved stamp step) read = moved_origin (IsOriginIn (orders_of rs ++ [])) p step None (outcome_in (node_reply config p (steps_in config p (trail_of rs)) step)) read.2
+    last (Served stamp order) read = (origin_of order, refl, (order, has_last (orders_of rs) order, refl))
+    last (Denied stamp order fault) read = (order, has_last (orders_of rs) order, refl)
 
 same_test : (a b : ℕ) → (a == b) ≡ (b == a)
 same_test a b = by_test (a == b) (b == a) (λ e. eq-eqb b a (sym (eqb-true a b e))) (λ e. eq-eqb a b (sym (eqb-true b a e)))

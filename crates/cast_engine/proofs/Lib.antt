@@ -7,3 +7,4 @@ pub mod Carrying
 pub mod Telling
 pub mod Answering
 pub mod Again
+pub mod Suffering

@@ -138,7 +138,7 @@ module _ (old new : JournalState) (put : List Parcel) (held : Option Parcel) (ar
         reached = l.gives.2 ∙ ap (λ n. kept_after n step) k.reached;
         sent = λ x h. made_still old.config old.node.me k.run (Moved l.stamp step) x (k.sent x h);
         waits = λ x h. made_still old.config old.node.me k.run (Moved l.stamp step) x (k.waits x h);
-        received = (k.received, received l.stamp l.later);
+        received = (k.received, received l.stamp (omega (arith, l.next)));
         ordered = append-nil (orders_of k.run) ∙ k.ordered;
       }
 

@@ -1,5 +1,5 @@
 -- The node, the log and the clock of an engine, and what a call changes of them.
-use Rattle.std.specs.Prelude.{◌≡◌, ◌≢◌, ℕ, suc, ◌+◌, ◌<◌, ◌≤◌, ◌^◌, Bool, true, false, List, [], ◌∷◌, ◌++◌, length, slice_get, Option, Some, None, Result, Ok, Err, ◌⊎◌, refl}
+use Rattle.std.specs.Prelude.{◌≡◌, ◌≢◌, ℕ, suc, ◌+◌, ◌<◌, ◌≤◌, ◌^◌, max, Bool, true, false, List, [], ◌∷◌, ◌++◌, length, slice_get, Option, Some, None, Result, Ok, Err, ◌⊎◌, refl}
 use Rattle.std.specs.Coded.{Coded, code_by, coded×, coded_ℕ, coded_list, coded_option}
 use Rattle.cast_message.specs.declared.config.Config.{Config}
 use Rattle.cast_message.specs.declared.event.Event.{Event}
@@ -44,20 +44,21 @@ pub record Logs (old new : JournalState) (stamp : ℕ) (kind : EntryKind) : Type
   pub log : new.log ≡ old.log ++ record { stamp = stamp; kind = kind } ∷ []
   pub clock : new.clock ≡ stamp
 
--- the node took a step, which was logged with a stamp above this one
+-- the node took a step, which was logged with a stamp one above the greater of the clock and this stamp
 pub record LogsStep (old new : JournalState) (step : Step) (origin : Option Origin) (above : ℕ) : Type 0 where
   pub answer : Answer
   pub stamp : ℕ
   pub gives : Gives old.node step (Ok answer) new.node
   pub logs : Logs old new stamp (StepEntry (event_of old.node.me step) origin (outcome_in_answer answer))
-  pub later : above < stamp
+  pub next : stamp ≡ max old.clock above + 1
 
--- the node refused an order
+-- the node refused an order, which was logged with a stamp one above the clock
 pub record LogsRefusal (old new : JournalState) (order : OrderIn) : Type 0 where
   pub fault : StepFault
   pub stamp : ℕ
   pub gives : Gives old.node (Ordered order.item) (Err fault) new.node
   pub logs : Logs old new stamp (Refused (origin_of order) fault)
+  pub next : stamp ≡ old.clock + 1
 
 abbrev pub LogsOrder : JournalState → JournalState → OrderIn → Type 0
 LogsOrder old new order = LogsStep old new (Ordered order.item) (Some (origin_of order)) old.clock ⊎ LogsRefusal old new order

@@ -5,4 +5,5 @@ pub mod Engines
 pub mod Carriers
 pub mod Serving
 pub mod Plans
+pub mod Fates
 pub mod Group

@@ -2,13 +2,12 @@
 --     entries_of c log                     the entries with an origin at client c
 --     IsAnswered config p trail e order    the entry took the order as a step, or refused it as the steps before it say
 --     Matches R xs ys                      the two lists are related one for one, in order
---     Serves e log trail                   so are, for each client, its entries and its orders, and each order step has an origin
+--     HasOriginOf P kind                   an entry of an order, taken or refused, has an origin of which P holds
+--     Serves config p log trail orders     for each client its entries and its orders match, and each order in the log is one of them
 use Rattle.std.specs.Prelude.{◌≡◌, ℕ, ◌==◌, nat_lt, Bool, false, if◌then◌else◌, List, [], ◌∷◌, Option, Some, None}
 use Rattle.std.specs.List.{filter}
 use Rattle.cast_message.specs.declared.config.Config.{Config}
 use Rattle.cast_message.specs.declared.event.Event.TheVariants.{Order}
-use Rattle.cast_message.specs.declared.event.Outcome.{Outcome}
-use Rattle.cast_message.specs.declared.message.Item.{Item}
 use Rattle.cast_model.specs.Replies.{IsRefused}
 use Rattle.cast_model.specs.Steps.{Steps, Ordered}
 use Rattle.cast_model.specs.OwnSteps.{own_fault}
@@ -52,8 +51,16 @@ Matches R [] (y ∷ ys) = ⊥
 Matches R (x ∷ xs) [] = ⊥
 Matches R (x ∷ xs) (y ∷ ys) = R x y × Matches R xs ys
 
--- for each client, its entries and its orders, and each order step has an origin
+-- an entry of an order, taken or refused, has an origin of which this holds
+abbrev pub HasOriginOf : (Origin → Type 0) → EntryKind → Type 0
+HasOriginOf P (StepEntry (Order node item) origin outcome) = (o : Origin) × (origin ≡ Some o) × P o
+HasOriginOf P (StepEntry event origin outcome) = Unit {0}
+HasOriginOf P (Refused origin fault) = P origin
+
+abbrev pub IsOriginIn : List OrderIn → Origin → Type 0
+IsOriginIn orders origin = (order : OrderIn) × Has orders order × (origin ≡ origin_of order)
+
+-- for each client, its entries and its orders, and each order in the log is one of these
 pub record Serves (config : Config) (p : ℕ) (log : List Entry) (trail : Trail) (orders : List OrderIn) : Type 0 where
   pub matches : (c : ℕ) → Matches (IsAnswered config p trail) (entries_of c log) (orders_by c orders)
-  pub origins : (e : Entry) (node : ℕ) (item : Item) (origin : Option Origin) (outcome : Outcome) → Has log e → e.kind ≡ StepEntry (Order node item) origin outcome
-      → (order : OrderIn) × Has orders order × (origin ≡ Some (origin_of order))
+  pub origins : (e : Entry) → Has log e → HasOriginOf (IsOriginIn orders) e.kind

@@ -1,8 +1,9 @@
 //! A carrier: takes parcels from an outbox and puts each into the inbox of its frame's target, once, twice or never, as the
 //! plan says.
-ghost use Rattle.std.specs.Prelude.{◌≡◌, IfOk};
+ghost use Rattle.std.specs.Prelude.{◌≡◌, ◌||◌, IfOk, IsTrue};
 ghost use Rattle.cast_box.specs.Ends.{AreSamePutters};
 ghost use Rattle.cast_engine.specs.Carriers.{IsSameCarrier, AreUnused, Brings, Moves, MovesOn, Puts, Still, StillWith};
+ghost use Rattle.cast_engine.specs.Fates.{kind_of, is_kind, is_among, names, suffered, fate_by, fate_in, ordinal_of, one_more, counted_in};
 
 use crate::board::Board;
 use crate::parcel::Parcel;
@@ -39,6 +40,30 @@ pub struct Fate {
     /// How many more frames are taken for its target before it is handed on.
     pub delay: u64,
     pub twice: bool,
+}
+
+impl Fate {
+    // Lost as well, where that is so.
+    fn or_lost(self, lost: bool) -> Fate
+        ensures { result ≡ record { lost = self.lost || lost; delay = self.delay; twice = self.twice } }
+    {
+        Fate {
+            lost: self.lost || lost,
+            delay: self.delay,
+            twice: self.twice,
+        }
+    }
+
+    // Handed on twice, where that is so.
+    fn or_twice(self, twice: bool) -> Fate
+        ensures { result ≡ record { lost = self.lost; delay = self.delay; twice = self.twice || twice } }
+    {
+        Fate {
+            lost: self.lost,
+            delay: self.delay,
+            twice: self.twice || twice,
+        }
+    }
 }
 
 /// Carries the parcels of one engine.
@@ -134,21 +159,23 @@ pub fn run_carrier<R: Wait>(rt: &R, mut carrier: Carrier, board: &Board, node: u
     carrier
 }
 
-// What becomes of a parcel by the plan, which counts its frame.
-fn fate_of(faults: &[Fault], ordinals: &mut [Ordinals], parcel: &Parcel) -> Fate {
+// What becomes of a parcel by the plan, which counts its frame. A frame for a target past the row of ordinals is not counted,
+// and no fault befalls it.
+fn fate_of(faults: &[Fault], ordinals: &mut [Ordinals], parcel: &Parcel) -> Fate
+    ensures fate { result ≡ fate_in faults.now ordinals.old parcel.now.frame }
+    ensures counts { ordinals.new ≡ counted_in ordinals.old parcel.now.frame }
+{
     let to = parcel.frame.to;
-    let kind = match &parcel.frame.body {
-        FrameBody::Carry { .. } => FrameKind::Carry,
-        FrameBody::Took { .. } => FrameKind::Took,
-    };
-    let mut fate = Fate {
-        lost: false,
-        delay: 0,
-        twice: false,
-    };
-    let Some(counts) = ordinals.get_mut(usize::from(to.0)) else {
-        return fate;
-    };
+    let kind = kind_of(&parcel.frame.body);
+    let target = usize::from(to.0);
+    if target >= ordinals.len() {
+        return Fate {
+            lost: false,
+            delay: 0,
+            twice: false,
+        };
+    }
+    let counts = &mut ordinals[target];
     let ordinal = count(counts, kind);
     let frame = NamedFrame {
         kind,
@@ -156,14 +183,24 @@ fn fate_of(faults: &[Fault], ordinals: &mut [Ordinals], parcel: &Parcel) -> Fate
         to,
         ordinal,
     };
-    for fault in faults {
-        fate = suffer(fate, *fault, &frame);
+    fate_by(faults, &frame)
+}
+
+// The kind of a frame.
+fn kind_of(body: &FrameBody) -> FrameKind
+    ensures { result ≡ kind_of body.now }
+{
+    match body {
+        FrameBody::Carry { .. } => FrameKind::Carry,
+        FrameBody::Took { .. } => FrameKind::Took,
     }
-    fate
 }
 
 // The ordinal of the next frame of the kind, which stays at its greatest value once there.
-fn count(counts: &mut Ordinals, kind: FrameKind) -> u64 {
+fn count(counts: &mut Ordinals, kind: FrameKind) -> u64
+    ensures ordinal { result ≡ ordinal_of kind counts.old }
+    ensures counts { counts.new ≡ one_more kind counts.old }
+{
     match kind {
         FrameKind::Carry => {
             let ordinal = counts.carry;
@@ -180,31 +217,71 @@ fn count(counts: &mut Ordinals, kind: FrameKind) -> u64 {
 
 // A frame by what the faults of a plan name of it.
 #[derive(Drop)]
-struct NamedFrame {
-    kind: FrameKind,
-    from: NodeId,
-    to: NodeId,
-    ordinal: u64,
+pub struct NamedFrame {
+    pub kind: FrameKind,
+    pub from: NodeId,
+    pub to: NodeId,
+    pub ordinal: u64,
 }
 
 impl NamedFrame {
-    // Whether a fault of these frames names it: their ordinals are first, first + step, first + 2 * step, ..; with no step,
-    // first alone.
-    fn is_hit(&self, kind: FrameKind, from: NodeId, to: NodeId, first: u64, step: u64) -> bool {
+    // Whether a fault of these frames names it.
+    fn is_hit(&self, kind: FrameKind, from: NodeId, to: NodeId, first: u64, step: u64) -> bool
+        ensures { result ≡ names kind from to first step self.now }
+    {
         // Most faults are of other frames, and a division takes long.
-        if to != self.to || kind != self.kind || from != self.from {
+        if to != self.to || !is_kind(kind, self.kind) || from != self.from {
             return false;
         }
-        match self.ordinal.checked_sub(first) {
-            Some(0) => true,
-            Some(past) => step != 0 && past % step == 0,
-            None => false,
-        }
+        is_among(first, step, self.ordinal)
     }
 }
 
+// Whether two kinds are the same.
+fn is_kind(kind: FrameKind, other: FrameKind) -> bool
+    ensures { result ≡ is_kind kind other }
+{
+    match kind {
+        FrameKind::Carry => match other {
+            FrameKind::Carry => true,
+            FrameKind::Took => false,
+        },
+        FrameKind::Took => match other {
+            FrameKind::Carry => false,
+            FrameKind::Took => true,
+        },
+    }
+}
+
+// Whether the ordinal is first, first + step, first + 2 * step, ..; with no step, first alone.
+fn is_among(first: u64, step: u64, ordinal: u64) -> bool
+    ensures { result ≡ is_among first step ordinal }
+{
+    if step == 0 {
+        return ordinal == first;
+    }
+    first <= ordinal && (ordinal - first) % step == 0
+}
+
+// What becomes of a frame by all faults of a plan.
+fn fate_by(faults: &[Fault], frame: &NamedFrame) -> Fate
+    ensures { result ≡ fate_by frame.now faults.now }
+{
+    let mut fate = Fate {
+        lost: false,
+        delay: 0,
+        twice: false,
+    };
+    for fault in faults {
+        fate = suffer(fate, *fault, frame);
+    }
+    fate
+}
+
 // What becomes of a frame by one fault more. Of several delays the longest holds.
-fn suffer(mut fate: Fate, fault: Fault, frame: &NamedFrame) -> Fate {
+fn suffer(fate: Fate, fault: Fault, frame: &NamedFrame) -> Fate
+    ensures { result ≡ suffered frame.now fate fault }
+{
     match fault {
         Fault::Lose {
             kind,
@@ -212,14 +289,14 @@ fn suffer(mut fate: Fate, fault: Fault, frame: &NamedFrame) -> Fate {
             to,
             first,
             step,
-        } => fate.lost = fate.lost || frame.is_hit(kind, from, to, first, step),
+        } => fate.or_lost(frame.is_hit(kind, from, to, first, step)),
         Fault::Repeat {
             kind,
             from,
             to,
             first,
             step,
-        } => fate.twice = fate.twice || frame.is_hit(kind, from, to, first, step),
+        } => fate.or_twice(frame.is_hit(kind, from, to, first, step)),
         Fault::Delay {
             kind,
             from,
@@ -229,12 +306,17 @@ fn suffer(mut fate: Fate, fault: Fault, frame: &NamedFrame) -> Fate {
             count,
         } => {
             if frame.is_hit(kind, from, to, first, step) {
-                fate.delay = fate.delay.max(count);
+                Fate {
+                    lost: fate.lost,
+                    delay: fate.delay.max(count),
+                    twice: fate.twice,
+                }
+            } else {
+                fate
             }
         }
-        Fault::Crash { .. } => {}
+        Fault::Crash { .. } => fate,
     }
-    fate
 }
 
 // Hands on what is due by one more frame for the target, and then loses, keeps or hands on the parcel.
@@ -248,6 +330,8 @@ fn take_over<R: Wait>(
     ensures same { AreSamePutters inboxes.old.items inboxes.new.items }
     ensures moves { Moves inboxes.old.items delayed.old.items parcel inboxes.new.items
         delayed.new.items }
+    ensures lost { IsTrue fate.lost → MovesOn inboxes.old.items delayed.old.items
+        inboxes.new.items delayed.new.items }
 {
     pass_time(rt, inboxes, delayed, &parcel);
     if fate.lost {

@@ -390,7 +390,6 @@ impl Engine {
     fn count_turn(&mut self) -> bool
         ensures { IsSameEngine self.old self.new }
     {
-        let _ends = &self.outbox;
         if self.turns == 0 {
             return false;
         }

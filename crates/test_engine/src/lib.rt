@@ -1,5 +1,8 @@
-//! What no contract of an engine says: which slots it sends in which turn. Groups that run are tested in `test_run`.
+//! What no contract of engines and carriers says: which slots an engine sends in which turn, and that a carrier repeats and delays
+//! what the plan names. Groups that run are tested in `test_run`.
 #![tactic(auto)]
 
+#[cfg(test)]
+mod carrier;
 #[cfg(test)]
 mod resend;
