@@ -1,5 +1,5 @@
 -- Each item that a node has ordered was given to a teller there.
-use Rattle.std.proofs.Common.{◌≡◌, ◌<◌, ◌+◌, ℕ, zero, suc, Bool, true, false, cond, List, [], ◌∷◌, ◌++◌, length, map, reverse, take, Option, Some, None, refl, sym, ap, ◌∙◌, subst, eqb, eq-eqb, eqb-true, arith}
+use Rattle.std.proofs.Common.{◌≡◌, ◌<◌, ℕ, zero, suc, Bool, true, false, cond, List, [], ◌∷◌, length, map, reverse, take, Option, Some, refl, sym, ap, ◌∙◌, subst, eqb, eq-eqb, eqb-true, arith}
 use Rattle.std.specs.Prelude.{is_some, ◌||◌, if◌then◌else◌, slice_get}
 use Rattle.std.specs.List.{All, Contains, filter}
 use Rattle.std.proofs.lemmas.List.{reverse-append}
@@ -10,7 +10,7 @@ use Rattle.cast_message.specs.declared.event.Event.TheVariants.{Order}
 use Rattle.cast_message.specs.declared.event.Outcome.{Outcome}
 use Rattle.cast_message.specs.declared.message.Item.{Item}
 use Rattle.cast_model.specs.History.{History, stream}
-use Rattle.cast_model.specs.Steps.{Step, Ordered, Sent, Acknowledged, Arrived, Stopped, Steps, each, item_of, own_items, steps_of}
+use Rattle.cast_model.specs.Steps.{Step, Ordered, Sent, Acknowledged, Arrived, Stopped, Steps, each, own_items, steps_of}
 use Rattle.cast_model.specs.OwnSteps.{own_fault, is_ignored, node_after}
 use Rattle.cast_model.proofs.Projected.{own_items-steps_of}
 use Rattle.cast_node.specs.declared.entry.Entry.{Entry}
@@ -23,7 +23,7 @@ use Rattle.cast_desk.specs.declared.desk.OrderIn.{OrderIn}
 use Rattle.cast_report.specs.declared.report.NodeReport.{NodeReport}
 use Rattle.cast_report.specs.Linked.{Trail, Taken, taken, taken_of, taken_in, taken_by, steps_in, event_of, Linked}
 use Rattle.cast_engine.specs.Runs.{Has}
-use Rattle.cast_engine.specs.Serving.{Matches, IsAnswered, IsAnsweredBy, before, entries_of, is_of, origin_in}
+use Rattle.cast_engine.specs.Serving.{HasOriginOf, Matches, IsAnswered, IsAnsweredBy, before, entries_of, is_of, origin_in}
 use Rattle.cast_run.specs.declared.reports.ClientReport.{ClientReport}
 use Rattle.cast_run.specs.Jobs.{told_job}
 use Rattle.cast_run.specs.Serves.{AreServed, IsServed, HaveOrigins}
@@ -164,7 +164,7 @@ module _ (config : Config) (handed : List (ℕ × Teller)) (reports : List NodeR
       → (entry : Entry) (item : Item) (origin : Option Origin) (outcome : Outcome) → Has report.log entry → entry.kind ≡ StepEntry (Order s item) origin outcome
       → IsGiven handed s item
   entry_is_given s report at entry item origin outcome has kind =
-      let from = origins s report entry s item origin outcome at has kind in
+      let from = subst (HasOriginOf (λ o. o.client < length (of s handed))) kind (origins s report entry at has) in
       let number = from.0.client in
       let job = job_of handed s number from.2 in
       let i = job.0 in

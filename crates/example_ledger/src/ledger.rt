@@ -1,7 +1,7 @@
 //! The ledger of a group: a list of events goes in, and the book of each node comes out.
-ghost use Rattle.std.specs.Prelude.{◌≡◌, ◌≤◌, ◌++◌, IsTrue, IfOk, OnOk, length};
+ghost use Rattle.std.specs.Prelude.{◌≡◌, ◌↔◌, ◌≤◌, ◌++◌, IsTrue, IfOk, OnOk, length};
 ghost use Rattle.cast_model.specs.Replies.{history, deliveries_for};
-ghost use Rattle.cast_model.specs.Rounds.{FewCrashedIn};
+ghost use Rattle.cast_model.specs.Rounds.{Rest, FewCrashedIn};
 ghost use Rattle.cast_world.specs.Group.{Stands};
 ghost use Rattle.example_ledger.specs.Applied.{AppliesPrefixes, AppliesDelivered, KeepsSheets, LiveSheetsAgree, AreBooksOf, applied_at};
 ghost use Rattle.example_ledger.specs.Sheets.{IsSheetOf};
@@ -33,7 +33,9 @@ pub fn run_ledger(alloc: Global, config: Config, events: &[Event]) -> Result<Led
         AppliesDelivered config (history config events.now) ledger.books.items) }
     ensures sheets { IfOk result (λ ledger. KeepsSheets ledger.books.items) }
 
-    // At rest live nodes have the same sheet.
+    // Whether the group rests, and at rest live nodes have the same sheet.
+    ensures rest { IfOk result (λ ledger.
+        IsTrue ledger.at_rest ↔ Rest config (history config events.now)) }
     ensures agree { IfOk result (λ ledger. IsTrue ledger.at_rest
         → FewCrashedIn config.mode config (history config events.now)
         → LiveSheetsAgree config (history config events.now) ledger.books.items) }

@@ -1,8 +1,11 @@
 //! The ledger of a group that runs in threads: each node has a teller, and the tellers' books come out.
-ghost use Rattle.std.specs.Prelude.{IfOk, map};
+ghost use Rattle.std.specs.Prelude.{◌≡◌, ℕ, IfOk, None, Some, map, slice_get};
 ghost use Rattle.cast_model.specs.Replies.{history};
 ghost use Rattle.cast_world.specs.Group.{Stands};
 ghost use Rattle.cast_merge.specs.Merge.{TellsMerge};
+ghost use Rattle.cast_engine.specs.Journals.{EndsAs};
+ghost use Rattle.cast_engine.specs.Plans.{crash_from};
+ghost use Rattle.cast_report.specs.declared.report.NodeReport.{NodeReport};
 ghost use Rattle.cast_run.specs.Serves.{AreServed};
 ghost use Rattle.example_ledger.specs.Tellers.{AreNewTellers, TellerFact, OrdersAreGiven, TellersApplyPrefixes, TellersKeepSheets};
 
@@ -32,9 +35,10 @@ pub struct RunningLedger {
     pub assembly: Assembly,
 }
 
-/// Runs a group in threads, with a plan of what goes wrong, until its nodes are at rest and its tellers done, and merges what
-/// its nodes logged. It is refused as `run_live` refuses it: for a teller at a node that does not exist, more than 4 at one, or a
-/// plan that names a node that does not exist; for want of memory; for a thread that isn't started.
+/// Runs a group in threads as `run_live` does, with a plan of what goes wrong and at most 4,000,000 turns a node, and merges what
+/// its nodes logged. Whether it has come to rest, `assembly.world` says. It is refused as `run_live` refuses it: for a teller at a
+/// node that does not exist, more than 4 at one, or a plan that names a node that does not exist; for want of memory; for a thread
+/// that isn't started.
 pub fn run_tellers<R: Threads + Wait + Copy + Send + 'static>(
     rt: R,
     alloc: Global,
@@ -55,6 +59,12 @@ pub fn run_tellers<R: Threads + Wait + Copy + Send + 'static>(
     // These are the tellers that were handed in, each served by its node.
     ensures served { IfOk result (λ ledger. AreServed config TellerFact tellers.items
         ledger.report.reports ledger.tellers.items ledger.clients.items) }
+
+    // Each log ends as the plan and the limit say.
+    ensures logs { IfOk result (λ ledger. (p : ℕ) (report : NodeReport)
+        → slice_get ledger.report.reports p ≡ Some report
+        → EndsAs config.log_limit (crash_from p None plan.now.faults)
+        (Some report.ended) report.log) }
 
     // The events are what the nodes logged, and the world shows what became of the group.
     ensures merge { IfOk result (λ ledger. TellsMerge

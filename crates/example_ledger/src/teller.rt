@@ -1,5 +1,5 @@
 //! A client in a thread of its own, which orders transfers and keeps a book by what its node tells it.
-ghost use Rattle.std.specs.Prelude.{◌≡◌, ◌<◌, ◌≤◌, ◌++◌, ◌∷◌, [], length, IsTrue};
+ghost use Rattle.std.specs.Prelude.{◌≡◌, ◌↔◌, ◌<◌, ◌≤◌, ◌++◌, ◌∷◌, [], length, IsTrue};
 ghost use Rattle.cast_desk.specs.Desk.{IsSameClient};
 ghost use Rattle.cast_run.specs.Jobs.{submitted, got};
 ghost use Rattle.example_ledger.specs.Tellers.{told, HasOrdered};
@@ -114,7 +114,7 @@ impl Teller {
     /// Whether all was ordered and so many messages were applied. An order that its node refused, for want of memory, is not
     /// made again: then the teller is not done when the run ends.
     pub fn is_done(&self) -> bool
-        ensures { IsTrue result → (length self.now.items ≤ self.now.next)
+        ensures { IsTrue result ↔ (length self.now.items ≤ self.now.next)
             × (self.now.expected ≤ length self.now.book.journal) }
     {
         self.next >= self.items.as_slice().len() && self.book.journal().len() >= self.expected

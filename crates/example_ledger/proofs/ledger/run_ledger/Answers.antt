@@ -17,6 +17,9 @@ pub returns-clause-delivered : goal.returns-clause-delivered
 returns-clause-delivered c p s book at =
     applied-delivered c.args.config c.args.events.now c.as_slice.result.now book.journal p s (c.as_slice.ensures ∙ c.in_ok-world.ensures.replies) (c.in_ok-books.ensures.each p book at)
 
+pub returns-clause-rest : goal.returns-clause-rest
+returns-clause-rest c = c.at_rest-at_rest.ensures.rest c.args.config (history c.args.config c.args.events.now) c.in_ok-world.ensures.stands
+
 pub returns-clause-agree : goal.returns-clause-agree
 returns-clause-agree c rest few p q one other at_p at_q live_p live_q =
     let replied = c.as_slice.ensures ∙ c.in_ok-world.ensures.replies in
