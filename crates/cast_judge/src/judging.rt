@@ -24,7 +24,8 @@ enum State {
     Refused,
 }
 
-/// A text that is being judged. It keeps no more of the text than an unfinished line of 4,096 bytes.
+/// A text that is being judged. Of the text it keeps the word of each item that was broadcast, as deliveries are compared with
+/// it, and at most 4,096 bytes of an unfinished line.
 #[derive(Debug, Drop)]
 pub struct Judging {
     alloc: Global,

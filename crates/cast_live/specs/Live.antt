@@ -30,7 +30,7 @@ use Rattle.cast_run.specs.Faults.{JobsFit}
 use Rattle.cast_engine.specs.Plans.{ArePlanned, crash_from}
 use Rattle.cast_run.specs.Jobs.{SubmitsGiven}
 use Rattle.cast_engine.specs.Journals.{EndsAs}
-use Rattle.cast_run.specs.Serves.{AreServed, HaveOrigins}
+use Rattle.cast_run.specs.Serves.{AreStamped, AreServed, HaveOrigins}
 use Rattle.cast_script.specs.declared.live_fault.LiveFault.{LiveFault}
 use Rattle.cast_script.specs.declared.live_fault.LiveFault.TheVariants as lives
 use Rattle.cast_run.specs.declared.submit_all.SubmitAll.{SubmitAll}
@@ -75,11 +75,12 @@ pub record FitsGroup (script : Script) : Type 0 where
   pub jobs : JobsFit script.config.nodes script.jobs
   pub plan : ArePlanned script.config.nodes script.plan.faults
 
--- these are reports of a run of the script, which fits its group: each log ends as plan and limits say, and each job of the script
--- had a client, which submitted the first of its items
+-- these are reports of a run of the script, which fits its group: each log ends as plan and limits say, with stamps from the first on,
+-- and each job of the script had a client, which submitted the first of its items
 pub record IsRunOf (script : Script) (reports : List NodeReport) : Type 0 where
   pub fits : FitsGroup script
   pub logs : (p : ℕ) (report : NodeReport) → slice_get reports p ≡ Some report → EndsAs script.config.log_limit (crash_from p None script.plan.faults) (Some report.ended) report.log
+  pub stamps : AreStamped script.config reports
   -- the jobs that were handed in, and what came back of them
   pub handed : List (ℕ × SubmitAll)
   pub back : List SubmitAll

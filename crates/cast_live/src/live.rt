@@ -4,7 +4,7 @@ ghost use Rattle.cast_record.specs.Text.{record_text};
 ghost use Rattle.cast_run.specs.Jobs.{told_job};
 ghost use Rattle.cast_script.specs.Replay.{script_text};
 ghost use Rattle.cast_live.specs.Live.{IsFinished, IsNewJob, AreNewJobs, items_of, IsOfRunning, IsRunOf, Summarizes};
-ghost use Rattle.cast_text.specs.Text.{Puts, Tells};
+ghost use Rattle.cast_text.specs.Text.{Puts, UsesStreams};
 ghost use Rattle.cast_live.specs.Replayed.{record_of_accepted, RecordsReplay};
 
 use crate::replay::{is_replayed, write_run_record};
@@ -42,8 +42,8 @@ pub fn live_text<R: Read, W: Write, T: Threads + Wait + Copy + Send + 'static>(
     // has its cause.
     ensures exact { Summarizes (R.remaining reader.old.inner) reader.new.failed
         (W.contents writer.old.inner) (W.contents writer.new.inner) writer.new.failed result }
-    // What failed is told, and nothing else is.
-    ensures told { Tells result reader.new.failed writer.new.failed }
+    // What failed is told, and nothing else is; no more is read than tells that there is too much.
+    ensures streams { UsesStreams R.remaining reader.old reader.new writer.new.failed result }
 {
     let script = read_script_text(alloc, reader)?;
     let progress = Progress::shared(alloc, script.config.nodes())?;

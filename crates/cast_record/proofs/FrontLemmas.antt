@@ -81,7 +81,7 @@ after_word : (word rest front more : List ℕ) → rest ≡ front ++ more → wo
 after_word word rest front more e = ap (λ bytes. word ++ 32 ∷ bytes) e ∙ sym (append_assoc word (32 ∷ front) more)
 
 -- the first two bytes
-name_there : (name : ℕ) (bytes rest : List ℕ) → 2 ≤ length bytes → get_or bytes 0 0 ≡ name → get_or bytes 1 0 ≡ 32 → rest ≡ drop 2 bytes → bytes ≡ name ∷ 32 ∷ rest
+pub name_there : (name : ℕ) (bytes rest : List ℕ) → 2 ≤ length bytes → get_or bytes 0 0 ≡ name → get_or bytes 1 0 ≡ 32 → rest ≡ drop 2 bytes → bytes ≡ name ∷ 32 ∷ rest
 name_there name [] rest some a b e = absurd (omega arith)
 name_there name (x ∷ []) rest some a b e = absurd (omega arith)
 name_there name (x ∷ y ∷ bytes) rest some a b e = λ i. a i ∷ b i ∷ sym e i

@@ -1,6 +1,6 @@
 -- What a word of an item says of it.
 use Rattle.std.proofs.Common.{◌≡◌, ℕ, ◌-◌, ◌%◌, ◌&&◌, Bool, true, false, cond, nat_lt, List, [], ◌∷◌, length, take, drop, Option, Some, None, option_map, refl, sym, ap, ◌∙◌, arith}
-use Rattle.std.specs.Prelude.{unwrap_or}
+use Rattle.std.specs.Prelude.{is_some, unwrap_or}
 use Rattle.std.specs.List.{list_all}
 use Rattle.std.proofs.lemmas.Grind.{common_steps}
 use Rattle.std.proofs.lemmas.List.{take-append-drop}
@@ -49,6 +49,21 @@ unhexed (Some bytes) = refl
 
 pub data_kind : (digits : List ℕ) (b : Bool) → nat_lt 2048 (length digits) ≡ false → is_hex digits ≡ b → option_map kind_of (data_of digits) ≡ cond b (Some Data) None
 data_kind digits b short e = rw short (unhexed (unhex digits) ∙ ap (λ b. cond b (Some Data) None) e)
+
+-- digits that stand for bytes are data, others are none
+pub no_data : (digits : List ℕ) → nat_lt 2048 (length digits) ≡ false → is_hex digits ≡ false → None ≡ data_of digits
+no_data digits short e = rw short (by_bytes (unhex digits) e)
+  where
+    by_bytes : (o : Option (List ℕ)) → is_known o ≡ false → None ≡ option_map items.Data o
+    by_bytes None e = refl
+    by_bytes (Some bytes) e = absurd (cc)
+
+pub some_data : (digits : List ℕ) → nat_lt 2048 (length digits) ≡ false → is_hex digits ≡ true → is_some (data_of digits) ≡ true
+some_data digits short e = rw short (by_bytes (unhex digits) e)
+  where
+    by_bytes : (o : Option (List ℕ)) → is_known o ≡ true → is_some (option_map items.Data o) ≡ true
+    by_bytes None e = absurd (cc)
+    by_bytes (Some bytes) e = refl
 
 pub no_item : (o : Option Item) → None ≡ option_map kind_of o → None ≡ o
 no_item None e = refl

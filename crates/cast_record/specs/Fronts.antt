@@ -1,4 +1,5 @@
 -- What the front of a text says.
+--     BeginsWithDelivery bytes d  the bytes are `d`, words of these two nodes and this number, and the rest, each after a blank
 --     SaysDelivery bytes d        the bytes begin with this line `d`, if a word at the front of its rest spells an item
 use Rattle.std.specs.Prelude.{◌≡◌, ℕ, ◌^◌, ◌<◌, ◌≤◌, true, List, ◌∷◌, ◌++◌, length, take, Some}
 use Rattle.std.specs.Str.{all_ascii_digits}
@@ -39,3 +40,13 @@ pub record IsNumberSoFar (bytes : List ℕ) (at value : ℕ) : Type 0 where
   pub digits : all_ascii_digits (take at bytes) ≡ true
   pub value_is : read_on 0 (take at bytes) ≡ value
   pub fits : value < 2 ^ 64
+
+-- `d`, words that name the nodes and spell the number, and the rest, each after a blank
+pub record BeginsWithDelivery (bytes : List ℕ) (d : Delivery) : Type 0 where
+  pub after : List ℕ
+  pub head : bytes ≡ 100 ∷ 32 ∷ after
+  pub after_node : List ℕ
+  pub node : BeginsWithNode after d.node after_node
+  pub after_sender : List ℕ
+  pub sender : BeginsWithNode after_node d.sender after_sender
+  pub number : BeginsWithNumber after_sender d.number d.rest.now

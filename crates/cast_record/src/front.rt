@@ -3,7 +3,7 @@
 ghost use Rattle.std.specs.Prelude.{◌≡◌, ◌<◌, ◌∷◌, length, slice_index, Some, IfSome};
 ghost use Rattle.cast_record.specs.Reading.{line_of};
 ghost use Rattle.cast_record.specs.WordLines.{line_said};
-ghost use Rattle.cast_record.specs.Fronts.{SaysDelivery, BeginsWithNode, BeginsWithNumber, IsNumberSoFar};
+ghost use Rattle.cast_record.specs.Fronts.{BeginsWithDelivery, SaysDelivery, BeginsWithNode, BeginsWithNumber, IsNumberSoFar};
 
 use crate::item_word::ItemWord;
 use crate::word_line::WordLine;
@@ -23,10 +23,11 @@ pub struct Delivery<'a> {
     pub rest: &'a [u8],
 }
 
-/// The line `d` at the front of these bytes, if a word at the front of its rest spells an item. None says nothing of the bytes:
-/// `read_words` does.
+/// `d`, two nodes and a number at the front of these bytes, and so the line there if a word at the front of the rest spells an
+/// item. None says nothing of the bytes: `read_words` does.
 pub fn read_delivery<'a>(bytes: &'a [u8]) -> Option<Delivery<'a>>
-    ensures { IfSome result (λ delivery. SaysDelivery bytes.now delivery) }
+    ensures words { IfSome result (λ delivery. BeginsWithDelivery bytes.now delivery) }
+    ensures says { IfSome result (λ delivery. SaysDelivery bytes.now delivery) }
 {
     let [b'd', b' ', rest @ ..] = bytes else {
         return None;

@@ -126,8 +126,8 @@ fn proposal(word: &[u8]) -> Option<ItemKind>
     })
 }
 
-// Whether the digits stand for bytes, two digits a byte.
-fn is_hex(digits: &[u8]) -> bool
+/// Whether the digits stand for bytes, two digits a byte.
+pub fn is_hex(digits: &[u8]) -> bool
     ensures { result ≡ is_hex digits.now }
 {
     if digits.len() % 2 != 0 {

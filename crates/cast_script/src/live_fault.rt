@@ -6,7 +6,8 @@ use std::alloc::AllocError;
 use std::convert::From;
 use thiserror::Error;
 
-/// Why a group is not run. The causes are tried in this order, and the first that holds is answered.
+/// Why a group is not run. The first three causes are tried in this order, before anything is started, and the first that holds
+/// is answered; then memory or a thread, whichever is refused first.
 #[derive(Clone, Copy, Debug, PartialEq, Eq, Error)]
 pub enum LiveFault {
     #[error("a job at no node, or more than 4 jobs at one")]

@@ -1,6 +1,6 @@
 -- The bytes of a script, and those of its record.
-use Rattle.std.specs.Prelude.{◌≡◌, ℕ, ◌<◌, ◌≤◌, ◌++◌, ◌⊎◌, List, length, Bool, true, false, Option, Result, Ok, Err, IfSome}
-use Rattle.std.specs.Io.KnownBytes.{Appends, Keeps}
+use Rattle.std.specs.Prelude.{◌≡◌, ℕ, ◌+◌, ◌<◌, ◌≤◌, ◌++◌, ◌⊎◌, List, length, Bool, true, false, Option, Result, Ok, Err, IfSome}
+use Rattle.std.specs.Io.KnownBytes.{Appends, Consumes, Keeps}
 use Rattle.cast_record.specs.declared.verdict.Verdict.TheVariants.{Good}
 use Rattle.cast_record.specs.Text.{record_text}
 use Rattle.cast_record.specs.Verdicts.{verdict}
@@ -90,3 +90,11 @@ Tells (Err faults.Write) read_failed write_failed = (read_failed ≡ false) × (
 Tells (Err (faults.Script scripts.Memory)) read_failed write_failed = ⊥
 Tells (Err (faults.Live lives.Memory)) read_failed write_failed = ⊥
 Tells (Err fault) read_failed write_failed = (read_failed ≡ false) × (write_failed ≡ false)
+
+-- of the reader's bytes no more were taken than tell that there are too many
+abbrev pub TakesInput : Option (List ℕ) → Option (List ℕ) → Type 0
+TakesInput old new = (bytes : List ℕ) × Consumes old new bytes × (length bytes ≤ input_limit + 1)
+
+-- both, of a call that has a writer too
+abbrev pub UsesStreams : {R T : Type 0} → (R → Option (List ℕ)) → Meter R → Meter R → Bool → Result T TextFault → Type 0
+UsesStreams remaining old new write_failed result = Tells result new.failed write_failed × TakesInput (remaining old.inner) (remaining new.inner)

@@ -3,7 +3,7 @@ ghost use Rattle.std.specs.Prelude.{◌≡◌, false, IfErr, IfOk};
 ghost use Rattle.cast_draw.specs.Sheet.{sheet_of};
 ghost use Rattle.cast_text.specs.Pictured.{sheet_of_script};
 ghost use Rattle.cast_text.specs.Drawing.{Draws};
-ghost use Rattle.cast_text.specs.Text.{Tells};
+ghost use Rattle.cast_text.specs.Text.{UsesStreams};
 
 use crate::fault::TextFault;
 use crate::play::{Observer, play};
@@ -28,8 +28,8 @@ pub fn draw_text<R: Read, W: Write>(
     // The writer has the picture of the script that was read, and nothing else, or a fault has its cause.
     ensures exact { Draws window (R.remaining reader.old.inner) reader.new.failed
         (W.contents writer.old.inner) (W.contents writer.new.inner) writer.new.failed result }
-    // What failed is told, and nothing else is.
-    ensures told { Tells result reader.new.failed writer.new.failed }
+    // What failed is told, and nothing else is; no more is read than tells that there is too much.
+    ensures streams { UsesStreams R.remaining reader.old reader.new writer.new.failed result }
 {
     let script = read_script_text(alloc, reader)?;
     let picture = draw_script(alloc, &script, window)?;

@@ -1,6 +1,6 @@
 //! Reading an input to its end, or to the byte past its limit.
 ghost use Rattle.std.specs.Prelude.{◌≡◌, ◌≤◌, length, false, IfOk, IfSome, IfErr};
-ghost use Rattle.cast_text.specs.Text.{IsOfInput, Tells};
+ghost use Rattle.cast_text.specs.Text.{IsOfInput, TakesInput, Tells};
 
 use crate::fault::TextFault;
 use cast_words::Meter;
@@ -21,6 +21,7 @@ pub fn read_input<R: Read>(alloc: Global, reader: &mut Meter<R>) -> Result<Vec<u
     ensures short { IfOk result (λ v. length v.items ≤ INPUT_LIMIT) }
     ensures err { IfErr result (IsOfInput (R.remaining reader.old.inner) reader.new.failed) }
     ensures told { Tells result reader.new.failed false }
+    ensures taken { TakesInput (R.remaining reader.old.inner) (R.remaining reader.new.inner) }
 {
     let mut bytes = Vec::new(alloc);
     let mut chunk = [0; PIECE];

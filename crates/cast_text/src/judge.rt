@@ -1,7 +1,7 @@
 //! Judging the text of a record as it is read.
 ghost use Rattle.std.specs.Prelude.{◌≡◌, false, IfOk, IfErr};
 ghost use Rattle.cast_text.specs.Judging.{JudgesInput, Judges};
-ghost use Rattle.cast_text.specs.Text.{IsOfInput, Tells};
+ghost use Rattle.cast_text.specs.Text.{IsOfInput, TakesInput, Tells, UsesStreams};
 
 use crate::fault::TextFault;
 use crate::input::{INPUT_LIMIT, PIECE};
@@ -11,9 +11,9 @@ use cast_words::Meter;
 use std::alloc::Global;
 use std::io::{Read, Write};
 
-/// Reads a text to its end, judges it as a record, and writes the verdict as a line. No more of the text is kept than an
-/// unfinished line. After a fault of reading, or want of memory, nothing was written, after `Write` a prefix of the line, or
-/// nothing.
+/// Reads a text to its end, judges it as a record, and writes the verdict as a line. Of the text are kept the items that were
+/// broadcast, and an unfinished line. After a fault of reading, or want of memory, nothing was written, after `Write` a prefix
+/// of the line, or nothing.
 pub fn judge_text<R: Read, W: Write>(
     alloc: Global,
     reader: &mut Meter<R>,
@@ -23,8 +23,8 @@ pub fn judge_text<R: Read, W: Write>(
     // The verdict is that on the bytes, and the writer has its line and nothing else, or a fault has its cause.
     ensures exact { Judges (R.remaining reader.old.inner) reader.new.failed
         (W.contents writer.old.inner) (W.contents writer.new.inner) writer.new.failed result }
-    // What failed is told, and nothing else is.
-    ensures told { Tells result reader.new.failed writer.new.failed }
+    // What failed is told, and nothing else is; no more is read than tells that there is too much.
+    ensures streams { UsesStreams R.remaining reader.old reader.new writer.new.failed result }
 {
     let verdict = judge_input(alloc, reader)?;
     write_verdict(verdict, writer)?;
@@ -37,6 +37,7 @@ fn judge_input<R: Read>(alloc: Global, reader: &mut Meter<R>) -> Result<Verdict,
     ensures ok { IfOk result (JudgesInput (R.remaining reader.old.inner)) }
     ensures err { IfErr result (IsOfInput (R.remaining reader.old.inner) reader.new.failed) }
     ensures told { Tells result reader.new.failed false }
+    ensures taken { TakesInput (R.remaining reader.old.inner) (R.remaining reader.new.inner) }
 {
     let mut judging = Judging::new(alloc);
     let mut chunk = [0; PIECE];

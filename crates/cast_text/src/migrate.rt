@@ -1,7 +1,7 @@
 //! Giving the text of an old record the new head.
 ghost use Rattle.std.specs.Prelude.{◌≡◌, false};
 ghost use Rattle.cast_text.specs.Migrating.{Migrates};
-ghost use Rattle.cast_text.specs.Text.{Tells};
+ghost use Rattle.cast_text.specs.Text.{UsesStreams};
 
 use crate::fault::TextFault;
 use crate::input::read_input;
@@ -21,8 +21,8 @@ pub fn migrate_text<R: Read, W: Write>(
     // The writer has the bytes with their head changed, and nothing else, or a fault has its cause.
     ensures exact { Migrates (R.remaining reader.old.inner) reader.new.failed
         (W.contents writer.old.inner) (W.contents writer.new.inner) writer.new.failed result }
-    // What failed is told, and nothing else is.
-    ensures told { Tells result reader.new.failed writer.new.failed }
+    // What failed is told, and nothing else is; no more is read than tells that there is too much.
+    ensures streams { UsesStreams R.remaining reader.old reader.new writer.new.failed result }
 {
     let input = read_input(alloc, reader)?;
     let migrated = match migrate(alloc, input.as_slice()) {

@@ -1,6 +1,6 @@
 //! From the bytes of a script to those of its record.
 ghost use Rattle.std.specs.Prelude.{◌≡◌, false, IfOk, IfErr};
-ghost use Rattle.cast_text.specs.Text.{IsOfScript, IsScriptIn, Records, Tells};
+ghost use Rattle.cast_text.specs.Text.{IsOfScript, IsScriptIn, Records, TakesInput, Tells, UsesStreams};
 
 use crate::fault::TextFault;
 use crate::input::read_input;
@@ -22,8 +22,8 @@ pub fn run_text<R: Read, W: Write>(
     // The bytes are a script's, and the writer has its record, which is good, and nothing else, or a fault has its cause.
     ensures exact { Records (R.remaining reader.old.inner) reader.new.failed
         (W.contents writer.old.inner) (W.contents writer.new.inner) writer.new.failed result }
-    // What failed is told, and nothing else is.
-    ensures told { Tells result reader.new.failed writer.new.failed }
+    // What failed is told, and nothing else is; no more is read than tells that there is too much.
+    ensures streams { UsesStreams R.remaining reader.old reader.new writer.new.failed result }
 {
     let script = read_script_text(alloc, reader)?;
     tell_ranges(script.events.as_slice());
@@ -37,6 +37,7 @@ pub fn read_script_text<R: Read>(alloc: Global, reader: &mut Meter<R>) -> Result
     ensures ok { IfOk result (IsScriptIn (R.remaining reader.old.inner)) }
     ensures err { IfErr result (IsOfScript (R.remaining reader.old.inner) reader.new.failed) }
     ensures told { Tells result reader.new.failed false }
+    ensures taken { TakesInput (R.remaining reader.old.inner) (R.remaining reader.new.inner) }
 {
     let input = read_input(alloc, reader)?;
     match read_script(alloc, input.as_slice()) {

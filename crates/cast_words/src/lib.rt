@@ -1,5 +1,6 @@
-//! The words that records, scripts and pictures share: numbers as decimal digits, bytes as two digits each, and the mode;
-//! written, without memory, to a writer that may fail, and read back. And bytes as they are shown where a fault is explained.
+//! The words that records, scripts and pictures share: numbers as decimal digits, bytes as two digits each, which are written,
+//! without memory, to a writer that may fail, and read back; and the word of a mode. And bytes as they are shown where a fault is
+//! explained.
 #![tactic(auto)]
 
 mod digits;

@@ -2,7 +2,7 @@
 ghost use Rattle.std.specs.Prelude.{◌≡◌, false};
 
 use cast_live::{Summary, live_text};
-use cast_text::{TextFault, Verdict, judge_text, migrate_text, run_text};
+use cast_text::{TextFault, Verdict, Window, draw_text, judge_text, migrate_text, run_text};
 use cast_words::Meter;
 use std::alloc::Global;
 use std::io::Read;
@@ -15,6 +15,7 @@ pub enum Call {
     Run,
     Judge,
     Migrate,
+    Draw,
     Live,
 }
 
@@ -42,6 +43,7 @@ pub fn come_of<R: Read, T: Threads + Wait + Copy + Send + 'static>(
         Call::Run => run_text(alloc, reader, &mut writer).map(|_| Answer::Done),
         Call::Judge => judge_text(alloc, reader, &mut writer).map(Answer::Judged),
         Call::Migrate => migrate_text(alloc, reader, &mut writer).map(|_| Answer::Done),
+        Call::Draw => draw_text(alloc, Window::all(), reader, &mut writer).map(|_| Answer::Done),
         Call::Live => live_text(rt, alloc, reader, &mut writer).map(Answer::Lived),
     };
     (result, taken_by(writer))

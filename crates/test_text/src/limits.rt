@@ -22,7 +22,13 @@ impl Read for Endless {
 /// A line that never ends offends long before, so the judge stops there and still reads on to the end or the limit.
 #[test]
 fn no_byte_is_asked_for_past_the_limit(rt: HostRuntime) {
-    for call in [Call::Run, Call::Judge, Call::Migrate, Call::Live] {
+    for call in [
+        Call::Run,
+        Call::Judge,
+        Call::Migrate,
+        Call::Draw,
+        Call::Live,
+    ] {
         let mut reader = Meter::new(Endless { given: 0 });
         let (result, _) = come_of(rt, rt.alloc(), call, &mut reader, 1, Failing::Answers);
         assert_eq!(rt; result, Err(TextFault::TooLong), "{call:?}");

@@ -2,7 +2,7 @@ use Rattle.std.proofs.Common.{◌∙◌, ap, refl, sym, subst}
 use Rattle.std.proofs.lemmas.Result.{err_from_is_err_and}
 use Rattle.cast_run.specs.Jobs.{told_job}
 use Rattle.cast_live.specs.Live.{IsRunOf}
-use Rattle.cast_live.proofs.LiveLemmas.{new_fact, fits, refused_for, misfit_for}
+use Rattle.cast_live.proofs.LiveLemmas.{new_fact, fits, refused_for}
 use Rattle.cast_live.proofs.live.run_script.Goals as goal
 
 pub run_live-requires-clause-facts : goal.run_live-requires-clause-facts
@@ -23,6 +23,7 @@ returns-clause-ran g c =
         plan = c.in_ok-run.ensures.fits.plan_fits;
       };
       logs = c.in_ok-run.ensures.logs;
+      stamps = c.in_ok-run.ensures.stamps;
       handed = c.in_ok-jobs.jobs.items;
       back = run.jobs.items;
       clients = run.clients.items;

@@ -1,4 +1,5 @@
-use Rattle.std.proofs.Common.{◌≡◌, ◌∙◌, ◌∷◌, ap, option_map, nat_eq}
+use Rattle.std.proofs.Common.{◌≡◌, ◌∙◌, ◌∷◌, ap, subst, option_map, nat_eq}
+use Rattle.std.specs.Prelude.{IsSome, OnErr}
 use Rattle.std.specs.List.{slice_split}
 use Rattle.std.proofs.lemmas.Result.{IfOk-weaker}
 use Rattle.cast_record.specs.Parts.{parts_of}
@@ -11,14 +12,20 @@ returns-in-Some-clause-exact c =
     let bytes = c.args.bytes.now in
     let cut = c.split_part.ensures ∙ ap (λ rest. c.split_part.result.0.now ∷ parts_of 32 (option_map (λ r. r.now) rest)) c.in-Some.is in
     let same = line_by_parts bytes c.split_part.result.0.now c.in-Some.rest.now cut in
-    IfOk-weaker c.line.result (λ line. line ≡ line_named c.split_part.result.0.now (slice_split (λ b. nat_eq b 32) c.in-Some.rest.now)) (IsReadOf bytes) (λ line e. exact bytes line (e ∙ same)) c.line.ensures
+    IfOk-weaker c.line.result (λ line. line ≡ line_named c.split_part.result.0.now (slice_split (λ b. nat_eq b 32) c.in-Some.rest.now)) (IsReadOf bytes) (λ line e. exact bytes line (e ∙ same)) c.line.ensures.value
 
 pub returns-in-Some-clause-value : goal.returns-in-Some-clause-value
 returns-in-Some-clause-value c =
     let bytes = c.args.bytes.now in
     let cut = c.split_part.ensures ∙ ap (λ rest. c.split_part.result.0.now ∷ parts_of 32 (option_map (λ r. r.now) rest)) c.in-Some.is in
     let same = line_by_parts bytes c.split_part.result.0.now c.in-Some.rest.now cut in
-    IfOk-weaker c.line.result (λ line. line ≡ line_named c.split_part.result.0.now (slice_split (λ b. nat_eq b 32) c.in-Some.rest.now)) (λ line. line ≡ line_of bytes) (λ line e. e ∙ same) c.line.ensures
+    IfOk-weaker c.line.result (λ line. line ≡ line_named c.split_part.result.0.now (slice_split (λ b. nat_eq b 32) c.in-Some.rest.now)) (λ line. line ≡ line_of bytes) (λ line e. e ∙ same) c.line.ensures.value
+
+pub returns-in-Some-clause-err : goal.returns-in-Some-clause-err
+returns-in-Some-clause-err c =
+    let bytes = c.args.bytes.now in
+    let cut = c.split_part.ensures ∙ ap (λ rest. c.split_part.result.0.now ∷ parts_of 32 (option_map (λ r. r.now) rest)) c.in-Some.is in
+    subst (λ line. OnErr c.line.result (IsSome line)) (line_by_parts bytes c.split_part.result.0.now c.in-Some.rest.now cut) c.line.ensures.err
 
 pub returns-in-None-clause-exact : goal.returns-in-None-clause-exact
 returns-in-None-clause-exact c =
