@@ -18,16 +18,16 @@ use Rattle.cast_draw.specs.Sides.{side_of}
 use Rattle.cast_draw.specs.FrameMarks.{lost_text, leaving_text}
 use Rattle.cast_draw.specs.Page.{stub_of, stub_by, lane_text, lines_text, name_text, some_names}
 use Rattle.cast_draw.specs.Sheet.{Sheet, shows, bottom_of}
-use Rattle.cast_draw.specs.Drawn.{held_at, with_outcome, ordered, crashed, refused, settle_ended}
+use Rattle.cast_draw.specs.Drawn.{held_at, with_outcome, with_room, ordered, crashed, refused, settle_ended}
 
 if_true : {X : Type 0} (b : Bool) (x y : X) → b ≡ true → x ≡ (if b then x else y)
 if_true b x y e = sym (ap (λ c. if c then x else y) e)
 
 pub ordered_shown : (sheet : Sheet) (index node : ℕ) (item : Item) (number : ℕ) (outcome : Outcome) (gifts : List Gifts) (marks : List ℕ) (x y : ℕ) → shows sheet.window index ≡ true
     → gifts ≡ held_at sheet.gifts node (record { sender = node; number = number }) node → x ≡ sheet.next → y ≡ height_of node → marks ≡ sheet.marks ++ broadcast_text x y index node number item
-    → with_outcome (record sheet { gifts = gifts; marks = marks }) index node outcome ≡ ordered sheet index node item number outcome
+    → with_room (sheet.next + 56) (with_outcome (record sheet { gifts = gifts; marks = marks }) index node outcome) ≡ ordered sheet index node item number outcome
 ordered_shown sheet index node item number outcome gifts marks x y shown held right down put =
-    (λ i. with_outcome (record sheet { gifts = held i; marks = (put ∙ (λ j. sheet.marks ++ broadcast_text (right j) (down j) index node number item)) i }) index node outcome)
+    (λ i. with_room (sheet.next + 56) (with_outcome (record sheet { gifts = held i; marks = (put ∙ (λ j. sheet.marks ++ broadcast_text (right j) (down j) index node number item)) i }) index node outcome))
     ∙ if_true (shows sheet.window index) _ _ shown
 
 pub crashed_shown : (sheet : Sheet) (index node : ℕ) (crashes : List (Option ℕ)) (marks : List ℕ) (x y : ℕ) → shows sheet.window index ≡ true

@@ -45,12 +45,16 @@ abbrev pub with_outcome : Sheet → ℕ → ℕ → Outcome → Sheet
 with_outcome sheet index node outcome =
     with_deeds sheet index node (nat_lt 0 (length outcome.decisions)) (deeds outcome.deliveries outcome.decisions)
 
--- a dot
+-- a column that is at least so wide
+abbrev pub with_room : ℕ → Sheet → Sheet
+with_room end sheet = record sheet { next = max sheet.next end }
+
+-- a dot, with room for its label
 abbrev pub ordered : Sheet → ℕ → ℕ → Item → ℕ → Outcome → Sheet
 ordered sheet index node item number outcome =
     let held = record sheet { gifts = held_at sheet.gifts node (record { sender = node; number = number }) node } in
     if shows sheet.window index
-    then with_outcome (record held { marks = sheet.marks ++ broadcast_text sheet.next (height_of node) index node number item }) index node outcome
+    then with_room (sheet.next + 56) (with_outcome (record held { marks = sheet.marks ++ broadcast_text sheet.next (height_of node) index node number item }) index node outcome)
     else held
 
 -- the frames that a node made

@@ -1,7 +1,7 @@
 //! The picture as it grows, event by event.
 ghost use Rattle.std.specs.Prelude.{◌≡◌, ◌<◌, ◌≤◌, ◌^◌};
 
-use crate::cell::{FARTHEST, FIRST_COLUMN, LINES_FROM, NARROW, Spot};
+use crate::cell::{FARTHEST, FIRST_COLUMN, LINES_FROM, NARROW, Spot, WIDE};
 use crate::deeds::{put_deeds, width_of};
 use crate::frames::{Cargo, Column, Fate, MadeFrame, MadeFrames};
 use crate::ink::Ink;
@@ -143,7 +143,11 @@ impl Picture {
         }
         let spot = Spot::on_line(self.next, node);
         put_broadcast(&mut self.marks, spot, index, node, number, item)?;
-        self.show_outcome(index, node, outcome)
+        // The label of the item wants room, where nothing is delivered too.
+        let least = self.next + WIDE;
+        self.show_outcome(index, node, outcome)?;
+        let end = self.next.max(least);
+        self.advance(end)
     }
 
     // The frame carries what stands in the slot. Of a slot that was not given there is no frame.
