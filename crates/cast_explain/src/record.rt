@@ -14,7 +14,7 @@ use std::alloc::{AllocError, Global};
 
 /// What the line `bad LINE RULE` means: a line a rule, under a title.
 pub const RULES: &str = "Rules (bad LINE RULE):
-  0  what is no line of a record, a head or an end that is missing or stands twice, or bytes after the end
+  0  what is no line of a record or out of range, a head or an end that is missing or stands twice, or bytes after the end
   1  a broadcast or a delivery out of turn, or a delivery of what was not broadcast
   2  a broadcast after its node's close
   3  a decided value that was not proposed

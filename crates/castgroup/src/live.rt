@@ -111,7 +111,7 @@ fn run_live_script<R: Runtime + AllocGlobal + Threads + Wait + Copy + Send + 'st
     let script = read_script_text(rt.alloc(), &mut Meter::new(source))?;
     let progress = Progress::shared(rt.alloc(), script.config.nodes())?;
     let teller = match told {
-        Some(stderr) => Teller::start(*rt, rt.alloc(), stderr, &progress, due_deliveries(&script))?,
+        Some(stderr) => Teller::start(*rt, rt.alloc(), stderr, &progress, due_deliveries(&script)),
         None => None,
     };
     let run = run_script(*rt, rt.alloc(), script, &progress);

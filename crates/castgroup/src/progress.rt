@@ -1,7 +1,7 @@
 //! How far a long run of `live` is, a line a second on standard error.
 use cast_run::Progress;
 use cast_script::Script;
-use std::alloc::{AllocError, Global};
+use std::alloc::Global;
 use std::io::Stderr;
 use std::sync::atomic::{AtomicBool, Ordering};
 use std::sync::{Arc, Wait};
@@ -25,8 +25,8 @@ pub struct Teller {
     thread: JoinHandle<()>,
 }
 
-/// How many deliveries a run of the script makes where no node crashes, no item is refused and no log is full: each item at
-/// each node.
+/// How many deliveries a run of the script can make: each item at each node. A run in which a node does not stop by itself, or an
+/// item is refused, may end below that.
 pub fn due_deliveries(script: &Script) -> u64 {
     let mut items = 0u64;
     for (_node, job) in script.jobs.as_slice() {
@@ -36,28 +36,24 @@ pub fn due_deliveries(script: &Script) -> u64 {
 }
 
 impl Teller {
-    /// Starts to tell. Where no thread can be had for it, nothing is told, and the run goes on all the same.
+    /// Starts to tell. Where no memory or no thread can be had for it, nothing is told, and the run goes on all the same.
     pub fn start<T: Threads + Wait + Copy + Send + 'static>(
         rt: T,
         alloc: Global,
         stderr: Stderr,
         progress: &Arc<Progress, Global>,
         due: u64,
-    ) -> Result<Option<Teller>, AllocError> {
-        let bell = Arc::new(
-            alloc,
-            Bell {
-                ended: AtomicBool::new(false),
-                parker: Parker::new(),
-            },
-        )?;
-        let progress = Arc::try_clone(progress)?;
-        let heard = Arc::try_clone(&bell)?;
+    ) -> Option<Teller> {
+        let bell = Bell {
+            ended: AtomicBool::new(false),
+            parker: Parker::new(),
+        };
+        let bell = Arc::new(alloc, bell).ok()?;
+        let progress = Arc::try_clone(progress).ok()?;
+        let heard = Arc::try_clone(&bell).ok()?;
         let tell = move || tell_each_second(&rt, stderr, &progress, due, &heard);
-        match thread::spawn(&rt, tell) {
-            Ok(thread) => Ok(Some(Teller { bell, thread })),
-            Err(_refused) => Ok(None),
-        }
+        let thread = thread::spawn(&rt, tell).ok()?;
+        Some(Teller { bell, thread })
     }
 
     /// Stops telling, as the run has ended, and joins the thread.

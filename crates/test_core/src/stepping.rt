@@ -2,8 +2,8 @@
 use crate::replies::same_reply;
 use crate::shown::same_shown;
 use anyhow::{Result, bail};
-use cast_message::{Event, Reply, StepFault};
-use cast_world::World;
+use cast_message::{Event, Reply};
+use cast_world::{World, is_want_of_memory};
 use std::rt::Runtime;
 
 /// Two worlds that take the same events.
@@ -45,8 +45,4 @@ pub fn step_once_more(rt: &impl Runtime, world: &mut World, event: &Event) -> Re
         return Ok(world.step(event));
     }
     Ok(reply)
-}
-
-fn is_want_of_memory(reply: &Reply) -> bool {
-    matches!(reply, Err(StepFault::Memory))
 }
