@@ -11,7 +11,7 @@ use Rattle.std.proofs.lemmas.Map.Views.{All-map-remove_entry}
 use Rattle.std.proofs.lemmas.List.Elements.{All-same}
 use Rattle.cast_message.specs.declared.message.Item.{Item}
 use Rattle.cast_fifo.specs.declared.waiting.Waiting.{Waiting}
-use Rattle.cast_fifo.specs.Held.{Held, held_of, waiting_at, came, with_item, without_item}
+use Rattle.cast_fifo.specs.Held.{Held, held_of, waiting_at, came, with_item, without_item, without_message}
 use Rattle.cast_fifo.specs.Windows.{entries_of, IsWindow}
 use Rattle.cast_fifo.proofs.Entries.{Places, Entries, seen, past, none_at, below_ring, near_at, past_ring, at_true, at_false}
 use Rattle.cast_fifo.proofs.Turns.{at_self, at_same, equal_tells, greater_tells}
@@ -119,8 +119,8 @@ set_same [] s v e = refl
 set_same (x ∷ all) zero v e = ap (λ y. y ∷ all) (sym e)
 set_same (x ∷ all) (suc s) v e = ap (λ xs. x ∷ xs) (set_same all s v e)
 
--- for callers: the same of a hold-back
-pub all_taken_back : (all kept : List Held) (s k : ℕ) (item : Item) → s < length all → came (held_of all s) k ≡ false → kept ≡ slice_set all s (with_item (held_of all s) k item) → slice_set kept s (without_item (held_of kept s) k) ≡ all
+-- the same of a hold-back
+pub all_taken_back : (all kept : List Held) (s k : ℕ) (item : Item) → s < length all → came (held_of all s) k ≡ false → kept ≡ slice_set all s (with_item (held_of all s) k item) → without_message kept s k ≡ all
 all_taken_back all kept s k item l e is =
     let v = with_item (held_of all s) k item in
     ap (λ (ks : List Held). slice_set ks s (without_item (held_of ks s) k)) is

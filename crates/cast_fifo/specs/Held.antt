@@ -12,7 +12,8 @@
 --     offered_items, offered_after  the same, where the message is kept first
 --     IsNear held                   nothing waits 4,096 numbers or more past the next
 --     held_of all s                 what is held of a sender
-use Rattle.std.specs.Prelude.{ℕ, ◌+◌, ◌<◌, ◌==◌, nat_lt, Bool, true, false, ◌&&◌, ◌||◌, if◌then◌else◌, List, [], ◌∷◌, length, slice_index_or, Option, Some, None, is_some}
+--     without_message all s i       what waits of the sender at a number is taken back
+use Rattle.std.specs.Prelude.{ℕ, ◌+◌, ◌<◌, ◌==◌, nat_lt, Bool, true, false, ◌&&◌, ◌||◌, if◌then◌else◌, List, [], ◌∷◌, length, slice_index_or, slice_set, Option, Some, None, is_some}
 use Rattle.std.specs.List.{All, list_any}
 use Rattle.std.specs.Ordering.{nat_cmp}
 use Rattle.std.specs.Map.{lookup, keys_of, set_value, remove_entry}
@@ -51,6 +52,9 @@ with_item held number item =
 abbrev pub without_item : Held → ℕ → Held
 without_item held number =
     record held { waiting = remove_entry (is_at (nat_cmp number)) held.waiting }
+
+abbrev pub without_message : List Held → ℕ → ℕ → List Held
+without_message all sender number = slice_set all sender (without_item (held_of all sender) number)
 
 -- the item of a message that waits and is marked, or is about to be
 abbrev pub item_due : Option Waiting → Bool → Option Item

@@ -4,7 +4,7 @@
 #![tactic(auto)]
 
 ghost use Rattle.std.specs.Prelude.{[], nat_lt, IsTrue, ◌≡◌, ◌+◌, ◌<◌, ◌≤◌, ◌^◌, ◌++◌, true, false, length, replicate, slice_set, vec_len, vec_capacity, IfOk, OnOk, OnErr};
-ghost use Rattle.cast_fifo.specs.Held.{nothing_held, held_of, came, without_item, known_items, known_after, IsNear};
+ghost use Rattle.cast_fifo.specs.Held.{nothing_held, held_of, came, without_message, known_items, known_after, IsNear};
 ghost use Rattle.cast_fifo.specs.Calls.{Hold, Known, Offer, held_after, answer, GivesInOrder};
 
 mod far;
@@ -63,11 +63,14 @@ impl HoldBack {
     }
 
     /// Keeps a message, of two of one pair the first. The sender is below the number of nodes, and the number below
-    /// `u64::MAX`.
+    /// `u64::MAX`. What was kept can be taken back.
+    #[tactic(auto, using(crate::proofs::TakenBack::all_taken_back))]
     pub fn hold(&mut self, message: Message) -> Result<(), AllocError>
         requires sender { message.sender < length self.old }
         requires number { message.number + 1 < 2 ^ 64 }
         ensures ok { OnOk result (self.new ≡ held_after self.old (Hold message)) }
+        ensures back { came (held_of self.old message.sender) message.number ≡ false → OnOk result
+            (without_message self.new message.sender message.number ≡ self.old) }
         ensures err { OnErr result (self.new ≡ self.old) }
     {
         let Message {
@@ -75,7 +78,8 @@ impl HoldBack {
             number,
             item,
         } = message;
-        self.senders[usize::from(sender.0)].hold(number, item)
+        self.senders[usize::from(sender.0)].hold(number, item)?;
+        Ok(())
     }
 
     /// Marks a pair that was held or offered, and answers the messages whose turn has come, in order. The sender is
@@ -115,8 +119,7 @@ impl HoldBack {
     /// sender is below the number of nodes. It takes no memory.
     pub fn take_back(&mut self, sender: NodeId, number: u64)
         requires { sender < length self.old }
-        ensures { self.new
-            ≡ slice_set self.old sender (without_item (held_of self.old sender) number) }
+        ensures { self.new ≡ without_message self.old sender number }
     {
         self.senders[usize::from(sender.0)].take_back(number);
     }

@@ -19,7 +19,7 @@ use Rattle.cast_message.specs.declared.message.Item.{Item}
 use Rattle.cast_message.specs.declared.message.Message.{Message}
 use Rattle.cast_model.specs.History.{numbered}
 use Rattle.cast_model.specs.OwnSteps.{nothing}
-use Rattle.cast_fifo.specs.Held.{Held as HeldBack, nothing_held, held_of, without_item, known_items, known_after}
+use Rattle.cast_fifo.specs.Held.{Held as HeldBack, nothing_held, held_of, without_message, known_items, known_after}
 use Rattle.cast_fifo.specs.Calls.{Hold, held_after}
 use Rattle.cast_agree.specs.Counted.{Counted}
 use Rattle.cast_agree.specs.Journal.{counted_all, decisions_all}
@@ -83,7 +83,7 @@ waiting_in ds message = record ds { hold_back = held_after ds.hold_back (Hold me
 
 abbrev pub forgotten_in : Delivering → ℕ → ℕ → Delivering
 forgotten_in ds s i =
-    record ds { hold_back = slice_set ds.hold_back s (without_item (held_of ds.hold_back s) i) }
+    record ds { hold_back = without_message ds.hold_back s i }
 
 -- the message is kept back, and these are known to hold it
 abbrev pub told_with : Delivering → Message → set.FinSet nat_cmp → Delivering

@@ -1,5 +1,5 @@
 //! The lines that an event and its reply leave in a record.
-ghost use Rattle.std.specs.Prelude.{◌≡◌, ◌++◌, IfOk, OnOk};
+ghost use Rattle.std.specs.Prelude.{◌≡◌, ◌<◌, ◌++◌, length, IfOk, OnOk, OnErr};
 ghost use Rattle.cast_message.specs.StepCode.{step_code};
 ghost use Rattle.cast_record.specs.Lines.{answer_lines, lines_for, outcome_lines, refusal_lines};
 
@@ -10,14 +10,15 @@ use std::alloc::{AllocError, Global};
 /// The lines of the event, which has this index in its script, and its reply: of an accepted order the broadcast, then
 /// what it delivered and decided; of an accepted arrival what it delivered and decided; of an accepted crash the crash;
 /// of an accepted send or acknowledgement none. Of a refusal the refusal, but none of want of memory, which ends a
-/// record. A reply that is not one to the event has no lines.
+/// record. A reply that is not one to the event has no lines. Only where there are lines is memory asked for.
 pub fn lines_of(
     alloc: Global,
     index: u64,
     event: &Event,
     reply: &Reply,
 ) -> Result<List<Line>, AllocError>
-    ensures { IfOk result (λ lines. lines ≡ lines_for index event.now reply.now) }
+    ensures exact { IfOk result (λ lines. lines ≡ lines_for index event.now reply.now) }
+    ensures err { OnErr result (0 < length (lines_for index event.now reply.now)) }
 {
     let mut lines = List::new(alloc);
     match reply {
@@ -28,7 +29,8 @@ pub fn lines_of(
 }
 
 fn put_answer(lines: &mut List<Line>, event: &Event, answer: &Answer) -> Result<(), AllocError>
-    ensures { OnOk result (lines.new ≡ lines.old ++ answer_lines event.now answer.now) }
+    ensures ok { OnOk result (lines.new ≡ lines.old ++ answer_lines event.now answer.now) }
+    ensures err { OnErr result (0 < length (answer_lines event.now answer.now)) }
 {
     match (event, answer) {
         (Event::Order { node, item }, Answer::Ordered { number, outcome }) => {
@@ -48,7 +50,8 @@ fn put_answer(lines: &mut List<Line>, event: &Event, answer: &Answer) -> Result<
 }
 
 fn put_refusal(lines: &mut List<Line>, index: u64, fault: StepFault) -> Result<(), AllocError>
-    ensures { OnOk result (lines.new ≡ lines.old ++ refusal_lines index (step_code fault)) }
+    ensures ok { OnOk result (lines.new ≡ lines.old ++ refusal_lines index (step_code fault)) }
+    ensures err { OnErr result (0 < length (refusal_lines index (step_code fault))) }
 {
     let code = fault.code();
     if code <= 12 {
@@ -59,7 +62,8 @@ fn put_refusal(lines: &mut List<Line>, index: u64, fault: StepFault) -> Result<(
 
 // What was delivered at the node, and then what was decided there.
 fn put_outcome(lines: &mut List<Line>, node: NodeId, outcome: &Outcome) -> Result<(), AllocError>
-    ensures { OnOk result (lines.new ≡ lines.old ++ outcome_lines node outcome.now) }
+    ensures ok { OnOk result (lines.new ≡ lines.old ++ outcome_lines node outcome.now) }
+    ensures err { OnErr result (0 < length (outcome_lines node outcome.now)) }
 {
     for message in outcome.deliveries.as_slice() {
         lines.push(Line::Delivered {

@@ -1,10 +1,10 @@
 -- A number has one word, and a word at most one number.
-use Rattle.std.proofs.Common.{◌≡◌, ℕ, zero, suc, ◌+◌, ◌-◌, ◌*◌, ◌^◌, ◌<◌, ◌≤◌, true, List, [], ◌∷◌, length, get_or, decimal, Some, None, refl, sym, ap, ◌∙◌, arith, rules, drop, drop-cons}
+use Rattle.std.proofs.Common.{◌≡◌, ℕ, zero, suc, ◌+◌, ◌-◌, ◌*◌, ◌^◌, ◌<◌, ◌≤◌, true, List, [], ◌∷◌, length, get_or, decimal, Option, Some, None, refl, sym, ap, ◌∙◌, arith, rules, drop, drop-cons}
 use Rattle.std.specs.Str.{all_ascii_digits}
 use Rattle.std.proofs.lemmas.Str.Parse.{IsNumeralModel, numerals_by_fold}
 use Rattle.std.proofs.lemmas.Fmt.{digits_decimal, digits_value-decimal, decimal_nonempty, decimal_digit, first_decimal, decimal-digits_value}
 use Rattle.std.proofs.lemmas.Bool.Decides.{nat_tests}
-use Rattle.cast_words.specs.Numbers.{read_on, value_of, number_of}
+use Rattle.cast_words.specs.Numbers.{read_on, value_of, number_of, IsWordOf}
 
 pub own : IsNumeralModel (λ ds. all_ascii_digits ds ≡ true) (read_on 0)
 own = numerals_by_fold _ (search rules) read_on (search rules)
@@ -64,3 +64,7 @@ number_takes (c ∷ []) n e = is_decimal (c ∷ []) n (value_means (c ∷ []) n 
 number_takes (c ∷ d ∷ ds) n e =
     let both : (c ≡ 48 → ⊥) × (value_of (c ∷ d ∷ ds) ≡ Some n) = grind (arith, nat_tests) in
     is_decimal (c ∷ d ∷ ds) n (value_means (c ∷ d ∷ ds) n both.1) (omega arith) (λ h. absurd (both.0 h))
+
+pub is_word : (w : List ℕ) (o : Option ℕ) → o ≡ number_of w → IsWordOf o w
+is_word w None e = λ n fits same. absurd (cc (e, ap number_of same, number_again n fits))
+is_word w (Some n) e = (number_takes w n (sym e)).0

@@ -3,9 +3,8 @@ use Rattle.std.proofs.Common.{◌≡◌, ◌≢◌, ℕ, ◌+◌, ◌*◌, ◌/�
 use Rattle.std.proofs.lemmas.Bool.{cases_lt}
 use Rattle.std.proofs.lemmas.Bool.Decides.{nat_tests}
 use Rattle.std.proofs.lemmas.List.{take_all, take_more_set, drop_all, drop_more}
-use Rattle.cast_words.specs.Hex.{hex, hex_digit}
-use Rattle.cast_words.specs.Unhex.{digit_of, byte_of, before, unhex}
-use Rattle.cast_words.specs.Hex.{AreBytes}
+use Rattle.cast_words.specs.Hex.{AreBytes, hex, hex_digit}
+use Rattle.cast_words.specs.Unhex.{digit_of, byte_of, before, unhex, AreDigitsOf}
 
 append_before : (bytes : List ℕ) (byte : ℕ) (others : Option (List ℕ)) → option_map (λ more. (bytes ++ byte ∷ []) ++ more) others ≡ option_map (λ more. bytes ++ more) (before (Some byte) others)
 append_before bytes byte None = refl
@@ -178,6 +177,10 @@ unhex_takes (x ∷ y ∷ rest) bytes e =
   where
     joined : (a b c d : ℕ) (xs ys : List ℕ) → a ≡ b → c ≡ d → xs ≡ ys → a ∷ c ∷ xs ≡ b ∷ d ∷ ys
     joined a b c d xs ys e f g = cc
+
+pub are_digits : (digits : List ℕ) (o : Option (List ℕ)) → o ≡ unhex digits → AreDigitsOf o digits
+are_digits digits None e = λ bytes small same. absurd (cc (e, ap unhex same, unhex_again bytes small))
+are_digits digits (Some bytes) e = sym (unhex_takes digits bytes (sym e)).same
 
 -- two digits a byte
 pub length-hex : (bytes : List ℕ) → length (hex bytes) ≡ 2 * length bytes

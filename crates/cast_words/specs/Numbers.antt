@@ -1,6 +1,7 @@
 -- The number that a word spells: decimal, with no zero in front, below 2^64.
---     number_of word    the number, if it spells one
-use Rattle.std.specs.Prelude.{ℕ, ◌+◌, ◌-◌, ◌*◌, ◌^◌, ◌&&◌, ◌==◌, List, [], ◌∷◌, nat_lt, if◌then◌else◌, Option, Some, None}
+--     number_of word       the number, if it spells one
+--     IsWordOf number word  the word is the digits of the number, or, where there is none, of no number
+use Rattle.std.specs.Prelude.{◌≡◌, ◌≢◌, ℕ, ◌+◌, ◌-◌, ◌*◌, ◌^◌, ◌<◌, ◌&&◌, ◌==◌, List, [], ◌∷◌, nat_lt, if◌then◌else◌, Option, Some, None, decimal}
 use Rattle.std.specs.Str.{all_ascii_digits}
 
 -- the digits, read on after the number n
@@ -16,3 +17,8 @@ abbrev pub number_of : List ℕ → Option ℕ
 number_of [] = None
 number_of (c ∷ []) = value_of (c ∷ [])
 number_of (c ∷ d ∷ ds) = if c == 48 then None else value_of (c ∷ d ∷ ds)
+
+-- what is written of a number is read back as that number, and nothing else is read as one
+abbrev pub IsWordOf : Option ℕ → List ℕ → Type 0
+IsWordOf None word = (n : ℕ) → n < 2 ^ 64 → word ≢ decimal n
+IsWordOf (Some n) word = word ≡ decimal n

@@ -1,11 +1,21 @@
 //! Bytes that are written as two digits each.
 ghost use Rattle.std.specs.Prelude.{◌≡◌, ◌*◌, if◌then◌else◌, length, IfOk, Some, None, option_map, unwrap_or};
-ghost use Rattle.cast_words.specs.Unhex.{unhex, digit_of};
+ghost use Rattle.cast_words.specs.Unhex.{unhex, digit_of, AreDigitsOf};
 
 use std::alloc::{AllocError, Global};
 
-/// The bytes that the digits stand for, two digits a byte, if they stand for bytes.
+/// The bytes that the digits stand for, two digits a byte, if they stand for bytes. So the digits of bytes are read back as those
+/// bytes, and nothing else is read as bytes.
+#[tactic(auto, using(crate::proofs::UnhexLemmas::are_digits))]
 pub fn bytes_of(alloc: Global, digits: &[u8]) -> Result<Option<Vec<u8>>, AllocError>
+    ensures exact { IfOk result (λ o. option_map (λ bytes. bytes.items) o ≡ unhex digits.now) }
+    ensures digits { IfOk result (λ o. AreDigitsOf (option_map (λ bytes. bytes.items) o) digits.now) }
+{
+    let bytes = unhexed(alloc, digits)?;
+    Ok(bytes)
+}
+
+fn unhexed(alloc: Global, digits: &[u8]) -> Result<Option<Vec<u8>>, AllocError>
     ensures { IfOk result (λ o. option_map (λ bytes. bytes.items) o ≡ unhex digits.now) }
 {
     if digits.len() % 2 != 0 {

@@ -9,5 +9,5 @@ use Rattle.cast_script.proofs.plain.unsigned.Goals as goal
 pub returns : goal.returns
 returns c =
     let bytes = c.as_bytes.ensures.value in
-    let read = number_or c.args.text.now c.number.result Shape (c.number.ensures ∙ ap number_in_words bytes) in
+    let read = number_or c.args.text.now c.number.result Shape (c.number.ensures.exact ∙ ap number_in_words bytes) in
     subst (λ r. IfOk r (λ n. number_of c.args.text.now ≡ Some (unsigned n))) (sym c.ok_or.ensures.value) read
