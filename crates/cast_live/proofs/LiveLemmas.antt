@@ -11,7 +11,7 @@ use Rattle.cast_message.specs.declared.message.Item.{Item}
 use Rattle.cast_box.specs.Lists.{of}
 use Rattle.cast_script.specs.declared.live_fault.LiveFault.{LiveFault}
 use Rattle.cast_script.specs.declared.live_fault.LiveFault.TheVariants as lives
-use Rattle.cast_run.specs.Faults.{JobsFit, IsFaultOf, IsMisfit}
+use Rattle.cast_run.specs.Faults.{JobsFit, IsFaultOf}
 use Rattle.cast_run.specs.Jobs.{Submits, told_job, replies_in}
 use Rattle.cast_script.specs.declared.script.Script.{Script}
 use Rattle.cast_live.specs.declared.live.FinishedRun.{FinishedRun}
@@ -78,15 +78,6 @@ module _ (script : Script) (handed : List (ℕ × SubmitAll)) (same : map items_
   refused_for lives.Plan is = (fits is.0, is.2)
   refused_for lives.Memory is = record { jobs = fits is.jobs_fit; plan = is.plan_fits }
   refused_for lives.Threads is = record { jobs = fits is.jobs_fit; plan = is.plan_fits }
-
--- what does not fit is refused for that
-pub misfit_for : (script : Script) (gates : ℕ) → gates ≡ script.config.nodes → (why : LiveFault) → IsMisfit script.config.nodes script.jobs gates script.plan.faults why
-    → IsOfRunning script (fault_of_live why)
-misfit_for script gates many lives.Jobs is = is.0
-misfit_for script gates many lives.Gates is = absurd (is.0.1 many)
-misfit_for script gates many lives.Plan is = (is.0.0, is.0.2)
-misfit_for script gates many lives.Memory is = absurd (is.1 is.0)
-misfit_for script gates many lives.Threads is = absurd (is.1 is.0)
 
 -- ---- what is told of a run
 

@@ -3,7 +3,6 @@
 ghost use Rattle.std.specs.Prelude.{◌≡◌, ◌+◌, ◌-◌, ◌<◌, ◌≤◌, ◌++◌, true, false, suc, length, vec_len, vec_capacity, slice_get, option_map, IsTrue, IsFalse, IfOk, OnOk, OnErr};
 ghost use Rattle.std.specs.List.{All};
 ghost use Rattle.std.specs.Map.{keys_of};
-ghost use Rattle.std.specs.FinSet as set;
 ghost use Rattle.cast_model.specs.OwnSteps.{nothing};
 ghost use Rattle.cast_fifo.specs.Held.{held_of, came, known_items};
 ghost use Rattle.cast_fifo.specs.Calls.{Known, held_after, answer};

@@ -1,7 +1,6 @@
 //! What is due in a round: the slots that live nodes owe live nodes, and the events that settle them.
 ghost use Rattle.std.specs.Prelude.{◌≡◌, ℕ, true, ◌<◌, ◌^◌, ◌++◌, OnOk, IfOk, length, map};
 ghost use Rattle.std.specs.List.{flat_map};
-ghost use Rattle.std.specs.FinMap as finite;
 ghost use Rattle.cast_node.specs.Kept.{link_to};
 ghost use Rattle.cast_node.specs.Calls.{is_peer};
 ghost use Rattle.cast_model.specs.Rounds.{due};
