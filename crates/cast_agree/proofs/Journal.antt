@@ -27,6 +27,14 @@ abbrev with_tally : map.FinMap nat_cmp Tally → ℕ → Option Tally → map.Fi
 with_tally m k None = map.remove m k
 with_tally m k (Some t) = if map.contains_key m k then map.insert m k t else m
 
+with_before-is : (c : Counted) (k : ℕ) (o : Option Tally) → with_before c k o ≡ record { quorum = c.quorum; tallies = with_tally c.tallies k o }
+with_before-is c k None = refl
+with_before-is c k (Some t) = go (map.contains_key c.tallies k)
+  where
+    go : (b : Bool) → (if b then record c { tallies = map.insert c.tallies k t } else c) ≡ record { quorum = c.quorum; tallies = (if b then map.insert c.tallies k t else c.tallies) }
+    go true = refl
+    go false = refl
+
 here : (q k : ℕ) → q ≡ k → eq_by_cmp nat_cmp q k ≡ true
 here q k e = grind (arith, nat_tests)
 
