@@ -3,6 +3,7 @@ ghost use Rattle.std.specs.Prelude.{◌≡◌, ℕ, length, map, slice_get, Some
 ghost use Rattle.cast_run.specs.declared.jobs.Seat.{Seat};
 ghost use Rattle.cast_run.specs.Faults.{JobsFit};
 ghost use Rattle.cast_engine.specs.Group.{IsGroup, AreSetUp};
+ghost use Rattle.cast_run.specs.Fresh.{HaveBoxesOf, HaveDesksOf};
 ghost use Rattle.cast_run.specs.Jobs.{IsCount, IsFresh};
 ghost use Rattle.cast_run.specs.Seats.{seat_job, seat_client};
 ghost use Rattle.cast_run.specs.Reports.{AreNewRows, AreSeated};
@@ -27,7 +28,8 @@ pub struct Prepared<J> {
     pub board: Arc<Board, Global>,
 }
 
-/// What runs these jobs, of which each node has as many as its count says, or want of memory.
+/// What runs these jobs, of which each node has as many as its count says, with boxes of the configuration's size, or want of
+/// memory.
 pub fn prepare<J: Drop>(
     alloc: Global,
     config: &Config,
@@ -42,6 +44,8 @@ pub fn prepare<J: Drop>(
         × (length r.group.engines.items ≡ config.now.nodes)
         × (length r.group.carriers.items ≡ config.now.nodes)) }
     ensures set { IfOk result (λ r. AreSetUp config.now faults.now r.group.engines.items) }
+    ensures boxes { IfOk result (λ r. HaveBoxesOf config.now.box_size r.group.engines.items
+        × HaveDesksOf config.now.box_size r.group.engines.items) }
     ensures seated { IfOk result (λ r.
         AreSeated r.group.engines.items (map seat_client r.seats.items)) }
     ensures jobs { IfOk result (λ r. map seat_job r.seats.items ≡ jobs.items) }

@@ -36,7 +36,8 @@ pub fn due_deliveries(script: &Script) -> u64 {
 }
 
 impl Teller {
-    /// Starts to tell. Where no memory or no thread can be had for it, nothing is told, and the run goes on all the same.
+    /// Starts to tell, in a thread more than those of the run. Where no memory or no thread can be had for it, nothing is
+    /// told, and the run goes on all the same.
     pub fn start<T: Threads + Wait + Copy + Send + 'static>(
         rt: T,
         alloc: Global,

@@ -42,14 +42,24 @@ enum Stream<F, S> {
     Refused(io::Error),
 }
 
+/// How an input that is to be explained is had once more.
+#[derive(Drop)]
+enum Again {
+    /// By reading its file.
+    File,
+    /// From what was read so far, as long as there is memory for it.
+    Kept(Vec<u8>),
+    /// Not at all: it gives nothing again, and there was no memory to keep it.
+    Lost,
+}
+
 /// The input of a command. A file that can't be opened fails when it is read.
 #[derive(Drop)]
 pub struct Source<'a, F, S> {
     call: Call<'a>,
     stream: Stream<F, S>,
     error: Option<io::Error>,
-    /// What was read so far, where it is to be explained and can't be read again, and as long as there is memory for it.
-    kept: Option<Vec<u8>>,
+    again: Again,
 }
 
 /// Opens the input of the call.
@@ -64,16 +74,18 @@ pub fn open_source<'a, R: Runtime + AllocGlobal>(
         },
         None => Stream::Standard(rt.reader()),
     };
-    let kept = if call.explains && !can_be_read_again(&stream) {
-        Some(Vec::new(rt.alloc()))
+    let again = if can_be_read_again(&stream) {
+        Again::File
+    } else if call.explains {
+        Again::Kept(Vec::new(rt.alloc()))
     } else {
-        None
+        Again::Lost
     };
     Source {
         call,
         stream,
         error: None,
-        kept,
+        again,
     }
 }
 
@@ -111,19 +123,19 @@ impl<'a, F: Read + Drop, S: Read + Drop> Source<'a, F, S> {
     /// The bytes of the input once more: those that were kept, or those of the file, up to the first that is too many. None
     /// where they can't be had.
     pub fn into_bytes<R: Runtime + AllocGlobal>(self, rt: &R) -> Option<Vec<u8>> {
-        let Source { call, kept, .. } = self;
-        match (kept, call.path) {
-            (Some(kept), _) => Some(kept),
-            (None, Some(path)) => read_again(rt, path),
-            (None, None) => None,
+        let Source { call, again, .. } = self;
+        match again {
+            Again::File => read_again(rt, call.path?),
+            Again::Kept(bytes) => Some(bytes),
+            Again::Lost => None,
         }
     }
 
     // Keeps what was read, as long as there is memory for it.
     fn keep(&mut self, piece: &[u8]) {
-        if let Some(kept) = &mut self.kept {
-            if kept.extend_from_slice(piece).is_err() {
-                self.kept = None;
+        if let Again::Kept(bytes) = &mut self.again {
+            if bytes.extend_from_slice(piece).is_err() {
+                self.again = Again::Lost;
             }
         }
     }

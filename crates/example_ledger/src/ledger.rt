@@ -1,6 +1,6 @@
 //! The ledger of a group: a list of events goes in, and the book of each node comes out.
 ghost use Rattle.std.specs.Prelude.{◌≡◌, ◌↔◌, ◌≤◌, ◌++◌, IsTrue, IfOk, OnOk, length};
-ghost use Rattle.cast_model.specs.Replies.{history, deliveries_for};
+ghost use Rattle.cast_model.specs.Replies.{history, replies, deliveries_for};
 ghost use Rattle.cast_model.specs.Rounds.{Rest, FewCrashedIn};
 ghost use Rattle.cast_world.specs.Group.{Stands};
 ghost use Rattle.example_ledger.specs.Applied.{AppliesPrefixes, AppliesDelivered, KeepsSheets, LiveSheetsAgree, AreBooksOf, applied_at};
@@ -40,8 +40,10 @@ pub fn run_ledger(alloc: Global, config: Config, events: &[Event]) -> Result<Led
         → FewCrashedIn config.mode config (history config events.now)
         → LiveSheetsAgree config (history config events.now) ledger.books.items) }
 
-    // There is a book for each node, and the world shows what became of the group.
-    ensures books { IfOk result (λ ledger. length ledger.books.items ≡ config.nodes) }
+    // There is a book for each node, which has applied what the replies say that the node delivered, in that order; and the
+    // world shows what became of the group.
+    ensures applied { IfOk result (λ ledger. AreBooksOf config.nodes events.now
+        (replies config events.now) ledger.books.items) }
     ensures world { IfOk result (λ ledger.
         Stands config (history config events.now) ledger.world) }
 {

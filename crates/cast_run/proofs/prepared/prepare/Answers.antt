@@ -1,5 +1,6 @@
-use Rattle.std.proofs.Common.{◌∙◌, arith}
-use Rattle.cast_run.proofs.Outer.{all_seated, enough_clients, new_fresh, desks_unused}
+use Rattle.std.proofs.Common.{◌∙◌, subst, arith}
+use Rattle.cast_run.specs.Fresh.{HaveDesksOf}
+use Rattle.cast_run.proofs.Outer.{all_seated, enough_clients, new_fresh, desks_unused, desks_of}
 use Rattle.cast_run.proofs.prepared.prepare.Goals as goal
 
 pub seat_jobs-seats-requires-clause-fresh : goal.seat_jobs-seats-requires-clause-fresh
@@ -22,3 +23,9 @@ returns-clause-seated g c =
     let d = c.in_ok-desks in
     all_seated c.args.config.now.nodes c.box_size.result c.args.jobs.items c.args.counts.now d.desks.items d.waiting.items c.seat_jobs-seats.result.items c.in_ok-group.group.engines.items
     (let e = c.box_size.ensures in let some = c.args.config.now.some_place in let most = c.args.config.now.box_in_range in (omega arith, omega arith)) c.requires.counted d.ensures c.seat_jobs-seats.ensures c.in_ok-group.ensures.desks
+
+pub returns-clause-boxes : goal.returns-clause-boxes
+returns-clause-boxes g c =
+    let d = c.in_ok-desks in
+    let engines = c.in_ok-group.group.engines.items in
+    (c.in_ok-group.ensures.boxes, subst (λ n. HaveDesksOf n engines) c.box_size.ensures (desks_of c.box_size.result _ d.desks.items d.waiting.items engines d.ensures c.in_ok-group.ensures.desks))

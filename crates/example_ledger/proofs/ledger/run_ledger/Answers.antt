@@ -1,6 +1,7 @@
 use Rattle.std.proofs.Common.{ap, sym, ◌∙◌, [], length, subst}
 use Rattle.cast_model.specs.Headline.{DeliversPrefixes}
-use Rattle.cast_model.specs.Replies.{history}
+use Rattle.cast_model.specs.Replies.{history, replies}
+use Rattle.example_ledger.specs.Applied.{AreBooksOf}
 use Rattle.example_ledger.proofs.Applying.{length-replies, applied-delivered, applied_is_prefix}
 use Rattle.example_ledger.proofs.Summing.{sheets_agree}
 use Rattle.example_ledger.proofs.ledger.run_ledger.Goals as goal
@@ -29,3 +30,9 @@ returns-clause-agree c rest few p q one other at_p at_q live_p live_q =
     applied-delivered c.args.config c.args.events.now c.as_slice.result.now one.journal p s replied (c.in_ok-books.ensures.each p one at_p)
     ∙ agree.same p q s live_p live_q
     ∙ sym (applied-delivered c.args.config c.args.events.now c.as_slice.result.now other.journal q s replied (c.in_ok-books.ensures.each q other at_q)))
+
+pub returns-clause-applied : goal.returns-clause-applied
+returns-clause-applied c =
+    let books = c.in_ok-books.field-0.items in
+    subst (λ n. AreBooksOf n c.args.events.now (replies c.args.config c.args.events.now) books) c.nodes.ensures
+    (subst (λ rs. AreBooksOf c.nodes.result c.args.events.now rs books) (c.as_slice.ensures ∙ c.in_ok-world.ensures.replies) c.in_ok-books.ensures)
