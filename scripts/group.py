@@ -45,3 +45,20 @@ class Group:
         """The slots that a live node owes a live node, in the order in which a round takes them."""
         live = [(p, q) for p, q in self.given if self.live[p] and self.live[q]]
         return [(p, q, slot) for p, q in live for slot in range(len(self.given[p, q])) if slot not in self.acked[p, q]]
+
+
+def replayed(events, nodes):
+    """Of each node how many of the events are its own steps, a crash aside; and whether they leave the group at rest."""
+    group, steps = Group(nodes), [0] * nodes
+    for kind, node, *rest in events:
+        if kind == "crash":
+            group.crash(node)
+            continue
+        if kind == "order":
+            group.order(node)
+        elif kind == "arrive":
+            node = group.arrive(node, *rest)
+        else:
+            group.make(kind, node, *rest)
+        steps[node] += 1
+    return steps, not group.owed()

@@ -1,5 +1,6 @@
-"""What the scripts of this folder share: how they are called, how they run a program, how they refuse it memory and threads, and
-how they read the summary of a group in threads."""
+"""What the scripts of this folder share: how they are called, how they find worked rows, how they run a program, how they refuse
+it memory and threads, and how they read the summary of a group in threads."""
+import json
 import os
 import re
 import subprocess
@@ -8,6 +9,7 @@ from pathlib import Path
 
 SCRIPTS = Path(__file__).resolve().parent
 TOP = SCRIPTS.parent
+ROWS = TOP / "rows"
 # Each allocation of a program is refused in turn, up to this one: those that are run so make some hundreds.
 MOST_ALLOCATIONS = 5000
 # So many runs in succession that were refused nothing are past the last allocation.
@@ -35,8 +37,34 @@ def words(usage, least=1):
     return [program(usage, sys.argv[1]), *sys.argv[2:]]
 
 
+def rows_of(command):
+    """The rows of a command, or of all, each by its path without an ending; scripts/rows tells what stands there."""
+    return sorted(path.with_name(path.name.removesuffix(".status")) for path in ROWS.glob(f"{command}/*.status"))
+
+
+def beside(row, ending):
+    """The path of a row with this ending."""
+    return row.with_name(f"{row.name}.{ending}")
+
+
+def input_of(row):
+    """The input of a row, put together where it stands there in parts."""
+    for ending in ("script.json", "record"):
+        if beside(row, ending).exists():
+            return beside(row, ending).read_bytes()
+        parts = beside(row, f"{ending}.parts")
+        if parts.exists():
+            return "".join(text * times for text, times in json.loads(parts.read_text())).encode()
+    raise SystemExit(f"{row.name}: no input")
+
+
+def scripts_that_run():
+    """The rows of `run` that are not refused."""
+    return [row for row in rows_of("run") if beside(row, "status").read_text().split() == ["0"]]
+
+
 def run(command, seconds, variables={}, **options):
-    """Status, output and standard error of a program. One that goes on for longer has no status, and its standard error says so."""
+    """Status, output and standard error of a program. One that goes on for longer has no status, and its error text says so."""
     options = {"stdout": subprocess.PIPE, "stderr": subprocess.PIPE} | options
     if "input" not in options:
         options["stdin"] = subprocess.DEVNULL
@@ -53,6 +81,13 @@ def refusing(folder):
     made = f"{folder}/refuse.so"
     subprocess.run(["gcc", "-shared", "-fPIC", "-O1", "-o", made, SCRIPTS / "refuse.c", "-ldl"], check=True)
     return made
+
+
+def allocations_of(run, library, folder):
+    """How many allocations a run makes that is refused nothing. `run` takes variables."""
+    count = Path(folder) / "allocations"
+    run(LD_PRELOAD=library, COUNT_ALLOCATIONS=str(count))
+    return int(count.read_text())
 
 
 def each_refused(run, library, is_quiet, least=0):

@@ -1,8 +1,9 @@
 //! One script, read from standard input, through two worlds. Each event goes to both, a round to the one event by event of its
 //! plan and to the other whole, and what they answer and what their readers show must be the same; two rounds must bring rest,
-//! with the same deliveries at all live nodes. A step that is refused for want of memory is told on standard error, must have
-//! left what its world showed, and is made once more. What is printed is the record of the run, so one whose allocations are
-//! refused is compared with one whose aren't.
+//! with the same deliveries at all live nodes. What is refused for want of memory is told on standard error: a step must have
+//! left what its world showed, and is made once more, as a plan is; of a round the events before the refusal stand, and the
+//! rest are stepped. What is printed is the record of the run, so one whose allocations are refused is compared with one whose
+//! aren't.
 #![tactic(auto)]
 
 mod replies;

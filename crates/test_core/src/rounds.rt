@@ -2,58 +2,82 @@
 use crate::shown::{PAST_THE_LAST_NODE, same_shown};
 use crate::stepping::{Worlds, step_once_more};
 use anyhow::{Result, bail};
-use cast_message::{Answer, Config, Event, Mode, NodeId, Reply, StepFault};
+use cast_message::{Answer, Config, Event, List, Mode, NodeId, Reply, StepFault};
 use cast_record::{Line, lines_of};
 use cast_world::World;
 use std::rt::Runtime;
 
 impl Worlds {
     /// Takes a round on both, on the one event by event of its plan, whose lines are put, and compares what is answered and
-    /// shown. Answers whether all of it was accepted.
+    /// shown. Answers whether all of it was accepted. Where the round itself is refused for want of memory, what it had taken
+    /// must be what some first events of the plan bring, and both take the rest of them event by event.
     pub fn take_round(
         &mut self,
         rt: &impl Runtime,
         index: u64,
         lines: &mut Vec<Line>,
     ) -> Result<bool> {
-        let plan = self.stepped.round_plan()?;
-        if self.whole.round_plan()?.as_slice() != plan.as_slice() {
+        let plan = plan_once_more(rt, &self.stepped)?;
+        if plan_once_more(rt, &self.whole)?.as_slice() != plan.as_slice() {
             bail!("the worlds plan different rounds");
         }
         let answered = self.whole.round();
-        if matches!(answered, Err(StepFault::Memory)) {
-            bail!("a round was refused for want of memory");
+        let is_cut = answered == Err(StepFault::Memory);
+        if is_cut {
+            eprintln!(rt; "round: out of memory")?;
         }
-        let expected = take_plan(rt, &mut self.stepped, index, plan.as_slice(), lines)?;
-        if expected != answered {
+        let expected = self.take_plan(rt, index, plan.as_slice(), is_cut, lines)?;
+        if !is_cut && expected != answered {
             bail!("a round: one world comes to {expected:?}, the other to {answered:?}");
         }
         if !same_shown(&self.stepped, &self.whole) {
             bail!("after a round the worlds show different groups");
         }
-        Ok(answered.is_ok())
+        Ok(expected.is_ok())
+    }
+
+    // Takes the events of a plan up to the first that is refused, and puts their lines. The one world takes them all; where
+    // the round was cut short, the other takes them too from where both show the same. Answers how many frames were made, or
+    // why an event was refused.
+    fn take_plan(
+        &mut self,
+        rt: &impl Runtime,
+        index: u64,
+        plan: &[Event],
+        is_cut: bool,
+        lines: &mut Vec<Line>,
+    ) -> Result<std::result::Result<u64, StepFault>> {
+        let mut made = Ok(0_u64);
+        let mut take_both = false;
+        for event in plan {
+            take_both = take_both || (is_cut && same_shown(&self.stepped, &self.whole));
+            let reply = if take_both {
+                self.step(rt, event)?
+            } else {
+                step_once_more(rt, &mut self.stepped, event)?
+            };
+            lines.extend(lines_of(*lines.allocator(), index, event, &reply)?.into_vec())?;
+            made = made_by(made, &reply);
+            if made.is_err() {
+                break;
+            }
+        }
+        if is_cut && !take_both {
+            bail!("a refused round left what no first events of its plan bring");
+        }
+        Ok(made)
     }
 }
 
-// Takes the events of a plan up to the first that is refused, and puts their lines. Answers how many frames were made, or why
-// an event was refused.
-fn take_plan(
-    rt: &impl Runtime,
-    world: &mut World,
-    index: u64,
-    plan: &[Event],
-    lines: &mut Vec<Line>,
-) -> Result<std::result::Result<u64, StepFault>> {
-    let mut made = Ok(0_u64);
-    for event in plan {
-        let reply = step_once_more(rt, world, event)?;
-        lines.extend(lines_of(*lines.allocator(), index, event, &reply)?.into_vec())?;
-        made = made_by(made, &reply);
-        if made.is_err() {
-            break;
+// The plan of a round, made once more where it is refused for want of memory.
+fn plan_once_more(rt: &impl Runtime, world: &World) -> Result<List<Event>> {
+    match world.round_plan() {
+        Ok(plan) => Ok(plan),
+        Err(_) => {
+            eprintln!(rt; "plan: out of memory")?;
+            Ok(world.round_plan()?)
         }
     }
-    Ok(made)
 }
 
 // How many frames were made, with those of one more event; or why it was refused.

@@ -1,27 +1,40 @@
 //! What becomes of the frames that a carrier takes, by the faults of a plan.
 use cast_box::{Putter, Taker, make_box};
 use cast_engine::{Carrier, Parcel};
-use cast_message::{Frame, FrameBody, FrameKind, NodeId};
+use cast_message::FrameKind::{Carry, Took};
+use cast_message::{Frame, FrameBody, FrameKind, Item, Message, NodeId};
 use cast_script::Fault;
 use std::alloc::Global;
 use std::process::Abort;
 use std::sync::Wait;
 use std::test::*;
 
-// Node 0 makes so many frames for node 1.
-const FRAMES: u64 = 6;
+// Node 0 makes these frames for node 1. Each kind has a count of its own: its first four are of Took 0, 2, 3 and 6, of Carry
+// 1, 4, 5 and 7.
+const KINDS: &[FrameKind] = &[Took, Carry, Took, Took, Carry, Carry, Took, Carry];
 
-fn put_frames<R: Wait>(rt: &R, outs: &mut Vec<Putter<Parcel>>) {
-    for seq in 0..FRAMES {
+fn body(kind: FrameKind, slot: u64) -> FrameBody {
+    let message = Message {
+        sender: NodeId(0),
+        number: slot,
+        item: Item::Close,
+    };
+    match kind {
+        Carry => FrameBody::Carry { slot, message },
+        Took => FrameBody::Took { slot },
+    }
+}
+
+fn put_frames<R: Wait>(rt: &R, out: &mut Putter<Parcel>) {
+    for (place, kind) in KINDS.iter().enumerate() {
+        let seq = place as u64;
         let frame = Frame {
             from: NodeId(0),
             seq,
             to: NodeId(1),
-            body: FrameBody::Took { slot: seq },
+            body: body(*kind, seq),
         };
-        if let Some(out) = outs.get_mut(0) {
-            let _ = out.put(rt, Parcel { stamp: seq, frame });
-        }
+        let _ = out.put(rt, Parcel { stamp: seq, frame });
     }
 }
 
@@ -50,12 +63,14 @@ fn expect_carried(
         faults.push(*fault)?;
     }
     let mut carrier = Carrier::new(alloc, outbox, inboxes, faults)?;
-    put_frames(rt, &mut outs);
-    for _ in 0..FRAMES {
+    if let Some(out) = outs.get_mut(0) {
+        put_frames(rt, out);
+    }
+    for _ in KINDS {
         let _ = carrier.carry(rt);
     }
     let numbers = numbers(rt, alloc, inbox)?;
-    assert_eq!(rt; numbers.as_slice(), wanted);
+    assert_eq!(rt; numbers.as_slice(), wanted, "{plan:?}");
     Ok(())
 }
 
@@ -69,9 +84,9 @@ fn lose(kind: FrameKind, first: u64, step: u64) -> Fault {
     }
 }
 
-fn repeat(first: u64, step: u64) -> Fault {
+fn repeat(kind: FrameKind, first: u64, step: u64) -> Fault {
     Fault::Repeat {
-        kind: FrameKind::Took,
+        kind,
         from: NodeId(0),
         to: NodeId(1),
         first,
@@ -79,39 +94,48 @@ fn repeat(first: u64, step: u64) -> Fault {
     }
 }
 
-fn delay(first: u64, step: u64, count: u64) -> Fault {
+fn delay(kind: FrameKind, first: u64, count: u64) -> Fault {
     Fault::Delay {
-        kind: FrameKind::Took,
+        kind,
         from: NodeId(0),
         to: NodeId(1),
         first,
-        step,
+        step: 0,
         count,
     }
 }
 
 #[test]
 fn frames_are_lost_from_the_first_by_steps(rt: HostRuntime) -> Result<(), Fail> {
-    expect_carried(&rt, &[], &[0, 1, 2, 3, 4, 5])?;
-    expect_carried(&rt, &[lose(FrameKind::Took, 1, 0)], &[0, 2, 3, 4, 5])?;
-    expect_carried(&rt, &[lose(FrameKind::Took, 1, 2)], &[0, 2, 4])?;
-    expect_carried(&rt, &[lose(FrameKind::Carry, 1, 2)], &[0, 1, 2, 3, 4, 5])
+    expect_carried(&rt, &[], &[0, 1, 2, 3, 4, 5, 6, 7])?;
+    expect_carried(&rt, &[lose(Took, 1, 0)], &[0, 1, 3, 4, 5, 6, 7])?;
+    expect_carried(&rt, &[lose(Took, 1, 2)], &[0, 1, 3, 4, 5, 7])?;
+    expect_carried(&rt, &[lose(Carry, 1, 2)], &[0, 1, 2, 3, 5, 6])?;
+    let both = [lose(Took, 0, 0), lose(Carry, 0, 0)];
+    expect_carried(&rt, &both, &[2, 3, 4, 5, 6, 7])
 }
 
 #[test]
 fn frames_are_repeated_where_they_are_not_lost(rt: HostRuntime) -> Result<(), Fail> {
-    expect_carried(&rt, &[repeat(2, 3)], &[0, 1, 2, 2, 3, 4, 5, 5])?;
-    let both = [repeat(1, 0), lose(FrameKind::Took, 1, 0)];
-    expect_carried(&rt, &both, &[0, 2, 3, 4, 5])
+    expect_carried(&rt, &[repeat(Took, 2, 1)], &[0, 1, 2, 3, 3, 4, 5, 6, 6, 7])?;
+    expect_carried(&rt, &[repeat(Carry, 0, 3)], &[0, 1, 1, 2, 3, 4, 5, 6, 7, 7])?;
+    let both = [repeat(Carry, 1, 0), lose(Carry, 1, 0)];
+    expect_carried(&rt, &both, &[0, 1, 2, 3, 5, 6, 7])?;
+    let other = [repeat(Carry, 1, 0), lose(Took, 1, 0)];
+    expect_carried(&rt, &other, &[0, 1, 3, 4, 4, 5, 6, 7])
 }
 
-// A frame that is delayed by n comes just before the nth that was taken after it.
+// A frame that is delayed by n comes just before the nth of either kind that was taken after it.
 #[test]
 fn the_longest_delay_holds(rt: HostRuntime) -> Result<(), Fail> {
-    expect_carried(&rt, &[delay(5, 0, 1)], &[0, 1, 2, 3, 4])?;
-    expect_carried(&rt, &[delay(4, 0, 1)], &[0, 1, 2, 3, 4, 5])?;
-    expect_carried(&rt, &[delay(1, 0, 3)], &[0, 2, 3, 1, 4, 5])?;
-    expect_carried(&rt, &[delay(1, 0, 1), delay(1, 0, 3)], &[0, 2, 3, 1, 4, 5])?;
-    expect_carried(&rt, &[delay(1, 0, 3), delay(1, 0, 1)], &[0, 2, 3, 1, 4, 5])?;
-    expect_carried(&rt, &[delay(1, 0, 3), repeat(1, 0)], &[0, 2, 3, 1, 1, 4, 5])
+    expect_carried(&rt, &[delay(Carry, 3, 1)], &[0, 1, 2, 3, 4, 5, 6])?;
+    expect_carried(&rt, &[delay(Took, 3, 1)], &[0, 1, 2, 3, 4, 5, 6, 7])?;
+    let two = [delay(Took, 1, 3), delay(Carry, 1, 2)];
+    expect_carried(&rt, &two, &[0, 1, 3, 2, 5, 4, 6, 7])?;
+    let late = [0, 1, 3, 4, 2, 5, 6, 7];
+    expect_carried(&rt, &[delay(Took, 1, 3)], &late)?;
+    expect_carried(&rt, &[delay(Took, 1, 1), delay(Took, 1, 3)], &late)?;
+    expect_carried(&rt, &[delay(Took, 1, 3), delay(Took, 1, 1)], &late)?;
+    let twice = [delay(Carry, 0, 2), repeat(Carry, 0, 0)];
+    expect_carried(&rt, &twice, &[0, 2, 1, 1, 3, 4, 5, 6, 7])
 }

@@ -1,7 +1,7 @@
 //! Items and lines by the words that spell them: worked words, worked lines, and lines that are cut.
-use cast_message::{Mode, NodeId};
-use cast_record::{ItemWord, Line, WordLine, read_delivery, read_line, read_words};
-use cast_words::mode_name;
+use cast_message::NodeId;
+use cast_record::{ItemWord, WordLine, read_delivery, read_line, read_words, write_line};
+use cast_words::{Meter, mode_name};
 use std::process::Abort;
 use std::test::Fail;
 
@@ -86,6 +86,10 @@ fn reads_long_items_up_to_their_limit(rt: HostRuntime) -> Result<(), Fail> {
             word.push(b'f')?;
         }
         assert_eq!(&rt; read(word.as_slice()), wanted, "{digits} digits");
+        let mut text = b"b 0 0 ".to_vec(rt.alloc())?;
+        text.extend_from_slice(word.as_slice())?;
+        let is_line = read_line(rt.alloc(), text.as_slice())?.is_some();
+        assert_eq!(&rt; is_line, wanted == Meaning::Data, "{digits} digits");
     }
     Ok(())
 }
@@ -134,9 +138,12 @@ fn parts<'a>(line: &'a WordLine<'a>) -> (char, [u64; 3], &'a [u8]) {
 const LINES: &[(&str, (char, [u64; 3], &str))] = &[
     ("cast/1 16 0 10", ('1', [16, 0, 10], "")),
     ("cast/2 64 31 1 uniform", ('2', [64, 31, 1], "uniform")),
+    ("cast/2 3 1 1 uniform", ('2', [3, 1, 1], "uniform")),
     ("cast/2 17 16 17 basic", ('2', [17, 16, 17], "basic")),
     ("b 63 4095 close", ('b', [63, 4_095, 0], "close")),
     ("b 1 2 data:", ('b', [1, 2, 0], "data:")),
+    ("b 1 2 data:00099a9fff", ('b', [1, 2, 0], "data:00099a9fff")),
+    ("b 0 1 prop:10:3", ('b', [0, 1, 0], "prop:10:3")),
     ("b 100 12 close", ('b', [100, 12, 0], "close")),
     ("d 255 7 10 data:0a", ('d', [255, 7, 10], "data:0a")),
     ("d 1 0 0 prop:7:3", ('d', [1, 0, 0], "prop:7:3")),
@@ -150,9 +157,20 @@ const LINES: &[(&str, (char, [u64; 3], &str))] = &[
     ("end", ('e', [0, 0, 0], "")),
 ];
 
+// A line that is read, items and all, is written as it stood. What is written of a line has a table of its own.
+fn expect_written_back(rt: &(impl Abort + AllocGlobal), text: &str) -> Result<(), Fail> {
+    let line = read_line(rt.alloc(), text.as_bytes())?.ok_or("no line")?;
+    let mut writer = Meter::new(Vec::new(rt.alloc()));
+    write_line(&line, &mut writer)?;
+    let wanted = format!(in rt.alloc(); "{text}\n")?;
+    assert_eq!(rt; writer.into_inner().as_slice(), wanted.as_bytes(), "{text}");
+    Ok(())
+}
+
 #[test]
 fn reads_each_line(rt: HostRuntime) -> Result<(), Fail> {
     for (text, (name, numbers, word)) in LINES {
+        expect_written_back(&rt, text)?;
         let line = read_words(text.as_bytes()).ok_or("no line")?;
         let found = parts(&line);
         assert_eq!(rt; found.0, *name, "{text}");
@@ -229,6 +247,7 @@ const NO_DELIVERIES: &[&str] = &[
 fn reads_nothing_outside_the_grammar(rt: HostRuntime) -> Result<(), Fail> {
     for text in NO_LINES {
         assert!(rt; read_words(text.as_bytes()).is_none(), "{text}");
+        assert_eq!(rt; read_line(rt.alloc(), text.as_bytes())?, None, "{text}");
     }
     for text in NO_DELIVERIES {
         assert!(rt; read_delivery(text.as_bytes()).is_none(), "{text}");
@@ -237,15 +256,21 @@ fn reads_nothing_outside_the_grammar(rt: HostRuntime) -> Result<(), Fail> {
 }
 
 /// Whether the first so many bytes of the text spell a line, for each length up to the whole.
-fn expect_lines(rt: &impl Abort, text: &str, lengths: &[usize]) {
+fn expect_lines(
+    rt: &(impl Abort + AllocGlobal),
+    text: &str,
+    lengths: &[usize],
+) -> Result<(), Fail> {
     let bytes = text.as_bytes();
     for end in 0..bytes.len() + 1 {
+        let line = read_line(rt.alloc(), &bytes[..end])?;
         assert_eq!(rt;
-            read_words(&bytes[..end]).is_some(),
-            lengths.contains(&end),
+            (read_words(&bytes[..end]).is_some(), line.is_some()),
+            (lengths.contains(&end), lengths.contains(&end)),
             "{end} bytes of {text}"
         );
     }
+    Ok(())
 }
 
 /// Lines, and how many of their bytes spell a line too.
@@ -263,10 +288,11 @@ const CUT_LINES: &[(&str, &[usize])] = &[
 ];
 
 #[test]
-fn a_cut_line_is_a_line_only_where_the_grammar_has_it(rt: HostRuntime) {
+fn a_cut_line_is_a_line_only_where_the_grammar_has_it(rt: HostRuntime) -> Result<(), Fail> {
     for (text, lengths) in CUT_LINES {
-        expect_lines(&rt, text, lengths);
+        expect_lines(&rt, text, lengths)?;
     }
+    Ok(())
 }
 
 /// Deliveries, and what is read of them.
@@ -306,33 +332,5 @@ fn a_cut_delivery_is_read_from_its_last_blank_on(rt: HostRuntime) -> Result<(), 
             "{end} bytes"
         );
     }
-    Ok(())
-}
-
-#[test]
-fn reads_a_crash(rt: HostRuntime) -> Result<(), Fail> {
-    for (text, wanted) in [("x 0", true), ("x 00", false)] {
-        let line = read_line(rt.alloc(), text.as_bytes())?;
-        let is_told = matches!(line, Some(Line::Crashed { node: NodeId(0) }));
-        assert_eq!(rt; is_told, wanted, "{text}");
-    }
-    Ok(())
-}
-
-// In uniform mode fewer than half of the nodes may crash.
-#[test]
-fn reads_a_head_of_uniform_mode(rt: HostRuntime) -> Result<(), Fail> {
-    assert!(rt; read_line(rt.alloc(), b"cast/2 2 1 1 uniform")?.is_none());
-    let line = read_line(rt.alloc(), b"cast/2 3 1 1 uniform")?;
-    let is_told = matches!(
-        line,
-        Some(Line::Head2 {
-            nodes: 3,
-            faults: 1,
-            choices: 1,
-            mode: Mode::Uniform
-        })
-    );
-    assert!(rt; is_told);
     Ok(())
 }

@@ -1,6 +1,6 @@
-//! What happens in a group, in few words: the rows of the tests' tables, and the events that they stand for.
+//! What happens in a group, in few words: the rows of the tests' tables, and the events and replies that they stand for.
 use bytes::Bytes;
-use cast_message::{Config, ConfigFault, Event, Item, Mode, NodeId, Payload};
+use cast_message::{Answer, Config, ConfigFault, Event, Item, Mode, NodeId, Payload, Reply};
 use std::alloc::{AllocError, Global};
 
 /// How many frames a node can make.
@@ -71,4 +71,51 @@ pub fn events(alloc: Global, acts: &[Act]) -> Result<Vec<Event>, AllocError> {
         events.push(event(alloc, *act)?)?;
     }
     Ok(events)
+}
+
+/// A reply as a row tells it.
+#[derive(Clone, Copy, Debug, PartialEq, Eq)]
+pub enum Told {
+    /// An item of this number, with so many deliveries.
+    Ordered(u64, usize),
+    /// A frame of this number.
+    Sent(u64),
+    /// At this node, with so many deliveries.
+    Arrived(u8, usize),
+    Down,
+    Refused,
+}
+
+fn as_told(reply: &Reply) -> Told {
+    match reply {
+        Ok(Answer::Ordered { number, outcome }) => {
+            Told::Ordered(*number, outcome.deliveries.as_slice().len())
+        }
+        Ok(Answer::Sent { seq }) => Told::Sent(*seq),
+        Ok(Answer::Arrived { node, outcome }) => {
+            Told::Arrived(node.0, outcome.deliveries.as_slice().len())
+        }
+        Ok(Answer::Down) => Told::Down,
+        Err(_) => Told::Refused,
+    }
+}
+
+/// The replies as rows tell them.
+pub fn all_told(alloc: Global, replies: &[Reply]) -> Result<Vec<Told>, AllocError> {
+    let mut told = Vec::new(alloc);
+    for reply in replies {
+        told.push(as_told(reply))?;
+    }
+    Ok(told)
+}
+
+/// The events that these rows tell, and what is told of the reply to each.
+pub fn columns(alloc: Global, rows: &[(Act, Told)]) -> Result<(Vec<Event>, Vec<Told>), AllocError> {
+    let mut events = Vec::new(alloc);
+    let mut replies = Vec::new(alloc);
+    for (act, told) in rows {
+        events.push(event(alloc, *act)?)?;
+        replies.push(*told)?;
+    }
+    Ok((events, replies))
 }

@@ -1,7 +1,7 @@
 //! The group as one value, by worked rows: runs, what is owed and due, crashes, and every refusal.
 mod rounds;
 
-use crate::events::{Act, config, data, event, events, order};
+use crate::events::{Act, Told, all_told, columns, config, data, event, events, order};
 use cast_message::{Item, Mode, NodeId, StepFault};
 use cast_world::{DueSlot, World, run_events};
 use std::alloc::{AllocError, Global};
@@ -45,15 +45,32 @@ fn expect_delivered(
     }
 }
 
+// A run of these events, each of which is answered so.
+fn expect_run(
+    rt: &(impl Abort + AllocGlobal),
+    (nodes, faults, choices): (u64, u64, u64),
+    mode: Mode,
+    rows: &[(Act, Told)],
+) -> Result<World, Fail> {
+    let alloc = rt.alloc();
+    let (events, told) = columns(alloc, rows)?;
+    let config = config(nodes, faults, choices, mode)?;
+    let (world, replies) = run_events(alloc, config, events.as_slice())?;
+    let replies = all_told(alloc, replies.as_slice())?;
+    assert_eq!(rt; replies.as_slice(), told.as_slice());
+    Ok(world)
+}
+
+const FIRST_PATH: &[(Act, Told)] = &[
+    (Act::Data(0, b'a'), Told::Ordered(0, 1)),
+    (Act::Send(0, 1, 0), Told::Sent(0)),
+    (Act::Arrive(0, 0), Told::Arrived(1, 1)),
+];
+
 #[test]
 fn answers_first_path(rt: HostRuntime) -> Result<(), Fail> {
-    let alloc = rt.alloc();
-    let acts = [Act::Data(0, b'a'), Act::Send(0, 1, 0), Act::Arrive(0, 0)];
-    let events = events(alloc, &acts)?;
-    let (world, replies) = run_events(alloc, config(2, 0, 1, Mode::Basic)?, events.as_slice())?;
-    assert!(rt; replies.as_slice().len() == 3);
-    assert!(rt; replies.as_slice().iter().all(|reply| reply.is_ok()));
-    let items = [data(alloc, b"a")?];
+    let world = expect_run(&rt, (2, 0, 1), Mode::Basic, FIRST_PATH)?;
+    let items = [data(rt.alloc(), b"a")?];
     for (node, count) in [(0, Some(1)), (1, Some(0)), (2, None)] {
         let stream = world.stream(NodeId(node));
         assert_eq!(rt; stream, first_of(&items, count), "of {node}");
@@ -65,6 +82,25 @@ fn answers_first_path(rt: HostRuntime) -> Result<(), Fail> {
         (0, 2, None),
     ];
     expect_delivered(&rt, &world, &items, &delivered);
+    Ok(())
+}
+
+// An item waits at its node for the word of a second one that holds it.
+#[test]
+fn knows_who_holds_an_item(rt: HostRuntime) -> Result<(), Fail> {
+    let acknowledged = [
+        (Act::Data(0, b'a'), Told::Ordered(0, 0)),
+        (Act::Send(0, 1, 0), Told::Sent(0)),
+        (Act::Arrive(0, 0), Told::Arrived(1, 1)),
+        (Act::Ack(1, 0, 0), Told::Sent(0)),
+        (Act::Arrive(1, 0), Told::Arrived(0, 1)),
+    ];
+    let world = expect_run(&rt, (3, 1, 2), Mode::Uniform, &acknowledged)?;
+    for (node, known) in [(0, Some(2)), (1, Some(2)), (2, Some(0)), (3, None)] {
+        let found = world.node(NodeId(node));
+        let found = found.map(|node| node.known_by(NodeId(0), 0));
+        assert_eq!(rt; found, known, "at {node}");
+    }
     Ok(())
 }
 
