@@ -33,6 +33,6 @@ returns-clause-agree c rest few p q one other at_p at_q live_p live_q =
 
 pub returns-clause-applied : goal.returns-clause-applied
 returns-clause-applied c =
-    let books = c.in_ok-books.field-0.items in
-    subst (λ n. AreBooksOf n c.args.events.now (replies c.args.config c.args.events.now) books) c.nodes.ensures
-    (subst (λ rs. AreBooksOf c.nodes.result c.args.events.now rs books) (c.as_slice.ensures ∙ c.in_ok-world.ensures.replies) c.in_ok-books.ensures)
+    let books = c.in_ok-books.books.items in
+    subst (λ n. AreBooksOf n c.args.events.now (replies c.args.config c.args.events.now) books) c.nodes-nodes.ensures
+    (subst (λ rs. AreBooksOf c.nodes-nodes.result c.args.events.now rs books) (c.as_slice.ensures ∙ c.in_ok-world.ensures.replies) c.in_ok-books.ensures)
