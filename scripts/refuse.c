@@ -1,15 +1,17 @@
 /* Loaded before a program, this library refuses one allocation: the one whose number, from 1 on, the variable REFUSE_NTH
    names. All others go to the C library. In the same way it refuses the thread that REFUSE_THREAD names, and the one that
    REFUSE_THREADS names with all after it. Threads may allocate at the same time: each allocation has a number of its own. How
-   many there were is written, as the program ends, to the file that COUNT_ALLOCATIONS names. */
+   many there were stands as a long in the file that COUNT_ALLOCATIONS names, in whatever way the program ends. */
 #define _GNU_SOURCE
 #include <dlfcn.h>
 #include <errno.h>
+#include <fcntl.h>
 #include <pthread.h>
-#include <stdio.h>
 #include <stdlib.h>
+#include <sys/mman.h>
+#include <unistd.h>
 
-static long allocations = 0;
+static long *allocations = NULL; /* in the file, where there is one */
 
 /* Counts down to the one that is refused, and stays there where all after it are; at first the variable wasn't read. */
 static int counts_down(const char *variable, long *left, int stays) {
@@ -26,19 +28,20 @@ static int counts_down(const char *variable, long *left, int stays) {
 
 static int refused(void) {
     static long left = -1;
-    __atomic_add_fetch(&allocations, 1, __ATOMIC_SEQ_CST);
+    if (allocations) __atomic_add_fetch(allocations, 1, __ATOMIC_SEQ_CST);
     if (!counts_down("REFUSE_NTH", &left, 0)) return 0;
     errno = ENOMEM;
     return 1;
 }
 
-__attribute__((destructor)) static void tell(void) {
+__attribute__((constructor)) static void map_count(void) {
     const char *name = getenv("COUNT_ALLOCATIONS");
-    long count = __atomic_load_n(&allocations, __ATOMIC_SEQ_CST); /* without those of the file */
-    FILE *file = name ? fopen(name, "w") : NULL;
-    if (!file) return;
-    fprintf(file, "%ld\n", count);
-    fclose(file);
+    int file = name ? open(name, O_RDWR | O_CREAT, 0600) : -1;
+    if (file < 0) return;
+    void *place = ftruncate(file, sizeof(long)) ? MAP_FAILED
+        : mmap(NULL, sizeof(long), PROT_READ | PROT_WRITE, MAP_SHARED, file, 0);
+    if (place != MAP_FAILED) allocations = place;
+    close(file);
 }
 
 static void *next_of(const char *name) { return dlsym(RTLD_NEXT, name); }

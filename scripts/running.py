@@ -87,7 +87,7 @@ def allocations_of(run, library, folder):
     """How many allocations a run makes that is refused nothing. `run` takes variables."""
     count = Path(folder) / "allocations"
     run(LD_PRELOAD=library, COUNT_ALLOCATIONS=str(count))
-    return int(count.read_text())
+    return int.from_bytes(count.read_bytes(), sys.byteorder)
 
 
 def each_refused(run, library, is_quiet, least=0):
