@@ -49,7 +49,7 @@ enum Again {
     File,
     /// From what was read so far, as long as there is memory for it.
     Kept(Vec<u8>),
-    /// Not at all: it gives nothing again, and there was no memory to keep it.
+    /// Not at all: it gives nothing again, and is not to be explained, or there was no memory to keep it.
     Lost,
 }
 
