@@ -1,8 +1,12 @@
 //! The command `live`: a script's group in threads, the files that are kept of the run, and its summary.
-ghost use Rattle.std.specs.Prelude.{IfOk};
+ghost use Rattle.std.specs.Prelude.{◌≡◌, [], false, IfOk, OnOk};
+ghost use Rattle.std.specs.Io.Buffered.{writer_buffer, writer_inner};
+ghost use Rattle.std.specs.Io.KnownBytes.{Appends};
 ghost use Rattle.cast_live.specs.Live.{IsFinished};
+ghost use Rattle.castgroup.specs.Made.{output_text};
 
 use crate::explain::{explain_fault, explain_output, explain_run};
+use crate::output::hand_on;
 use crate::progress::{Teller, due_deliveries};
 use crate::source::{Failure, Heard, Source, StreamName, open_source};
 use crate::status::{Status, refuse};
@@ -14,7 +18,6 @@ use cast_live::{
 use cast_run::Progress;
 use cast_text::{INPUT_LIMIT, TextFault, Verdict, read_script_text};
 use cast_words::Meter;
-use std::alloc::Global;
 use std::io::{BufWriter, IsTerminal, Stderr, Write};
 use std::rt::Runtime;
 use std::sync::Wait;
@@ -149,6 +152,21 @@ enum Output {
     Summary(Summary),
 }
 
+impl Output {
+    fn write<W: Write>(self, run: &FinishedRun, writer: &mut Meter<W>) -> Result<(), TextFault>
+        requires run { IsFinished run.now }
+        requires writer { writer.old.failed ≡ false }
+        ensures { OnOk result (Appends (W.contents writer.old.inner) (W.contents writer.new.inner)
+            (output_text self run.now)) }
+    {
+        match self {
+            Output::Kept(Kept::Record) => write_record_of(run, writer),
+            Output::Kept(Kept::Replay) => write_replay_of(run, writer),
+            Output::Summary(summary) => Ok(write_summary(run, summary, writer)?),
+        }
+    }
+}
+
 /// Writes the record and the replay to the files that are named, each whatever became of the other.
 /// Where neither is written, want of memory is told first, and else the record's fault.
 fn keep_files<'a, R: Runtime + AllocGlobal>(
@@ -209,10 +227,12 @@ fn write_file<'a, R: Runtime + AllocGlobal>(
         Ok(file) => file,
         Err(error) => return stop(TextFault::Write, Some(error)),
     };
-    let mut heard = Heard::new(Counted::new(file));
-    match write_output(rt.alloc(), &mut heard, run, Output::Kept(kept)) {
-        Ok(()) => Ok(heard.inner().count()),
-        Err(fault) => stop(fault, heard.error()),
+    let Ok(buffer) = BufWriter::new(rt.alloc(), Heard::new(Counted::new(file))) else {
+        return stop(TextFault::Memory, None);
+    };
+    match write_through(run, Output::Kept(kept), buffer) {
+        (Ok(()), heard) => Ok(heard.inner().count()),
+        (Err(fault), heard) => stop(fault, heard.error()),
     }
 }
 
@@ -231,33 +251,26 @@ fn tell_summary<'a, R: Runtime + AllocGlobal>(
     let Ok(summary) = summarize(rt.alloc(), run) else {
         return stop(TextFault::Memory, None);
     };
-    let mut heard = Heard::new(io::writer(rt));
-    match write_output(rt.alloc(), &mut heard, run, Output::Summary(summary)) {
-        Ok(()) => Ok(summary),
-        Err(fault) => stop(fault, heard.error()),
+    let Ok(buffer) = BufWriter::new(rt.alloc(), Heard::new(io::writer(rt))) else {
+        return stop(TextFault::Memory, None);
+    };
+    match write_through(run, Output::Summary(summary), buffer) {
+        (Ok(()), _) => Ok(summary),
+        (Err(fault), heard) => stop(fault, heard.error()),
     }
 }
 
-fn write_output<W: Write + Drop>(
-    alloc: Global,
-    writer: &mut W,
+// Writes the output with this buffer, and gives back its writer, which then has all of it, or the write failed.
+fn write_through<W: Write + Drop>(
     run: &FinishedRun,
     output: Output,
-) -> Result<(), TextFault>
-    requires { IsFinished run.now }
+    buffer: BufWriter<W>,
+) -> (Result<(), TextFault>, W)
+    requires { IsFinished run.now × (writer_buffer buffer ≡ []) }
+    ensures { OnOk result.0 (Appends (W.contents (writer_inner buffer)) (W.contents result.1)
+        (output_text output run.now)) }
 {
-    let Ok(mut buffer) = BufWriter::new(alloc, writer) else {
-        return Err(TextFault::Memory);
-    };
-    let mut meter = Meter::new(&mut buffer);
-    let outcome = match output {
-        Output::Kept(Kept::Record) => write_record_of(run, &mut meter),
-        Output::Kept(Kept::Replay) => write_replay_of(run, &mut meter),
-        Output::Summary(summary) => write_summary(run, summary, &mut meter).map_err(
-            TextFault::from,
-        ),
-    };
-    let flushed = buffer.flush();
-    outcome?;
-    flushed.map_err(|_| TextFault::Write)
+    let mut meter = Meter::new(buffer);
+    let done = output.write(run, &mut meter);
+    hand_on(done, meter)
 }

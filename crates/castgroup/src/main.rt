@@ -5,6 +5,7 @@
 mod command_line;
 mod explain;
 mod live;
+mod output;
 mod progress;
 mod source;
 mod status;

@@ -1,7 +1,10 @@
 //! The commands that read one text and write another: `run`, `judge`, `migrate` and `draw`.
-ghost use Rattle.std.specs.Prelude.{◌≡◌, false};
+ghost use Rattle.std.specs.Prelude.{◌≡◌, [], false, IfOk, IfErr};
+ghost use Rattle.std.specs.Io.Buffered.{writer_buffer, writer_inner};
+ghost use Rattle.castgroup.specs.Made.{Makes, Refuses};
 
 use crate::explain::{explain_fault, explain_verdict};
+use crate::output::hand_on;
 use crate::source::{Failure, Heard, open_source};
 use crate::status::{Status, refuse};
 use cast_command::Call;
@@ -34,6 +37,9 @@ impl TextCommand {
         writer: &mut Meter<W>,
     ) -> Result<Verdict, TextFault>
         requires { (reader.old.failed ≡ false) × (writer.old.failed ≡ false) }
+        ensures made { IfOk result (Makes self (R.remaining reader.old.inner)
+            (W.contents writer.old.inner) (W.contents writer.new.inner)) }
+        ensures refused { IfErr result (Refuses self (R.remaining reader.old.inner)) }
     {
         match self {
             TextCommand::Run => run_text(alloc, reader, writer)?,
@@ -43,6 +49,23 @@ impl TextCommand {
         }
         Ok(Verdict::Good)
     }
+
+    // Performs the command with this buffer, and gives back its writer, which then has all that was written, or the write failed.
+    fn perform_through<R: Read, W: Write + Drop>(
+        self,
+        alloc: Global,
+        reader: &mut Meter<R>,
+        buffer: BufWriter<W>,
+    ) -> (Result<Verdict, TextFault>, W)
+        requires { (reader.old.failed ≡ false) × (writer_buffer buffer ≡ []) }
+        ensures made { IfOk result.0 (Makes self (R.remaining reader.old.inner)
+            (W.contents (writer_inner buffer)) (W.contents result.1)) }
+        ensures refused { IfErr result.0 (Refuses self (R.remaining reader.old.inner)) }
+    {
+        let mut meter = Meter::new(buffer);
+        let done = self.perform(alloc, reader, &mut meter);
+        hand_on(done, meter)
+    }
 }
 
 /// Reads the file, or standard input where none is named, and writes what the command makes of it to standard output.
@@ -51,26 +74,18 @@ pub fn write_text<R: Runtime + AllocGlobal>(
     command: TextCommand,
     call: Call<'_>,
 ) -> Status {
-    let mut heard = Heard::new(io::writer(rt));
-    let Ok(mut output) = BufWriter::new(rt.alloc(), &mut heard) else {
+    let Ok(output) = BufWriter::new(rt.alloc(), Heard::new(io::writer(rt))) else {
         return refuse(rt, TextFault::Memory);
     };
     let mut source = open_source(rt, call);
-    let done = command.perform(
-        rt.alloc(),
-        &mut Meter::new(&mut source),
-        &mut Meter::new(&mut output),
-    );
-    let flushed = output.flush();
-    drop(output);
-    let fault = match (done, flushed) {
-        (Ok(Verdict::Good), Ok(())) => return Status::Good,
-        (Ok(Verdict::Bad { line, rule }), Ok(())) => {
+    let (done, heard) = command.perform_through(rt.alloc(), &mut Meter::new(&mut source), output);
+    let fault = match done {
+        Ok(Verdict::Good) => return Status::Good,
+        Ok(Verdict::Bad { line, rule }) => {
             explain_verdict(rt, line, rule, source);
             return Status::Bad;
         }
-        (Ok(_), Err(_)) => TextFault::Write,
-        (Err(fault), _) => fault,
+        Err(fault) => fault,
     };
     let status = refuse(rt, fault);
     explain_fault(rt, fault, source, Failure::of_output(heard.error()));

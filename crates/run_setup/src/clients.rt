@@ -35,12 +35,12 @@ impl ClientJob for Keeper {
 }
 
 impl Keeper {
-    /// A job for so many items, with room for 16 notices.
-    pub fn new(alloc: Global, items: u64) -> Result<Keeper, AllocError>
+    /// A job for these items, with room for 16 notices.
+    pub fn new(alloc: Global, items: List<Item>) -> Result<Keeper, AllocError>
         ensures { IfOk result (λ job. job.kept.items ≡ []) }
     {
         Ok(Keeper {
-            items: data_items(alloc, items)?,
+            items,
             next: 0,
             replies: 0,
             kept: Vec::with_capacity(alloc, 16)?,

@@ -1,4 +1,4 @@
-//! Rows of jobs of their own: one keeps each notice, one never takes any.
+//! Rows of clients that keep each notice, and of one that never takes any.
 ghost use Rattle.std.specs.Prelude.{IfOk};
 ghost use Rattle.test_run.specs.NewJobs.{AreNewKeepers, AreNewSilent};
 ghost use Rattle.test_run.specs.Silence.{KeptSilent};
@@ -6,10 +6,10 @@ ghost use Rattle.test_run.specs.Silence.{KeptSilent};
 use crate::runs::{RowFault, TURNS};
 use anyhow::Result;
 use cast_desk::Notice;
-use cast_message::NodeId;
+use cast_message::{Item, List, NodeId};
 use cast_node::EntryKind;
 use cast_run::{LiveRun, run_live};
-use run_setup::{Keeper, Shape, Silent, no_faults, open_gates};
+use run_setup::{Keeper, Shape, Silent, data_items, no_faults, open_gates};
 use std::alloc::{AllocError, Global};
 use std::fmt;
 use std::fmt::{Display, Formatter, Write};
@@ -27,20 +27,12 @@ impl Display for Told<'_> {
         match self.notice {
             Notice::Reply { ticket, outcome } => match outcome {
                 Ok(number) => write!(f, "reply {ticket} {number}"),
-                Err(_) => write!(f, "refusal {ticket}"),
+                Err(cause) => write!(f, "refusal {ticket} {}", cause.code()),
             },
             Notice::Delivered(message) => write!(f, "delivered {}", message.number),
-            Notice::Decided(_) => write!(f, "decided"),
+            Notice::Decided(taken) => write!(f, "decided {} {}", taken.instance, taken.value),
         }
     }
-}
-
-fn one_keeper(alloc: Global) -> Result<Vec<(NodeId, Keeper)>, AllocError>
-    ensures { IfOk result (λ jobs. AreNewKeepers jobs.items) }
-{
-    let mut jobs = Vec::new(alloc);
-    jobs.push((NodeId(0), Keeper::new(alloc, 3)?))?;
-    Ok(jobs)
 }
 
 /// A job that keeps each notice has those of its feed, up to its last reply.
@@ -48,13 +40,43 @@ pub fn replies_kept<R: Threads + Wait + Print + Copy + Send + 'static>(
     rt: R,
     alloc: Global,
 ) -> Result<()> {
+    print_kept(rt, alloc, "replies-kept", data_items(alloc, 3)?)
+}
+
+/// The feed has what the node decided, and the refusal of a second proposal in an instance.
+pub fn decision_kept<R: Threads + Wait + Print + Copy + Send + 'static>(
+    rt: R,
+    alloc: Global,
+) -> Result<()> {
+    let mut items = List::new(alloc);
+    for (instance, value) in [(7, 3), (7, 4), (8, 4)] {
+        items.push(Item::Propose { instance, value })?;
+    }
+    print_kept(rt, alloc, "decision-kept", items)
+}
+
+fn one_keeper(alloc: Global, items: List<Item>) -> Result<Vec<(NodeId, Keeper)>, AllocError>
+    ensures { IfOk result (λ jobs. AreNewKeepers jobs.items) }
+{
+    let mut jobs = Vec::new(alloc);
+    jobs.push((NodeId(0), Keeper::new(alloc, items)?))?;
+    Ok(jobs)
+}
+
+// Runs one node with a job that keeps each notice, and prints these.
+fn print_kept<R: Threads + Wait + Print + Copy + Send + 'static>(
+    rt: R,
+    alloc: Global,
+    row: &str,
+    items: List<Item>,
+) -> Result<()> {
     let config = Shape::new(1, 0, 1).config()?;
-    let jobs = one_keeper(alloc)?;
+    let jobs = one_keeper(alloc, items)?;
     let gates = open_gates(alloc, 1)?;
     let Ok(run) = run_live(rt, alloc, config, &no_faults(alloc), jobs, gates, TURNS) else {
         return Err(RowFault::NotRun.into());
     };
-    print!(&rt; "replies-kept:")?;
+    print!(&rt; "{row}:")?;
     for job in run.jobs.iter() {
         for notice in job.kept().iter() {
             print!(&rt; " {},", Told { notice })?;

@@ -42,14 +42,21 @@ impl Meeting {
 
     // Waits until the counter has come so far, or gives up and notes it.
     fn wait(&self, counter: &AtomicU64, wanted: u64) {
-        for _ in 0..TRIES {
-            if counter.load(Ordering::SeqCst) >= wanted {
-                return;
-            }
-            thread::yield_now();
+        if !wait_for(counter, wanted) {
+            self.gave_up.fetch_add(1, Ordering::SeqCst);
         }
-        self.gave_up.fetch_add(1, Ordering::SeqCst);
     }
+}
+
+/// Waits until the counter has come so far, or gives up, which the answer says.
+pub fn wait_for(counter: &AtomicU64, wanted: u64) -> bool {
+    for _ in 0..TRIES {
+        if counter.load(Ordering::SeqCst) >= wanted {
+            return true;
+        }
+        thread::yield_now();
+    }
+    false
 }
 
 /// Where an engine waits at its first turn: gate 0 posts that it was reached, and waits until the jobs of all other nodes

@@ -11,6 +11,7 @@ mod losses;
 mod refusals;
 mod runs;
 mod seen;
+mod turns;
 
 use anyhow::{Result, bail};
 use std::alloc::Global;
@@ -18,7 +19,7 @@ use std::env;
 use std::sync::Wait;
 use std::thread::Threads;
 
-const ROWS: [&str; 14] = [
+const ROWS: [&str; 16] = [
     "gates",
     "gates-of-three",
     "live-refusals",
@@ -29,7 +30,9 @@ const ROWS: [&str; 14] = [
     "live-limits",
     "limits-of-five-items",
     "replies-kept",
+    "decision-kept",
     "never-calls-next",
+    "never-done",
     "one-place",
     "every-fault-on-every-link",
     "crash-at-each-entry",
@@ -65,7 +68,9 @@ fn run_row<R: Threads + Wait + Print + Copy + Send + 'static>(
         "live-limits" => limits::print_full(rt, alloc, name, limits::LIVE_LIMITS),
         "limits-of-five-items" => limits::print_full(rt, alloc, name, limits::FIVE_ITEMS),
         "replies-kept" => clients::replies_kept(rt, alloc),
+        "decision-kept" => clients::decision_kept(rt, alloc),
         "never-calls-next" => clients::never_calls_next(rt, alloc),
+        "never-done" => turns::never_done(rt, alloc),
         "one-place" => losses::one_place(rt, alloc),
         "every-fault-on-every-link" => losses::every_fault(rt, alloc),
         "crash-at-each-entry" => crashes::at_each_entry(rt, alloc),

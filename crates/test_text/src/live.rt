@@ -10,7 +10,7 @@ use cast_run::Progress;
 use cast_text::{TextFault, Verdict, read_script_text, run_text};
 use cast_words::Meter;
 use std::alloc::Global;
-use std::io::Write;
+use std::io::{BufWriter, Write};
 use std::sync::{Arc, Wait};
 use std::test::Fail;
 use std::thread::Threads;
@@ -100,6 +100,16 @@ fn counts_what_a_writer_took(rt: HostRuntime) {
         counted_summary(rt, rt.alloc()),
         Ok(TWO_NODES_SUMMARY.len() as u64)
     );
+}
+
+#[test]
+fn flushes_the_writer_that_it_counts(rt: HostRuntime) -> Result<(), Fail> {
+    let mut buffer = BufWriter::new(rt.alloc(), Vec::new(rt.alloc()))?;
+    let mut counted = Counted::new(&mut buffer);
+    counted.write_all(b"a")?;
+    counted.flush()?;
+    assert_eq!(rt; buffer.get_ref().as_slice(), b"a".as_slice());
+    Ok(())
 }
 
 /// The deliveries that were counted of a run, and whether any turn was.

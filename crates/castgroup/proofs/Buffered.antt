@@ -1,0 +1,32 @@
+-- Bytes that go through a buffer, empty at first, to a writer: what the buffer and the writer contain together, the writer contains in
+-- the end.
+use Rattle.std.proofs.Common.{◌≡◌, ◌++◌, ◌∙◌, ℕ, List, [], Option, None, Some, Result, Ok, Err, IfOk, append-nil, ap, refl, subst}
+use Rattle.std.specs.Io.KnownBytes.{Appends, Keeps, append_known}
+use Rattle.std.proofs.KnownBytes.{Appends-kept}
+use Rattle.cast_record.specs.declared.verdict.Verdict.{Verdict}
+use Rattle.cast_text.specs.declared.fault.TextFault.{TextFault}
+use Rattle.castgroup.specs.Made.{Makes}
+use Rattle.castgroup.specs.declared.texts.TextCommand.{TextCommand}
+use Rattle.castgroup.specs.declared.texts.TextCommand.TheVariants.{Run, Judge, Migrate, Draw}
+
+pub appends_through : (old mid new : Option (List ℕ)) (held text : List ℕ) → held ≡ [] → Appends (append_known old held) mid text → Keeps mid new → Appends old new text
+appends_through old mid new held text none put kept = subst (λ known. Appends known new text) (empty old held none) (Appends-kept (append_known old held) mid new text put kept)
+  where
+    empty : (known : Option (List ℕ)) (held : List ℕ) → held ≡ [] → append_known known held ≡ known
+    empty None held none = refl
+    empty (Some xs) held none = ap (λ ys. Some ys) (ap (λ ys. xs ++ ys) none ∙ append-nil xs)
+
+makes_through : (command : TextCommand) (input old mid new : Option (List ℕ)) (held : List ℕ) (said : Verdict) → held ≡ [] → Makes command input (append_known old held) mid said → Keeps mid new → Makes command input old new said
+makes_through Run input old mid new held said none made kept =
+    (made.0, record { script = made.1.script; read = made.1.read; good = made.1.good; appends = appends_through old mid new held _ none made.1.appends kept })
+makes_through Judge input old mid new held said none made kept =
+    record { read = made.read; appends = appends_through old mid new held _ none made.appends kept }
+makes_through Migrate input old mid new held said none made kept =
+    (made.0, record { migrated = made.1.migrated; read = made.1.read; appends = appends_through old mid new held _ none made.1.appends kept })
+makes_through (Draw window) input old mid new held said none made kept =
+    (made.0, record { script = made.1.script; read = made.1.read; appends = appends_through old mid new held _ none made.1.appends kept })
+
+pub makes_handed : (command : TextCommand) (input old mid new : Option (List ℕ)) (held : List ℕ) (done handed : Result Verdict TextFault) → held ≡ [] → IfOk done (Makes command input (append_known old held) mid) → IfOk handed (λ said. (done ≡ Ok said) × Keeps mid new) → IfOk handed (Makes command input old new)
+makes_handed command input old mid new held done (Ok said) none made ok =
+    makes_through command input old mid new held said none (subst (λ r. IfOk r (Makes command input (append_known old held) mid)) ok.0 made) ok.1
+makes_handed command input old mid new held done (Err fault) none made ok = tt

@@ -1,0 +1,51 @@
+-- What the commands write.
+--     Makes command input old new said    the known bytes grew by what the command makes of its input, and by nothing else; the verdict
+--                                         is that of the judge, and else Good
+--     Refuses command input fault         a refused input is so; reads, writes and allocations may fail of any
+--     output_text output run              what is written of a group that ran in threads
+use Rattle.std.specs.Prelude.{◌≡◌, ◌<◌, ◌≤◌, ℕ, List, length, Option, IfSome, Err}
+use Rattle.cast_live.specs.Live.{ends_of, summary_text}
+use Rattle.cast_live.specs.Replayed.{record_of_accepted}
+use Rattle.cast_live.specs.declared.live.FinishedRun.{FinishedRun}
+use Rattle.cast_model.specs.Replies.{history}
+use Rattle.cast_record.specs.Migration.{HasNoHead}
+use Rattle.cast_record.specs.Text.{record_text}
+use Rattle.cast_record.specs.declared.verdict.Verdict.{Verdict}
+use Rattle.cast_record.specs.declared.verdict.Verdict.TheVariants.{Good}
+use Rattle.cast_script.specs.Replay.{script_text}
+use Rattle.cast_script.specs.Script.{Reads}
+use Rattle.cast_text.specs.Drawing.{WritesDrawing}
+use Rattle.cast_text.specs.Judging.{SaysVerdict}
+use Rattle.cast_text.specs.Migrating.{WritesMigrated}
+use Rattle.cast_text.specs.Text.{WritesRecord, input_limit}
+use Rattle.cast_text.specs.declared.fault.TextFault.{TextFault}
+use Rattle.cast_text.specs.declared.fault.TextFault.TheVariants as faults
+use Rattle.castgroup.specs.declared.live.Kept.TheVariants.{Record, Replay}
+use Rattle.castgroup.specs.declared.live.Output.{Output}
+use Rattle.castgroup.specs.declared.live.Output.TheVariants.{Kept, Summary}
+use Rattle.castgroup.specs.declared.texts.TextCommand.{TextCommand}
+use Rattle.castgroup.specs.declared.texts.TextCommand.TheVariants.{Run, Judge, Migrate, Draw}
+
+abbrev pub Makes : TextCommand → Option (List ℕ) → Option (List ℕ) → Option (List ℕ) → Verdict → Type 0
+Makes Run input old new said = (said ≡ Good) × WritesRecord input old new
+Makes Judge input old new said = SaysVerdict input old new said
+Makes Migrate input old new said = (said ≡ Good) × WritesMigrated input old new
+Makes (Draw window) input old new said = (said ≡ Good) × WritesDrawing window input old new
+
+abbrev pub RefusesText : TextCommand → List ℕ → TextFault → Type 0
+RefusesText Run bytes (faults.Script fault) = Reads (Err fault) bytes
+RefusesText (Draw window) bytes (faults.Script fault) = Reads (Err fault) bytes
+RefusesText Migrate bytes faults.NotV1 = HasNoHead bytes
+RefusesText command bytes fault = ⊥
+
+abbrev pub Refuses : TextCommand → Option (List ℕ) → TextFault → Type 0
+Refuses command input faults.Read = Unit {0}
+Refuses command input faults.Write = Unit {0}
+Refuses command input faults.Memory = Unit {0}
+Refuses command input faults.TooLong = IfSome input (λ bytes. input_limit < length bytes)
+Refuses command input fault = IfSome input (λ bytes. (length bytes ≤ input_limit) × RefusesText command bytes fault)
+
+abbrev pub output_text : Output → FinishedRun → List ℕ
+output_text (Kept Record) run = record_text (record_of_accepted run.report.config run.assembly.events)
+output_text (Kept Replay) run = script_text run.report.config run.assembly.events
+output_text (Summary said) run = summary_text run.report.config (history run.report.config run.assembly.events) (ends_of run.report.reports) said
