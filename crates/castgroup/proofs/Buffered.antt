@@ -1,11 +1,12 @@
 -- Bytes that go through a buffer, empty at first, to a writer: what the buffer and the writer contain together, the writer contains in
 -- the end.
-use Rattle.std.proofs.Common.{◌≡◌, ◌++◌, ◌∙◌, ℕ, List, [], Option, None, Some, Result, Ok, Err, IfOk, append-nil, ap, refl, subst}
+use Rattle.std.proofs.Common.{◌≡◌, ◌++◌, ◌∙◌, ℕ, List, [], Option, None, Some, Result, Ok, Err, IsOk, IfOk, IfErr, OnOk, Bool, false, ◌⊎◌, inl, inr, append-nil, ap, refl, subst, sym}
 use Rattle.std.specs.Io.KnownBytes.{Appends, Keeps, append_known}
 use Rattle.std.proofs.KnownBytes.{Appends-kept}
 use Rattle.cast_record.specs.declared.verdict.Verdict.{Verdict}
 use Rattle.cast_text.specs.declared.fault.TextFault.{TextFault}
-use Rattle.castgroup.specs.Made.{Makes}
+use Rattle.cast_text.specs.declared.fault.TextFault.TheVariants.{Write}
+use Rattle.castgroup.specs.Made.{Makes, Refuses}
 use Rattle.castgroup.specs.declared.texts.TextCommand.{TextCommand}
 use Rattle.castgroup.specs.declared.texts.TextCommand.TheVariants.{Run, Judge, Migrate, Draw}
 
@@ -30,3 +31,13 @@ pub makes_handed : (command : TextCommand) (input old mid new : Option (List ℕ
 makes_handed command input old mid new held done (Ok said) none made ok =
     makes_through command input old mid new held said none (subst (λ r. IfOk r (Makes command input (append_known old held) mid)) ok.0 made) ok.1
 makes_handed command input old mid new held done (Err fault) none made ok = tt
+
+pub read_handed : (P Q : Type 0) (done handed : Result Verdict TextFault) → OnOk done P → IfOk handed (λ said. (done ≡ Ok said) × Q) → OnOk handed P
+read_handed P Q done (Ok said) read ok = subst (λ r. OnOk r P) ok.0 read
+read_handed P Q done (Err fault) read ok = tt
+
+pub refuses_handed : (command : TextCommand) (input : Option (List ℕ)) (failed : Bool) (done handed : Result Verdict TextFault) → IfErr done (Refuses command input failed) → OnOk done (failed ≡ false) → IfErr handed (λ fault. (done ≡ Err fault) ⊎ (IsOk done × (fault ≡ Write))) → IfErr handed (Refuses command input failed)
+refuses_handed command input failed done (Ok said) refused read err = tt
+refuses_handed command input failed done (Err fault) refused read (inl same) = subst (λ r. IfErr r (Refuses command input failed)) same refused
+refuses_handed command input failed (Ok said) (Err fault) refused read (inr broken) = subst (Refuses command input failed) (sym broken.1) read
+refuses_handed command input failed (Err why) (Err fault) refused read (inr broken) = absurd cc

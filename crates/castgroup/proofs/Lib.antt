@@ -1,1 +1,2 @@
 pub mod Buffered
+pub mod Running

@@ -1,10 +1,12 @@
 -- What the commands write.
 --     Makes command input old new said    the known bytes grew by what the command makes of its input, and by nothing else; the verdict
 --                                         is that of the judge, and else Good
---     Refuses command input fault         a refused input is so; reads, writes and allocations may fail of any
+--     Refuses command input failed fault  a refused input is so, and a failed read is told where one failed; writes and allocations may
+--                                         fail of any
+--     RunsScript input run                the run is of the script that is the input
 --     output_text output run              what is written of a group that ran in threads
-use Rattle.std.specs.Prelude.{◌≡◌, ◌<◌, ◌≤◌, ℕ, List, length, Option, IfSome, Err}
-use Rattle.cast_live.specs.Live.{ends_of, summary_text}
+use Rattle.std.specs.Prelude.{◌≡◌, ◌<◌, ◌≤◌, ℕ, List, length, Bool, true, false, Option, IfSome, Err}
+use Rattle.cast_live.specs.Live.{IsRunOf, ends_of, summary_text}
 use Rattle.cast_live.specs.Replayed.{record_of_accepted}
 use Rattle.cast_live.specs.declared.live.FinishedRun.{FinishedRun}
 use Rattle.cast_model.specs.Replies.{history}
@@ -14,10 +16,11 @@ use Rattle.cast_record.specs.declared.verdict.Verdict.{Verdict}
 use Rattle.cast_record.specs.declared.verdict.Verdict.TheVariants.{Good}
 use Rattle.cast_script.specs.Replay.{script_text}
 use Rattle.cast_script.specs.Script.{Reads}
+use Rattle.cast_script.specs.declared.script.Script.{Script}
 use Rattle.cast_text.specs.Drawing.{WritesDrawing}
 use Rattle.cast_text.specs.Judging.{SaysVerdict}
 use Rattle.cast_text.specs.Migrating.{WritesMigrated}
-use Rattle.cast_text.specs.Text.{WritesRecord, input_limit}
+use Rattle.cast_text.specs.Text.{IsScriptIn, WritesRecord, input_limit}
 use Rattle.cast_text.specs.declared.fault.TextFault.{TextFault}
 use Rattle.cast_text.specs.declared.fault.TextFault.TheVariants as faults
 use Rattle.castgroup.specs.declared.live.Kept.TheVariants.{Record, Replay}
@@ -38,12 +41,18 @@ RefusesText (Draw window) bytes (faults.Script fault) = Reads (Err fault) bytes
 RefusesText Migrate bytes faults.NotV1 = HasNoHead bytes
 RefusesText command bytes fault = ⊥
 
-abbrev pub Refuses : TextCommand → Option (List ℕ) → TextFault → Type 0
-Refuses command input faults.Read = Unit {0}
-Refuses command input faults.Write = Unit {0}
-Refuses command input faults.Memory = Unit {0}
-Refuses command input faults.TooLong = IfSome input (λ bytes. input_limit < length bytes)
-Refuses command input fault = IfSome input (λ bytes. (length bytes ≤ input_limit) × RefusesText command bytes fault)
+abbrev pub Refuses : TextCommand → Option (List ℕ) → Bool → TextFault → Type 0
+Refuses command input failed faults.Read = failed ≡ true
+Refuses command input failed faults.Write = failed ≡ false
+Refuses command input failed faults.Memory = failed ≡ false
+Refuses command input failed faults.TooLong = (failed ≡ false) × IfSome input (λ bytes. input_limit < length bytes)
+Refuses command input failed fault = (failed ≡ false) × IfSome input (λ bytes. (length bytes ≤ input_limit) × RefusesText command bytes fault)
+
+pub record RunsScript (input : Option (List ℕ)) (run : FinishedRun) : Type 0 where
+  pub script : Script
+  pub read : IsScriptIn input script
+  pub config : run.report.config ≡ script.config
+  pub ran : IsRunOf script run.report.reports
 
 abbrev pub output_text : Output → FinishedRun → List ℕ
 output_text (Kept Record) run = record_text (record_of_accepted run.report.config run.assembly.events)

@@ -3,12 +3,12 @@ ghost use Rattle.std.specs.Prelude.{◌≡◌, [], false, IfOk, OnOk};
 ghost use Rattle.std.specs.Io.Buffered.{writer_buffer, writer_inner};
 ghost use Rattle.std.specs.Io.KnownBytes.{Appends};
 ghost use Rattle.cast_live.specs.Live.{IsFinished};
-ghost use Rattle.castgroup.specs.Made.{output_text};
+ghost use Rattle.castgroup.specs.Made.{RunsScript, output_text};
 
 use crate::explain::{explain_fault, explain_output, explain_run};
 use crate::output::hand_on;
 use crate::progress::{Teller, due_deliveries};
-use crate::source::{Failure, Heard, Source, StreamName, open_source};
+use crate::source::{Failure, Heard, StreamName, open_source};
 use crate::status::{Status, refuse};
 use cast_command::{Call, RunFiles};
 use cast_live::{
@@ -18,7 +18,7 @@ use cast_live::{
 use cast_run::Progress;
 use cast_text::{INPUT_LIMIT, TextFault, Verdict, read_script_text};
 use cast_words::Meter;
-use std::io::{BufWriter, IsTerminal, Stderr, Write};
+use std::io::{BufWriter, IsTerminal, Read, Stderr, Write};
 use std::rt::Runtime;
 use std::sync::Wait;
 use std::thread::Threads;
@@ -37,7 +37,7 @@ pub fn live_script<R: Runtime + AllocGlobal + Threads + Wait + Copy + Send + 'st
     let wanted = tells_progress || stderr.is_terminal();
     let told = if wanted { Some(stderr) } else { None };
     let mut source = open_source(rt, call);
-    let run = match run_live_script(rt, &mut source, told) {
+    let run = match run_live_script(rt, &mut Meter::new(&mut source), told) {
         Ok(run) => run,
         Err(fault) => {
             let status = refuse(rt, fault);
@@ -104,14 +104,16 @@ fn status_of(summary: Summary) -> Status {
 }
 
 /// Reads the script and runs its group, and where that is wanted tells how far it is.
-fn run_live_script<R: Runtime + AllocGlobal + Threads + Wait + Copy + Send + 'static>(
+fn run_live_script<I: Read, R: Runtime + AllocGlobal + Threads + Wait + Copy + Send + 'static>(
     rt: &R,
-    source: &mut Source<'_, R::File, R::Reader>,
+    reader: &mut Meter<I>,
     told: Option<Stderr>,
 ) -> Result<FinishedRun, TextFault>
-    ensures { IfOk result IsFinished }
+    requires { reader.old.failed ≡ false }
+    ensures finished { IfOk result IsFinished }
+    ensures ran { IfOk result (RunsScript (I.remaining reader.old.inner)) }
 {
-    let script = read_script_text(rt.alloc(), &mut Meter::new(source))?;
+    let script = read_script_text(rt.alloc(), reader)?;
     let progress = Progress::shared(rt.alloc(), script.config.nodes())?;
     let teller = match told {
         Some(stderr) => Teller::start(*rt, rt.alloc(), stderr, &progress, due_deliveries(&script)),

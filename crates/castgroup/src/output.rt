@@ -1,5 +1,5 @@
 //! What goes through a buffer to a stream.
-ghost use Rattle.std.specs.Prelude.{◌≡◌, ◌≢◌, Ok, Err, IfOk, IfErr};
+ghost use Rattle.std.specs.Prelude.{◌≡◌, ◌⊎◌, Ok, Err, IsOk, IfOk, IfErr};
 ghost use Rattle.std.specs.Io.Buffered.{writer_contents};
 ghost use Rattle.std.specs.Io.KnownBytes.{Keeps};
 ghost use Rattle.cast_text.specs.declared.fault.TextFault.TheVariants.{Write};
@@ -15,7 +15,7 @@ pub fn hand_on<T: Drop, W: Write + Drop>(
 ) -> (Result<T, TextFault>, W)
     ensures ok { IfOk result.0 (λ value. (done ≡ Ok value)
         × Keeps (writer_contents W.contents meter.inner) (W.contents result.1)) }
-    ensures err { IfErr result.0 (λ fault. fault ≢ Write → done ≡ Err fault) }
+    ensures err { IfErr result.0 (λ fault. (done ≡ Err fault) ⊎ (IsOk done × (fault ≡ Write))) }
 {
     let mut buffer = meter.into_inner();
     let flushed = buffer.flush();

@@ -132,7 +132,9 @@ impl<'a, F: Read + Drop, S: Read + Drop> Source<'a, F, S> {
     }
 
     // Keeps what was read, as long as there is memory for it.
-    fn keep(&mut self, piece: &[u8]) {
+    fn keep(&mut self, piece: &[u8])
+        ensures { self.new.stream ≡ self.old.stream }
+    {
         if let Again::Kept(bytes) = &mut self.again {
             if bytes.extend_from_slice(piece).is_err() {
                 self.again = Again::Lost;
@@ -151,6 +153,10 @@ fn read_again<R: Runtime + AllocGlobal>(rt: &R, path: &str) -> Option<Vec<u8>> {
 }
 
 impl<F: Read + Drop, S: Read + Drop> Read for Source<'_, F, S> {
+    ghost use Rattle.castgroup.specs.Streams.{stream_remaining};
+
+    ghost remaining = { λ source. stream_remaining F.remaining S.remaining source.stream };
+
     fn read(&mut self, buf: &mut [u8]) -> io::Result<usize> {
         let outcome = match &mut self.stream {
             Stream::File(file) => file.read(buf),

@@ -1,6 +1,7 @@
 //! The commands that read one text and write another: `run`, `judge`, `migrate` and `draw`.
-ghost use Rattle.std.specs.Prelude.{◌≡◌, [], false, IfOk, IfErr};
+ghost use Rattle.std.specs.Prelude.{◌≡◌, [], false, IfOk, IfErr, OnOk};
 ghost use Rattle.std.specs.Io.Buffered.{writer_buffer, writer_inner};
+ghost use Rattle.cast_text.specs.Text.{TakesInput};
 ghost use Rattle.castgroup.specs.Made.{Makes, Refuses};
 
 use crate::explain::{explain_fault, explain_verdict};
@@ -39,7 +40,11 @@ impl TextCommand {
         requires { (reader.old.failed ≡ false) × (writer.old.failed ≡ false) }
         ensures made { IfOk result (Makes self (R.remaining reader.old.inner)
             (W.contents writer.old.inner) (W.contents writer.new.inner)) }
-        ensures refused { IfErr result (Refuses self (R.remaining reader.old.inner)) }
+        ensures read { OnOk result (reader.new.failed ≡ false) }
+        ensures refused { IfErr result (Refuses self (R.remaining reader.old.inner)
+            reader.new.failed) }
+        ensures taken { TakesInput (R.remaining reader.old.inner)
+            (R.remaining reader.new.inner) }
     {
         match self {
             TextCommand::Run => run_text(alloc, reader, writer)?,
@@ -60,7 +65,11 @@ impl TextCommand {
         requires { (reader.old.failed ≡ false) × (writer_buffer buffer ≡ []) }
         ensures made { IfOk result.0 (Makes self (R.remaining reader.old.inner)
             (W.contents (writer_inner buffer)) (W.contents result.1)) }
-        ensures refused { IfErr result.0 (Refuses self (R.remaining reader.old.inner)) }
+        ensures read { OnOk result.0 (reader.new.failed ≡ false) }
+        ensures refused { IfErr result.0 (Refuses self (R.remaining reader.old.inner)
+            reader.new.failed) }
+        ensures taken { TakesInput (R.remaining reader.old.inner)
+            (R.remaining reader.new.inner) }
     {
         let mut meter = Meter::new(buffer);
         let done = self.perform(alloc, reader, &mut meter);

@@ -1,7 +1,7 @@
 use Rattle.std.proofs.Common.{IfOk, subst}
 use Rattle.std.specs.Io.Buffered.{writer_buffer, writer_contents, writer_inner}
 use Rattle.castgroup.specs.Made.{Makes}
-use Rattle.castgroup.proofs.Buffered.{makes_handed}
+use Rattle.castgroup.proofs.Buffered.{makes_handed, read_handed, refuses_handed}
 use Rattle.castgroup.proofs.texts.TextCommand.perform_through.Goals as goal
 
 pub returns-clause-made : goal.returns-clause-made
@@ -12,3 +12,10 @@ returns-clause-made g c =
     let performed = writer_contents contents c.perform-done.new.writer.inner in
     let made = subst (λ w. IfOk c.perform-done.result (Makes c.args.self input (writer_contents contents w) performed)) c.new-meter.ensures.inner c.perform-done.ensures.made in
     makes_handed c.args.self input (contents (writer_inner buffer)) performed (contents c.hand_on.result.1) (writer_buffer buffer) c.perform-done.result c.hand_on.result.0 c.requires.1 made c.hand_on.ensures.ok
+
+pub returns-clause-read : goal.returns-clause-read
+returns-clause-read g c = read_handed _ _ c.perform-done.result c.hand_on.result.0 c.perform-done.ensures.read c.hand_on.ensures.ok
+
+pub returns-clause-refused : goal.returns-clause-refused
+returns-clause-refused g c =
+    refuses_handed c.args.self (g.R.Read.remaining c.args.reader.now.inner) c.perform-done.new.reader.failed c.perform-done.result c.hand_on.result.0 c.perform-done.ensures.refused c.perform-done.ensures.read c.hand_on.ensures.err
