@@ -1,11 +1,11 @@
 -- Each step of a carrier keeps what it keeps.
-use Rattle.std.proofs.Common.{◌≡◌, ◌≢◌, Bool, true, false, cond, ℕ, zero, suc, ◌+◌, List, [], ◌∷◌, ◌++◌, take, drop, slice_get, slice_set, Some, Ok, Err, Result, MatchResult, sym, ap, ◌∙◌, subst, ◌⊎◌, inl, inr, ⊎_elim}
+use Rattle.std.proofs.Common.{◌≡◌, ◌≢◌, Bool, true, false, cond, ℕ, zero, suc, ◌+◌, List, [], ◌∷◌, ◌++◌, map, take, drop, slice_get, slice_set, Some, Ok, Err, Result, MatchResult, refl, sym, ap, ◌∙◌, subst, ◌⊎◌, inl, inr, ⊎_elim}
 use Rattle.cast_box.specs.Ends.{PutterEnd}
 use Rattle.cast_box.proofs.Same.{get_set}
 use Rattle.cast_engine.specs.declared.parcel.Parcel.{Parcel}
 use Rattle.cast_engine.specs.declared.carrier.Delayed.{Delayed}
 use Rattle.cast_engine.specs.Runs.{Has}
-use Rattle.cast_engine.specs.Carriers.{IsTaken, CarrierKeeps, Moves, MovesOn, Puts, Still, StillWith}
+use Rattle.cast_engine.specs.Carriers.{IsTaken, CarrierKeeps, Moves, MovesOn, Puts, IsKeptOrLost, counted_down}
 use Rattle.cast_engine.proofs.Lists.{has_left, has_last, has_snoc, has_none}
 
 pub put_either : {F : Type 0} (r : Result (Unit {0}) F) (P Q : Type 0) (A B : F → Type 0) → MatchResult r (λ _. P) (λ f. A f × Q × B f) → P ⊎ Q
@@ -34,22 +34,6 @@ puts_equal inboxes inboxes' x y e p = subst (λ z. Puts inboxes z inboxes') e p
 pub puts_both : (a b c : List (PutterEnd Parcel)) (x : Parcel) → Puts a x b → Puts b x c → Puts a x c
 puts_both a b c x p q taken k is = q taken (p taken k is) is
 
-pub still_with : (old new : List Delayed) (d : Delayed) → new ≡ old ++ d ∷ [] → StillWith old d.parcel new
-still_with old new d e taken k is y has =
-    ⊎_elim (λ h. k y h) (λ (w : d ≡ y). let P : Delayed → Type 0 = λ z. IsTaken taken z.parcel in subst P w is) (has_snoc old d y (subst (λ l. Has l y) e has))
-
--- so it does where a parcel is added, or the list stays
-pub still_added : (old new : List Delayed) (d : Delayed) (added : Bool) → new ≡ cond added (old ++ d ∷ []) old → StillWith old d.parcel new
-still_added old new d true e taken k is y has = still_with old new d e taken k is y has
-still_added old new d false e taken k is y has = k y (subst (λ l. Has l y) e has)
-
-pub still_set : (old now : List Delayed) (place : ℕ) (d d' : Delayed) → Still old now → slice_get now place ≡ Some d → d'.parcel ≡ d.parcel → Still old (slice_set now place d')
-still_set old now place d d' s at e taken k y has =
-    ⊎_elim
-    (λ (t : (has.0 ≡ place) × (d' ≡ y)). subst (IsTaken taken) (sym e ∙ ap (λ (z : Delayed). z.parcel) t.1) (s taken k d (place, at)))
-    (λ (t : (has.0 ≢ place) × (slice_get now has.0 ≡ Some y)). s taken k y (has.0, t.1))
-    (get_set now place has.0 d' y has.1)
-
 has_take : {A : Type 0} (n : ℕ) (xs : List A) (x : A) → Has (take n xs) x → Has xs x
 has_take zero xs x h = absurd (has_none x h)
 has_take (suc n) [] x h = h
@@ -74,14 +58,24 @@ moves_due inboxes inboxes' old delayed delayed' first place d m at e p taken k =
       λ y has. now.1 y (⊎_elim (λ h. has_take place delayed y h) (λ h. has_drop (place + 1) delayed y h) (has_either (take place delayed) (drop (place + 1) delayed) y (subst (λ l. Has l y) e has))),
     )
 
-pub moves_timed : (a b : List (PutterEnd Parcel)) (d e f : List Delayed) → Still d e → MovesOn a e b f → MovesOn a d b f
-moves_timed a b d e f s m taken k = m taken (k.0, s taken k.1)
+has_down : (to : ℕ) (d : List Delayed) (y : Delayed) → Has (map (counted_down to) d) y → (x : Delayed) × Has d x × (x.parcel ≡ y.parcel)
+has_down to [] y h = absurd (has_none y h)
+has_down to (x ∷ d) y (zero, e) = (x, (zero, refl), let is : counted_down to x ≡ y = cc in ap (λ (z : Delayed). z.parcel) is)
+has_down to (x ∷ d) y (suc i, e) = let it = has_down to d y (i, e) in (it.0, (suc it.1.0, it.1.1), it.2)
+
+pub moves_timed : (a b : List (PutterEnd Parcel)) (d e f : List Delayed) (to : ℕ) → e ≡ map (counted_down to) d → MovesOn a e b f → MovesOn a d b f
+moves_timed a b d e f to is m taken k =
+    m taken (k.0, λ y has. let it = has_down to d y (subst (λ l. Has l y) is has) in subst (IsTaken taken) it.2 (k.1 it.0 it.1))
 
 pub moves_lost : (a b : List (PutterEnd Parcel)) (d e : List Delayed) (x : Parcel) → MovesOn a d b e → Moves a d x b e
 moves_lost a b d e x m taken k is = m taken k
 
-pub moves_kept : (a b : List (PutterEnd Parcel)) (d e f : List Delayed) (x : Parcel) → MovesOn a d b e → StillWith e x f → Moves a d x b f
-moves_kept a b d e f x m w taken k is = let now = m taken k in (now.0, w taken now.1 is)
+kept_is : (taken : List (ℕ × Parcel)) (e f : List Delayed) (d y : Delayed) (kept : Bool) → f ≡ cond kept (e ++ d ∷ []) e → IsTaken taken d.parcel → Has f y → Has e y ⊎ IsTaken taken y.parcel
+kept_is taken e f d y true is taken_is has = let P : Delayed → Type 0 = λ z. IsTaken taken z.parcel in ⊎_elim (λ t. inl t) (λ (w : d ≡ y). inr (subst P w taken_is)) (has_snoc e d y (subst (λ l. Has l y) is has))
+kept_is taken e f d y false is taken_is has = inl (subst (λ l. Has l y) is has)
+
+pub moves_kept : (a b : List (PutterEnd Parcel)) (d e f : List Delayed) (x : Delayed) → MovesOn a d b e → IsKeptOrLost e x f → Moves a d x.parcel b f
+moves_kept a b d e f x m w taken k is = let now = m taken k in (now.0, λ y has. ⊎_elim (λ t. now.1 y t) (λ (t : IsTaken taken y.parcel). t) (kept_is taken e f x y w.0 w.1 is has))
 
 pub moves_handed : (a b c : List (PutterEnd Parcel)) (d e : List Delayed) (x : Parcel) → MovesOn a d b e → Puts b x c → Moves a d x c e
 moves_handed a b c d e x m p taken k is = let now = m taken k in (p taken now.0 is, now.1)

@@ -4,6 +4,7 @@ pub mod Running
 pub mod Fed
 pub mod Staying
 pub mod Carrying
+pub mod Copying
 pub mod Telling
 pub mod Answering
 pub mod Again

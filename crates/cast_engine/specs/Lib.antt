@@ -6,4 +6,5 @@ pub mod Carriers
 pub mod Serving
 pub mod Plans
 pub mod Fates
+pub mod Copies
 pub mod Group

@@ -1,8 +1,9 @@
 //! A carrier: takes parcels from an outbox and puts each into the inbox of its frame's target, once, twice or never, as the
 //! plan says.
-ghost use Rattle.std.specs.Prelude.{◌≡◌, ◌||◌, IfOk, IsTrue};
+ghost use Rattle.std.specs.Prelude.{◌≡◌, ◌||◌, [], IfOk, if◌then◌else◌, map};
 ghost use Rattle.cast_box.specs.Ends.{AreSamePutters};
-ghost use Rattle.cast_engine.specs.Carriers.{IsSameCarrier, AreUnused, Brings, Moves, MovesOn, Puts, Still, StillWith};
+ghost use Rattle.cast_engine.specs.Copies.{IsByPlan, copies};
+ghost use Rattle.cast_engine.specs.Carriers.{IsSameCarrier, AreUnused, Brings, Moves, MovesOn, Puts, PutsUpTo, IsNoMore, IsByFate, IsKeptOrLost, counted_down};
 ghost use Rattle.cast_engine.specs.Fates.{kind_of, is_kind, is_among, names, suffered, fate_by, fate_in, ordinal_of, one_more, counted_in};
 
 use crate::board::Board;
@@ -79,30 +80,33 @@ pub struct Carrier {
 }
 
 impl Model for Carrier {
-    ghost use Rattle.cast_engine.specs.Carriers.{CarrierState, CarrierKeeps};
+    ghost use Rattle.cast_engine.specs.Carriers.{CarrierState, CarrierKeeps, CarrierPlans};
 
     ghost Value = { CarrierState };
 
-    ghost view = { λ c. record { outbox = c.outbox; inboxes = c.inboxes.items } };
+    ghost view = { λ c. record { outbox = c.outbox; inboxes = c.inboxes.items; faults = c.faults.items } };
 
-    ghost invariant = { λ c. CarrierKeeps c.outbox.taken c.inboxes.items c.delayed.items };
+    ghost invariant = { λ c. CarrierKeeps c.outbox.taken c.inboxes.items c.delayed.items
+        × CarrierPlans c.faults.items c.ordinals.items c.outbox.taken c.inboxes.items c.delayed.items };
 }
 
 impl Carrier {
-    /// The carrier of these ends, which acts on the faults of the plan.
+    /// The carrier of these ends, of which none was used. It acts on these faults of a plan.
     pub fn new(
         alloc: Global,
         outbox: Taker<Parcel>,
         inboxes: Vec<Putter<Parcel>>,
         faults: Vec<Fault>,
     ) -> Result<Carrier, AllocError>
-        requires { AreUnused inboxes.items }
-        ensures { IfOk result (λ c. c ≡ record { outbox = outbox; inboxes = inboxes.items }) }
+        requires inboxes { AreUnused inboxes.items }
+        requires outbox { outbox.taken ≡ [] }
+        ensures { IfOk result (λ c. c ≡ record {
+          outbox = outbox;
+          inboxes = inboxes.items;
+          faults = faults.items;
+        }) }
     {
-        let mut ordinals = Vec::new(alloc);
-        for _target in 0..inboxes.len() {
-            ordinals.push(Ordinals { carry: 0, took: 0 })?;
-        }
+        let ordinals = vec![in alloc; Ordinals { carry: 0, took: 0 }; inboxes.len()]?;
         Ok(Carrier {
             outbox,
             inboxes,
@@ -126,10 +130,12 @@ impl Carrier {
         }
     }
 
-    /// The ends. What is delayed is lost.
+    /// The ends. What is delayed is lost. What was put is of the frames that were taken, and as the plan says: nothing that it loses
+    /// or still delays, and nothing twice but what it repeats.
     pub fn into_parts(self) -> (Taker<Parcel>, Vec<Putter<Parcel>>)
         ensures parts { (result.0 ≡ self.outbox) × (result.1.items ≡ self.inboxes) }
         ensures kept { Brings self.outbox.taken self.inboxes }
+        ensures planned { IsByPlan self.faults self.outbox.taken self.inboxes }
     {
         let Carrier {
             outbox,
@@ -330,8 +336,8 @@ fn take_over<R: Wait>(
     ensures same { AreSamePutters inboxes.old.items inboxes.new.items }
     ensures moves { Moves inboxes.old.items delayed.old.items parcel inboxes.new.items
         delayed.new.items }
-    ensures lost { IsTrue fate.lost → MovesOn inboxes.old.items delayed.old.items
-        inboxes.new.items delayed.new.items }
+    ensures planned { IsByFate fate inboxes.old.items delayed.old.items parcel inboxes.new.items
+        delayed.new.items }
 {
     pass_time(rt, inboxes, delayed, &parcel);
     if fate.lost {
@@ -355,6 +361,9 @@ fn pass_time<R: Wait>(
     ensures same { AreSamePutters inboxes.old.items inboxes.new.items }
     ensures moves { MovesOn inboxes.old.items delayed.old.items inboxes.new.items
         delayed.new.items }
+    ensures planned { IsNoMore inboxes.old.items
+        (map (counted_down parcel.now.frame.to) delayed.old.items)
+        inboxes.new.items delayed.new.items }
 {
     count_down(delayed, parcel.frame.to);
     release(rt, inboxes, delayed);
@@ -364,7 +373,7 @@ fn lose(_parcel: Parcel) {}
 
 // One frame more was taken for a target.
 fn count_down(delayed: &mut Vec<Delayed>, to: NodeId)
-    ensures { Still delayed.old.items delayed.new.items }
+    ensures { delayed.new.items ≡ map (counted_down to) delayed.old.items }
 {
     for place in 0..delayed.len() {
         count_one(&mut delayed[place], to);
@@ -372,7 +381,7 @@ fn count_down(delayed: &mut Vec<Delayed>, to: NodeId)
 }
 
 fn count_one(one: &mut Delayed, to: NodeId)
-    ensures { one.new.parcel ≡ one.old.parcel }
+    ensures { one.new ≡ counted_down to one.old }
 {
     if one.parcel.frame.to == to {
         one.left = one.left.saturating_sub(1);
@@ -383,6 +392,8 @@ fn count_one(one: &mut Delayed, to: NodeId)
 fn release<R: Wait>(rt: &R, inboxes: &mut Vec<Putter<Parcel>>, delayed: &mut Vec<Delayed>)
     ensures same { AreSamePutters inboxes.old.items inboxes.new.items }
     ensures moves { MovesOn inboxes.old.items delayed.old.items inboxes.new.items
+        delayed.new.items }
+    ensures planned { IsNoMore inboxes.old.items delayed.old.items inboxes.new.items
         delayed.new.items }
 {
     let mut place = 0;
@@ -398,7 +409,8 @@ fn release<R: Wait>(rt: &R, inboxes: &mut Vec<Putter<Parcel>>, delayed: &mut Vec
 
 // Keeps a parcel until as many more were taken for its target as its fate says. It is lost where there is no memory.
 fn keep(delayed: &mut Vec<Delayed>, parcel: Parcel, fate: Fate)
-    ensures { StillWith delayed.old.items parcel delayed.new.items }
+    ensures { IsKeptOrLost delayed.old.items
+        (record { left = fate.delay; twice = fate.twice; parcel = parcel }) delayed.new.items }
 {
     let _lost = delayed.push(Delayed {
         left: fate.delay,
@@ -411,6 +423,7 @@ fn keep(delayed: &mut Vec<Delayed>, parcel: Parcel, fate: Fate)
 fn hand_on<R: Wait>(rt: &R, inboxes: &mut Vec<Putter<Parcel>>, parcel: Parcel, twice: bool)
     ensures same { AreSamePutters inboxes.old.items inboxes.new.items }
     ensures puts { Puts inboxes.old.items parcel inboxes.new.items }
+    ensures most { PutsUpTo (copies twice) inboxes.old.items parcel inboxes.new.items }
 {
     put_copy(rt, inboxes, &parcel, twice);
     put(rt, inboxes, parcel);
@@ -420,6 +433,8 @@ fn hand_on<R: Wait>(rt: &R, inboxes: &mut Vec<Putter<Parcel>>, parcel: Parcel, t
 fn put_copy<R: Wait>(rt: &R, inboxes: &mut Vec<Putter<Parcel>>, parcel: &Parcel, twice: bool)
     ensures same { AreSamePutters inboxes.old.items inboxes.new.items }
     ensures puts { Puts inboxes.old.items parcel.now inboxes.new.items }
+    ensures most { PutsUpTo (if twice then 1 else 0) inboxes.old.items parcel.now
+        inboxes.new.items }
 {
     if !twice {
         return;
@@ -433,6 +448,7 @@ fn put_copy<R: Wait>(rt: &R, inboxes: &mut Vec<Putter<Parcel>>, parcel: &Parcel,
 fn put<R: Wait>(rt: &R, inboxes: &mut Vec<Putter<Parcel>>, parcel: Parcel)
     ensures same { AreSamePutters inboxes.old.items inboxes.new.items }
     ensures puts { Puts inboxes.old.items parcel inboxes.new.items }
+    ensures most { PutsUpTo 1 inboxes.old.items parcel inboxes.new.items }
 {
     let to = usize::from(parcel.frame.to.0);
     if to < inboxes.len() {

@@ -1,21 +1,18 @@
 -- Bytes that go through a buffer, empty at first, to a writer: what the buffer and the writer contain together, the writer contains in
 -- the end.
-use Rattle.std.proofs.Common.{◌≡◌, ◌++◌, ◌∙◌, ℕ, List, [], Option, None, Some, Result, Ok, Err, IsOk, IfOk, IfErr, OnOk, Bool, false, ◌⊎◌, inl, inr, append-nil, ap, refl, subst, sym}
+use Rattle.std.proofs.Common.{◌≡◌, ℕ, List, [], Option, Result, Ok, Err, IsOk, IfOk, IfErr, OnOk, Bool, false, ◌⊎◌, inl, inr, subst, sym}
 use Rattle.std.specs.Io.KnownBytes.{Appends, Keeps, append_known}
 use Rattle.std.proofs.KnownBytes.{Appends-kept}
 use Rattle.cast_record.specs.declared.verdict.Verdict.{Verdict}
 use Rattle.cast_text.specs.declared.fault.TextFault.{TextFault}
 use Rattle.cast_text.specs.declared.fault.TextFault.TheVariants.{Write}
 use Rattle.castgroup.specs.Made.{Makes, Refuses}
+use Rattle.castgroup.proofs.Cutting.{nothing_held}
 use Rattle.castgroup.specs.declared.texts.TextCommand.{TextCommand}
 use Rattle.castgroup.specs.declared.texts.TextCommand.TheVariants.{Run, Judge, Migrate, Draw}
 
 pub appends_through : (old mid new : Option (List ℕ)) (held text : List ℕ) → held ≡ [] → Appends (append_known old held) mid text → Keeps mid new → Appends old new text
-appends_through old mid new held text none put kept = subst (λ known. Appends known new text) (empty old held none) (Appends-kept (append_known old held) mid new text put kept)
-  where
-    empty : (known : Option (List ℕ)) (held : List ℕ) → held ≡ [] → append_known known held ≡ known
-    empty None held none = refl
-    empty (Some xs) held none = ap (λ ys. Some ys) (ap (λ ys. xs ++ ys) none ∙ append-nil xs)
+appends_through old mid new held text none put kept = subst (λ known. Appends known new text) (nothing_held old held none) (Appends-kept (append_known old held) mid new text put kept)
 
 makes_through : (command : TextCommand) (input old mid new : Option (List ℕ)) (held : List ℕ) (said : Verdict) → held ≡ [] → Makes command input (append_known old held) mid said → Keeps mid new → Makes command input old new said
 makes_through Run input old mid new held said none made kept =

@@ -1,2 +1,3 @@
 pub mod Buffered
 pub mod Running
+pub mod Cutting

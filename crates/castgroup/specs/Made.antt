@@ -3,23 +3,30 @@
 --                                         is that of the judge, and else Good
 --     Refuses command input failed fault  a refused input is so, and a failed read is told where one failed; writes and allocations may
 --                                         fail of any
+--     IsCut whole new                     what is known is a front of what would be
+--     BreaksOff command input old new     after a fault the known bytes are a front of the old ones and what the command makes of its
+--                                         input behind them
 --     RunsScript input run                the run is of the script that is the input
 --     output_text output run              what is written of a group that ran in threads
-use Rattle.std.specs.Prelude.{◌≡◌, ◌<◌, ◌≤◌, ℕ, List, length, Bool, true, false, Option, IfSome, Err}
+use Rattle.std.specs.Prelude.{◌≡◌, ◌<◌, ◌≤◌, ◌++◌, ◌⊎◌, ℕ, List, [], ◌∷◌, length, Bool, true, false, Option, None, Some, IfSome, Err}
+use Rattle.std.specs.Io.KnownBytes.{append_known}
 use Rattle.cast_live.specs.Live.{IsRunOf, ends_of, summary_text}
 use Rattle.cast_live.specs.Replayed.{record_of_accepted}
 use Rattle.cast_live.specs.declared.live.FinishedRun.{FinishedRun}
 use Rattle.cast_model.specs.Replies.{history}
 use Rattle.cast_record.specs.Migration.{HasNoHead}
 use Rattle.cast_record.specs.Text.{record_text}
+use Rattle.cast_record.specs.VerdictText.{verdict_text}
 use Rattle.cast_record.specs.declared.verdict.Verdict.{Verdict}
 use Rattle.cast_record.specs.declared.verdict.Verdict.TheVariants.{Good}
 use Rattle.cast_script.specs.Replay.{script_text}
 use Rattle.cast_script.specs.Script.{Reads}
 use Rattle.cast_script.specs.declared.script.Script.{Script}
 use Rattle.cast_text.specs.Drawing.{WritesDrawing}
-use Rattle.cast_text.specs.Judging.{SaysVerdict}
-use Rattle.cast_text.specs.Migrating.{WritesMigrated}
+use Rattle.cast_text.specs.Judging.{SaysVerdict, JudgesInput}
+use Rattle.cast_text.specs.Migrating.{WritesMigrated, IsInputMigrated}
+use Rattle.cast_text.specs.Pictured.{picture_of}
+use Rattle.cast_text.specs.Recorded.{record_of}
 use Rattle.cast_text.specs.Text.{IsScriptIn, WritesRecord, input_limit}
 use Rattle.cast_text.specs.declared.fault.TextFault.{TextFault}
 use Rattle.cast_text.specs.declared.fault.TextFault.TheVariants as faults
@@ -47,6 +54,21 @@ Refuses command input failed faults.Write = failed ≡ false
 Refuses command input failed faults.Memory = failed ≡ false
 Refuses command input failed faults.TooLong = (failed ≡ false) × IfSome input (λ bytes. input_limit < length bytes)
 Refuses command input failed fault = (failed ≡ false) × IfSome input (λ bytes. (length bytes ≤ input_limit) × RefusesText command bytes fault)
+
+abbrev pub IsCut : Option (List ℕ) → Option (List ℕ) → Type 0
+IsCut None new = Unit {0}
+IsCut (Some whole) None = ⊥
+IsCut (Some whole) (Some new) = (rest : List ℕ) × (whole ≡ new ++ rest)
+
+-- the text is what the command makes of its input
+abbrev pub IsTextOf : TextCommand → Option (List ℕ) → List ℕ → Type 0
+IsTextOf Run input text = (script : Script) × IsScriptIn input script × (text ≡ record_text (record_of script))
+IsTextOf Judge input text = (said : Verdict) × JudgesInput input said × (text ≡ verdict_text said ++ 10 ∷ [])
+IsTextOf Migrate input text = IsInputMigrated input text
+IsTextOf (Draw window) input text = (script : Script) × IsScriptIn input script × (text ≡ picture_of script window)
+
+abbrev pub BreaksOff : TextCommand → Option (List ℕ) → Option (List ℕ) → Option (List ℕ) → Type 0
+BreaksOff command input old new = IsCut old new ⊎ ((text : List ℕ) × IsTextOf command input text × IsCut (append_known old text) new)
 
 pub record RunsScript (input : Option (List ℕ)) (run : FinishedRun) : Type 0 where
   pub script : Script

@@ -1,9 +1,10 @@
 //! The command `live`: a script's group in threads, the files that are kept of the run, and its summary.
-ghost use Rattle.std.specs.Prelude.{◌≡◌, [], false, IfOk, OnOk};
+ghost use Rattle.std.specs.Prelude.{◌≡◌, [], false, IfOk, OnOk, OnErr};
 ghost use Rattle.std.specs.Io.Buffered.{writer_buffer, writer_inner};
-ghost use Rattle.std.specs.Io.KnownBytes.{Appends};
+ghost use Rattle.std.specs.Io.KnownBytes.{Appends, append_known};
 ghost use Rattle.cast_live.specs.Live.{IsFinished};
-ghost use Rattle.castgroup.specs.Made.{RunsScript, output_text};
+ghost use Rattle.cast_text.specs.Text.{WroteFront};
+ghost use Rattle.castgroup.specs.Made.{IsCut, RunsScript, output_text};
 
 use crate::explain::{explain_fault, explain_output, explain_run};
 use crate::output::hand_on;
@@ -158,8 +159,10 @@ impl Output {
     fn write<W: Write>(self, run: &FinishedRun, writer: &mut Meter<W>) -> Result<(), TextFault>
         requires run { IsFinished run.now }
         requires writer { writer.old.failed ≡ false }
-        ensures { OnOk result (Appends (W.contents writer.old.inner) (W.contents writer.new.inner)
-            (output_text self run.now)) }
+        ensures made { OnOk result (Appends (W.contents writer.old.inner)
+            (W.contents writer.new.inner) (output_text self run.now)) }
+        ensures front { OnErr result (WroteFront (W.contents writer.old.inner)
+            (W.contents writer.new.inner) (output_text self run.now)) }
     {
         match self {
             Output::Kept(Kept::Record) => write_record_of(run, writer),
@@ -262,15 +265,18 @@ fn tell_summary<'a, R: Runtime + AllocGlobal>(
     }
 }
 
-// Writes the output with this buffer, and gives back its writer, which then has all of it, or the write failed.
+// Writes the output with this buffer, and gives back its writer, which then has all of it, or, after a fault, a prefix of it.
 fn write_through<W: Write + Drop>(
     run: &FinishedRun,
     output: Output,
     buffer: BufWriter<W>,
 ) -> (Result<(), TextFault>, W)
     requires { IsFinished run.now × (writer_buffer buffer ≡ []) }
-    ensures { OnOk result.0 (Appends (W.contents (writer_inner buffer)) (W.contents result.1)
+    ensures made { OnOk result.0 (Appends (W.contents (writer_inner buffer)) (W.contents result.1)
         (output_text output run.now)) }
+    ensures front { OnErr result.0 (IsCut
+        (append_known (W.contents (writer_inner buffer)) (output_text output run.now))
+        (W.contents result.1)) }
 {
     let mut meter = Meter::new(buffer);
     let done = output.write(run, &mut meter);

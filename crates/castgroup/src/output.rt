@@ -3,18 +3,21 @@ ghost use Rattle.std.specs.Prelude.{◌≡◌, ◌⊎◌, Ok, Err, IsOk, IfOk, I
 ghost use Rattle.std.specs.Io.Buffered.{writer_contents};
 ghost use Rattle.std.specs.Io.KnownBytes.{Keeps};
 ghost use Rattle.cast_text.specs.declared.fault.TextFault.TheVariants.{Write};
+ghost use Rattle.castgroup.specs.Made.{IsCut};
 
 use cast_text::TextFault;
 use cast_words::Meter;
 use std::io::{BufWriter, Write};
 
-/// Empties the buffer into its writer, which is given back, and answers what was done, or that the write failed.
+/// Empties the buffer into its writer, which is given back, and answers what was done, or that the write failed. In any case the
+/// writer has a prefix of what both had.
 pub fn hand_on<T: Drop, W: Write + Drop>(
     done: Result<T, TextFault>,
     meter: Meter<BufWriter<W>>,
 ) -> (Result<T, TextFault>, W)
     ensures ok { IfOk result.0 (λ value. (done ≡ Ok value)
         × Keeps (writer_contents W.contents meter.inner) (W.contents result.1)) }
+    ensures cut { IsCut (writer_contents W.contents meter.inner) (W.contents result.1) }
     ensures err { IfErr result.0 (λ fault. (done ≡ Err fault) ⊎ (IsOk done × (fault ≡ Write))) }
 {
     let mut buffer = meter.into_inner();

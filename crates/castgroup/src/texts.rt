@@ -2,7 +2,7 @@
 ghost use Rattle.std.specs.Prelude.{◌≡◌, [], false, IfOk, IfErr, OnOk};
 ghost use Rattle.std.specs.Io.Buffered.{writer_buffer, writer_inner};
 ghost use Rattle.cast_text.specs.Text.{TakesInput};
-ghost use Rattle.castgroup.specs.Made.{Makes, Refuses};
+ghost use Rattle.castgroup.specs.Made.{Makes, Refuses, BreaksOff};
 
 use crate::explain::{explain_fault, explain_verdict};
 use crate::output::hand_on;
@@ -43,6 +43,8 @@ impl TextCommand {
         ensures read { OnOk result (reader.new.failed ≡ false) }
         ensures refused { IfErr result (Refuses self (R.remaining reader.old.inner)
             reader.new.failed) }
+        ensures front { IfErr result (λ _. BreaksOff self (R.remaining reader.old.inner)
+            (W.contents writer.old.inner) (W.contents writer.new.inner)) }
         ensures taken { TakesInput (R.remaining reader.old.inner)
             (R.remaining reader.new.inner) }
     {
@@ -55,7 +57,8 @@ impl TextCommand {
         Ok(Verdict::Good)
     }
 
-    // Performs the command with this buffer, and gives back its writer, which then has all that was written, or the write failed.
+    // Performs the command with this buffer, and gives back its writer, which then has all that was written, or, after a fault, a
+    // prefix of it.
     fn perform_through<R: Read, W: Write + Drop>(
         self,
         alloc: Global,
@@ -68,6 +71,8 @@ impl TextCommand {
         ensures read { OnOk result.0 (reader.new.failed ≡ false) }
         ensures refused { IfErr result.0 (Refuses self (R.remaining reader.old.inner)
             reader.new.failed) }
+        ensures front { IfErr result.0 (λ _. BreaksOff self (R.remaining reader.old.inner)
+            (W.contents (writer_inner buffer)) (W.contents result.1)) }
         ensures taken { TakesInput (R.remaining reader.old.inner)
             (R.remaining reader.new.inner) }
     {

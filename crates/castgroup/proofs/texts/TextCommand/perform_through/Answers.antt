@@ -1,7 +1,8 @@
-use Rattle.std.proofs.Common.{IfOk, subst}
+use Rattle.std.proofs.Common.{IfOk, IfErr, subst}
 use Rattle.std.specs.Io.Buffered.{writer_buffer, writer_contents, writer_inner}
-use Rattle.castgroup.specs.Made.{Makes}
+use Rattle.castgroup.specs.Made.{Makes, BreaksOff}
 use Rattle.castgroup.proofs.Buffered.{makes_handed, read_handed, refuses_handed}
+use Rattle.castgroup.proofs.Cutting.{breaks_handed}
 use Rattle.castgroup.proofs.texts.TextCommand.perform_through.Goals as goal
 
 pub returns-clause-made : goal.returns-clause-made
@@ -19,3 +20,12 @@ returns-clause-read g c = read_handed _ _ c.perform-done.result c.hand_on.result
 pub returns-clause-refused : goal.returns-clause-refused
 returns-clause-refused g c =
     refuses_handed c.args.self (g.R.Read.remaining c.args.reader.now.inner) c.perform-done.new.reader.failed c.perform-done.result c.hand_on.result.0 c.perform-done.ensures.refused c.perform-done.ensures.read c.hand_on.ensures.err
+
+pub returns-clause-front : goal.returns-clause-front
+returns-clause-front g c =
+    let reads = g.R.Read.remaining c.args.reader.now.inner in
+    let known : _ → _ = writer_contents g.W.Write.contents in
+    let then = c.perform-done in
+    breaks_handed c.args.self reads (g.W.Write.contents (writer_inner c.args.buffer)) (known then.new.writer.inner) (g.W.Write.contents c.hand_on.result.1) (writer_buffer c.args.buffer) then.result c.hand_on.result.0 c.requires.1
+    (subst (λ w. IfOk then.result (Makes c.args.self reads (known w) (known then.new.writer.inner))) c.new-meter.ensures.inner then.ensures.made)
+    (subst (λ w. IfErr then.result (λ fault. BreaksOff c.args.self reads (known w) (known then.new.writer.inner))) c.new-meter.ensures.inner then.ensures.front) c.hand_on.ensures.cut
