@@ -3,7 +3,9 @@
 --                                         is that of the judge, and else Good
 --     Refuses command input failed fault  a refused input is so, and a failed read is told where one failed; writes and allocations may
 --                                         fail of any
+--     RefusesText command bytes fault     of these bytes, read and not too long, the command makes no text, for this cause
 --     IsCut whole new                     what is known is a front of what would be
+--     IsTextOf command input text         the text is what the command makes of its input
 --     BreaksOff command input old new     after a fault the known bytes are a front of the old ones and what the command makes of its
 --                                         input behind them
 --     RunsScript input run                the run is of the script that is the input
@@ -60,7 +62,6 @@ IsCut None new = Unit {0}
 IsCut (Some whole) None = ⊥
 IsCut (Some whole) (Some new) = (rest : List ℕ) × (whole ≡ new ++ rest)
 
--- the text is what the command makes of its input
 abbrev pub IsTextOf : TextCommand → Option (List ℕ) → List ℕ → Type 0
 IsTextOf Run input text = (script : Script) × IsScriptIn input script × (text ≡ record_text (record_of script))
 IsTextOf Judge input text = (said : Verdict) × JudgesInput input said × (text ≡ verdict_text said ++ 10 ∷ [])

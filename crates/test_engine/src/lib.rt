@@ -1,5 +1,5 @@
-//! What no contract of engines and carriers says: which slots an engine sends in which turn, and that a carrier repeats and delays
-//! what the plan names. Groups that run are tested in `test_run`.
+//! What no contract of engines and carriers says: which slots an engine sends in which turn, and that a carrier does hand on, and
+//! repeat, what the plan lets through. Groups that run are tested in `test_run`.
 #![tactic(auto)]
 
 #[cfg(test)]
