@@ -4,7 +4,7 @@ use serde_json::Value;
 use std::alloc::{AllocError, Global};
 
 /// What is expected of a number.
-pub const NUMBER: &str = "a number from 0 to 18446744073709551615";
+pub const NUMBER: &str = "a whole number from 0 to 18446744073709551615, without point or exponent";
 
 const EVENT: &str =
     "an event: [\"order\",NODE,ITEM..], [\"send\",FROM,TO,SLOT], [\"ack\",FROM,TO,SLOT], \
@@ -176,7 +176,7 @@ fn items_flaw(value: &Value) -> Option<Flaw<'_>> {
 
 fn not_node(value: &Value) -> Option<Flaw<'_>> {
     let is_node = matches!(value.as_u64(), Some(0..=255));
-    unless(is_node, value, "a node, a number from 0 to 255")
+    unless(is_node, value, "a node, a whole number from 0 to 255")
 }
 
 /// That the value is no number.

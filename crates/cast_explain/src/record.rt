@@ -18,7 +18,7 @@ pub const RULES: &str = "Rules (bad LINE RULE):
   1  a broadcast or a delivery out of turn, or a delivery of what was not broadcast
   2  a broadcast after its node's close
   3  a decided value that was not proposed
-  4  more decided values in an instance than choices, where fewer nodes may crash
+  4  more decided values in an instance than choices, where fewer nodes than choices may crash
   5  a line of a node that has crashed
   6  a second proposal of a node in an instance";
 
