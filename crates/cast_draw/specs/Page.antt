@@ -2,7 +2,7 @@
 -- marks of events.
 --     picture_text sheet      its text
 --     stub_of frame           a frame that no shown event brought: lost, or it arrives by an event that is not shown
-use Rattle.std.specs.Prelude.{ℕ, ◌+◌, ◌-◌, ◌*◌, ◌/◌, max, if◌then◌else◌, List, [], ◌∷◌, ◌++◌, Option, Some, None, codes, decimal, flat_map, slice_index_or}
+use Rattle.std.specs.Prelude.{ℕ, ◌+◌, ◌-◌, ◌*◌, ◌/◌, max, nat_lt, if◌then◌else◌, List, [], ◌∷◌, ◌++◌, Option, Some, None, codes, decimal, flat_map, slice_index_or}
 use Rattle.std.specs.List.{range_with_len}
 use Rattle.cast_message.specs.declared.config.Config.{Config}
 use Rattle.cast_words.specs.Modes.{mode_word}
@@ -17,10 +17,15 @@ use Rattle.cast_draw.specs.Pieces.{place_text}
 use Rattle.cast_draw.specs.FrameMarks.{lost_text, leaving_text}
 use Rattle.cast_draw.specs.Sheet.{Sheet, bottom_of}
 
+-- how many values an instance may have: a bound where fewer nodes may crash
+abbrev pub bound_text : ℕ → ℕ → List ℕ
+bound_text faults choices =
+    if nat_lt faults choices then joined (codes "at most " ∷ decimal choices ∷ codes " values" ∷ []) else codes "no bound on values"
+
 abbrev pub caption : Config → List ℕ
 caption config =
-    joined (decimal config.nodes ∷ codes " nodes, " ∷ decimal config.faults ∷ codes " may crash, at most " ∷ decimal config.choices ∷ codes " values, "
-    ∷ mode_word config.mode ∷ [])
+    joined (joined (decimal config.nodes ∷ codes " nodes, " ∷ decimal config.faults ∷ codes " may crash, " ∷ [])
+    ∷ bound_text config.faults config.choices ∷ codes ", " ∷ mode_word config.mode ∷ [])
 
 abbrev pub tip_style : List ℕ → List ℕ
 tip_style class = joined (codes ".a." ∷ class ∷ codes "{marker-end:url(#m" ∷ class ∷ codes ")}" ∷ [])

@@ -46,7 +46,11 @@ pub struct Fate {
 impl Fate {
     // Lost as well, where that is so.
     fn or_lost(self, lost: bool) -> Fate
-        ensures { result ≡ record { lost = self.lost || lost; delay = self.delay; twice = self.twice } }
+        ensures { result ≡ record {
+          lost = self.lost || lost;
+          delay = self.delay;
+          twice = self.twice;
+        } }
     {
         Fate {
             lost: self.lost || lost,
@@ -57,7 +61,11 @@ impl Fate {
 
     // Handed on twice, where that is so.
     fn or_twice(self, twice: bool) -> Fate
-        ensures { result ≡ record { lost = self.lost; delay = self.delay; twice = self.twice || twice } }
+        ensures { result ≡ record {
+          lost = self.lost;
+          delay = self.delay;
+          twice = self.twice || twice;
+        } }
     {
         Fate {
             lost: self.lost,
@@ -84,10 +92,15 @@ impl Model for Carrier {
 
     ghost Value = { CarrierState };
 
-    ghost view = { λ c. record { outbox = c.outbox; inboxes = c.inboxes.items; faults = c.faults.items } };
+    ghost view = { λ c. record {
+      outbox = c.outbox;
+      inboxes = c.inboxes.items;
+      faults = c.faults.items;
+    } };
 
     ghost invariant = { λ c. CarrierKeeps c.outbox.taken c.inboxes.items c.delayed.items
-        × CarrierPlans c.faults.items c.ordinals.items c.outbox.taken c.inboxes.items c.delayed.items };
+        × CarrierPlans
+        c.faults.items c.ordinals.items c.outbox.taken c.inboxes.items c.delayed.items };
 }
 
 impl Carrier {

@@ -48,7 +48,7 @@ range-below : (n a x : ℕ) → Member x (range_with_len a n) → x < a + n
 range-below zero a x m = elim m [ ]
 range-below (suc n) a x m = elim (Member-uncons x a (range_with_len (a + 1) n) m) [ inl same ↦ omega arith | inr later ↦ (let h = range-below n (a + 1) x later in omega (arith, h)) ]
 
-some-Member : (x : ℕ) (xs : List ℕ) → Member x xs → 0 < length xs
+pub some-Member : (x : ℕ) (xs : List ℕ) → Member x xs → 0 < length xs
 some-Member x [] m = elim m [ ]
 some-Member x (y ∷ ys) m = omega arith
 

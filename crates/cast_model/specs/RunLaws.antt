@@ -1,11 +1,13 @@
 -- The main promise, over every list of events and the replies that the definitions give, and what it stands on: what was answered
 -- as delivered and as decided is what readers show, what they show as decided keeps the promise too, and only slots that were taken are
--- acknowledged.
-use Rattle.std.specs.Prelude.{◌≡◌, ◌<◌, ℕ, true, List, [], Some}
+-- acknowledged. And where no fault is tolerated, both modes are one.
+use Rattle.std.specs.Prelude.{◌≡◌, ◌<◌, ℕ, ◌*◌, true, List, [], Some}
 use Rattle.std.specs.List.{Contains, cons_option, filter_map}
 use Rattle.cast_message.specs.declared.config.Config.{Config}
+use Rattle.cast_message.specs.declared.config.Mode.{Mode}
 use Rattle.cast_message.specs.declared.event.Event.{Event}
 use Rattle.cast_message.specs.declared.message.Item.TheVariants.{Propose}
+use Rattle.cast_message.specs.Limits.{fault_factor}
 use Rattle.cast_model.specs.History.{History, stream, acked, taken}
 use Rattle.cast_model.specs.Delivery.{nodes_of, delivered, decision}
 use Rattle.cast_model.specs.Replies.{IsAccepted, AtMost, answered, decided_at, history, replies}
@@ -51,3 +53,12 @@ AllNodesShowFewValues = (config : Config) (past : History) → IsAccepted config
 abbrev pub OnlyTakenSlotsAreAcknowledged : Type 0
 OnlyTakenSlotsAreAcknowledged = (config : Config) (past : History) → IsAccepted config past →
     (p q slot : ℕ) → acked past p q slot ≡ true → taken past p q slot ≡ true
+
+-- the configuration in another mode, of which it is in range
+abbrev pub in_mode : (config : Config) (mode : Mode) → fault_factor mode * config.faults < config.nodes → Config
+in_mode config mode in_range = record config { mode = mode; mode_in_range = in_range }
+
+-- where no fault is tolerated, the mode makes no difference to any reply
+abbrev pub NoFaultsMakeModesOne : Type 0
+NoFaultsMakeModesOne = (config : Config) → config.faults ≡ 0 → (mode : Mode) (in_range : fault_factor mode * config.faults < config.nodes) →
+    (events : List Event) → replies (in_mode config mode in_range) events ≡ replies config events

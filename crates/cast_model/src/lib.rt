@@ -4,7 +4,7 @@
 #![tactic(auto)]
 
 ghost use Rattle.cast_model.specs.RunLaws.{AllRunsDeliverPrefixes, AllRunsCloseStreams, AllRunsDecideProposals, AllRunsDecideFewValues};
-ghost use Rattle.cast_model.specs.RunLaws.{AllRunsAnswerWhatIsDelivered, AllRunsAnswerWhatIsDecided, AllNodesShowProposals, AllNodesShowFewValues, OnlyTakenSlotsAreAcknowledged};
+ghost use Rattle.cast_model.specs.RunLaws.{AllRunsAnswerWhatIsDelivered, AllRunsAnswerWhatIsDecided, AllNodesShowProposals, AllNodesShowFewValues, OnlyTakenSlotsAreAcknowledged, NoFaultsMakeModesOne};
 ghost use Rattle.cast_model.specs.RestLaws.{RefusesRoundsAsFullAlone, RoundsSpread, RoundsAddNothing, RoundsRest, TwoRoundsRest};
 ghost use Rattle.cast_model.specs.RestLaws.{RestsWhereNothingIsDue, NothingIsDueAtRest, DeliversTheSameAtRest, DeliversWholeStreamsAtRest, DeliversWhatAnyDeliveredAtRest};
 ghost use Rattle.cast_model.specs.RestLaws.{DecidesTheSameAtRest, DecidesWhatIsProposedAtRest, NodesAnswerAsTheGroup, NodesStepAsTheGroup};
@@ -13,7 +13,8 @@ ghost use Rattle.cast_model.specs.RestLaws.{NodesMakeTheFrames, NodesDeliverAsTh
 /// What a node delivers from a sender is a prefix of what that sender broadcast, with nothing after its close; each
 /// decided value was proposed in its instance; and where the faults are fewer than k, at most k values are decided. What the
 /// replies say of deliveries is what each node has delivered, and what they say of decisions what it shows as decided, each once;
-/// the last two hold of what nodes show as decided too, and what is acknowledged was taken.
+/// the last two hold of what nodes show as decided too, and what is acknowledged was taken. Where no fault is tolerated, the replies
+/// are the same in uniform mode as in basic mode.
 pub fn keeps_order_and_agrees()
     ensures prefix { AllRunsDeliverPrefixes }
     ensures closed { AllRunsCloseStreams }
@@ -24,6 +25,7 @@ pub fn keeps_order_and_agrees()
     ensures shown_proposed { AllNodesShowProposals }
     ensures shown_few { AllNodesShowFewValues }
     ensures acknowledged { OnlyTakenSlotsAreAcknowledged }
+    ensures modes { NoFaultsMakeModesOne }
 {}
 
 /// A round is refused only where a node's frames are full. After a round each live node holds exactly what some live

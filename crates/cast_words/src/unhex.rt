@@ -9,7 +9,8 @@ use std::alloc::{AllocError, Global};
 #[tactic(auto, using(crate::proofs::UnhexLemmas::are_digits))]
 pub fn bytes_of(alloc: Global, digits: &[u8]) -> Result<Option<Vec<u8>>, AllocError>
     ensures exact { IfOk result (λ o. option_map (λ bytes. bytes.items) o ≡ unhex digits.now) }
-    ensures digits { IfOk result (λ o. AreDigitsOf (option_map (λ bytes. bytes.items) o) digits.now) }
+    ensures digits { IfOk result (λ o.
+        AreDigitsOf (option_map (λ bytes. bytes.items) o) digits.now) }
 {
     let bytes = unhexed(alloc, digits)?;
     Ok(bytes)

@@ -64,7 +64,8 @@ impl Teller {
     // Without memory for a copy, or room at the desk, the item waits for the next turn.
     fn order_next<R: Wait>(&mut self, rt: &R, client: &mut Client)
         requires { HasOrdered self.old (submitted client.old) }
-        ensures given { (self.new.items ≡ self.old.items) × (self.new.expected ≡ self.old.expected) }
+        ensures given { (self.new.items ≡ self.old.items)
+            × (self.new.expected ≡ self.old.expected) }
         ensures same { IsSameClient client.old client.new }
         ensures tray { client.new.tray ≡ client.old.tray }
         ensures ordered { HasOrdered self.new (submitted client.new) }

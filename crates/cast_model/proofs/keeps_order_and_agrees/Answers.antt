@@ -6,6 +6,7 @@ use Rattle.cast_model.proofs.AtRest.{acked_taken}
 use Rattle.cast_model.proofs.Sound.{sound}
 use Rattle.cast_model.proofs.Closed.{answered_closed}
 use Rattle.cast_model.proofs.Agreement.{decided_in_stream, decided_at_most_choices, shown_in_stream, shown_at_most_choices}
+use Rattle.cast_model.proofs.NoFaults.{no_faults_no_modes}
 use Rattle.cast_model.proofs.keeps_order_and_agrees.Goals as goal
 
 pub returns-clause-prefix : goal.returns-clause-prefix
@@ -38,3 +39,6 @@ returns-clause-shown_few c = shown_at_most_choices
 
 pub returns-clause-acknowledged : goal.returns-clause-acknowledged
 returns-clause-acknowledged c config past accepted = acked_taken past (sound config past accepted)
+
+pub returns-clause-modes : goal.returns-clause-modes
+returns-clause-modes c = no_faults_no_modes
