@@ -1,6 +1,6 @@
 -- What a carrier puts is no more than its plan lets through.
-use Rattle.std.proofs.Common.{◌≡◌, ◌≢◌, ◌≤◌, ◌+◌, ◌-◌, ◌==◌, nat_le, ℕ, zero, suc, Bool, true, false, cond, if◌then◌else◌, ◌&&◌, List, [], ◌∷◌, ◌++◌, map, length, replicate, take, drop, fold, count_by, sum_by, slice_get, slice_set, Option, Some, None, sym, refl, ap, ◌∙◌, subst, ◌⊎◌, ⊎_elim, length-set, take_at, arith}
-use Rattle.std.proofs.lemmas.Bool.{eq-eqb, le-leb}
+use Rattle.std.proofs.Common.{◌≡◌, ◌≢◌, ◌<◌, ◌≤◌, ◌+◌, ◌-◌, ◌==◌, nat_le, nat_lt, ℕ, zero, suc, Bool, true, false, cond, if◌then◌else◌, ◌&&◌, ◌||◌, List, [], ◌∷◌, ◌++◌, map, length, replicate, take, drop, fold, count_by, sum_by, slice_get, slice_set, Option, Some, None, sym, refl, ap, ◌∙◌, subst, ◌⊎◌, ⊎_elim, length-set, take_at, arith}
+use Rattle.std.proofs.lemmas.Bool.{eq-eqb, le-leb, ltb-false}
 use Rattle.std.proofs.lemmas.List.Sums.{fold-append, sum_by-cons, sum_by_push}
 use Rattle.cast_box.specs.Ends.{PutterEnd, AreSamePutters}
 use Rattle.cast_box.proofs.Same.{get_set}
@@ -11,7 +11,7 @@ use Rattle.cast_engine.specs.declared.carrier.Delayed.{Delayed}
 use Rattle.cast_engine.specs.declared.carrier.Fate.{Fate}
 use Rattle.cast_engine.specs.declared.carrier.Ordinals.{Ordinals}
 use Rattle.cast_engine.specs.Fates.{kind_of, one_more, fate_in, counted_where, counted_in}
-use Rattle.cast_engine.specs.Copies.{none_taken, ordinals_after, frames_for, is_for, copies, copies_after, due_from, due, IsByPlan}
+use Rattle.cast_engine.specs.Copies.{none_taken, ordinals_after, frames_for, is_for, copies, copies_after, due_from, due, IsThrough, IsByPlan}
 use Rattle.cast_engine.specs.Carriers.{counted_down, kept_for, CarrierPlans, PutsUpTo, IsNoMore, IsByFate, IsKeptOrLost}
 
 -- ---- what is due, by one frame more
@@ -186,6 +186,31 @@ planned_by faults taken taken' a b d e number x ordinals ordinals' fate k is by 
 
 pub by_plan : (faults : List Fault) (ordinals : List Ordinals) (taken : List (ℕ × Parcel)) (inboxes : List (PutterEnd Parcel)) (delayed : List Delayed) → CarrierPlans faults ordinals taken inboxes delayed → IsByPlan faults taken inboxes
 by_plan faults ordinals taken inboxes delayed k test q inbox at = omega (arith, k.1 test q 0 inbox at)
+
+-- ---- what is due is let through
+
+let_through : (b : Bool) (fate : Fate) (n : ℕ) → 0 < cond b (copies_after fate n) 0 → (b ≡ true) × (fate.lost ≡ false) × (fate.delay ≤ n)
+let_through false fate n some = absurd (omega (arith, some))
+let_through true fate n some = by_both fate.lost (nat_lt n fate.delay) refl refl some
+  where
+    by_both : (l d : Bool) → fate.lost ≡ l → nat_lt n fate.delay ≡ d → 0 < (if l || d then 0 else copies fate.twice) → (true ≡ true) × (fate.lost ≡ false) × (fate.delay ≤ n)
+    by_both true d lost late some = absurd (omega (arith, some))
+    by_both false true lost late some = absurd (omega (arith, some))
+    by_both false false lost late some = (refl, lost, ltb-false n fate.delay late)
+
+pub due_is_through : (faults : List Fault) (o : List Ordinals) (test : Parcel → Bool) (q : ℕ) (taken : List (ℕ × Parcel)) → 0 < due_from faults o test q 0 taken → IsThrough faults o test q taken
+unfolding due_from
+due_is_through faults o test q [] some = absurd (omega (arith, some))
+due_is_through faults o test q (m ∷ ms) some = by_first (cond (is_for test q m.1) (copies_after (fate_in faults o m.1.frame) (frames_for q ms + 0)) 0) refl (due_is_through faults (counted_in o m.1.frame) test q ms)
+  where
+    by_first : (n : ℕ) → cond (is_for test q m.1) (copies_after (fate_in faults o m.1.frame) (frames_for q ms + 0)) 0 ≡ n
+        → (0 < due_from faults (counted_in o m.1.frame) test q 0 ms → IsThrough faults (counted_in o m.1.frame) test q ms) → IsThrough faults o test q (m ∷ ms)
+    by_first zero is later =
+        let it = later (omega (arith, some, is)) in
+        record { before = m ∷ it.before; m = it.m; after = it.after; split = ap (λ l. m ∷ l) it.split; passes = it.passes; spared = it.spared; waited = it.waited }
+    by_first (suc n) is later =
+        let it = let_through (is_for test q m.1) (fate_in faults o m.1.frame) (frames_for q ms + 0) (omega (arith, is)) in
+        record { before = []; m = m; after = ms; split = refl; passes = it.0; spared = it.1; waited = (let late = it.2 in omega (arith, late)) }
 
 -- ---- one frame more was taken
 

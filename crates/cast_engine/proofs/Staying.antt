@@ -1,6 +1,6 @@
 -- What an engine keeps, call by call.
 use Rattle.std.proofs.Common.{◌≡◌, ℕ, zero, suc, length, map, slice_get, ◌+◌, ◌<◌, List, [], ◌∷◌, ◌++◌, Option, Some, None, sym, refl, ap, ◌∙◌, subst, inl, ⊎_elim, arith, Bool, true, false}
-use Rattle.std.specs.Prelude.{IsTrue, IsFalse, replicate}
+use Rattle.std.specs.Prelude.{IsTrue, IsFalse, is_some, replicate}
 use Rattle.std.proofs.lemmas.List.{length-replicate}
 use Rattle.cast_message.specs.declared.config.Config.{Config}
 use Rattle.cast_node.proofs.Beginning.{stands_for_nothing}
@@ -15,19 +15,23 @@ use Rattle.cast_desk.specs.declared.desk.OrderIn.{OrderIn}
 use Rattle.cast_desk.specs.declared.notice.Notice.{Notice}
 use Rattle.cast_engine.specs.declared.parcel.Parcel.{Parcel}
 use Rattle.cast_engine.specs.declared.feeding.Place.{Place}
-use Rattle.cast_report.specs.Linked.{steps_in, kept_in}
+use Rattle.cast_report.specs.Linked.{steps_in, kept_in, made_in}
 use Rattle.cast_engine.specs.Runs.{EngineKeeps, trail_of, log_of, orders_of, IsRun, AreReceived}
 use Rattle.cast_engine.specs.Journals.{JournalState, LogsStep, LogsRefusal, LogsOrder, OnlyEnds, Halts, MayLog, Rises, EndsAs}
 use Rattle.cast_message.specs.declared.message.FrameKind.{FrameKind}
 use Rattle.cast_engine.specs.Feeding.{AreFed, IsFed, first_place}
 use Rattle.cast_engine.specs.Engines.{taken_at, trays_at, KeepsOf, EngineStays, Handed, TakesOrder, TakesIn, IsUnused, EngineState, Leaves}
 use Rattle.cast_report.specs.declared.report.EngineEnd.{EngineEnd}
-use Rattle.cast_engine.proofs.Lists.{has_last, has_none}
-use Rattle.cast_engine.proofs.Running.{taken_kept, ends_kept, step_kept, halt_kept, same_me, order_kept, flush_kept, made_kept}
+use Rattle.cast_engine.proofs.Lists.{has_last}
+use Rattle.cast_engine.proofs.Running.{taken_kept, ends_kept, step_kept, halt_kept, same_me, order_kept, flush_kept, made_kept, arrival_makes_none}
 use Rattle.cast_engine.proofs.Fed.{fed_more}
 
 abbrev pub IsSameJournal : JournalState → JournalState → Type 0
 IsSameJournal old new = (new.config ≡ old.config) × (new.node.me ≡ old.node.me) × (new.crash ≡ old.crash)
+
+pub none_held : (held : Option Parcel) → is_some held ≡ false → held ≡ None
+none_held None e = refl
+none_held (Some x) e = absurd cc
 
 -- the same journal after a question
 pub stays_same : (old new : JournalState) (put : List Parcel) (held : Option Parcel) (arrived : List (ℕ × Parcel)) (desk : Option Desk) (places : List Place)
@@ -75,7 +79,7 @@ module _ (old new : JournalState) (put : List Parcel) (held : Option Parcel) (ar
   stays_arrived arrived' number x is l to =
       subst (λ l. EngineStays new put held l desk places) (sym is) (record {
         keeps = step_kept old new put held (arrived ++ (number, x) ∷ []) (taken_at desk) (taken_kept old put held arrived (taken_at desk) (number, x) k.keeps) (Arrived x.frame) x.stamp l refl to
-            (λ stamp lt. (number, x.stamp, has_last arrived (number, x), lt));
+            (λ stamp lt. (number, x.stamp, has_last arrived (number, x), lt)) (arrival_makes_none old.node.me _ x.frame);
         fed = fed_step old new (Arrived x.frame) None x.stamp (trays_at desk) places l k.fed;
       })
 
@@ -86,11 +90,11 @@ module _ (old new : JournalState) (put : List Parcel) (held : Option Parcel) (ar
   pub same_taken : (x : Parcel) → TakesIn old new x → IsSameJournal old new
   same_taken x t = ⊎_elim (λ (e : OnlyEnds old new). same_halt (inl e)) (λ (l : LogsStep old new (Arrived x.frame) None x.stamp × (x.frame.to ≡ old.node.me)). same_step (Arrived x.frame) None x.stamp l.0) t
 
-  module _ (put' : List Parcel) (held' : Option Parcel) (x : Parcel) (above : ℕ) (time : x.stamp ≡ new.clock) (h : Handed put put' held' x) where
+  module _ (put' : List Parcel) (held' : Option Parcel) (x : Parcel) (above : ℕ) (time : x.stamp ≡ new.clock) (none : held ≡ None) (h : Handed put put' held' x) where
     pub stays_made : (kind : FrameKind) (to slot : ℕ) → LogsStep old new (making kind to slot) None above → x.frame ≡ frame_made kind old.node to slot
         → EngineStays new put' held' arrived desk places
     stays_made kind to slot l is = record {
-      keeps = made_kept old new put put' held held' arrived (taken_at desk) k.keeps x above time h kind to slot l is;
+      keeps = made_kept old new put put' held held' arrived (taken_at desk) k.keeps x above time none h kind to slot l is;
       fed = fed_step old new (making kind to slot) None above (trays_at desk) places l k.fed;
     }
 
@@ -138,7 +142,7 @@ get_replicate (suc n) a x (suc i) e = get_replicate n a x i e
 pub stays_new : (j : JournalState) (config : Config) (me : ℕ) (crash : Option ℕ) (put : List Parcel) (arrived : List (ℕ × Parcel)) (desk : Option Desk) (places : List Place)
     → me < config.nodes → j ≡ record { config = config; node = nothing_kept config me; log = []; clock = config.first_stamp; crash = crash; ended = None }
     → put ≡ [] → arrived ≡ [] → IsUnused desk → places ≡ replicate (length (trays_at desk)) first_place → EngineStays j put None arrived desk places
-unfolding trail_of log_of orders_of IsRun AreReceived steps_in kept_in
+unfolding trail_of log_of orders_of IsRun AreReceived steps_in kept_in made_in
 stays_new j config me crash put arrived desk places lt is p a u l =
     let P : JournalState → List Parcel → List (ℕ × Parcel) → Type 0 = λ j p a. EngineStays j p None a desk places in
     let base : JournalState = record { config = config; node = nothing_kept config me; log = []; clock = config.first_stamp; crash = crash; ended = None } in
@@ -149,8 +153,7 @@ stays_new j config me crash put arrived desk places lt is p a u l =
         is_log = refl;
         stands = stands_for_nothing config me lt;
         reached = refl;
-        sent = λ x h. absurd {0} (has_none x h);
-        waits = λ x h. absurd {0} cc;
+        handed = refl;
         received = tt;
         ordered = sym (ap (map (λ (m : ℕ × OrderIn). m.1)) u.0);
       };

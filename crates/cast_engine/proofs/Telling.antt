@@ -1,7 +1,8 @@
 -- What the log of an engine that ended tells.
-use Rattle.std.proofs.Common.{◌≡◌, ℕ, zero, suc, ◌+◌, ◌<◌, List, [], ◌∷◌, ◌++◌, length, take, drop, slice_get, Option, Some, None, sym, refl, ap, ◌∙◌, subst, arith}
+use Rattle.std.proofs.Common.{◌≡◌, ℕ, zero, suc, ◌+◌, ◌<◌, List, [], ◌∷◌, ◌++◌, length, map, take, drop, slice_get, Option, Some, None, sym, refl, ap, ◌∙◌, subst, arith}
 use Rattle.std.specs.Prelude.{reverse, slice_index_or}
-use Rattle.std.proofs.lemmas.List.{append-nil, append_assoc, reverse-append}
+use Rattle.std.specs.Option.{option_to_list}
+use Rattle.std.proofs.lemmas.List.{append-nil, append_assoc, map-append, reverse-append}
 use Rattle.std.proofs.lemmas.Option.{slice_get_within}
 use Rattle.cast_message.specs.declared.config.Config.{Config}
 use Rattle.cast_message.specs.declared.message.Frame.{Frame}
@@ -15,13 +16,14 @@ use Rattle.cast_desk.specs.Feed.{told_by, feed_from, feed, orders_in, orders_of 
 use Rattle.cast_engine.specs.declared.parcel.Parcel.{Parcel}
 use Rattle.cast_report.specs.declared.report.EngineEnd.{EngineEnd}
 use Rattle.cast_engine.specs.declared.feeding.Place.{Place}
-use Rattle.cast_report.specs.Linked.{Taken, steps_in, taken_in, taken_by, taken, taken_of, AreTaken, IsRising, EachArrival, OnArrival}
-use Rattle.cast_engine.specs.Runs.{Has, Moved, Served, Denied, Run, mark, parcel, trail_of, log_of, orders_of, entry_by, IsRun, AreReceived, IsReceivedBy}
+use Rattle.cast_report.specs.Linked.{Taken, steps_in, taken_in, taken_by, taken, taken_of, AreTaken, IsRising, EachArrival, OnArrival, made_in}
+use Rattle.cast_engine.specs.Runs.{Has, Moved, Served, Denied, Run, mark, parcel, made_of, trail_of, log_of, orders_of, entry_by, IsRun, AreReceived, IsReceivedBy}
 use Rattle.cast_engine.specs.Journals.{Rises}
 use Rattle.cast_engine.specs.Feeding.{told_here, told_at, told_to, IsPlaced, AreFed}
 use Rattle.cast_engine.specs.Engines.{EngineState, Leaves, Tells, WereTold, trays_at}
-use Rattle.cast_box.proofs.Closing.{found}
-use Rattle.cast_report.proofs.Logging.{one_more}
+use Rattle.cast_box.proofs.Closing.{found, map_at}
+use Rattle.cast_report.proofs.Logging.{one_more, made_numbered}
+use Rattle.cast_engine.proofs.Lists.{has_left}
 use Rattle.cast_engine.proofs.Answering.{run_fits, run_origins}
 use Rattle.cast_engine.specs.Serving.{Serves}
 use Rattle.cast_desk.specs.declared.desk.OrderIn.{OrderIn}
@@ -78,6 +80,15 @@ run_received arrived (Moved stamp step ∷ rs) h = (run_received arrived rs h.0,
 run_received arrived (Served stamp order ∷ rs) h = (run_received arrived rs h.0, tt)
 run_received arrived (Denied stamp order fault ∷ rs) h = run_received arrived rs h.0
 
+-- what was put was made
+pub handed_made : (config : Config) (p : ℕ) (run : Run) → IsRun config p run → (xs : List Parcel) → map made_of xs ≡ made_in config p (trail_of run)
+    → (x : Parcel) → Has xs x → slice_get (made_in config p (trail_of run)) x.frame.seq ≡ Some (made_of x)
+handed_made config p run runs xs all x h =
+    let made = made_in config p (trail_of run) in
+    let at : slice_get made h.0 ≡ Some (made_of x) = ap (λ l. slice_get l h.0) (sym all) ∙ map_at made_of xs h.0 x h.1 in
+    let seq = (made_numbered config p (trail_of run) (run_taken config p run runs) h.0 (made_of x) at).1 in
+    ap (slice_get made) seq ∙ at
+
 pub leaves_tell : (e : EngineState) (log : List Entry) (node : Kept) (ended : Option EngineEnd) → Leaves e log node ended → Tells e log node
 leaves_tell e log node ended l =
     let k = l.keeps in
@@ -90,7 +101,8 @@ leaves_tell e log node ended l =
         stands = k.stands;
         reached = k.reached;
       };
-      sent = k.sent;
+      sent = λ x h. handed_made e.config e.me k.run k.runs (e.outbox.put ++ option_to_list l.held) k.handed x (has_left e.outbox.put (option_to_list l.held) x h);
+      handed = (map made_of (option_to_list l.held), sym k.handed ∙ map-append made_of e.outbox.put (option_to_list l.held));
       serves =
           let O : List OrderIn → Type 0 = λ o. Serves e.config e.me log (trail_of k.run) o in
           let L : List Entry → Type 0 = λ l. Serves e.config e.me l (trail_of k.run) (orders_of k.run) in

@@ -12,6 +12,7 @@ use Rattle.cast_report.specs.declared.report.EngineEnd.TheVariants.{Stopped, Cra
 use Rattle.cast_report.specs.declared.report.NodeReport.{NodeReport}
 use Rattle.cast_engine.specs.Engines.{EngineState, Leaves, Tells, WereTold, trays_at}
 use Rattle.cast_engine.specs.Carriers.{CarrierState, Brings}
+use Rattle.cast_engine.specs.Copies.{IsByPlan}
 use Rattle.cast_engine.specs.Plans.{crash_from}
 
 -- how a node's report names the end of its engine, where all jobs of its clients are done, or not
@@ -48,9 +49,13 @@ AreColumns carriers q columns =
     (a : ℕ) (put : List Parcel) → slice_get columns a ≡ Some put
     → (c : CarrierState) × (inbox : PutterEnd Parcel) × (slice_get carriers a ≡ Some c) × (slice_get c.inboxes q ≡ Some inbox) × (put ≡ inbox.put)
 
+-- what a carrier put was of what it took, and no more than its faults let through
+abbrev pub HasCarried : CarrierState → Type 0
+HasCarried c = Brings c.outbox.taken c.inboxes × IsByPlan c.faults c.outbox.taken c.inboxes
+
 pub record IsGathered (config : Config) (engines : List EngineState) (carriers : List CarrierState) (reports : List NodeReport) : Type 0 where
   pub engine : (p : ℕ) (e : EngineState) → slice_get engines p ≡ Some e → (e.me ≡ p) × (e.config ≡ config) × ((report : NodeReport) × (slice_get reports p ≡ Some report) × Tells e report.log report.node)
-  pub carrier : (p : ℕ) (c : CarrierState) → slice_get carriers p ≡ Some c → Brings c.outbox.taken c.inboxes
+  pub carrier : (p : ℕ) (c : CarrierState) → slice_get carriers p ≡ Some c → HasCarried c
   -- the outbox of each carrier is that of the engine of its number
   pub outbox : (p : ℕ) (c : CarrierState) → slice_get carriers p ≡ Some c
       → (e : EngineState) × (left : List (ℕ × Parcel)) × (slice_get engines p ≡ Some e) × IsFair (e.outbox.put ∷ []) c.outbox.taken left

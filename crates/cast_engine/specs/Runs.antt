@@ -5,8 +5,9 @@
 --     orders_of run                    the orders, accepted or refused, in order
 --     IsRun config p run               each was taken or refused where it stands
 --     AreReceived taken run            the frame of each arrival came in a parcel with a smaller stamp
---     IsMade config p run x            the parcel has a frame that a step made, with the stamp of the step
+--     made_of x                        the frame of a parcel, with the stamp of the step that made it
 use Rattle.std.specs.Prelude.{◌≡◌, ℕ, ◌<◌, Bool, true, false, List, [], ◌∷◌, ◌++◌, map, slice_get, Option, Some, None}
+use Rattle.std.specs.Option.{option_to_list}
 use Rattle.cast_message.specs.declared.config.Config.{Config}
 use Rattle.cast_message.specs.declared.event.StepFault.{StepFault}
 use Rattle.cast_model.specs.Replies.{IsRefused}
@@ -19,7 +20,7 @@ use Rattle.cast_node.specs.Kept.{Kept}
 use Rattle.cast_node.specs.Stands.{Stands}
 use Rattle.cast_desk.specs.declared.desk.OrderIn.{OrderIn}
 use Rattle.cast_engine.specs.declared.parcel.Parcel.{Parcel}
-use Rattle.cast_report.specs.Linked.{Mark, Trail, event_of, outcome_in, steps_in, made_in, kept_in, stamped, IsFor}
+use Rattle.cast_report.specs.Linked.{Mark, Made, Trail, event_of, outcome_in, steps_in, made_in, kept_in, stamped, IsFor}
 
 -- x stands in the list
 abbrev pub Has : {A : Type 0} → List A → A → Type 0
@@ -105,9 +106,8 @@ unfoldable pub AreReceived : List (ℕ × Parcel) → Run → Type 0
 AreReceived taken [] = Unit {0}
 AreReceived taken (r ∷ rs) = AreReceived taken rs × IsReceived taken r
 
--- a step made the frame, with the stamp of the parcel
-abbrev pub IsMade : Config → ℕ → Run → Parcel → Type 0
-IsMade config p run x = slice_get (made_in config p (trail_of run)) x.frame.seq ≡ Some (stamped x.stamp x.frame)
+abbrev pub made_of : Parcel → Made
+made_of x = stamped x.stamp x.frame
 
 -- what a log, a node and boxes show of an engine
 pub record EngineKeeps (config : Config) (p : ℕ) (kept : Kept) (log : List Entry) (put : List Parcel) (held : Option Parcel) (arrived : List (ℕ × Parcel)) (orders : List (ℕ × OrderIn)) : Type 0 where
@@ -116,9 +116,8 @@ pub record EngineKeeps (config : Config) (p : ℕ) (kept : Kept) (log : List Ent
   pub is_log : log ≡ log_of config p run
   pub stands : Stands config p (steps_in config p (trail_of run)) kept
   pub reached : kept ≡ kept_in config p (trail_of run)
-  -- what was put into the outbox, and what it refused, are frames of the node with the stamps of their steps
-  pub sent : (x : Parcel) → Has put x → IsMade config p run x
-  pub waits : (x : Parcel) → held ≡ Some x → IsMade config p run x
+  -- what was put into the outbox, and then what it refused last, are the frames that the node made, in order, with the stamps of their steps
+  pub handed : map made_of (put ++ option_to_list held) ≡ made_in config p (trail_of run)
   -- the frame of each arrival came in a parcel taken from the inbox, with a smaller stamp
   pub received : AreReceived arrived run
   -- the orders, one for one, are those taken from the desk

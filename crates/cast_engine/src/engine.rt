@@ -304,12 +304,13 @@ impl Engine {
         }
     }
 
-    // Makes a frame for a slot, which it carries or acknowledges, and hands it on. Answers whether it was made.
+    // Makes a frame for a slot, which it carries or acknowledges, and hands it on, where none waits to be put. Answers whether it
+    // was made.
     #[tactic(auto, using(crate::proofs::Again::desk_same))]
     fn make<R: Wait>(&mut self, rt: &R, kind: FrameKind, to: NodeId, slot: u64) -> bool
         ensures { IsSameEngine self.old self.new }
     {
-        if !self.journal.may_log() {
+        if self.held.is_some() || !self.journal.may_log() {
             return false;
         }
         let Ok(parcel) = self.journal.make(kind, to, slot) else {

@@ -25,6 +25,7 @@ use Rattle.cast_report.specs.Linked.{Linked}
 use Rattle.cast_merge.specs.Merge.{TellsMerge}
 use Rattle.cast_record.specs.declared.verdict.Verdict.TheVariants.{Good}
 use Rattle.cast_record.specs.VerdictText.{verdict_text}
+use Rattle.cast_run.specs.Planned.{faults_of, KeepsTo}
 use Rattle.cast_run.specs.declared.reports.ClientReport.{ClientReport}
 use Rattle.cast_run.specs.Faults.{JobsFit}
 use Rattle.cast_engine.specs.Plans.{ArePlanned, crash_from}
@@ -75,10 +76,11 @@ pub record FitsGroup (script : Script) : Type 0 where
   pub jobs : JobsFit script.config.nodes script.jobs
   pub plan : ArePlanned script.config.nodes script.plan.faults
 
--- these are reports of a run of the script, which fits its group: each log ends as plan and limits say, with stamps from the first on,
--- and each job of the script had a client, which submitted the first of its items
+-- these are reports of a run of the script, which fits its group: what arrives is nothing that its plan loses or still delays, each log
+-- ends as plan and limits say, with stamps from the first on, and each job of the script had a client, which submitted the first of its items
 pub record IsRunOf (script : Script) (reports : List NodeReport) : Type 0 where
   pub fits : FitsGroup script
+  pub planned : KeepsTo script.config (faults_of script.plan.faults) reports
   pub logs : (p : ℕ) (report : NodeReport) → slice_get reports p ≡ Some report → EndsAs script.config.log_limit (crash_from p None script.plan.faults) (Some report.ended) report.log
   pub stamps : AreStamped script.config reports
   -- the jobs that were handed in, and what came back of them

@@ -2,6 +2,7 @@
 ghost use Rattle.std.specs.Prelude.{◌≡◌, ℕ, false, length, map, slice_get, Some, IfOk, OnOk, vec_len};
 ghost use Rattle.cast_run.specs.declared.jobs.Seat.{Seat};
 ghost use Rattle.cast_engine.specs.Engines.{IsSameEngine};
+ghost use Rattle.cast_engine.specs.Carriers.{IsSameCarrier};
 ghost use Rattle.cast_engine.specs.Group.{IsGroup, AreSame};
 ghost use Rattle.cast_run.specs.Jobs.{submitted, got};
 ghost use Rattle.cast_run.specs.Rooms.{IsRoomFor};
@@ -104,6 +105,8 @@ impl<J: ClientJob + Send + Drop + 'static> Running<J> {
             × (length r.0.carriers.items ≡ length group.carriers.items)) }
         ensures same { IfOk result (λ r.
             AreSame IsSameEngine group.engines.items r.0.engines.items) }
+        ensures carriers { IfOk result (λ r.
+            AreSame IsSameCarrier group.carriers.items r.0.carriers.items) }
         ensures jobs { IfOk result (λ r. AreEnded J.fact seats.items r.1.items) }
     {
         let engines_back = Vec::with_capacity(alloc, group.engines.len())?;

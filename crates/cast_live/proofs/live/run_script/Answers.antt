@@ -22,6 +22,7 @@ returns-clause-ran g c =
         jobs = fits c.args.script handed c.in_ok-jobs.ensures.items _ (c.in_ok-gates.ensures ∙ c.nodes-2.ensures) c.in_ok-run.ensures.fits.jobs_fit;
         plan = c.in_ok-run.ensures.fits.plan_fits;
       };
+      planned = c.in_ok-run.ensures.planned;
       logs = c.in_ok-run.ensures.logs;
       stamps = c.in_ok-run.ensures.stamps;
       handed = c.in_ok-jobs.jobs.items;

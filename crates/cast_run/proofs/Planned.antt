@@ -1,0 +1,254 @@
+-- What arrives in a group is what the plan of its carriers lets through.
+use Rattle.std.proofs.Common.{◌≡◌, ℕ, zero, suc, ◌<◌, ◌≤◌, ◌==◌, Bool, true, false, cond, eqb, eq-eqb, List, [], ◌∷◌, ◌++◌, length, map, replicate, fold, count_by, slice_get, Some, Option, sym, refl, ap, ◌∙◌, subst, arith}
+use Rattle.std.proofs.lemmas.Bool.{and_parts, eqb-true}
+use Rattle.std.proofs.lemmas.List.{map-append, append_assoc}
+use Rattle.std.proofs.lemmas.List.Sums.{sum_by-append, sum_by-cons}
+use Rattle.std.proofs.lemmas.Option.{slice_get_within}
+use Rattle.cast_box.specs.Lists.{of, IsFair, StartsWith}
+use Rattle.cast_box.proofs.Closing.{found, map_at}
+use Rattle.cast_message.specs.declared.config.Config.{Config}
+use Rattle.cast_message.specs.declared.message.Frame.{Frame}
+use Rattle.cast_script.specs.declared.script.Fault.{Fault}
+use Rattle.cast_report.specs.declared.report.NodeReport.{NodeReport}
+use Rattle.cast_report.specs.Linked.{Trail, Made, IsLogOf, EachArrival, made_in}
+use Rattle.cast_report.proofs.Logging.{choose, each_arrival, made_numbered}
+use Rattle.cast_engine.specs.declared.parcel.Parcel.{Parcel}
+use Rattle.cast_engine.specs.declared.carrier.Ordinals.{Ordinals}
+use Rattle.cast_engine.specs.Runs.{Has, parcel, made_of}
+use Rattle.cast_engine.specs.Fates.{fate_in, counted_in}
+use Rattle.cast_engine.specs.Copies.{none_taken, frames_for, counted_all, IsThrough}
+use Rattle.cast_engine.specs.Engines.{EngineState, Tells}
+use Rattle.cast_engine.specs.Carriers.{CarrierState}
+use Rattle.cast_engine.specs.Group.{IsGathered}
+use Rattle.cast_engine.proofs.Copying.{due_is_through}
+use Rattle.cast_engine.proofs.Lists.{get_left}
+use Rattle.cast_run.specs.Planned.{ordinals_of, frames_to, LetsThrough, frames_made, KeepsTo, HaveFaults}
+use Rattle.cast_run.proofs.Together.{taken_was_put, only_one}
+
+-- ---- lists
+
+module _ {A : Type 0} where
+  rest_none : (b : Bool) (x : A) (xs : List A) → cond b (x ∷ xs) xs ≡ [] → xs ≡ []
+  rest_none true x xs e = absurd cc
+  rest_none false x xs e = e
+
+  -- of one putter alone all stands in its order
+  of_one : (ms : List (ℕ × A)) → ((a : ℕ) → of (suc a) ms ≡ []) → of 0 ms ≡ map (λ m. m.1) ms
+  of_one [] none = refl
+  of_one (m ∷ ms) none = by_number m.0 refl (of_one ms (λ a. rest_none (eqb (suc a) m.0) m.1 (of (suc a) ms) (none a)))
+    where
+      by_number : (n : ℕ) → m.0 ≡ n → of 0 ms ≡ map (λ k. k.1) ms → cond (eqb 0 m.0) (m.1 ∷ of 0 ms) (of 0 ms) ≡ m.1 ∷ map (λ k. k.1) ms
+      by_number zero e rest = ap (λ b. cond b (m.1 ∷ of 0 ms) (of 0 ms)) (eq-eqb 0 m.0 (sym e)) ∙ ap (λ l. m.1 ∷ l) rest
+      by_number (suc a) e rest = absurd (let no : m.1 ∷ of (suc a) ms ≡ [] = ap (λ b. cond b (m.1 ∷ of (suc a) ms) (of (suc a) ms)) (sym (eq-eqb (suc a) m.0 (sym e))) ∙ none a in cc)
+
+  fair_one : (put : List A) (taken left : List (ℕ × A)) → IsFair (put ∷ []) taken left → map (λ m. m.1) (taken ++ left) ≡ put
+  fair_one put taken left fair = sym (of_one (taken ++ left) (λ a. fair (suc a))) ∙ fair 0
+
+  counted_where_had : (test : A → Bool) (xs : List A) (x : A) → Has xs x → test x ≡ true → 0 < count_by test xs
+  counted_where_had test xs x has passes = by_place xs has.0 has.1
+    where
+      by_place : (xs : List A) (i : ℕ) → slice_get xs i ≡ Some x → 0 < count_by test xs
+      by_place [] i e = absurd cc
+      by_place (y ∷ ys) zero e =
+          let here : y ≡ x = cc in
+          let ones : Bool → ℕ = λ b. cond b 1 0 in
+          let one : ones (test y) ≡ ones true = ap ones (ap test here ∙ passes) in
+          omega (arith, one, sum_by-cons (λ z. cond (test z) 1 0) y ys)
+      by_place (y ∷ ys) (suc i) e = omega (arith, by_place ys i e, sum_by-cons (λ z. cond (test z) 1 0) y ys)
+
+-- ---- frames and the parcels that they are in
+
+abbrev frame_of : ℕ × Parcel → Frame
+frame_of m = m.1.frame
+
+abbrev frame_in : Made → Frame
+frame_in made = made.frame
+
+frames_of_items : (ms : List (ℕ × Parcel)) → map frame_in (map made_of (map (λ m. m.1) ms)) ≡ map frame_of ms
+frames_of_items [] = refl
+frames_of_items (m ∷ ms) = ap (λ l. m.1.frame ∷ l) (frames_of_items ms)
+
+counted_same : (o : List Ordinals) (ms : List (ℕ × Parcel)) → counted_all o ms ≡ fold counted_in o (map frame_of ms)
+counted_same o [] = refl
+counted_same o (m ∷ ms) = counted_same (counted_in o m.1.frame) ms
+
+frames_same : (q : ℕ) (ms : List (ℕ × Parcel)) → frames_for q ms ≡ frames_to q (map frame_of ms)
+frames_same q [] = refl
+frames_same q (m ∷ ms) =
+    let a = sum_by-cons (λ (k : ℕ × Parcel). cond (k.1.frame.to == q) 1 0) m ms in
+    let b = sum_by-cons (λ (f : Frame). cond (f.to == q) 1 0) (frame_of m) (map frame_of ms) in
+    omega (arith, a, b, frames_same q ms)
+
+module _ (config : Config) (engines : List EngineState) (carriers : List CarrierState) (reports : List NodeReport) (g : IsGathered config engines carriers reports)
+    (many : length engines ≡ config.nodes) (size : length reports ≡ config.nodes) (faults : ℕ → List Fault) (have : HaveFaults faults carriers)
+    (wide : (p : ℕ) (c : CarrierState) → slice_get carriers p ≡ Some c → length c.inboxes ≡ config.nodes) where
+  abbrev Came : EngineState → ℕ → Frame → Type 0
+  Came e stamp frame = (number : ℕ) × (sent : ℕ) × Has e.inbox.taken (let m : ℕ × Parcel = (number, parcel sent frame) in m) × (sent < stamp)
+
+  -- what is known of a node that has these steps
+  record Knows (p : ℕ) (trail : Trail) : Type 0 where
+    e : EngineState
+    e_at : slice_get engines p ≡ Some e
+    report : NodeReport
+    report_at : slice_get reports p ≡ Some report
+    log : IsLogOf config p trail report.log report.node
+    handed : StartsWith (made_in config p trail) (map made_of e.outbox.put)
+    came : EachArrival (Came e) trail
+
+  knows : (p : ℕ) → p < config.nodes → (trail : Trail) × Knows p trail
+  knows p l =
+      let e = found engines p (subst (λ n. p < n) (sym many) l) in
+      let is = g.engine p e.0 e.1 in
+      let r = is.2.0 in
+      let t : Tells e.0 r.log r.node = is.2.2 in
+      let L : Config → ℕ → Type 0 = λ c m. IsLogOf c m t.trail r.log r.node in
+      let S : Config → ℕ → Type 0 = λ c m. StartsWith (made_in c m t.trail) (map made_of e.0.outbox.put) in (
+        t.trail,
+        record {
+          e = e.0;
+          e_at = e.1;
+          report = r;
+          report_at = is.2.1;
+          log = subst (λ c. L c p) is.1 (subst (L e.0.config) is.0 t.tells);
+          handed = subst (λ c. S c p) is.1 (subst (S e.0.config) is.0 t.handed);
+          came = t.received;
+        },
+      )
+
+  -- how a frame that arrived came through the carrier of its maker
+  record Carried (q number sent : ℕ) (frame : Frame) : Type 0 where
+    maker : EngineState
+    maker_at : slice_get engines number ≡ Some maker
+    was_put : Has maker.outbox.put (parcel sent frame)
+    taken : List (ℕ × Parcel)
+    left : List (ℕ × Parcel)
+    all : map (λ m. m.1) (taken ++ left) ≡ maker.outbox.put
+    to_is : frame.to ≡ q
+    through : IsThrough (faults number) (replicate config.nodes none_taken) (λ x. x.frame.seq == frame.seq) q taken
+
+  carried : (q : ℕ) (e : EngineState) (number sent : ℕ) (frame : Frame) → slice_get engines q ≡ Some e → Has e.inbox.taken (let m : ℕ × Parcel = (number, parcel sent frame) in m) → Carried q number sent frame
+  carried q e number sent frame at has =
+      let x = parcel sent frame in
+      let test : Parcel → Bool = λ y. y.frame.seq == frame.seq in
+      let into = g.inbox q e at in
+      let put = taken_was_put into.0 e.inbox.taken into.1 number x into.3 has in
+      let column = into.2 number put.0 put.1 in
+      let c = column.0 in
+      let inbox = column.1 in
+      let in_box : Has inbox.put x = subst (λ l. Has l x) column.4 put.2 in
+      let kept = g.carrier number c column.2 in
+      let brought = kept.0 q inbox x column.3 in_box in
+      let out = g.outbox number c column.2 in
+      let sent_by = taken_was_put (out.0.outbox.put ∷ []) c.outbox.taken out.1 brought.1.0 x out.3 brought.1.1 in
+      let one = counted_where_had test inbox.put x in_box (eq-eqb frame.seq frame.seq refl) in
+      let most = kept.1 test q inbox column.3 in
+      let T : ℕ → Type 0 = λ n. IsThrough c.faults (replicate n none_taken) test q c.outbox.taken in
+      let F : List Fault → Type 0 = λ l. IsThrough l (replicate config.nodes none_taken) test q c.outbox.taken in
+      record {
+        maker = out.0;
+        maker_at = out.2;
+        was_put = subst (λ l. Has l x) (sym (only_one out.0.outbox.put sent_by.0 brought.1.0 sent_by.1)) sent_by.2;
+        taken = c.outbox.taken;
+        left = out.1;
+        all = fair_one out.0.outbox.put c.outbox.taken out.1 out.3;
+        to_is = brought.0;
+        through = subst F (have number c column.2) (subst T (wide number c column.2) (due_is_through c.faults (replicate (length c.inboxes) none_taken) test q c.outbox.taken (omega (arith, one, most))));
+      }
+
+  same_engine : (a b : EngineState) → ◌≡◌ {A = Option EngineState} (Some a) (Some b) → a ≡ b
+  same_engine a b e = cc
+
+  same_made : (a b : Made) → ◌≡◌ {A = Option Made} (Some a) (Some b) → a ≡ b
+  same_made a b e = cc
+
+  module _ (trails : ℕ → Trail) (tells : (p : ℕ) → p < config.nodes → Knows p (trails p)) where
+    -- the frames that a node made: those before one that its carrier took, that one, and those after it
+    module _ (number : ℕ) (here : number < config.nodes) (maker : EngineState) (maker_at : slice_get engines number ≡ Some maker) where
+      abbrev made : List Made
+      made = made_in config number (trails number)
+
+      handed : StartsWith made (map made_of maker.outbox.put)
+      handed =
+          let k = tells number here in
+          subst (λ (z : EngineState). StartsWith made (map made_of z.outbox.put)) (same_engine k.e maker (sym k.e_at ∙ maker_at)) k.handed
+
+      at_place : (i : ℕ) (x : Parcel) → slice_get maker.outbox.put i ≡ Some x → slice_get made i ≡ Some (made_of x)
+      at_place i x at = ap (λ l. slice_get l i) handed.1 ∙ get_left (map made_of maker.outbox.put) handed.0 i (made_of x) (map_at made_of maker.outbox.put i x at)
+
+      numbered : (i : ℕ) (x : Parcel) → slice_get maker.outbox.put i ≡ Some x → (x.frame.from ≡ number) × (x.frame.seq ≡ i)
+      numbered i x at = made_numbered config number (trails number) (tells number here).log.accepted i (made_of x) (at_place i x at)
+
+      -- one frame has each number
+      same_frame : (x y : Parcel) → Has maker.outbox.put x → Has maker.outbox.put y → x.frame.seq ≡ y.frame.seq → x.frame ≡ y.frame
+      same_frame x y hx hy same =
+          let place : hx.0 ≡ hy.0 = sym (numbered hx.0 x hx.1).1 ∙ same ∙ (numbered hy.0 y hy.1).1 in
+          ap frame_in (same_made (made_of x) (made_of y) (sym (at_place hx.0 x hx.1) ∙ ap (slice_get made) place ∙ at_place hy.0 y hy.1))
+
+      frames_split : (before after left : List (ℕ × Parcel)) (m : ℕ × Parcel) → map (λ k. k.1) ((before ++ m ∷ after) ++ left) ≡ maker.outbox.put
+          → frames_made config number (trails number) ≡ map frame_of before ++ frame_of m ∷ (map frame_of (after ++ left) ++ map frame_in handed.0)
+      frames_split before after left m all =
+          ap (map frame_in) handed.1 ∙ map-append frame_in (map made_of maker.outbox.put) handed.0
+          ∙ ap (λ l. map frame_in (map made_of l) ++ map frame_in handed.0) (sym all)
+          ∙ ap (λ l. l ++ map frame_in handed.0) (frames_of_items ((before ++ m ∷ after) ++ left) ∙ ap (map frame_of) (append_assoc before (m ∷ after) left) ∙ map-append frame_of before (m ∷ (after ++ left)))
+          ∙ append_assoc (map frame_of before) (frame_of m ∷ map frame_of (after ++ left)) (map frame_in handed.0)
+
+    let_through : (q : ℕ) (e : EngineState) → slice_get engines q ≡ Some e → (stamp : ℕ) (frame : Frame) → Came e stamp frame
+        → LetsThrough (faults frame.from) config.nodes (frames_made config frame.from (trails frame.from)) frame
+    let_through q e at stamp frame came =
+        let number = came.0 in
+        let it = carried q e number came.1 frame at came.2 in
+        let t = it.through in
+        let here : number < config.nodes = subst (λ n. number < n) many (slice_get_within engines number it.maker it.maker_at) in
+        let whole : map (λ k. k.1) ((t.before ++ t.m ∷ t.after) ++ it.left) ≡ it.maker.outbox.put = ap (λ l. map (λ k. k.1) (l ++ it.left)) (sym t.split) ∙ it.all in
+        let pass = and_parts (t.m.1.frame.to == q) (t.m.1.frame.seq == frame.seq) t.passes in
+        let place = middle t.before t.after it.left t.m it.maker.outbox.put whole in
+        let is : frame_of t.m ≡ frame = same_frame number here it.maker it.maker_at t.m.1 (parcel came.1 frame) place it.was_put (eqb-true t.m.1.frame.seq frame.seq pass.1) in
+        let from_is : frame.from ≡ number = (numbered number here it.maker it.maker_at it.was_put.0 (parcel came.1 frame) it.was_put.1).0 in
+        let more = map frame_of (t.after ++ it.left) ++ map frame_in (handed number here it.maker it.maker_at).0 in
+        let P : ℕ → Frame → Type 0 = λ a f.
+        (frames_made config a (trails a) ≡ map frame_of t.before ++ f ∷ more) × ((fate_in (faults a) (ordinals_of config.nodes (map frame_of t.before)) f).lost ≡ false) × ((fate_in (faults a) (ordinals_of config.nodes (map frame_of t.before)) f).delay ≤ frames_to f.to more) in
+        let counts = counted_same (replicate config.nodes none_taken) t.before in
+        let fate = ap (λ o. fate_in (faults number) o t.m.1.frame) counts in
+        let enough = frames_more q t.after it.left (map frame_in (handed number here it.maker it.maker_at).0) in
+        let to_is : t.m.1.frame.to ≡ q = eqb-true t.m.1.frame.to q pass.0 in
+        let rest = subst (λ a. P a frame) (sym from_is) (subst (P number) is (
+          frames_split number here it.maker it.maker_at t.before t.after it.left t.m whole,
+          ap (λ f. f.lost) (sym fate) ∙ t.spared,
+          subst (λ k. (fate_in (faults number) (ordinals_of config.nodes (map frame_of t.before)) t.m.1.frame).delay ≤ frames_to k more) (sym to_is)
+              (let same = ap (λ f. f.delay) fate in let w = t.waited in omega (arith, same, w, enough)),
+        )) in
+        (map frame_of t.before, more, rest.0, rest.1, rest.2)
+      where
+        middle : (before after left : List (ℕ × Parcel)) (m : ℕ × Parcel) (put : List Parcel) → map (λ k. k.1) ((before ++ m ∷ after) ++ left) ≡ put → Has put m.1
+        middle before after left m put e = (length before, ap (λ l. slice_get l (length before)) (sym e) ∙ at_front before)
+          where
+            at_front : (bs : List (ℕ × Parcel)) → slice_get (map (λ k. k.1) ((bs ++ m ∷ after) ++ left)) (length bs) ≡ Some m.1
+            at_front [] = refl
+            at_front (b ∷ bs) = at_front bs
+
+        frames_more : (q : ℕ) (after left : List (ℕ × Parcel)) (rest : List Frame) → frames_for q after ≤ frames_to q (map frame_of (after ++ left) ++ rest)
+        frames_more q after left rest =
+            let f : Frame → ℕ = λ z. cond (z.to == q) 1 0 in
+            let a = frames_same q after in
+            let b = ap (λ l. frames_to q (l ++ rest)) (map-append frame_of after left) in
+            let c = sum_by-append f (map frame_of after ++ map frame_of left) rest in
+            let d = sum_by-append f (map frame_of after) (map frame_of left) in
+            omega (arith, a, b, c, d)
+
+  pub keeps_to : KeepsTo config faults reports
+  keeps_to =
+      let c = choose config.nodes Knows knows in
+      let trails = c.0 in
+      let tells = c.1 in
+      record {
+        trails = trails;
+        logs = λ p report at.
+            let l : p < config.nodes = subst (λ n. p < n) size (slice_get_within reports p report at) in
+            let k = tells p l in
+            let same : k.report ≡ report = (let e = sym k.report_at ∙ at in some_is k.report report e) in
+            subst (λ r. IsLogOf config p (trails p) r.log r.node) same k.log;
+        arrivals = λ q l. let k = tells q l in each_arrival (Came k.e) _ (let_through trails tells q k.e k.e_at) (trails q) k.came;
+      }
+    where
+      some_is : (a b : NodeReport) → ◌≡◌ {A = _} (Some a) (Some b) → a ≡ b
+      some_is a b e = cc
