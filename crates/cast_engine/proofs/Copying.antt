@@ -1,6 +1,6 @@
 -- What a carrier puts is no more than its plan lets through.
 use Rattle.std.proofs.Common.{◌≡◌, ◌≢◌, ◌<◌, ◌≤◌, ◌+◌, ◌-◌, ◌==◌, nat_le, nat_lt, ℕ, zero, suc, Bool, true, false, cond, if◌then◌else◌, ◌&&◌, ◌||◌, List, [], ◌∷◌, ◌++◌, map, length, replicate, take, drop, fold, count_by, sum_by, slice_get, slice_set, Option, Some, None, sym, refl, ap, ◌∙◌, subst, ◌⊎◌, ⊎_elim, length-set, take_at, arith}
-use Rattle.std.proofs.lemmas.Bool.{eq-eqb, le-leb, ltb-false}
+use Rattle.std.proofs.lemmas.Bool.{eq-eqb, le-leb, ltb-false, false_from_ne_true}
 use Rattle.std.proofs.lemmas.List.Sums.{fold-append, sum_by-cons, sum_by_push}
 use Rattle.cast_box.specs.Ends.{PutterEnd, AreSamePutters}
 use Rattle.cast_box.proofs.Same.{get_set}
@@ -11,7 +11,7 @@ use Rattle.cast_engine.specs.declared.carrier.Delayed.{Delayed}
 use Rattle.cast_engine.specs.declared.carrier.Fate.{Fate}
 use Rattle.cast_engine.specs.declared.carrier.Ordinals.{Ordinals}
 use Rattle.cast_engine.specs.Fates.{kind_of, one_more, fate_in, counted_where, counted_in}
-use Rattle.cast_engine.specs.Copies.{none_taken, ordinals_after, frames_for, is_for, copies, copies_after, due_from, due, IsThrough, IsByPlan}
+use Rattle.cast_engine.specs.Copies.{none_taken, counted_all, ordinals_after, frames_for, is_for, copies, copies_after, due_from, due, IsThrough, IsByPlan}
 use Rattle.cast_engine.specs.Carriers.{counted_down, kept_for, CarrierPlans, PutsUpTo, IsNoMore, IsByFate, IsKeptOrLost}
 
 -- ---- what is due, by one frame more
@@ -211,6 +211,36 @@ due_is_through faults o test q (m ∷ ms) some = by_first (cond (is_for test q m
     by_first (suc n) is later =
         let it = let_through (is_for test q m.1) (fate_in faults o m.1.frame) (frames_for q ms + 0) (omega (arith, is)) in
         record { before = []; m = m; after = ms; split = refl; passes = it.0; spared = it.1; waited = (let late = it.2 in omega (arith, late)) }
+
+-- ---- what is due of one parcel alone
+
+due_none : (faults : List Fault) (o : List Ordinals) (test : Parcel → Bool) (q more : ℕ) (ms : List (ℕ × Parcel)) → ((i : ℕ) (m : ℕ × Parcel) → slice_get ms i ≡ Some m → is_for test q m.1 ≡ true → ⊥)
+    → due_from faults o test q more ms ≡ 0
+unfolding due_from
+due_none faults o test q more [] none = refl
+due_none faults o test q more (m ∷ ms) none =
+    let fails : is_for test q m.1 ≡ false = false_from_ne_true (is_for test q m.1) (none 0 m refl) in
+    let first = ap (λ b. cond b (copies_after (fate_in faults o m.1.frame) (frames_for q ms + more)) 0) fails in
+    omega (arith, first, due_none faults (counted_in o m.1.frame) test q more ms (λ i k at. none (suc i) k at))
+
+few_copies : (fate : Fate) (b : Bool) (n : ℕ) → cond b (copies_after fate n) 0 ≤ copies fate.twice
+few_copies fate false n = omega arith
+few_copies fate true n = grind arith
+
+-- once, or twice where it is repeated
+pub due_once : (faults : List Fault) (o : List Ordinals) (test : Parcel → Bool) (q more : ℕ) (before : List (ℕ × Parcel)) (m : ℕ × Parcel) (after : List (ℕ × Parcel))
+    → ((i : ℕ) (k : ℕ × Parcel) → slice_get (before ++ m ∷ after) i ≡ Some k → is_for test q k.1 ≡ true → i ≡ length before)
+    → due_from faults o test q more (before ++ m ∷ after) ≤ copies (fate_in faults (counted_all o before) m.1.frame).twice
+unfolding due_from
+due_once faults o test q more [] m after once =
+    let few = few_copies (fate_in faults o m.1.frame) (is_for test q m.1) (frames_for q after + more) in
+    let rest = due_none faults (counted_in o m.1.frame) test q more after (λ i k at passes. let e = once (suc i) k at passes in cc) in
+    omega (arith, few, rest)
+due_once faults o test q more (b ∷ bs) m after once =
+    let fails : is_for test q b.1 ≡ false = false_from_ne_true (is_for test q b.1) (λ passes. let e = once 0 b refl passes in cc) in
+    let first = ap (λ t. cond t (copies_after (fate_in faults o b.1.frame) (frames_for q (bs ++ m ∷ after) + more)) 0) fails in
+    let rest = due_once faults (counted_in o b.1.frame) test q more bs m after (λ i k at passes. let e = once (suc i) k at passes in omega (arith, e)) in
+    omega (arith, first, rest)
 
 -- ---- one frame more was taken
 

@@ -1,8 +1,9 @@
 -- What an engine keeps, by one change of its log or of its boxes.
-use Rattle.std.proofs.Common.{◌≡◌, ℕ, ◌<◌, false, List, [], ◌∷◌, ◌++◌, map, Option, Some, None, sym, refl, ap, ◌∙◌, subst, ⊎_elim, arith}
+use Rattle.std.proofs.Common.{◌≡◌, ℕ, ◌<◌, ◌+◌, Bool, cond, count_by, false, List, [], ◌∷◌, ◌++◌, map, Option, Some, None, sym, refl, ap, ◌∙◌, subst, ⊎_elim, arith}
 use Rattle.std.specs.Prelude.{Ok, Err}
 use Rattle.std.specs.Option.{option_to_list}
 use Rattle.std.proofs.lemmas.List.{append-nil, map-append}
+use Rattle.std.proofs.lemmas.List.Sums.{sum_by_push, sum_by-cons}
 use Rattle.cast_message.specs.declared.config.Config.{Config}
 use Rattle.cast_message.specs.declared.message.Frame.{Frame}
 use Rattle.cast_message.specs.declared.message.Item.{Item}
@@ -20,12 +21,12 @@ use Rattle.cast_node.proofs.Showing.{carries, tells_taken}
 use Rattle.cast_desk.specs.declared.desk.OrderIn.{OrderIn}
 use Rattle.cast_engine.specs.declared.parcel.Parcel.{Parcel}
 use Rattle.cast_report.specs.Linked.{Trail, event_of, outcome_in, steps_in, made_in, kept_in, stamped, IsFor}
-use Rattle.cast_engine.specs.Runs.{Read, Moved, Served, Denied, Run, mark, trail_of, log_of, orders_of, IsRun, AreReceived, IsReceived, IsReceivedBy, made_of, parcel, is_order, origin_of, EngineKeeps}
+use Rattle.cast_engine.specs.Runs.{Read, Moved, Served, Denied, Run, mark, trail_of, log_of, orders_of, IsRun, AreReceived, IsReceived, IsReceivedBy, HasTakenEach, arrived_by, arrivals_in, made_of, parcel, is_order, origin_of, EngineKeeps}
 use Rattle.cast_engine.specs.Journals.{JournalState, LogsStep, LogsRefusal, LogsOrder, OnlyEnds, Halts}
 use Rattle.cast_message.specs.declared.message.FrameKind.{FrameKind}
 use Rattle.cast_message.specs.declared.message.FrameKind.TheVariants.{Carry, Took}
 use Rattle.cast_engine.specs.Engines.{KeepsOf, Handed}
-use Rattle.cast_engine.proofs.Lists.{has_left}
+use Rattle.cast_engine.proofs.Lists.{has_left, has_last}
 
 -- what was put and what waits, where a parcel was handed on while none waited
 handed_all : (put put' : List Parcel) (held' : Option Parcel) (x : Parcel) → Handed put put' held' x → put' ++ option_to_list held' ≡ put ++ x ∷ []
@@ -35,15 +36,7 @@ handed_all put put' held' x h =
     (λ (t : (put' ≡ put) × (held' ≡ Some x)). ap (λ o. put' ++ option_to_list o) t.1 ∙ ap (λ l. l ++ x ∷ []) t.0)
     h
 
--- what makes no frame
-pub arrival_makes_none : (p : ℕ) (steps : Steps) (frame : Frame) → own_made p steps (Arrived frame) ≡ []
-unfolding own_made
-arrival_makes_none p steps frame = refl
-
-stop_makes_none : (p : ℕ) (steps : Steps) → own_made p steps Stopped ≡ []
-unfolding own_made
-stop_makes_none p steps = refl
-
+-- an order makes no frame
 order_makes_none : (p : ℕ) (steps : Steps) (item : Item) → own_made p steps (Ordered item) ≡ []
 unfolding own_made
 order_makes_none p steps item = refl
@@ -68,15 +61,19 @@ received_still taken m (r ∷ rs) h = (received_still taken m rs h.0, one r h.1)
 
 -- where only boxes changed
 boxes_kept : {config : Config} {p : ℕ} {node : Kept} {log : List Entry} {put put' : List Parcel} {held held' : Option Parcel} {arrived arrived' : List (ℕ × Parcel)} {orders : List (ℕ × OrderIn)}
-    → (k : EngineKeeps config p node log put held arrived orders) → put' ++ option_to_list held' ≡ put ++ option_to_list held → AreReceived arrived' k.run
+    → (k : EngineKeeps config p node log put held arrived orders) → put' ++ option_to_list held' ≡ put ++ option_to_list held → AreReceived arrived' k.run → HasTakenEach arrived' (trail_of k.run)
     → EngineKeeps config p node log put' held' arrived' orders
-boxes_kept k same received =
-    record { run = k.run; runs = k.runs; is_log = k.is_log; stands = k.stands; reached = k.reached; handed = ap (map made_of) same ∙ k.handed; received = received; ordered = k.ordered }
+boxes_kept k same received each =
+    record { run = k.run; runs = k.runs; is_log = k.is_log; stands = k.stands; reached = k.reached; handed = ap (map made_of) same ∙ k.handed; received = received; each_taken = each; ordered = k.ordered }
+
+-- a parcel more
+one_taken : (taken : List (ℕ × Parcel)) (m : ℕ × Parcel) (test : Frame → Bool) → count_by (λ n. test n.1.frame) (taken ++ m ∷ []) ≡ count_by (λ n. test n.1.frame) taken + cond (test m.1.frame) 1 0
+one_taken taken m test = sum_by_push (λ (n : ℕ × Parcel). cond (test n.1.frame) 1 0) taken m
 
 -- where more was taken from the inbox
 pub taken_kept : (j : JournalState) (put : List Parcel) (held : Option Parcel) (arrived : List (ℕ × Parcel)) (orders : List (ℕ × OrderIn)) (m : ℕ × Parcel)
     → KeepsOf j put held arrived orders → KeepsOf j put held (arrived ++ m ∷ []) orders
-taken_kept j put held arrived orders m k = boxes_kept k refl (received_still arrived m k.run k.received)
+taken_kept j put held arrived orders m k = boxes_kept k refl (received_still arrived m k.run k.received) (λ test. omega (arith, k.each_taken test, one_taken arrived m test))
 
 -- where only the end was noted
 pub ends_kept : (old new : JournalState) (put : List Parcel) (held : Option Parcel) (arrived : List (ℕ × Parcel)) (orders : List (ℕ × OrderIn))
@@ -94,18 +91,18 @@ module _ (old new : JournalState) (put : List Parcel) (held : Option Parcel) (ar
   KeepsOf' j orders' = KeepsOf j put held arrived orders'
 
   -- the node is the same
-  at_new : {put' : List Parcel} {held' : Option Parcel} {orders' : List (ℕ × OrderIn)} (steps : Steps) → Stands old.config old.node.me steps new.node → new.config ≡ old.config
-      → EngineKeeps old.config old.node.me new.node new.log put' held' arrived orders' → KeepsOf new put' held' arrived orders'
-  at_new {put' = put'} {held' = held'} {orders' = orders'} steps st c e =
-      let P : Config → ℕ → Type 0 = λ config p. EngineKeeps config p new.node new.log put' held' arrived orders' in
+  at_new : {put' : List Parcel} {held' : Option Parcel} {arrived' : List (ℕ × Parcel)} {orders' : List (ℕ × OrderIn)} (steps : Steps) → Stands old.config old.node.me steps new.node → new.config ≡ old.config
+      → EngineKeeps old.config old.node.me new.node new.log put' held' arrived' orders' → KeepsOf new put' held' arrived' orders'
+  at_new {put' = put'} {held' = held'} {arrived' = arrived'} {orders' = orders'} steps st c e =
+      let P : Config → ℕ → Type 0 = λ config p. EngineKeeps config p new.node new.log put' held' arrived' orders' in
       subst (λ config. P config new.node.me) (sym c) (subst (P old.config) (sym st.same_me) e)
 
-  -- a step that is no order is one more of the run, and what it made was handed on
+  -- a step that is no order is one more of the run; what it made was handed on, and what arrived by it was taken
   moved : (step : Step) (above : ℕ) (l : LogsStep old new step None above) → is_order step ≡ false → IsFor old.node.me step
-      → ((stamp : ℕ) → above < stamp → IsReceivedBy arrived stamp step)
-      → (put' : List Parcel) (held' : Option Parcel) → map made_of (put' ++ option_to_list held') ≡ made_in old.config old.node.me (mark l.stamp step ∷ trail_of k.run) → KeepsOf new put' held' arrived orders
+      → (arrived' : List (ℕ × Parcel)) → AreReceived arrived' k.run → ((stamp : ℕ) → above < stamp → IsReceivedBy arrived' stamp step) → HasTakenEach arrived' (mark l.stamp step ∷ trail_of k.run)
+      → (put' : List Parcel) (held' : Option Parcel) → map made_of (put' ++ option_to_list held') ≡ made_in old.config old.node.me (mark l.stamp step ∷ trail_of k.run) → KeepsOf new put' held' arrived' orders
   unfolding trail_of log_of orders_of IsRun AreReceived steps_in kept_in
-  moved step above l quiet for_me received put' held' handed =
+  moved step above l quiet for_me arrived' before received each put' held' handed =
       let go = continues old.config old.node.me steps_now old.node k.stands step (Ok l.answer) new.node l.gives in
       let none = sym (faults_are old.config old.node.me steps_now old.node k.stands step) ∙ l.gives.0 in
       at_new _ go.1 l.logs.same_config (record {
@@ -115,21 +112,36 @@ module _ (old new : JournalState) (put : List Parcel) (held : Option Parcel) (ar
         stands = go.1;
         reached = l.gives.2 ∙ ap (λ n. kept_after n step) k.reached;
         handed = handed;
-        received = (k.received, received l.stamp (omega (arith, l.next)));
+        received = (before, received l.stamp (omega (arith, l.next)));
+        each_taken = each;
         ordered = append-nil (orders_of k.run) ∙ k.ordered;
       })
 
-  -- such a step that makes no frame
-  pub step_kept : (step : Step) (above : ℕ) → LogsStep old new step None above → is_order step ≡ false → IsFor old.node.me step → ((stamp : ℕ) → above < stamp → IsReceivedBy arrived stamp step)
-      → own_made old.node.me steps_now step ≡ [] → KeepsOf new put held arrived orders
-  step_kept step above l quiet for_me received none =
-      moved step above l quiet for_me received put held (k.handed ∙ nothing_more old.config old.node.me (trail_of k.run) l.stamp step none)
+  -- a step by which nothing arrives
+  none_arrived : (stamp : ℕ) (step : Step) → arrived_by step ≡ [] → HasTakenEach arrived (mark stamp step ∷ trail_of k.run)
+  unfolding arrivals_in
+  none_arrived stamp step none test = let same = ap (λ l. count_by test (l ++ arrivals_in (trail_of k.run))) none in omega (arith, same, k.each_taken test)
+
+  -- a parcel was taken, and its frame arrived
+  pub arrival_kept : (number : ℕ) (x : Parcel) → LogsStep old new (Arrived x.frame) None x.stamp → x.frame.to ≡ old.node.me → KeepsOf new put held (arrived ++ (number, x) ∷ []) orders
+  unfolding own_made arrivals_in
+  arrival_kept number x l to =
+      let m : ℕ × Parcel = (number, x) in
+      moved (Arrived x.frame) x.stamp l refl to (arrived ++ m ∷ []) (received_still arrived m k.run k.received) (λ stamp lt. (number, x.stamp, has_last arrived m, lt))
+      (λ test. omega (arith, k.each_taken test, one_taken arrived m test, sum_by-cons (λ (f : Frame). cond (test f) 1 0) x.frame (arrivals_in (trail_of k.run))))
+      put held (k.handed ∙ nothing_more old.config old.node.me (trail_of k.run) l.stamp (Arrived x.frame) refl)
 
   pub same_me : (step : Step) (origin : Option Origin) (above : ℕ) → LogsStep old new step origin above → new.node.me ≡ old.node.me
   same_me step origin above l = (continues old.config old.node.me steps_now old.node k.stands step (Ok l.answer) new.node l.gives).1.same_me
 
+  stopped : LogsStep old new Stopped None old.clock → KeepsOf new put held arrived orders
+  unfolding own_made
+  stopped l =
+      moved Stopped old.clock l refl tt arrived k.received (λ stamp lt. tt) (none_arrived l.stamp Stopped refl) put held
+      (k.handed ∙ nothing_more old.config old.node.me (trail_of k.run) l.stamp Stopped refl)
+
   pub halt_kept : Halts old new → KeepsOf new put held arrived orders
-  halt_kept h = ⊎_elim (λ e. ends_kept old new put held arrived orders k e) (λ l. step_kept Stopped old.clock l refl tt (λ stamp lt. tt) (stop_makes_none old.node.me steps_now)) h
+  halt_kept h = ⊎_elim (λ e. ends_kept old new put held arrived orders k e) (λ l. stopped l) h
 
   -- an order that was taken from the desk and logged at once
   served : (order : OrderIn) (from : ℕ) → LogsStep old new (Ordered order.item) (Some (origin_of order)) old.clock → KeepsOf' new (orders ++ (from, order) ∷ [])
@@ -147,6 +159,7 @@ module _ (old new : JournalState) (put : List Parcel) (held : Option Parcel) (ar
         reached = l.gives.2 ∙ ap (λ n. kept_after n step) k.reached;
         handed = k.handed ∙ nothing_more old.config old.node.me (trail_of k.run) l.stamp step (order_makes_none old.node.me steps_now order.item);
         received = (k.received, tt);
+        each_taken = none_arrived l.stamp step refl;
         ordered = ap (λ l. l ++ order ∷ []) k.ordered ∙ sym (map-append snd orders ((from, order) ∷ []));
       })
 
@@ -164,6 +177,7 @@ module _ (old new : JournalState) (put : List Parcel) (held : Option Parcel) (ar
         reached = l.gives.1 ∙ k.reached;
         handed = k.handed;
         received = (k.received, tt);
+        each_taken = k.each_taken;
         ordered = ap (λ l. l ++ order ∷ []) k.ordered ∙ sym (map-append snd orders ((from, order) ∷ []));
       })
 
@@ -171,23 +185,23 @@ module _ (old new : JournalState) (put : List Parcel) (held : Option Parcel) (ar
   order_kept order from h = ⊎_elim (λ l. served order from l) (λ l. denied order from l) h
 
   -- a step that makes a frame, which is handed on where none waits
-  made_now : (step : Step) (above : ℕ) (f : Frame) → LogsStep old new step None above → is_order step ≡ false → IsFor old.node.me step → ((stamp : ℕ) → IsReceivedBy arrived stamp step)
+  made_now : (step : Step) (above : ℕ) (f : Frame) → LogsStep old new step None above → is_order step ≡ false → IsFor old.node.me step → ((stamp : ℕ) → IsReceivedBy arrived stamp step) → arrived_by step ≡ []
       → own_made old.node.me steps_now step ≡ f ∷ [] → (x : Parcel) → x.frame ≡ f → x.stamp ≡ new.clock
       → held ≡ None → (put' : List Parcel) (held' : Option Parcel) → Handed put put' held' x → KeepsOf new put' held' arrived orders
   unfolding made_in
-  made_now step above f l quiet for_me received made x is time none put' held' h =
+  made_now step above f l quiet for_me received no_arrival made x is time none put' held' h =
       let before = made_in old.config old.node.me (trail_of k.run) in
       let all : map made_of put ≡ before = ap (map made_of) (sym (append-nil put) ∙ ap (λ o. put ++ option_to_list o) (sym none)) ∙ k.handed in
       let time_is : x.stamp ≡ l.stamp = time ∙ l.logs.clock in
       let last : made_of x ≡ stamped l.stamp f = λ i. stamped (time_is i) (is i) in
-      moved step above l quiet for_me (λ stamp lt. received stamp) put' held'
+      moved step above l quiet for_me arrived k.received (λ stamp lt. received stamp) (none_arrived l.stamp step no_arrival) put' held'
       (ap (map made_of) (handed_all put put' held' x h) ∙ map-append made_of put (x ∷ []) ∙ ap (λ ms. ms ++ made_of x ∷ []) all ∙ ap (λ m. before ++ m ∷ []) last
       ∙ ap (λ fs. before ++ map (stamped l.stamp) fs) (sym made))
 
 -- the parcel that waited is put, or waits again
 pub flush_kept : (j : JournalState) (put put' : List Parcel) (held held' : Option Parcel) (arrived : List (ℕ × Parcel)) (orders : List (ℕ × OrderIn)) (x : Parcel)
     → KeepsOf j put held arrived orders → held ≡ Some x → Handed put put' held' x → KeepsOf j put' held' arrived orders
-flush_kept j put put' held held' arrived orders x k is h = boxes_kept k (handed_all put put' held' x h ∙ ap (λ o. put ++ option_to_list o) (sym is)) k.received
+flush_kept j put put' held held' arrived orders x k is h = boxes_kept k (handed_all put put' held' x h ∙ ap (λ o. put ++ option_to_list o) (sym is)) k.received k.each_taken
 
 module _ (old new : JournalState) (put put' : List Parcel) (held held' : Option Parcel) (arrived : List (ℕ × Parcel)) (orders : List (ℕ × OrderIn)) (k : KeepsOf old put held arrived orders)
     (x : Parcel) (above : ℕ) (time : x.stamp ≡ new.clock) (none : held ≡ None) (h : Handed put put' held' x) where
@@ -195,7 +209,7 @@ module _ (old new : JournalState) (put put' : List Parcel) (held held' : Option 
   made_kept Carry to slot l is =
       let steps = steps_in old.config old.node.me (trail_of k.run) in
       let clear = sym (faults_are old.config old.node.me steps old.node k.stands (Sent to slot)) ∙ l.gives.0 in
-      made_now old new put held arrived orders k (Sent to slot) above (carry_of old.node to slot) l refl tt (λ stamp. tt) (carries old.config old.node.me steps old.node k.stands to slot clear) x is time none put' held' h
+      made_now old new put held arrived orders k (Sent to slot) above (carry_of old.node to slot) l refl tt (λ stamp. tt) refl (carries old.config old.node.me steps old.node k.stands to slot clear) x is time none put' held' h
   made_kept Took to slot l is =
       let steps = steps_in old.config old.node.me (trail_of k.run) in
-      made_now old new put held arrived orders k (Acknowledged to slot) above (took_of old.node to slot) l refl tt (λ stamp. tt) (tells_taken old.config old.node.me steps old.node k.stands to slot) x is time none put' held' h
+      made_now old new put held arrived orders k (Acknowledged to slot) above (took_of old.node to slot) l refl tt (λ stamp. tt) refl (tells_taken old.config old.node.me steps old.node k.stands to slot) x is time none put' held' h

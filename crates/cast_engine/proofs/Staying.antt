@@ -16,14 +16,13 @@ use Rattle.cast_desk.specs.declared.notice.Notice.{Notice}
 use Rattle.cast_engine.specs.declared.parcel.Parcel.{Parcel}
 use Rattle.cast_engine.specs.declared.feeding.Place.{Place}
 use Rattle.cast_report.specs.Linked.{steps_in, kept_in, made_in}
-use Rattle.cast_engine.specs.Runs.{EngineKeeps, trail_of, log_of, orders_of, IsRun, AreReceived}
+use Rattle.cast_engine.specs.Runs.{EngineKeeps, arrivals_in, trail_of, log_of, orders_of, IsRun, AreReceived}
 use Rattle.cast_engine.specs.Journals.{JournalState, LogsStep, LogsRefusal, LogsOrder, OnlyEnds, Halts, MayLog, Rises, EndsAs}
 use Rattle.cast_message.specs.declared.message.FrameKind.{FrameKind}
 use Rattle.cast_engine.specs.Feeding.{AreFed, IsFed, first_place}
 use Rattle.cast_engine.specs.Engines.{taken_at, trays_at, KeepsOf, EngineStays, Handed, TakesOrder, TakesIn, IsUnused, EngineState, Leaves}
 use Rattle.cast_report.specs.declared.report.EngineEnd.{EngineEnd}
-use Rattle.cast_engine.proofs.Lists.{has_last}
-use Rattle.cast_engine.proofs.Running.{taken_kept, ends_kept, step_kept, halt_kept, same_me, order_kept, flush_kept, made_kept, arrival_makes_none}
+use Rattle.cast_engine.proofs.Running.{taken_kept, ends_kept, arrival_kept, halt_kept, same_me, order_kept, flush_kept, made_kept}
 use Rattle.cast_engine.proofs.Fed.{fed_more}
 
 abbrev pub IsSameJournal : JournalState → JournalState → Type 0
@@ -78,8 +77,7 @@ module _ (old new : JournalState) (put : List Parcel) (held : Option Parcel) (ar
       → EngineStays new put held arrived' desk places
   stays_arrived arrived' number x is l to =
       subst (λ l. EngineStays new put held l desk places) (sym is) (record {
-        keeps = step_kept old new put held (arrived ++ (number, x) ∷ []) (taken_at desk) (taken_kept old put held arrived (taken_at desk) (number, x) k.keeps) (Arrived x.frame) x.stamp l refl to
-            (λ stamp lt. (number, x.stamp, has_last arrived (number, x), lt)) (arrival_makes_none old.node.me _ x.frame);
+        keeps = arrival_kept old new put held arrived (taken_at desk) k.keeps number x l to;
         fed = fed_step old new (Arrived x.frame) None x.stamp (trays_at desk) places l k.fed;
       })
 
@@ -142,7 +140,7 @@ get_replicate (suc n) a x (suc i) e = get_replicate n a x i e
 pub stays_new : (j : JournalState) (config : Config) (me : ℕ) (crash : Option ℕ) (put : List Parcel) (arrived : List (ℕ × Parcel)) (desk : Option Desk) (places : List Place)
     → me < config.nodes → j ≡ record { config = config; node = nothing_kept config me; log = []; clock = config.first_stamp; crash = crash; ended = None }
     → put ≡ [] → arrived ≡ [] → IsUnused desk → places ≡ replicate (length (trays_at desk)) first_place → EngineStays j put None arrived desk places
-unfolding trail_of log_of orders_of IsRun AreReceived steps_in kept_in made_in
+unfolding trail_of log_of orders_of IsRun AreReceived steps_in kept_in made_in arrivals_in
 stays_new j config me crash put arrived desk places lt is p a u l =
     let P : JournalState → List Parcel → List (ℕ × Parcel) → Type 0 = λ j p a. EngineStays j p None a desk places in
     let base : JournalState = record { config = config; node = nothing_kept config me; log = []; clock = config.first_stamp; crash = crash; ended = None } in
@@ -155,6 +153,7 @@ stays_new j config me crash put arrived desk places lt is p a u l =
         reached = refl;
         handed = refl;
         received = tt;
+        each_taken = λ test. omega arith;
         ordered = sym (ap (map (λ (m : ℕ × OrderIn). m.1)) u.0);
       };
       fed = (

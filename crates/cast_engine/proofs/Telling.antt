@@ -112,6 +112,7 @@ leaves_tell e log node ended l =
             origins = run_origins e.config e.me k.run k.runs;
           }));
       received = run_received e.inbox.taken k.run k.received;
+      each_taken = k.each_taken;
     }
 
 -- the feed of a log in two parts

@@ -8,7 +8,7 @@ use Rattle.cast_desk.specs.declared.desk.OrderIn.{OrderIn}
 use Rattle.cast_desk.specs.declared.notice.Notice.{Notice}
 use Rattle.cast_engine.specs.declared.parcel.Parcel.{Parcel}
 use Rattle.cast_engine.specs.declared.feeding.Place.{Place}
-use Rattle.cast_engine.specs.Runs.{EngineKeeps, Has, parcel, made_of}
+use Rattle.cast_engine.specs.Runs.{EngineKeeps, Has, HasTakenEach, parcel, made_of}
 use Rattle.cast_report.specs.Linked.{Trail, IsLogOf, made_in, stamped, EachArrival}
 use Rattle.cast_box.specs.Lists.{StartsWith}
 use Rattle.cast_desk.specs.Feed.{feed}
@@ -86,7 +86,7 @@ pub record Leaves (e : EngineState) (log : List Entry) (node : Kept) (ended : Op
   pub ends : EndsAs e.config.log_limit e.crash ended log
 
 -- the log tells of the node's steps; what was put into the outbox was made by them, with their stamps, and in their order; and each frame
--- that arrived was taken from the inbox, with a smaller stamp
+-- that arrived was taken from the inbox, in a parcel of its own, with a smaller stamp
 pub record Tells (e : EngineState) (log : List Entry) (node : Kept) : Type 0 where
   pub trail : Trail
   pub tells : IsLogOf e.config e.me trail log node
@@ -94,6 +94,7 @@ pub record Tells (e : EngineState) (log : List Entry) (node : Kept) : Type 0 whe
   pub handed : StartsWith (made_in e.config e.me trail) (map made_of e.outbox.put)
   pub serves : Serves e.config e.me log trail (map (λ m. m.1) (taken_at e.desk))
   pub received : EachArrival (λ stamp frame. (number : ℕ) × (sent : ℕ) × Has e.inbox.taken (number, parcel sent frame) × (sent < stamp)) trail
+  pub each_taken : HasTakenEach e.inbox.taken trail
 
 -- what was put into each tray begins its client's feed
 abbrev pub WereTold : List Entry → List (PutterEnd Notice) → Type 0

@@ -5,11 +5,14 @@
 --     orders_of run                    the orders, accepted or refused, in order
 --     IsRun config p run               each was taken or refused where it stands
 --     AreReceived taken run            the frame of each arrival came in a parcel with a smaller stamp
+--     arrivals_in trail                the frames that arrived
 --     made_of x                        the frame of a parcel, with the stamp of the step that made it
-use Rattle.std.specs.Prelude.{◌≡◌, ℕ, ◌<◌, Bool, true, false, List, [], ◌∷◌, ◌++◌, map, slice_get, Option, Some, None}
+use Rattle.std.specs.Prelude.{◌≡◌, ℕ, ◌<◌, ◌≤◌, Bool, true, false, List, [], ◌∷◌, ◌++◌, map, slice_get, Option, Some, None}
+use Rattle.std.specs.List.{count_by}
 use Rattle.std.specs.Option.{option_to_list}
 use Rattle.cast_message.specs.declared.config.Config.{Config}
 use Rattle.cast_message.specs.declared.event.StepFault.{StepFault}
+use Rattle.cast_message.specs.declared.message.Frame.{Frame}
 use Rattle.cast_model.specs.Replies.{IsRefused}
 use Rattle.cast_model.specs.Steps.{Step, Ordered, Arrived, Steps}
 use Rattle.cast_model.specs.OwnSteps.{own_fault, node_reply}
@@ -89,7 +92,7 @@ unfoldable pub IsRun : Config → ℕ → Run → Type 0
 IsRun config p [] = Unit {0}
 IsRun config p (r ∷ rs) = IsRun config p rs × IsRead config p (steps_in config p (trail_of rs)) r
 
-abbrev pub parcel : ℕ → Rattle.cast_message.specs.declared.message.Frame.Frame → Parcel
+abbrev pub parcel : ℕ → Frame → Parcel
 parcel stamp frame = record { stamp = stamp; frame = frame }
 
 abbrev pub IsReceivedBy : List (ℕ × Parcel) → ℕ → Step → Type 0
@@ -109,6 +112,19 @@ AreReceived taken (r ∷ rs) = AreReceived taken rs × IsReceived taken r
 abbrev pub made_of : Parcel → Made
 made_of x = stamped x.stamp x.frame
 
+abbrev pub arrived_by : Step → List Frame
+arrived_by (Arrived frame) = frame ∷ []
+arrived_by _ = []
+
+-- the frames that arrived by these steps, the newest first
+unfoldable pub arrivals_in : Trail → List Frame
+arrivals_in [] = []
+arrivals_in (mark ∷ trail) = arrived_by mark.step ++ arrivals_in trail
+
+-- however frames are told apart, no more of them arrived than were in the parcels that were taken
+abbrev pub HasTakenEach : List (ℕ × Parcel) → Trail → Type 0
+HasTakenEach taken trail = (test : Frame → Bool) → count_by test (arrivals_in trail) ≤ count_by (λ m. test m.1.frame) taken
+
 -- what a log, a node and boxes show of an engine
 pub record EngineKeeps (config : Config) (p : ℕ) (kept : Kept) (log : List Entry) (put : List Parcel) (held : Option Parcel) (arrived : List (ℕ × Parcel)) (orders : List (ℕ × OrderIn)) : Type 0 where
   pub run : Run
@@ -120,5 +136,7 @@ pub record EngineKeeps (config : Config) (p : ℕ) (kept : Kept) (log : List Ent
   pub handed : map made_of (put ++ option_to_list held) ≡ made_in config p (trail_of run)
   -- the frame of each arrival came in a parcel taken from the inbox, with a smaller stamp
   pub received : AreReceived arrived run
+  -- each in a parcel of its own
+  pub each_taken : HasTakenEach arrived (trail_of run)
   -- the orders, one for one, are those taken from the desk
   pub ordered : orders_of run ≡ map (λ m. m.1) orders

@@ -76,8 +76,8 @@ pub record FitsGroup (script : Script) : Type 0 where
   pub jobs : JobsFit script.config.nodes script.jobs
   pub plan : ArePlanned script.config.nodes script.plan.faults
 
--- these are reports of a run of the script, which fits its group: what arrives is nothing that its plan loses or still delays, each log
--- ends as plan and limits say, with stamps from the first on, and each job of the script had a client, which submitted the first of its items
+-- these are reports of a run of the script, which fits its group: what arrives keeps to its plan, each log ends as plan and limits say, with
+-- stamps from the first on, and each job of the script had a client, which submitted the first of its items
 pub record IsRunOf (script : Script) (reports : List NodeReport) : Type 0 where
   pub fits : FitsGroup script
   pub planned : KeepsTo script.config (faults_of script.plan.faults) reports

@@ -1,11 +1,12 @@
 -- What arrives in a group is what the plan of its carriers lets through.
 use Rattle.std.proofs.Common.{◌≡◌, ℕ, zero, suc, ◌<◌, ◌≤◌, ◌==◌, Bool, true, false, cond, eqb, eq-eqb, List, [], ◌∷◌, ◌++◌, length, map, replicate, fold, count_by, slice_get, Some, Option, sym, refl, ap, ◌∙◌, subst, arith}
-use Rattle.std.proofs.lemmas.Bool.{and_parts, eqb-true}
+use Rattle.std.proofs.lemmas.Bool.{and_from, and_parts, eqb-true, false≢true}
 use Rattle.std.proofs.lemmas.List.{map-append, append_assoc}
 use Rattle.std.proofs.lemmas.List.Sums.{sum_by-append, sum_by-cons}
 use Rattle.std.proofs.lemmas.Option.{slice_get_within}
-use Rattle.cast_box.specs.Lists.{of, IsFair, StartsWith}
-use Rattle.cast_box.proofs.Closing.{found, map_at}
+use Rattle.cast_box.specs.Lists.{of, put_by, IsFair, StartsWith}
+use Rattle.cast_box.proofs.Lists.{of-append}
+use Rattle.cast_box.proofs.Closing.{found, map_at, get_middle}
 use Rattle.cast_message.specs.declared.config.Config.{Config}
 use Rattle.cast_message.specs.declared.message.Frame.{Frame}
 use Rattle.cast_script.specs.declared.script.Fault.{Fault}
@@ -14,15 +15,15 @@ use Rattle.cast_report.specs.Linked.{Trail, Made, IsLogOf, EachArrival, made_in}
 use Rattle.cast_report.proofs.Logging.{choose, each_arrival, made_numbered}
 use Rattle.cast_engine.specs.declared.parcel.Parcel.{Parcel}
 use Rattle.cast_engine.specs.declared.carrier.Ordinals.{Ordinals}
-use Rattle.cast_engine.specs.Runs.{Has, parcel, made_of}
+use Rattle.cast_engine.specs.Runs.{Has, HasTakenEach, parcel, made_of}
 use Rattle.cast_engine.specs.Fates.{fate_in, counted_in}
-use Rattle.cast_engine.specs.Copies.{none_taken, frames_for, counted_all, IsThrough}
+use Rattle.cast_engine.specs.Copies.{none_taken, copies, is_for, frames_for, counted_all, due, IsThrough}
 use Rattle.cast_engine.specs.Engines.{EngineState, Tells}
 use Rattle.cast_engine.specs.Carriers.{CarrierState}
 use Rattle.cast_engine.specs.Group.{IsGathered}
-use Rattle.cast_engine.proofs.Copying.{due_is_through}
+use Rattle.cast_engine.proofs.Copying.{due_is_through, due_once}
 use Rattle.cast_engine.proofs.Lists.{get_left}
-use Rattle.cast_run.specs.Planned.{ordinals_of, frames_to, LetsThrough, frames_made, KeepsTo, HaveFaults}
+use Rattle.cast_run.specs.Planned.{ordinals_of, frames_to, is_same_frame, times_arrived, Allows, LetsThrough, frames_made, KeepsTo, HaveFaults}
 use Rattle.cast_run.proofs.Together.{taken_was_put, only_one}
 
 -- ---- lists
@@ -55,6 +56,30 @@ module _ {A : Type 0} where
           let one : ones (test y) ≡ ones true = ap ones (ap test here ∙ passes) in
           omega (arith, one, sum_by-cons (λ z. cond (test z) 1 0) y ys)
       by_place (y ∷ ys) (suc i) e = omega (arith, by_place ys i e, sum_by-cons (λ z. cond (test z) 1 0) y ys)
+
+  -- where each item that passes is of one putter, no more pass than of that putter's
+  count_own : (test : A → Bool) (a : ℕ) (ms : List (ℕ × A)) → ((i : ℕ) (m : ℕ × A) → slice_get ms i ≡ Some m → test m.1 ≡ true → m.0 ≡ a) → count_by (λ m. test m.1) ms ≤ count_by test (of a ms)
+  count_own test a [] own = omega arith
+  count_own test a (m ∷ ms) own = by_cases (test m.1) (eqb a m.0) refl refl (count_own test a ms (λ i k at. own (suc i) k at))
+    where
+      by_cases : (t b : Bool) → test m.1 ≡ t → eqb a m.0 ≡ b → count_by (λ k. test k.1) ms ≤ count_by test (of a ms) → count_by (λ k. test k.1) (m ∷ ms) ≤ count_by test (cond b (m.1 ∷ of a ms) (of a ms))
+      by_cases t true passes mine rest = omega (arith, rest, sum_by-cons (λ (k : ℕ × A). cond (test k.1) 1 0) m ms, sum_by-cons (λ k. cond (test k) 1 0) m.1 (of a ms))
+      by_cases true false passes other rest = absurd (false≢true (sym other ∙ eq-eqb a m.0 (sym (own 0 m refl passes))))
+      by_cases false false passes other rest =
+          let ones : Bool → ℕ = λ b. cond b 1 0 in
+          let none : ones (test m.1) ≡ ones false = ap ones passes in
+          omega (arith, rest, none, sum_by-cons (λ (k : ℕ × A). cond (test k.1) 1 0) m ms)
+
+  -- of a putter no more was taken than it put
+  count_taken : (test : A → Bool) (a : ℕ) (taken left : List (ℕ × A)) (put : List A) → of a (taken ++ left) ≡ put → count_by test (of a taken) ≤ count_by test put
+  count_taken test a taken left put is =
+      let all = ap (count_by test) (sym (of-append a taken left) ∙ is) in
+      omega (arith, all, sum_by-append (λ k. cond (test k) 1 0) (of a taken) (of a left))
+
+  put_there : (lists : List (List A)) (a : ℕ) (l : List A) → slice_get lists a ≡ Some l → put_by lists a ≡ l
+  put_there [] a l e = absurd cc
+  put_there (x ∷ xs) zero l e = let is : x ≡ l = cc in is
+  put_there (x ∷ xs) (suc a) l e = put_there xs a l e
 
 -- ---- frames and the parcels that they are in
 
@@ -94,6 +119,7 @@ module _ (config : Config) (engines : List EngineState) (carriers : List Carrier
     log : IsLogOf config p trail report.log report.node
     handed : StartsWith (made_in config p trail) (map made_of e.outbox.put)
     came : EachArrival (Came e) trail
+    each_taken : HasTakenEach e.inbox.taken trail
 
   knows : (p : ℕ) → p < config.nodes → (trail : Trail) × Knows p trail
   knows p l =
@@ -112,11 +138,15 @@ module _ (config : Config) (engines : List EngineState) (carriers : List Carrier
           log = subst (λ c. L c p) is.1 (subst (L e.0.config) is.0 t.tells);
           handed = subst (λ c. S c p) is.1 (subst (S e.0.config) is.0 t.handed);
           came = t.received;
+          each_taken = t.each_taken;
         },
       )
 
+  abbrev passes : Frame → Parcel → Bool
+  passes frame x = is_same_frame frame x.frame
+
   -- how a frame that arrived came through the carrier of its maker
-  record Carried (q number sent : ℕ) (frame : Frame) : Type 0 where
+  record Carried (q number sent : ℕ) (frame : Frame) (inbox_taken : List (ℕ × Parcel)) : Type 0 where
     maker : EngineState
     maker_at : slice_get engines number ≡ Some maker
     was_put : Has maker.outbox.put (parcel sent frame)
@@ -124,12 +154,13 @@ module _ (config : Config) (engines : List EngineState) (carriers : List Carrier
     left : List (ℕ × Parcel)
     all : map (λ m. m.1) (taken ++ left) ≡ maker.outbox.put
     to_is : frame.to ≡ q
-    through : IsThrough (faults number) (replicate config.nodes none_taken) (λ x. x.frame.seq == frame.seq) q taken
+    through : IsThrough (faults number) (replicate config.nodes none_taken) (passes frame) q taken
+    most : count_by (passes frame) (of number inbox_taken) ≤ due (faults number) config.nodes (passes frame) q 0 taken
 
-  carried : (q : ℕ) (e : EngineState) (number sent : ℕ) (frame : Frame) → slice_get engines q ≡ Some e → Has e.inbox.taken (let m : ℕ × Parcel = (number, parcel sent frame) in m) → Carried q number sent frame
+  carried : (q : ℕ) (e : EngineState) (number sent : ℕ) (frame : Frame) → slice_get engines q ≡ Some e → Has e.inbox.taken (let m : ℕ × Parcel = (number, parcel sent frame) in m) → Carried q number sent frame e.inbox.taken
   carried q e number sent frame at has =
       let x = parcel sent frame in
-      let test : Parcel → Bool = λ y. y.frame.seq == frame.seq in
+      let test = passes frame in
       let into = g.inbox q e at in
       let put = taken_was_put into.0 e.inbox.taken into.1 number x into.3 has in
       let column = into.2 number put.0 put.1 in
@@ -140,10 +171,12 @@ module _ (config : Config) (engines : List EngineState) (carriers : List Carrier
       let brought = kept.0 q inbox x column.3 in_box in
       let out = g.outbox number c column.2 in
       let sent_by = taken_was_put (out.0.outbox.put ∷ []) c.outbox.taken out.1 brought.1.0 x out.3 brought.1.1 in
-      let one = counted_where_had test inbox.put x in_box (eq-eqb frame.seq frame.seq refl) in
+      let one = counted_where_had test inbox.put x in_box (and_from _ _ (eq-eqb frame.from frame.from refl) (eq-eqb frame.seq frame.seq refl)) in
       let most = kept.1 test q inbox column.3 in
-      let T : ℕ → Type 0 = λ n. IsThrough c.faults (replicate n none_taken) test q c.outbox.taken in
-      let F : List Fault → Type 0 = λ l. IsThrough l (replicate config.nodes none_taken) test q c.outbox.taken in
+      let all_put : of number (e.inbox.taken ++ into.1) ≡ inbox.put = into.3 number ∙ put_there into.0 number put.0 put.1 ∙ column.4 in
+      let few = count_taken test number e.inbox.taken into.1 inbox.put all_put in
+      let own : due c.faults (length c.inboxes) test q 0 c.outbox.taken ≡ due (faults number) config.nodes test q 0 c.outbox.taken =
+      ap (λ l. due l (length c.inboxes) test q 0 c.outbox.taken) (have number c column.2) ∙ ap (λ n. due (faults number) n test q 0 c.outbox.taken) (wide number c column.2) in
       record {
         maker = out.0;
         maker_at = out.2;
@@ -152,7 +185,8 @@ module _ (config : Config) (engines : List EngineState) (carriers : List Carrier
         left = out.1;
         all = fair_one out.0.outbox.put c.outbox.taken out.1 out.3;
         to_is = brought.0;
-        through = subst F (have number c column.2) (subst T (wide number c column.2) (due_is_through c.faults (replicate (length c.inboxes) none_taken) test q c.outbox.taken (omega (arith, one, most))));
+        through = due_is_through (faults number) (replicate config.nodes none_taken) test q c.outbox.taken (omega (arith, one, most, own));
+        most = omega (arith, few, most, own);
       }
 
   same_engine : (a b : EngineState) → ◌≡◌ {A = Option EngineState} (Some a) (Some b) → a ≡ b
@@ -192,32 +226,63 @@ module _ (config : Config) (engines : List EngineState) (carriers : List Carrier
           ∙ ap (λ l. l ++ map frame_in handed.0) (frames_of_items ((before ++ m ∷ after) ++ left) ∙ ap (map frame_of) (append_assoc before (m ∷ after) left) ∙ map-append frame_of before (m ∷ (after ++ left)))
           ∙ append_assoc (map frame_of before) (frame_of m ∷ map frame_of (after ++ left)) (map frame_in handed.0)
 
+    -- what arrives of a frame, wherever it is taken from, came through its maker's carrier
+    own_number : (q : ℕ) (e : EngineState) → slice_get engines q ≡ Some e → (frame : Frame) (number : ℕ) → frame.from ≡ number
+        → (i : ℕ) (m : ℕ × Parcel) → slice_get e.inbox.taken i ≡ Some m → passes frame m.1 ≡ true → m.0 ≡ number
+    own_number q e at frame number from_is i m at_m found =
+        let it = carried q e m.0 m.1.stamp m.1.frame at (i, at_m) in
+        let there : m.0 < config.nodes = subst (λ n. m.0 < n) many (slice_get_within engines m.0 it.maker it.maker_at) in
+        let from = (numbered m.0 there it.maker it.maker_at it.was_put.0 m.1 it.was_put.1).0 in
+        sym from ∙ eqb-true m.1.frame.from frame.from (and_parts (m.1.frame.from == frame.from) (m.1.frame.seq == frame.seq) found).0 ∙ from_is
+
+    -- of what a carrier took no other has the number
+    only_there : (number : ℕ) (here : number < config.nodes) (maker : EngineState) (maker_at : slice_get engines number ≡ Some maker) (q : ℕ) (frame : Frame)
+        (before after left : List (ℕ × Parcel)) (m : ℕ × Parcel) → map (λ k. k.1) ((before ++ m ∷ after) ++ left) ≡ maker.outbox.put → m.1.frame.seq ≡ frame.seq
+        → (i : ℕ) (k : ℕ × Parcel) → slice_get (before ++ m ∷ after) i ≡ Some k → is_for (passes frame) q k.1 ≡ true → i ≡ length before
+    only_there number here maker maker_at q frame before after left m whole seq_is i k at_k found =
+        let taken = before ++ m ∷ after in
+        let at_put : (j : ℕ) (n : ℕ × Parcel) → slice_get taken j ≡ Some n → slice_get maker.outbox.put j ≡ Some n.1 =
+        λ j n e. ap (λ l. slice_get l j) (sym whole) ∙ map_at (λ n. n.1) (taken ++ left) j n (get_left taken left j n e) in
+        let pass = and_parts (k.1.frame.to == q) (passes frame k.1) found in
+        let same = eqb-true k.1.frame.seq frame.seq (and_parts (k.1.frame.from == frame.from) (k.1.frame.seq == frame.seq) pass.1).1 in
+        let one = (numbered number here maker maker_at i k.1 (at_put i k at_k)).1 in
+        let other = (numbered number here maker maker_at (length before) m.1 (at_put (length before) m (get_middle before m after))).1 in
+        sym one ∙ same ∙ sym seq_is ∙ other
+
     let_through : (q : ℕ) (e : EngineState) → slice_get engines q ≡ Some e → (stamp : ℕ) (frame : Frame) → Came e stamp frame
-        → LetsThrough (faults frame.from) config.nodes (frames_made config frame.from (trails frame.from)) frame
-    let_through q e at stamp frame came =
+        → (trail : Trail) → HasTakenEach e.inbox.taken trail → LetsThrough (faults frame.from) config.nodes (frames_made config frame.from (trails frame.from)) (times_arrived frame trail) frame
+    let_through q e at stamp frame came trail each =
         let number = came.0 in
         let it = carried q e number came.1 frame at came.2 in
         let t = it.through in
         let here : number < config.nodes = subst (λ n. number < n) many (slice_get_within engines number it.maker it.maker_at) in
         let whole : map (λ k. k.1) ((t.before ++ t.m ∷ t.after) ++ it.left) ≡ it.maker.outbox.put = ap (λ l. map (λ k. k.1) (l ++ it.left)) (sym t.split) ∙ it.all in
-        let pass = and_parts (t.m.1.frame.to == q) (t.m.1.frame.seq == frame.seq) t.passes in
+        let pass = and_parts (t.m.1.frame.to == q) (passes frame t.m.1) t.passes in
+        let seq_is : t.m.1.frame.seq ≡ frame.seq = eqb-true t.m.1.frame.seq frame.seq (and_parts (t.m.1.frame.from == frame.from) (t.m.1.frame.seq == frame.seq) pass.1).1 in
         let place = middle t.before t.after it.left t.m it.maker.outbox.put whole in
-        let is : frame_of t.m ≡ frame = same_frame number here it.maker it.maker_at t.m.1 (parcel came.1 frame) place it.was_put (eqb-true t.m.1.frame.seq frame.seq pass.1) in
+        let is : frame_of t.m ≡ frame = same_frame number here it.maker it.maker_at t.m.1 (parcel came.1 frame) place it.was_put seq_is in
         let from_is : frame.from ≡ number = (numbered number here it.maker it.maker_at it.was_put.0 (parcel came.1 frame) it.was_put.1).0 in
         let more = map frame_of (t.after ++ it.left) ++ map frame_in (handed number here it.maker it.maker_at).0 in
+        let before = map frame_of t.before in
         let P : ℕ → Frame → Type 0 = λ a f.
-        (frames_made config a (trails a) ≡ map frame_of t.before ++ f ∷ more) × ((fate_in (faults a) (ordinals_of config.nodes (map frame_of t.before)) f).lost ≡ false) × ((fate_in (faults a) (ordinals_of config.nodes (map frame_of t.before)) f).delay ≤ frames_to f.to more) in
-        let counts = counted_same (replicate config.nodes none_taken) t.before in
-        let fate = ap (λ o. fate_in (faults number) o t.m.1.frame) counts in
+        (frames_made config a (trails a) ≡ before ++ f ∷ more) × Allows (fate_in (faults a) (ordinals_of config.nodes before) f) (frames_to f.to more) (times_arrived frame trail) in
+        let fate = ap (λ o. fate_in (faults number) o t.m.1.frame) (counted_same (replicate config.nodes none_taken) t.before) in
         let enough = frames_more q t.after it.left (map frame_in (handed number here it.maker it.maker_at).0) in
         let to_is : t.m.1.frame.to ≡ q = eqb-true t.m.1.frame.to q pass.0 in
+        let at_most = ap (λ l. due (faults number) config.nodes (passes frame) q 0 l) t.split in
+        let own = count_own (passes frame) number e.inbox.taken (λ i m at_m found. own_number q e at frame number from_is i m at_m found) in
+        let once = due_once (faults number) (replicate config.nodes none_taken) (passes frame) q 0 t.before t.m t.after
+        (λ i k at_k found. only_there number here it.maker it.maker_at q frame t.before t.after it.left t.m whole seq_is i k at_k found) in
         let rest = subst (λ a. P a frame) (sym from_is) (subst (P number) is (
           frames_split number here it.maker it.maker_at t.before t.after it.left t.m whole,
-          ap (λ f. f.lost) (sym fate) ∙ t.spared,
-          subst (λ k. (fate_in (faults number) (ordinals_of config.nodes (map frame_of t.before)) t.m.1.frame).delay ≤ frames_to k more) (sym to_is)
-              (let same = ap (λ f. f.delay) fate in let w = t.waited in omega (arith, same, w, enough)),
+          (
+            ap (λ f. f.lost) (sym fate) ∙ t.spared,
+            subst (λ k. (fate_in (faults number) (ordinals_of config.nodes before) t.m.1.frame).delay ≤ frames_to k more) (sym to_is)
+                (let same = ap (λ f. f.delay) fate in let w = t.waited in omega (arith, same, w, enough)),
+            (let same = ap (λ f. copies f.twice) fate in omega (arith, each (is_same_frame frame), own, it.most, at_most, once, same)),
+          ),
         )) in
-        (map frame_of t.before, more, rest.0, rest.1, rest.2)
+        (before, more, rest.0, rest.1)
       where
         middle : (before after left : List (ℕ × Parcel)) (m : ℕ × Parcel) (put : List Parcel) → map (λ k. k.1) ((before ++ m ∷ after) ++ left) ≡ put → Has put m.1
         middle before after left m put e = (length before, ap (λ l. slice_get l (length before)) (sym e) ∙ at_front before)
@@ -247,7 +312,7 @@ module _ (config : Config) (engines : List EngineState) (carriers : List Carrier
             let k = tells p l in
             let same : k.report ≡ report = (let e = sym k.report_at ∙ at in some_is k.report report e) in
             subst (λ r. IsLogOf config p (trails p) r.log r.node) same k.log;
-        arrivals = λ q l. let k = tells q l in each_arrival (Came k.e) _ (let_through trails tells q k.e k.e_at) (trails q) k.came;
+        arrivals = λ q l. let k = tells q l in each_arrival (Came k.e) _ (λ stamp frame came. let_through trails tells q k.e k.e_at stamp frame came (trails q) k.each_taken) (trails q) k.came;
       }
     where
       some_is : (a b : NodeReport) → ◌≡◌ {A = _} (Some a) (Some b) → a ≡ b

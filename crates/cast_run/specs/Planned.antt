@@ -2,20 +2,24 @@
 --     faults_of faults p                     the faults of the frames that node p makes
 --     ordinals_of nodes frames               how many frames of each kind were made for each node
 --     frames_to q frames                     how many were made for node q
---     LetsThrough faults nodes made frame    of those made by its maker the frame is not lost, nor delayed any more
+--     times_arrived frame trail              how often a frame arrived
+--     Allows fate later times                a frame with this fate may arrive so often, where so many are made after it
+--     LetsThrough faults nodes made times frame   the frame, of those that its maker made, may arrive so often
 --     KeepsTo config faults reports          each frame that arrived at a node was let through
-use Rattle.std.specs.Prelude.{◌≡◌, ℕ, ◌<◌, ◌≤◌, ◌==◌, false, List, ◌∷◌, ◌++◌, map, replicate, slice_get, Some}
+use Rattle.std.specs.Prelude.{◌≡◌, ℕ, ◌<◌, ◌≤◌, ◌==◌, Bool, false, ◌&&◌, List, ◌∷◌, ◌++◌, map, replicate, slice_get, Some}
 use Rattle.std.specs.List.{filter, fold, count_by}
 use Rattle.cast_message.specs.declared.config.Config.{Config}
 use Rattle.cast_message.specs.declared.message.Frame.{Frame}
 use Rattle.cast_script.specs.declared.script.Fault.{Fault}
 use Rattle.cast_report.specs.declared.report.NodeReport.{NodeReport}
 use Rattle.cast_report.specs.Linked.{Trail, IsLogOf, EachArrival, made_in}
+use Rattle.cast_engine.specs.declared.carrier.Fate.{Fate}
 use Rattle.cast_engine.specs.declared.carrier.Ordinals.{Ordinals}
 use Rattle.cast_engine.specs.Carriers.{CarrierState}
-use Rattle.cast_engine.specs.Copies.{none_taken}
+use Rattle.cast_engine.specs.Copies.{none_taken, copies}
 use Rattle.cast_engine.specs.Fates.{fate_in, counted_in}
 use Rattle.cast_engine.specs.Plans.{is_from}
+use Rattle.cast_engine.specs.Runs.{arrivals_in}
 
 abbrev pub faults_of : List Fault → ℕ → List Fault
 faults_of faults p = filter (is_from p) faults
@@ -26,12 +30,21 @@ ordinals_of nodes frames = fold counted_in (replicate nodes none_taken) frames
 abbrev pub frames_to : ℕ → List Frame → ℕ
 frames_to q frames = count_by (λ frame. frame.to == q) frames
 
--- by these faults the frame, of those that its maker made, is not lost, and as many were made for its target after it as it is delayed by
-abbrev pub LetsThrough : List Fault → ℕ → List Frame → Frame → Type 0
-LetsThrough faults nodes made frame =
+-- the frame of this maker and number
+abbrev pub is_same_frame : Frame → Frame → Bool
+is_same_frame frame other = other.from == frame.from && other.seq == frame.seq
+
+abbrev pub times_arrived : Frame → Trail → ℕ
+times_arrived frame trail = count_by (is_same_frame frame) (arrivals_in trail)
+
+-- it is not lost; as many are made for its target after it as it is delayed by; and it arrives once, or twice where it is repeated
+abbrev pub Allows : Fate → ℕ → ℕ → Type 0
+Allows fate later times = (fate.lost ≡ false) × (fate.delay ≤ later) × (times ≤ copies fate.twice)
+
+abbrev pub LetsThrough : List Fault → ℕ → List Frame → ℕ → Frame → Type 0
+LetsThrough faults nodes made times frame =
     (before after : List Frame) × (made ≡ before ++ frame ∷ after)
-    × ((fate_in faults (ordinals_of nodes before) frame).lost ≡ false)
-    × ((fate_in faults (ordinals_of nodes before) frame).delay ≤ frames_to frame.to after)
+    × Allows (fate_in faults (ordinals_of nodes before) frame) (frames_to frame.to after) times
 
 -- the frames that node p made by these steps, in order
 abbrev pub frames_made : Config → ℕ → Trail → List Frame
@@ -42,7 +55,7 @@ pub record KeepsTo (config : Config) (faults : ℕ → List Fault) (reports : Li
   pub trails : ℕ → Trail
   pub logs : (p : ℕ) (report : NodeReport) → slice_get reports p ≡ Some report → IsLogOf config p (trails p) report.log report.node
   pub arrivals : (q : ℕ) → q < config.nodes →
-      EachArrival (λ stamp frame. LetsThrough (faults frame.from) config.nodes (frames_made config frame.from (trails frame.from)) frame) (trails q)
+      EachArrival (λ stamp frame. LetsThrough (faults frame.from) config.nodes (frames_made config frame.from (trails frame.from)) (times_arrived frame (trails q)) frame) (trails q)
 
 -- each carrier acts on these faults of its node's frames
 abbrev pub HaveFaults : (ℕ → List Fault) → List CarrierState → Type 0
