@@ -1,5 +1,5 @@
 -- What arrives in a group is what the plan of its carriers lets through.
-use Rattle.std.proofs.Common.{◌≡◌, ℕ, zero, suc, ◌<◌, ◌≤◌, ◌==◌, Bool, true, false, cond, eqb, eq-eqb, List, [], ◌∷◌, ◌++◌, length, map, replicate, fold, count_by, slice_get, Some, Option, sym, refl, ap, ◌∙◌, subst, arith}
+use Rattle.std.proofs.Common.{◌≡◌, ℕ, zero, suc, ◌<◌, ◌≤◌, ◌==◌, Bool, true, false, cond, eqb, eq-eqb, List, [], ◌∷◌, ◌++◌, length, map, replicate, fold, count_by, slice_get, Some, sym, refl, ap, ◌∙◌, subst, arith}
 use Rattle.std.proofs.lemmas.Bool.{and_from, and_parts, eqb-true, false≢true}
 use Rattle.std.proofs.lemmas.List.{map-append, append_assoc}
 use Rattle.std.proofs.lemmas.List.Sums.{sum_by-append, sum_by-cons}
@@ -18,13 +18,13 @@ use Rattle.cast_engine.specs.declared.carrier.Ordinals.{Ordinals}
 use Rattle.cast_engine.specs.Runs.{Has, HasTakenEach, parcel, made_of}
 use Rattle.cast_engine.specs.Fates.{fate_in, counted_in}
 use Rattle.cast_engine.specs.Copies.{none_taken, copies, is_for, frames_for, counted_all, due, IsThrough}
-use Rattle.cast_engine.specs.Engines.{EngineState, Tells}
+use Rattle.cast_engine.specs.Engines.{EngineState}
 use Rattle.cast_engine.specs.Carriers.{CarrierState}
 use Rattle.cast_engine.specs.Group.{IsGathered}
-use Rattle.cast_engine.proofs.Copying.{due_is_through, due_once}
+use Rattle.cast_engine.proofs.Copying.{due_is_through, due_once, same_read}
 use Rattle.cast_engine.proofs.Lists.{get_left}
 use Rattle.cast_run.specs.Planned.{ordinals_of, frames_to, is_same_frame, times_arrived, Allows, LetsThrough, frames_made, KeepsTo, HaveFaults}
-use Rattle.cast_run.proofs.Together.{taken_was_put, only_one}
+use Rattle.cast_run.proofs.Together.{OfNode, of_node, taken_was_put, only_one}
 
 -- ---- lists
 
@@ -110,33 +110,28 @@ module _ (config : Config) (engines : List EngineState) (carriers : List Carrier
   abbrev Came : EngineState → ℕ → Frame → Type 0
   Came e stamp frame = (number : ℕ) × (sent : ℕ) × Has e.inbox.taken (let m : ℕ × Parcel = (number, parcel sent frame) in m) × (sent < stamp)
 
+  abbrev Node : ℕ → Type 0
+  Node = OfNode config engines carriers reports g many size
+
   -- what is known of a node that has these steps
   record Knows (p : ℕ) (trail : Trail) : Type 0 where
-    e : EngineState
-    e_at : slice_get engines p ≡ Some e
-    report : NodeReport
-    report_at : slice_get reports p ≡ Some report
-    log : IsLogOf config p trail report.log report.node
-    handed : StartsWith (made_in config p trail) (map made_of e.outbox.put)
-    came : EachArrival (Came e) trail
-    each_taken : HasTakenEach e.inbox.taken trail
+    node : Node p
+    log : IsLogOf config p trail node.report.log node.report.node
+    handed : StartsWith (made_in config p trail) (map made_of node.e.outbox.put)
+    came : EachArrival (Came node.e) trail
+    each_taken : HasTakenEach node.e.inbox.taken trail
 
   knows : (p : ℕ) → p < config.nodes → (trail : Trail) × Knows p trail
   knows p l =
-      let e = found engines p (subst (λ n. p < n) (sym many) l) in
-      let is = g.engine p e.0 e.1 in
-      let r = is.2.0 in
-      let t : Tells e.0 r.log r.node = is.2.2 in
-      let L : Config → ℕ → Type 0 = λ c m. IsLogOf c m t.trail r.log r.node in
-      let S : Config → ℕ → Type 0 = λ c m. StartsWith (made_in c m t.trail) (map made_of e.0.outbox.put) in (
+      let n : Node p = of_node config engines carriers reports g many size p l in
+      let t = n.tells in
+      let L : Config → ℕ → Type 0 = λ c m. IsLogOf c m t.trail n.report.log n.report.node in
+      let S : Config → ℕ → Type 0 = λ c m. StartsWith (made_in c m t.trail) (map made_of n.e.outbox.put) in (
         t.trail,
         record {
-          e = e.0;
-          e_at = e.1;
-          report = r;
-          report_at = is.2.1;
-          log = subst (λ c. L c p) is.1 (subst (L e.0.config) is.0 t.tells);
-          handed = subst (λ c. S c p) is.1 (subst (S e.0.config) is.0 t.handed);
+          node = n;
+          log = subst (λ c. L c p) n.config_is (subst (L n.e.config) n.me_is t.tells);
+          handed = subst (λ c. S c p) n.config_is (subst (S n.e.config) n.me_is t.handed);
           came = t.received;
           each_taken = t.each_taken;
         },
@@ -189,12 +184,6 @@ module _ (config : Config) (engines : List EngineState) (carriers : List Carrier
         most = omega (arith, few, most, own);
       }
 
-  same_engine : (a b : EngineState) → ◌≡◌ {A = Option EngineState} (Some a) (Some b) → a ≡ b
-  same_engine a b e = cc
-
-  same_made : (a b : Made) → ◌≡◌ {A = Option Made} (Some a) (Some b) → a ≡ b
-  same_made a b e = cc
-
   module _ (trails : ℕ → Trail) (tells : (p : ℕ) → p < config.nodes → Knows p (trails p)) where
     -- the frames that a node made: those before one that its carrier took, that one, and those after it
     module _ (number : ℕ) (here : number < config.nodes) (maker : EngineState) (maker_at : slice_get engines number ≡ Some maker) where
@@ -204,7 +193,7 @@ module _ (config : Config) (engines : List EngineState) (carriers : List Carrier
       handed : StartsWith made (map made_of maker.outbox.put)
       handed =
           let k = tells number here in
-          subst (λ (z : EngineState). StartsWith made (map made_of z.outbox.put)) (same_engine k.e maker (sym k.e_at ∙ maker_at)) k.handed
+          subst (λ (z : EngineState). StartsWith made (map made_of z.outbox.put)) (same_read engines number k.node.e maker k.node.e_at maker_at) k.handed
 
       at_place : (i : ℕ) (x : Parcel) → slice_get maker.outbox.put i ≡ Some x → slice_get made i ≡ Some (made_of x)
       at_place i x at = ap (λ l. slice_get l i) handed.1 ∙ get_left (map made_of maker.outbox.put) handed.0 i (made_of x) (map_at made_of maker.outbox.put i x at)
@@ -216,7 +205,7 @@ module _ (config : Config) (engines : List EngineState) (carriers : List Carrier
       same_frame : (x y : Parcel) → Has maker.outbox.put x → Has maker.outbox.put y → x.frame.seq ≡ y.frame.seq → x.frame ≡ y.frame
       same_frame x y hx hy same =
           let place : hx.0 ≡ hy.0 = sym (numbered hx.0 x hx.1).1 ∙ same ∙ (numbered hy.0 y hy.1).1 in
-          ap frame_in (same_made (made_of x) (made_of y) (sym (at_place hx.0 x hx.1) ∙ ap (slice_get made) place ∙ at_place hy.0 y hy.1))
+          ap frame_in (same_read made hy.0 (made_of x) (made_of y) (ap (slice_get made) (sym place) ∙ at_place hx.0 x hx.1) (at_place hy.0 y hy.1))
 
       frames_split : (before after left : List (ℕ × Parcel)) (m : ℕ × Parcel) → map (λ k. k.1) ((before ++ m ∷ after) ++ left) ≡ maker.outbox.put
           → frames_made config number (trails number) ≡ map frame_of before ++ frame_of m ∷ (map frame_of (after ++ left) ++ map frame_in handed.0)
@@ -302,18 +291,13 @@ module _ (config : Config) (engines : List EngineState) (carriers : List Carrier
 
   pub keeps_to : KeepsTo config faults reports
   keeps_to =
-      let c = choose config.nodes Knows knows in
-      let trails = c.0 in
-      let tells = c.1 in
+      let known = choose config.nodes Knows knows in
       record {
-        trails = trails;
+        trails = known.0;
         logs = λ p report at.
-            let l : p < config.nodes = subst (λ n. p < n) size (slice_get_within reports p report at) in
-            let k = tells p l in
-            let same : k.report ≡ report = (let e = sym k.report_at ∙ at in some_is k.report report e) in
-            subst (λ r. IsLogOf config p (trails p) r.log r.node) same k.log;
-        arrivals = λ q l. let k = tells q l in each_arrival (Came k.e) _ (λ stamp frame came. let_through trails tells q k.e k.e_at stamp frame came (trails q) k.each_taken) (trails q) k.came;
+            let k = known.1 p (subst (λ n. p < n) size (slice_get_within reports p report at)) in
+            subst (λ r. IsLogOf config p (known.0 p) r.log r.node) (same_read reports p k.node.report report k.node.report_at at) k.log;
+        arrivals = λ q l.
+            let k = known.1 q l in
+            each_arrival (Came k.node.e) _ (λ stamp frame came. let_through known.0 known.1 q k.node.e k.node.e_at stamp frame came (known.0 q) k.each_taken) (known.0 q) k.came;
       }
-    where
-      some_is : (a b : NodeReport) → ◌≡◌ {A = _} (Some a) (Some b) → a ≡ b
-      some_is a b e = cc
