@@ -17,15 +17,14 @@ use Rattle.cast_draw.specs.Pieces.{place_text}
 use Rattle.cast_draw.specs.FrameMarks.{lost_text, leaving_text}
 use Rattle.cast_draw.specs.Sheet.{Sheet, bottom_of}
 
--- how many values an instance may have: a bound where fewer nodes may crash
-abbrev pub bound_text : ℕ → ℕ → List ℕ
-bound_text faults choices =
-    if nat_lt faults choices then joined (codes "at most " ∷ decimal choices ∷ codes " values" ∷ []) else codes "no bound on values"
+-- no more decided values in an instance than the choices are promised where fewer nodes than these may crash
+unfoldable pub values_word : ℕ → ℕ → List ℕ
+values_word faults choices = if nat_lt faults choices then codes " values, " else codes " values not promised, "
 
 abbrev pub caption : Config → List ℕ
 caption config =
-    joined (joined (decimal config.nodes ∷ codes " nodes, " ∷ decimal config.faults ∷ codes " may crash, " ∷ [])
-    ∷ bound_text config.faults config.choices ∷ codes ", " ∷ mode_word config.mode ∷ [])
+    joined (decimal config.nodes ∷ codes " nodes, " ∷ decimal config.faults ∷ codes " may crash, at most " ∷ decimal config.choices
+    ∷ values_word config.faults config.choices ∷ mode_word config.mode ∷ [])
 
 abbrev pub tip_style : List ℕ → List ℕ
 tip_style class = joined (codes ".a." ∷ class ∷ codes "{marker-end:url(#m" ∷ class ∷ codes ")}" ∷ [])

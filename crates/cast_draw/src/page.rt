@@ -1,6 +1,6 @@
 //! The finished picture: what stands around the marks, and its text.
 ghost use Rattle.std.specs.Prelude.{◌≡◌, ◌≤◌, ◌++◌, IfOk, OnOk, false, flat_map};
-ghost use Rattle.cast_draw.specs.Page.{bound_text, caption, head_text, life_text, lifeline_text, lane_text, lines_text, name_text, names_text, rest_text, stub_of, stubs_of, style_text, tip_style, tip_text};
+ghost use Rattle.cast_draw.specs.Page.{caption, head_text, life_text, lifeline_text, lane_text, lines_text, name_text, names_text, rest_text, stub_of, stubs_of, style_text, tip_style, tip_text, values_word};
 ghost use Rattle.cast_words.specs.Written.{Puts};
 
 use crate::cell::{LINES_FROM, Spot};
@@ -159,23 +159,22 @@ fn put_caption(ink: &mut Ink, config: &Config) -> Result<(), AllocError>
         Number(config.nodes()),
         Text(b" nodes, "),
         Number(config.faults()),
-        Text(b" may crash, "),
-    ])?;
-    put_bound(ink, config)?;
-    ink.put(&[Text(b", "), Text(mode_name(config.mode()))])
+        Text(b" may crash, at most "),
+        Number(config.choices()),
+        Text(values_word(config)),
+        Text(mode_name(config.mode())),
+    ])
 }
 
-fn put_bound(ink: &mut Ink, config: &Config) -> Result<(), AllocError>
-    ensures { OnOk result (ink.new ≡ ink.old ++ bound_text config.now.faults config.now.choices) }
+// What stands behind the number of choices.
+#[tactic(auto, unfolding(crate::specs::Page::values_word))]
+fn values_word(config: &Config) -> &'static [u8]
+    ensures { result.now ≡ values_word config.now.faults config.now.choices }
 {
     if config.faults() < config.choices() {
-        ink.put(&[
-            Text(b"at most "),
-            Number(config.choices()),
-            Text(b" values"),
-        ])
+        b" values, "
     } else {
-        ink.put_bytes(b"no bound on values")
+        b" values not promised, "
     }
 }
 

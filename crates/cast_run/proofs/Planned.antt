@@ -1,12 +1,12 @@
--- What arrives in a group is what the plan of its carriers lets through.
+-- What arrives in a group is no more than the plan of its carriers lets through.
 use Rattle.std.proofs.Common.{◌≡◌, ℕ, zero, suc, ◌<◌, ◌≤◌, ◌==◌, Bool, true, false, cond, eqb, eq-eqb, List, [], ◌∷◌, ◌++◌, length, map, replicate, fold, count_by, slice_get, Some, sym, refl, ap, ◌∙◌, subst, arith}
 use Rattle.std.proofs.lemmas.Bool.{and_from, and_parts, eqb-true, false≢true}
 use Rattle.std.proofs.lemmas.List.{map-append, append_assoc}
 use Rattle.std.proofs.lemmas.List.Sums.{sum_by-append, sum_by-cons}
 use Rattle.std.proofs.lemmas.Option.{slice_get_within}
 use Rattle.cast_box.specs.Lists.{of, put_by, IsFair, StartsWith}
-use Rattle.cast_box.proofs.Lists.{of-append}
-use Rattle.cast_box.proofs.Closing.{found, map_at, get_middle}
+use Rattle.cast_box.proofs.Lists.{of-append, sole_items, put_by_past}
+use Rattle.cast_box.proofs.Closing.{map_at, get_middle}
 use Rattle.cast_message.specs.declared.config.Config.{Config}
 use Rattle.cast_message.specs.declared.message.Frame.{Frame}
 use Rattle.cast_script.specs.declared.script.Fault.{Fault}
@@ -23,30 +23,22 @@ use Rattle.cast_engine.specs.Carriers.{CarrierState}
 use Rattle.cast_engine.specs.Group.{IsGathered}
 use Rattle.cast_engine.proofs.Copying.{due_is_through, due_once, same_read}
 use Rattle.cast_engine.proofs.Lists.{get_left}
-use Rattle.cast_run.specs.Planned.{ordinals_of, frames_to, is_same_frame, times_arrived, Allows, LetsThrough, frames_made, KeepsTo, HaveFaults}
-use Rattle.cast_run.proofs.Together.{OfNode, of_node, taken_was_put, only_one}
+use Rattle.cast_run.specs.Planned.{ordinals_of, frames_to, is_same_frame, times_arrived, Allows, Arrives, frames_made, KeepsTo, HaveFaults}
+use Rattle.cast_run.proofs.Together.{CameFrom, OfNode, of_node, taken_was_put, only_one}
 
 -- ---- lists
 
 module _ {A : Type 0} where
-  rest_none : (b : Bool) (x : A) (xs : List A) → cond b (x ∷ xs) xs ≡ [] → xs ≡ []
-  rest_none true x xs e = absurd cc
-  rest_none false x xs e = e
-
-  -- of one putter alone all stands in its order
-  of_one : (ms : List (ℕ × A)) → ((a : ℕ) → of (suc a) ms ≡ []) → of 0 ms ≡ map (λ m. m.1) ms
-  of_one [] none = refl
-  of_one (m ∷ ms) none = by_number m.0 refl (of_one ms (λ a. rest_none (eqb (suc a) m.0) m.1 (of (suc a) ms) (none a)))
-    where
-      by_number : (n : ℕ) → m.0 ≡ n → of 0 ms ≡ map (λ k. k.1) ms → cond (eqb 0 m.0) (m.1 ∷ of 0 ms) (of 0 ms) ≡ m.1 ∷ map (λ k. k.1) ms
-      by_number zero e rest = ap (λ b. cond b (m.1 ∷ of 0 ms) (of 0 ms)) (eq-eqb 0 m.0 (sym e)) ∙ ap (λ l. m.1 ∷ l) rest
-      by_number (suc a) e rest = absurd (let no : m.1 ∷ of (suc a) ms ≡ [] = ap (λ b. cond b (m.1 ∷ of (suc a) ms) (of (suc a) ms)) (sym (eq-eqb (suc a) m.0 (sym e))) ∙ none a in cc)
-
   fair_one : (put : List A) (taken left : List (ℕ × A)) → IsFair (put ∷ []) taken left → map (λ m. m.1) (taken ++ left) ≡ put
-  fair_one put taken left fair = sym (of_one (taken ++ left) (λ a. fair (suc a))) ∙ fair 0
+  fair_one put taken left fair = sole_items (taken ++ left) (λ a h. fair a ∙ put_by_past (put ∷ []) a h) ∙ fair 0
 
-  counted_where_had : (test : A → Bool) (xs : List A) (x : A) → Has xs x → test x ≡ true → 0 < count_by test xs
-  counted_where_had test xs x has passes = by_place xs has.0 has.1
+  -- what was taken stands in its place of what was put
+  taken_in_place : (taken left : List (ℕ × A)) (put : List A) → map (λ m. m.1) (taken ++ left) ≡ put → (i : ℕ) (m : ℕ × A) → slice_get taken i ≡ Some m → slice_get put i ≡ Some m.1
+  taken_in_place taken left put all i m at = ap (λ l. slice_get l i) (sym all) ∙ map_at (λ n. n.1) (taken ++ left) i m (get_left taken left i m at)
+
+  -- one at least passes where one that stands there does
+  some_pass : (test : A → Bool) (xs : List A) (x : A) → Has xs x → test x ≡ true → 0 < count_by test xs
+  some_pass test xs x has passes = by_place xs has.0 has.1
     where
       by_place : (xs : List A) (i : ℕ) → slice_get xs i ≡ Some x → 0 < count_by test xs
       by_place [] i e = absurd cc
@@ -76,10 +68,10 @@ module _ {A : Type 0} where
       let all = ap (count_by test) (sym (of-append a taken left) ∙ is) in
       omega (arith, all, sum_by-append (λ k. cond (test k) 1 0) (of a taken) (of a left))
 
-  put_there : (lists : List (List A)) (a : ℕ) (l : List A) → slice_get lists a ≡ Some l → put_by lists a ≡ l
-  put_there [] a l e = absurd cc
-  put_there (x ∷ xs) zero l e = let is : x ≡ l = cc in is
-  put_there (x ∷ xs) (suc a) l e = put_there xs a l e
+  put_by_at : (lists : List (List A)) (a : ℕ) (l : List A) → slice_get lists a ≡ Some l → put_by lists a ≡ l
+  put_by_at [] a l e = absurd cc
+  put_by_at (x ∷ xs) zero l e = let is : x ≡ l = cc in is
+  put_by_at (x ∷ xs) (suc a) l e = put_by_at xs a l e
 
 -- ---- frames and the parcels that they are in
 
@@ -104,12 +96,12 @@ frames_same q (m ∷ ms) =
     let b = sum_by-cons (λ (f : Frame). cond (f.to == q) 1 0) (frame_of m) (map frame_of ms) in
     omega (arith, a, b, frames_same q ms)
 
+same_parts : (frame other : Frame) → is_same_frame frame other ≡ true → (other.from ≡ frame.from) × (other.seq ≡ frame.seq)
+same_parts frame other same = let parts = and_parts (other.from == frame.from) (other.seq == frame.seq) same in (eqb-true other.from frame.from parts.0, eqb-true other.seq frame.seq parts.1)
+
 module _ (config : Config) (engines : List EngineState) (carriers : List CarrierState) (reports : List NodeReport) (g : IsGathered config engines carriers reports)
     (many : length engines ≡ config.nodes) (size : length reports ≡ config.nodes) (faults : ℕ → List Fault) (have : HaveFaults faults carriers)
     (wide : (p : ℕ) (c : CarrierState) → slice_get carriers p ≡ Some c → length c.inboxes ≡ config.nodes) where
-  abbrev Came : EngineState → ℕ → Frame → Type 0
-  Came e stamp frame = (number : ℕ) × (sent : ℕ) × Has e.inbox.taken (let m : ℕ × Parcel = (number, parcel sent frame) in m) × (sent < stamp)
-
   abbrev Node : ℕ → Type 0
   Node = OfNode config engines carriers reports g many size
 
@@ -118,7 +110,7 @@ module _ (config : Config) (engines : List EngineState) (carriers : List Carrier
     node : Node p
     log : IsLogOf config p trail node.report.log node.report.node
     handed : StartsWith (made_in config p trail) (map made_of node.e.outbox.put)
-    came : EachArrival (Came node.e) trail
+    came : EachArrival (CameFrom node.e) trail
     each_taken : HasTakenEach node.e.inbox.taken trail
 
   knows : (p : ℕ) → p < config.nodes → (trail : Trail) × Knows p trail
@@ -148,7 +140,6 @@ module _ (config : Config) (engines : List EngineState) (carriers : List Carrier
     taken : List (ℕ × Parcel)
     left : List (ℕ × Parcel)
     all : map (λ m. m.1) (taken ++ left) ≡ maker.outbox.put
-    to_is : frame.to ≡ q
     through : IsThrough (faults number) (replicate config.nodes none_taken) (passes frame) q taken
     most : count_by (passes frame) (of number inbox_taken) ≤ due (faults number) config.nodes (passes frame) q 0 taken
 
@@ -166,9 +157,9 @@ module _ (config : Config) (engines : List EngineState) (carriers : List Carrier
       let brought = kept.0 q inbox x column.3 in_box in
       let out = g.outbox number c column.2 in
       let sent_by = taken_was_put (out.0.outbox.put ∷ []) c.outbox.taken out.1 brought.1.0 x out.3 brought.1.1 in
-      let one = counted_where_had test inbox.put x in_box (and_from _ _ (eq-eqb frame.from frame.from refl) (eq-eqb frame.seq frame.seq refl)) in
+      let one = some_pass test inbox.put x in_box (and_from _ _ (eq-eqb frame.from frame.from refl) (eq-eqb frame.seq frame.seq refl)) in
       let most = kept.1 test q inbox column.3 in
-      let all_put : of number (e.inbox.taken ++ into.1) ≡ inbox.put = into.3 number ∙ put_there into.0 number put.0 put.1 ∙ column.4 in
+      let all_put : of number (e.inbox.taken ++ into.1) ≡ inbox.put = into.3 number ∙ put_by_at into.0 number put.0 put.1 ∙ column.4 in
       let few = count_taken test number e.inbox.taken into.1 inbox.put all_put in
       let own : due c.faults (length c.inboxes) test q 0 c.outbox.taken ≡ due (faults number) config.nodes test q 0 c.outbox.taken =
       ap (λ l. due l (length c.inboxes) test q 0 c.outbox.taken) (have number c column.2) ∙ ap (λ n. due (faults number) n test q 0 c.outbox.taken) (wide number c column.2) in
@@ -179,7 +170,6 @@ module _ (config : Config) (engines : List EngineState) (carriers : List Carrier
         taken = c.outbox.taken;
         left = out.1;
         all = fair_one out.0.outbox.put c.outbox.taken out.1 out.3;
-        to_is = brought.0;
         through = due_is_through (faults number) (replicate config.nodes none_taken) test q c.outbox.taken (omega (arith, one, most, own));
         most = omega (arith, few, most, own);
       }
@@ -222,24 +212,21 @@ module _ (config : Config) (engines : List EngineState) (carriers : List Carrier
         let it = carried q e m.0 m.1.stamp m.1.frame at (i, at_m) in
         let there : m.0 < config.nodes = subst (λ n. m.0 < n) many (slice_get_within engines m.0 it.maker it.maker_at) in
         let from = (numbered m.0 there it.maker it.maker_at it.was_put.0 m.1 it.was_put.1).0 in
-        sym from ∙ eqb-true m.1.frame.from frame.from (and_parts (m.1.frame.from == frame.from) (m.1.frame.seq == frame.seq) found).0 ∙ from_is
+        sym from ∙ (same_parts frame m.1.frame found).0 ∙ from_is
 
     -- of what a carrier took no other has the number
     only_there : (number : ℕ) (here : number < config.nodes) (maker : EngineState) (maker_at : slice_get engines number ≡ Some maker) (q : ℕ) (frame : Frame)
         (before after left : List (ℕ × Parcel)) (m : ℕ × Parcel) → map (λ k. k.1) ((before ++ m ∷ after) ++ left) ≡ maker.outbox.put → m.1.frame.seq ≡ frame.seq
         → (i : ℕ) (k : ℕ × Parcel) → slice_get (before ++ m ∷ after) i ≡ Some k → is_for (passes frame) q k.1 ≡ true → i ≡ length before
     only_there number here maker maker_at q frame before after left m whole seq_is i k at_k found =
-        let taken = before ++ m ∷ after in
-        let at_put : (j : ℕ) (n : ℕ × Parcel) → slice_get taken j ≡ Some n → slice_get maker.outbox.put j ≡ Some n.1 =
-        λ j n e. ap (λ l. slice_get l j) (sym whole) ∙ map_at (λ n. n.1) (taken ++ left) j n (get_left taken left j n e) in
+        let in_place = taken_in_place (before ++ m ∷ after) left maker.outbox.put whole in
         let pass = and_parts (k.1.frame.to == q) (passes frame k.1) found in
-        let same = eqb-true k.1.frame.seq frame.seq (and_parts (k.1.frame.from == frame.from) (k.1.frame.seq == frame.seq) pass.1).1 in
-        let one = (numbered number here maker maker_at i k.1 (at_put i k at_k)).1 in
-        let other = (numbered number here maker maker_at (length before) m.1 (at_put (length before) m (get_middle before m after))).1 in
-        sym one ∙ same ∙ sym seq_is ∙ other
+        let one = (numbered number here maker maker_at i k.1 (in_place i k at_k)).1 in
+        let other = (numbered number here maker maker_at (length before) m.1 (in_place (length before) m (get_middle before m after))).1 in
+        sym one ∙ (same_parts frame k.1.frame pass.1).1 ∙ sym seq_is ∙ other
 
-    let_through : (q : ℕ) (e : EngineState) → slice_get engines q ≡ Some e → (stamp : ℕ) (frame : Frame) → Came e stamp frame
-        → (trail : Trail) → HasTakenEach e.inbox.taken trail → LetsThrough (faults frame.from) config.nodes (frames_made config frame.from (trails frame.from)) (times_arrived frame trail) frame
+    let_through : (q : ℕ) (e : EngineState) → slice_get engines q ≡ Some e → (stamp : ℕ) (frame : Frame) → CameFrom e stamp frame
+        → (trail : Trail) → HasTakenEach e.inbox.taken trail → Arrives config faults trails trail frame
     let_through q e at stamp frame came trail each =
         let number = came.0 in
         let it = carried q e number came.1 frame at came.2 in
@@ -247,8 +234,8 @@ module _ (config : Config) (engines : List EngineState) (carriers : List Carrier
         let here : number < config.nodes = subst (λ n. number < n) many (slice_get_within engines number it.maker it.maker_at) in
         let whole : map (λ k. k.1) ((t.before ++ t.m ∷ t.after) ++ it.left) ≡ it.maker.outbox.put = ap (λ l. map (λ k. k.1) (l ++ it.left)) (sym t.split) ∙ it.all in
         let pass = and_parts (t.m.1.frame.to == q) (passes frame t.m.1) t.passes in
-        let seq_is : t.m.1.frame.seq ≡ frame.seq = eqb-true t.m.1.frame.seq frame.seq (and_parts (t.m.1.frame.from == frame.from) (t.m.1.frame.seq == frame.seq) pass.1).1 in
-        let place = middle t.before t.after it.left t.m it.maker.outbox.put whole in
+        let seq_is = (same_parts frame t.m.1.frame pass.1).1 in
+        let place : Has it.maker.outbox.put t.m.1 = (length t.before, taken_in_place (t.before ++ t.m ∷ t.after) it.left it.maker.outbox.put whole (length t.before) t.m (get_middle t.before t.m t.after)) in
         let is : frame_of t.m ≡ frame = same_frame number here it.maker it.maker_at t.m.1 (parcel came.1 frame) place it.was_put seq_is in
         let from_is : frame.from ≡ number = (numbered number here it.maker it.maker_at it.was_put.0 (parcel came.1 frame) it.was_put.1).0 in
         let more = map frame_of (t.after ++ it.left) ++ map frame_in (handed number here it.maker it.maker_at).0 in
@@ -271,15 +258,8 @@ module _ (config : Config) (engines : List EngineState) (carriers : List Carrier
             (let same = ap (λ f. copies f.twice) fate in omega (arith, each (is_same_frame frame), own, it.most, at_most, once, same)),
           ),
         )) in
-        (before, more, rest.0, rest.1)
+        (subst (λ n. n < config.nodes) (sym from_is) here, (before, more, rest.0, rest.1))
       where
-        middle : (before after left : List (ℕ × Parcel)) (m : ℕ × Parcel) (put : List Parcel) → map (λ k. k.1) ((before ++ m ∷ after) ++ left) ≡ put → Has put m.1
-        middle before after left m put e = (length before, ap (λ l. slice_get l (length before)) (sym e) ∙ at_front before)
-          where
-            at_front : (bs : List (ℕ × Parcel)) → slice_get (map (λ k. k.1) ((bs ++ m ∷ after) ++ left)) (length bs) ≡ Some m.1
-            at_front [] = refl
-            at_front (b ∷ bs) = at_front bs
-
         frames_more : (q : ℕ) (after left : List (ℕ × Parcel)) (rest : List Frame) → frames_for q after ≤ frames_to q (map frame_of (after ++ left) ++ rest)
         frames_more q after left rest =
             let f : Frame → ℕ = λ z. cond (z.to == q) 1 0 in
@@ -293,11 +273,12 @@ module _ (config : Config) (engines : List EngineState) (carriers : List Carrier
   keeps_to =
       let known = choose config.nodes Knows knows in
       record {
+        size = size;
         trails = known.0;
         logs = λ p report at.
             let k = known.1 p (subst (λ n. p < n) size (slice_get_within reports p report at)) in
             subst (λ r. IsLogOf config p (known.0 p) r.log r.node) (same_read reports p k.node.report report k.node.report_at at) k.log;
         arrivals = λ q l.
             let k = known.1 q l in
-            each_arrival (Came k.node.e) _ (λ stamp frame came. let_through known.0 known.1 q k.node.e k.node.e_at stamp frame came (known.0 q) k.each_taken) (known.0 q) k.came;
+            each_arrival (CameFrom k.node.e) _ (λ stamp frame came. let_through known.0 known.1 q k.node.e k.node.e_at stamp frame came (known.0 q) k.each_taken) (known.0 q) k.came;
       }

@@ -3,7 +3,8 @@ ghost use Rattle.std.specs.Prelude.{◌≡◌, ℕ, length, map, slice_get, Some
 ghost use Rattle.cast_run.specs.declared.jobs.Seat.{Seat};
 ghost use Rattle.cast_run.specs.Faults.{JobsFit};
 ghost use Rattle.cast_engine.specs.Group.{IsGroup, AreSetUp};
-ghost use Rattle.cast_run.specs.Fresh.{AreByPlan, HaveBoxesOf, HaveDesksOf};
+ghost use Rattle.cast_run.specs.Fresh.{HaveBoxesOf, HaveDesksOf};
+ghost use Rattle.cast_run.specs.Planned.{faults_of, HaveFaults};
 ghost use Rattle.cast_run.specs.Jobs.{IsCount, IsFresh};
 ghost use Rattle.cast_run.specs.Seats.{seat_job, seat_client};
 ghost use Rattle.cast_run.specs.Reports.{AreNewRows, AreSeated};
@@ -44,7 +45,8 @@ pub fn prepare<J: Drop>(
         × (length r.group.engines.items ≡ config.now.nodes)
         × (length r.group.carriers.items ≡ config.now.nodes)) }
     ensures set { IfOk result (λ r. AreSetUp config.now faults.now r.group.engines.items) }
-    ensures plan { IfOk result (λ r. AreByPlan faults.now r.group.carriers.items) }
+    ensures plan { IfOk result (λ r.
+        HaveFaults (faults_of faults.now) r.group.carriers.items) }
     ensures boxes { IfOk result (λ r. HaveBoxesOf config.now.box_size r.group.engines.items
         × HaveDesksOf config.now.box_size r.group.engines.items) }
     ensures seated { IfOk result (λ r.
