@@ -11,7 +11,7 @@ use Rattle.cast_engine.specs.declared.carrier.Delayed.{Delayed}
 use Rattle.cast_engine.specs.declared.carrier.Fate.{Fate}
 use Rattle.cast_engine.specs.declared.carrier.Ordinals.{Ordinals}
 use Rattle.cast_engine.specs.Fates.{kind_of, one_more, fate_in, counted_where, counted_in}
-use Rattle.cast_engine.specs.Copies.{none_taken, counted_all, ordinals_after, frames_for, is_for, copies, copies_after, due_from, due, IsThrough, IsByPlan}
+use Rattle.cast_engine.specs.Copies.{none_taken, counted_all, ordinals_after, frames_for, is_for, copies, copies_after, due_from, due, IsByPlan}
 use Rattle.cast_engine.specs.Carriers.{counted_down, kept_for, CarrierPlans, PutsUpTo, IsNoMore, IsByFate, IsKeptOrLost}
 
 -- ---- what is due, by one frame more
@@ -188,6 +188,17 @@ pub by_plan : (faults : List Fault) (ordinals : List Ordinals) (taken : List (�
 by_plan faults ordinals taken inboxes delayed k test q inbox at = omega (arith, k.1 test q 0 inbox at)
 
 -- ---- what is due is let through
+
+-- one of the parcels taken that are for target q and pass the test is not lost, and as many were taken for the target after it as it
+-- is delayed by
+pub record IsThrough (faults : List Fault) (ordinals : List Ordinals) (test : Parcel → Bool) (q : ℕ) (taken : List (ℕ × Parcel)) : Type 0 where
+  pub before : List (ℕ × Parcel)
+  pub m : ℕ × Parcel
+  pub after : List (ℕ × Parcel)
+  pub split : taken ≡ before ++ m ∷ after
+  pub passes : is_for test q m.1 ≡ true
+  pub spared : (fate_in faults (counted_all ordinals before) m.1.frame).lost ≡ false
+  pub waited : (fate_in faults (counted_all ordinals before) m.1.frame).delay ≤ frames_for q after
 
 let_through : (b : Bool) (fate : Fate) (n : ℕ) → 0 < cond b (copies_after fate n) 0 → (b ≡ true) × (fate.lost ≡ false) × (fate.delay ≤ n)
 let_through false fate n some = absurd (omega (arith, some))

@@ -3,9 +3,8 @@
 --     frames_for q taken                        how many frames of either kind were taken for target q
 --     due faults targets test q more taken      how many copies of the parcels for target q that pass a test are due once so
 --                                               many more frames are taken for it
---     IsThrough faults ordinals test q taken    a parcel for target q that passes a test is not lost, nor delayed any more
 --     IsByPlan faults taken inboxes             however parcels are told apart, no more of them were put than are due by now
-use Rattle.std.specs.Prelude.{◌≡◌, ℕ, ◌+◌, ◌≤◌, ◌==◌, nat_lt, Bool, true, false, ◌&&◌, ◌||◌, cond, if◌then◌else◌, List, [], ◌∷◌, ◌++◌, length, replicate, slice_get, Some}
+use Rattle.std.specs.Prelude.{◌≡◌, ℕ, ◌+◌, ◌≤◌, ◌==◌, nat_lt, Bool, ◌&&◌, ◌||◌, cond, if◌then◌else◌, List, [], ◌∷◌, length, replicate, slice_get, Some}
 use Rattle.std.specs.List.{fold, count_by}
 use Rattle.cast_box.specs.Ends.{PutterEnd}
 use Rattle.cast_script.specs.declared.script.Fault.{Fault}
@@ -17,7 +16,7 @@ use Rattle.cast_engine.specs.Fates.{fate_in, counted_in}
 abbrev pub none_taken : Ordinals
 none_taken = record { carry = 0; took = 0 }
 
--- the ordinals, and all that were taken more
+-- the ordinals once these were taken too
 abbrev pub counted_all : List Ordinals → List (ℕ × Parcel) → List Ordinals
 counted_all ordinals taken = fold (λ counts m. counted_in counts m.1.frame) ordinals taken
 
@@ -39,7 +38,7 @@ copies twice = if twice then 2 else 1
 abbrev pub copies_after : Fate → ℕ → ℕ
 copies_after fate frames = if fate.lost || nat_lt frames fate.delay then 0 else copies fate.twice
 
--- the same of all that were taken, the first of them with these ordinals
+-- the copies that are due of all parcels taken that are for the target and pass the test, the first of them with these ordinals
 unfoldable pub due_from : List Fault → List Ordinals → (Parcel → Bool) → ℕ → ℕ → List (ℕ × Parcel) → ℕ
 due_from faults ordinals test q more [] = 0
 due_from faults ordinals test q more (m ∷ ms) =
@@ -48,16 +47,6 @@ due_from faults ordinals test q more (m ∷ ms) =
 
 abbrev pub due : List Fault → ℕ → (Parcel → Bool) → ℕ → ℕ → List (ℕ × Parcel) → ℕ
 due faults targets test q more taken = due_from faults (replicate targets none_taken) test q more taken
-
--- such a parcel is not lost, and as many were taken for its target after it as it is delayed by
-pub record IsThrough (faults : List Fault) (ordinals : List Ordinals) (test : Parcel → Bool) (q : ℕ) (taken : List (ℕ × Parcel)) : Type 0 where
-  pub before : List (ℕ × Parcel)
-  pub m : ℕ × Parcel
-  pub after : List (ℕ × Parcel)
-  pub split : taken ≡ before ++ m ∷ after
-  pub passes : is_for test q m.1 ≡ true
-  pub spared : (fate_in faults (counted_all ordinals before) m.1.frame).lost ≡ false
-  pub waited : (fate_in faults (counted_all ordinals before) m.1.frame).delay ≤ frames_for q after
 
 abbrev pub IsByPlan : List Fault → List (ℕ × Parcel) → List (PutterEnd Parcel) → Type 0
 IsByPlan faults taken inboxes =

@@ -85,8 +85,8 @@ pub record Leaves (e : EngineState) (log : List Entry) (node : Kept) (ended : Op
   pub rises : Rises e.config.first_stamp log clock
   pub ends : EndsAs e.config.log_limit e.crash ended log
 
--- the log tells of the node's steps; what was put into the outbox was made by them, with their stamps, and in their order; and each frame
--- that arrived was taken from the inbox, in a parcel of its own, with a smaller stamp
+-- the log tells of the node's steps; what was put into the outbox is the first of the frames that they made, in order, with their
+-- stamps; and each frame that arrived came out of the inbox in a parcel of its own, whose stamp is smaller than the arrival's
 pub record Tells (e : EngineState) (log : List Entry) (node : Kept) : Type 0 where
   pub trail : Trail
   pub tells : IsLogOf e.config e.me trail log node

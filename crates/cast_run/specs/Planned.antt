@@ -61,7 +61,7 @@ Arrives config faults trails trail frame =
     (frame.from < config.nodes)
     × LetsThrough (faults frame.from) config.nodes (frames_made config frame.from (trails frame.from)) (times_arrived frame trail) frame
 
--- each node has a report, its log tells of its steps, and so is each frame that arrived by them
+-- each node has a report, its log tells of the steps that it took, and the plan let each frame through that arrived by them
 pub record KeepsTo (config : Config) (faults : ℕ → List Fault) (reports : List NodeReport) : Type 0 where
   pub size : length reports ≡ config.nodes
   pub trails : ℕ → Trail
