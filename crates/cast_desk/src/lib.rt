@@ -7,8 +7,6 @@ mod client;
 mod desk;
 mod make;
 mod notice;
-#[cfg(test)]
-mod tests;
 mod told;
 
 pub use client::{Client, DeskFault};

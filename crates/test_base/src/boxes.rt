@@ -1,14 +1,11 @@
 //! The worked rows `box-of-one` and `box-limits`.
 use cast_box::{BoxFault, gather, make_box};
-use std::alloc::AllocError;
 use std::test::*;
 use test_boxes::exchange;
 
 #[test]
 fn box_of_one(rt: HostRuntime) -> Result<(), Fail> {
-    let Ok((mut putters, mut taker)) = make_box::<u64>(rt.alloc(), 1, 2) else {
-        return Err(Fail::from(AllocError));
-    };
+    let (mut putters, mut taker) = make_box::<u64>(rt.alloc(), 1, 2)?;
     assert!(&rt; putters[0].put(&rt, 10).is_ok());
     assert!(&rt; putters[1].put(&rt, 20).map_err(|full| full.item) == Err(20));
     assert!(&rt; taker.take(&rt) == Some(10));
@@ -33,9 +30,7 @@ fn box_limits(rt: HostRuntime) -> Result<(), Fail> {
         let answer = make_box::<u64>(rt.alloc(), *size, *putters).map(|_| ());
         assert!(&rt; answer == Err(*fault));
     }
-    let Ok((ends, _taker)) = make_box::<u64>(rt.alloc(), 4096, 64) else {
-        return Err(Fail::from(AllocError));
-    };
+    let (ends, _taker) = make_box::<u64>(rt.alloc(), 4096, 64)?;
     assert!(&rt; ends.len() == 64);
     Ok(())
 }

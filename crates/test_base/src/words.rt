@@ -32,10 +32,8 @@ fn reads_words(rt: HostRuntime) -> Result<(), Fail> {
     for word in NO_NUMBERS {
         assert!(rt; number(word) == None);
     }
-    let Some(bytes) = bytes_of(rt.alloc(), b"009fff")? else {
-        return Err(Fail::from(Failed));
-    };
-    assert!(rt; bytes.as_slice() == [0, 159, 255].as_slice());
+    let bytes = bytes_of(rt.alloc(), b"009fff")?;
+    assert!(rt; matches!(&bytes, Some(bytes) if bytes.as_slice() == [0, 159, 255].as_slice()));
     for word in NO_BYTES {
         assert!(rt; bytes_of(rt.alloc(), word)?.is_none());
     }

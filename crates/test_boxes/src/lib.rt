@@ -152,9 +152,9 @@ fn start_taker<R: Threads + Wait + Copy + Send + 'static>(
     Ok(thread)
 }
 
-/// Each putter of a box puts `count` numbers in a thread of its own, putter a those from a times `count` on, and a further thread takes `takes` of them. What was
-/// taken and then what is left has each putter's numbers in order, and no others. Where `takes` is more than the putters put
-/// together it does not return.
+/// Each putter of a box puts `count` numbers in a thread of its own, putter a those from a times `count` on, and a further thread
+/// takes `takes` of them. What was taken and then what is left has each putter's numbers in order, and no others. Where `takes`
+/// is more than the putters put together it does not return.
 pub fn exchange<R: Threads + Wait + Copy + Send + 'static>(
     rt: R,
     alloc: Global,

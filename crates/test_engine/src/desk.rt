@@ -1,6 +1,6 @@
 //! The worked rows `desk-of-one` and, as far as it speaks of desks, `box-limits`.
-use super::*;
 use cast_box::{BoxFault, Full};
+use cast_desk::{DeskFault, Notice, OrderIn, end_desk, feed, make_desk};
 use cast_message::{Event, Item, List, Message, NodeId, Outcome};
 use cast_node::{Entry, EntryKind, Origin};
 use std::alloc::{AllocError, Global};
@@ -16,17 +16,20 @@ fn reply() -> Notice {
 
 #[test]
 fn desk_of_one(rt: HostRuntime) -> Result<(), Fail> {
-    let Ok((mut clients, mut desk)) = make_desk(rt.alloc(), 1, 2, 0) else {
-        return Err(Fail::from(AllocError));
-    };
+    let (mut clients, mut desk) = make_desk(rt.alloc(), 1, 2, 0)?;
     assert!(&rt; matches!(clients[0].submit(&rt, Item::Close), Ok(0)));
     let refused = clients[1].submit(&rt, Item::Close);
     assert!(&rt; matches!(refused, Err(DeskFault::Full(Item::Close))));
-    let Some(order) = desk.take(&rt) else {
-        return Err(Fail::from(AllocError));
-    };
-    assert_eq!(&rt; (order.client, order.ticket), (0, 0));
-    assert!(&rt; matches!(order.item, Item::Close));
+    assert!(&rt;
+        matches!(
+            desk.take(&rt),
+            Some(OrderIn {
+                client: 0,
+                ticket: 0,
+                item: Item::Close
+            })
+        )
+    );
     assert!(&rt; matches!(clients[1].submit(&rt, Item::Close), Ok(0)));
     assert!(&rt; desk.notify(&rt, 0, reply()).is_ok());
     assert!(&rt;
@@ -56,9 +59,7 @@ fn desk_of_one(rt: HostRuntime) -> Result<(), Fail> {
 #[test]
 fn last_ticket(rt: HostRuntime) -> Result<(), Fail> {
     let last = 18446744073709551614;
-    let Ok((mut clients, _desk)) = make_desk(rt.alloc(), 4, 1, last) else {
-        return Err(Fail::from(AllocError));
-    };
+    let (mut clients, _desk) = make_desk(rt.alloc(), 4, 1, last)?;
     assert!(&rt;
         matches!(
             clients[0].submit(&rt, Item::Close),
@@ -85,9 +86,7 @@ fn desk_limits(rt: HostRuntime) {
 
 #[test]
 fn nothing_is_left(rt: HostRuntime) -> Result<(), Fail> {
-    let Ok((clients, desk)) = make_desk(rt.alloc(), 1, 2, 0) else {
-        return Err(Fail::from(AllocError));
-    };
+    let (clients, desk) = make_desk(rt.alloc(), 1, 2, 0)?;
     let mut left = end_desk(&rt, clients, desk);
     assert!(&rt; left.next_left(&rt).is_none());
     Ok(())
@@ -127,20 +126,16 @@ fn log_of_one_order(alloc: Global) -> Result<Vec<Entry>, AllocError> {
 fn feed_of_one_order(rt: HostRuntime) -> Result<(), Fail> {
     let log = log_of_one_order(rt.alloc())?;
     let own = feed(rt.alloc(), &log, 0)?;
-    let [
-        Notice::Reply { ticket, outcome },
-        Notice::Delivered(message),
-    ] = own.as_slice()
-    else {
-        return Err(Fail::from(AllocError));
-    };
-    assert_eq!(&rt; (*ticket, *outcome), (0, Ok(0)));
-    assert!(&rt; is_first_close(message));
+    assert!(&rt;
+        matches!(
+            own.as_slice(),
+            [Notice::Reply { ticket: 0, outcome: Ok(0) }, Notice::Delivered(message)] if is_first_close(message)
+        )
+    );
     let others = feed(rt.alloc(), &log, 1)?;
-    let [Notice::Delivered(message)] = others.as_slice() else {
-        return Err(Fail::from(AllocError));
-    };
-    assert!(&rt; is_first_close(message));
+    assert!(&rt;
+        matches!(others.as_slice(), [Notice::Delivered(message)] if is_first_close(message))
+    );
     Ok(())
 }
 
