@@ -8,8 +8,8 @@
 use anyhow::{Context, Result, bail, ensure};
 use cast_message::NodeId;
 use cast_report::{EngineEnd, GroupReport};
-use cast_run::run_live;
-use run_setup::{Shape, lose_every, no_faults, open_gates, submit_each};
+use cast_run::{OpenGate, run_live};
+use run_setup::{Shape, lose_every, no_faults, submit_each};
 use std::alloc::{AllocError, Global};
 use std::env;
 use std::rt::{Clock, Runtime};
@@ -130,7 +130,7 @@ fn run<R: Threads + Wait + Copy + Send + 'static>(
     };
     let each = each_node(alloc, nodes)?;
     let jobs = submit_each(alloc, each.as_slice(), items)?;
-    let gates = open_gates(alloc, config.nodes())?;
+    let gates = OpenGate::for_nodes(alloc, config.nodes())?;
     let run = run_live(rt, alloc, config, &plan, jobs, gates, TURNS)?;
     Ok(outcome_of(&run.report))
 }

@@ -1,5 +1,5 @@
 -- What became of the orders of a client, read off what the engine did.
-use Rattle.std.proofs.Common.{◌≡◌, ℕ, zero, suc, ◌<◌, Bool, true, false, List, [], ◌∷◌, ◌++◌, map, Option, None, sym, refl, ap, ◌∙◌, subst, ⊎_elim, arith}
+use Rattle.std.proofs.Common.{◌≡◌, ℕ, zero, suc, ◌<◌, Bool, true, false, List, [], ◌∷◌, ◌++◌, map, None, sym, refl, ap, ◌∙◌, subst, ⊎_elim, arith}
 use Rattle.std.specs.Prelude.{if◌then◌else◌, nat_lt, ◌==◌}
 use Rattle.std.specs.List.{filter}
 use Rattle.std.proofs.lemmas.List.{append-nil}
@@ -162,19 +162,19 @@ module _ (config : Config) (p : ℕ) (c : ℕ) where
       (both_or_none S (entries_of c log) (orders_by c (orders_of rs)) e order (order.client == c) old now))
 
 -- what is no order has no origin to tell of
-moved_origin : (P : Origin → Type 0) (p : ℕ) (step : Step) (origin : Option Origin) (outcome : Outcome) → is_order step ≡ false → HasOriginOf P (StepEntry (event_of p step) origin outcome)
-moved_origin P p (Ordered item) origin outcome h = absurd (false≢true (sym h))
-moved_origin P p (Sent to slot) origin outcome h = tt
-moved_origin P p (Acknowledged to slot) origin outcome h = tt
-moved_origin P p (Arrived frame) origin outcome h = tt
-moved_origin P p Stopped origin outcome h = tt
+moved_origin : (P : Origin → Type 0) (p : ℕ) (step : Step) (outcome : Outcome) → is_order step ≡ false → HasOriginOf P (StepEntry (event_of p step) None outcome)
+moved_origin P p (Ordered item) outcome h = absurd (false≢true (sym h))
+moved_origin P p (Sent to slot) outcome h = refl
+moved_origin P p (Acknowledged to slot) outcome h = refl
+moved_origin P p (Arrived frame) outcome h = refl
+moved_origin P p Stopped outcome h = refl
 
 pub origin_still : (P Q : Origin → Type 0) (kind : EntryKind) → ((o : Origin) → P o → Q o) → HasOriginOf P kind → HasOriginOf Q kind
 origin_still P Q (StepEntry (Order node item) origin outcome) f h = (h.0, h.1, f h.0 h.2)
-origin_still P Q (StepEntry (Send from to slot) origin outcome) f h = tt
-origin_still P Q (StepEntry (Ack from to slot) origin outcome) f h = tt
-origin_still P Q (StepEntry (Arrive from seq) origin outcome) f h = tt
-origin_still P Q (StepEntry (Crash node) origin outcome) f h = tt
+origin_still P Q (StepEntry (Send from to slot) origin outcome) f h = h
+origin_still P Q (StepEntry (Ack from to slot) origin outcome) f h = h
+origin_still P Q (StepEntry (Arrive from seq) origin outcome) f h = h
+origin_still P Q (StepEntry (Crash node) origin outcome) f h = h
 origin_still P Q (Refused origin fault) f h = f origin h
 
 pub run_origins : (config : Config) (p : ℕ) (run : Run) → IsRun config p run → (e : Entry) → Has (log_of config p run) e → HasOriginOf (IsOriginIn (orders_of run)) e.kind
@@ -188,7 +188,7 @@ run_origins config p (r ∷ rs) is e h =
     (has_snoc (log_of config p rs) new e h)
   where
     last : (r : Read) → IsRead config p (steps_in config p (trail_of rs)) r → HasOriginOf (IsOriginIn (orders_of rs ++ order_by r)) (entry_by config p (steps_in config p (trail_of rs)) r).kind
-    last (Moved stamp step) read = moved_origin (IsOriginIn (orders_of rs ++ [])) p step None (outcome_in (node_reply config p (steps_in config p (trail_of rs)) step)) read.2
+    last (Moved stamp step) read = moved_origin (IsOriginIn (orders_of rs ++ [])) p step (outcome_in (node_reply config p (steps_in config p (trail_of rs)) step)) read.2
     last (Served stamp order) read = (origin_of order, refl, (order, has_last (orders_of rs) order, refl))
     last (Denied stamp order fault) read = (order, has_last (orders_of rs) order, refl)
 

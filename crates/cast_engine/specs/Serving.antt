@@ -2,7 +2,7 @@
 --     entries_of c log                     the entries with an origin at client c
 --     IsAnswered config p trail e order    the entry took the order as a step, or refused it as the steps before it say
 --     Matches R xs ys                      the two lists are related one for one, in order
---     HasOriginOf P kind                   an entry of an order, taken or refused, has an origin of which P holds
+--     HasOriginOf P kind                   an entry of an order, taken or refused, has an origin of which P holds, and no other has one
 --     Serves config p log trail orders     for each client its entries and its orders match, and each order in the log is one of them
 use Rattle.std.specs.Prelude.{◌≡◌, ℕ, ◌==◌, nat_lt, Bool, false, if◌then◌else◌, List, [], ◌∷◌, Option, Some, None}
 use Rattle.std.specs.List.{filter}
@@ -51,10 +51,10 @@ Matches R [] (y ∷ ys) = ⊥
 Matches R (x ∷ xs) [] = ⊥
 Matches R (x ∷ xs) (y ∷ ys) = R x y × Matches R xs ys
 
--- an entry of an order, taken or refused, has an origin of which this holds
+-- an entry of an order, taken or refused, has an origin of which this holds, and no other entry has one
 abbrev pub HasOriginOf : (Origin → Type 0) → EntryKind → Type 0
 HasOriginOf P (StepEntry (Order node item) origin outcome) = (o : Origin) × (origin ≡ Some o) × P o
-HasOriginOf P (StepEntry event origin outcome) = Unit {0}
+HasOriginOf P (StepEntry event origin outcome) = origin ≡ None
 HasOriginOf P (Refused origin fault) = P origin
 
 abbrev pub IsOriginIn : List OrderIn → Origin → Type 0

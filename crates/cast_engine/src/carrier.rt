@@ -143,8 +143,8 @@ impl Carrier {
         }
     }
 
-    /// The ends. What is delayed is lost. What was put is of the frames that were taken, and as the plan says: nothing that it loses
-    /// or still delays, and nothing twice but what it repeats.
+    /// The ends. What is delayed is lost. What was put is of the frames that were taken, and as the plan says: nothing that it
+    /// loses or still delays, and nothing twice but what it repeats.
     pub fn into_parts(self) -> (Taker<Parcel>, Vec<Putter<Parcel>>)
         ensures parts { (result.0 ≡ self.outbox) × (result.1.items ≡ self.inboxes) }
         ensures kept { Brings self.outbox.taken self.inboxes }

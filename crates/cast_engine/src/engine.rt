@@ -175,9 +175,9 @@ impl Engine {
         if moved { Turn::Moved } else { Turn::Idle }
     }
 
-    // What a turn does: exchanges parcels, takes an order, sends a slot that is due, puts notices, and tells the board whether the
-    // engine is quiet. Answers whether anything but the last was done. The jobs are asked before the desk is found empty and the
-    // trays full: once no job is left, both stay so, and are looked at no more.
+    // What a turn does: exchanges parcels, takes an order, sends a slot that is due, puts notices, and tells the board whether
+    // the engine is quiet. Answers whether anything but the last was done. The jobs are asked before the desk is found empty and
+    // the trays full: once no job is left, both stay so, and are looked at no more.
     #[tactic(auto, using(crate::proofs::Again::desk_same))]
     fn work<R: Wait>(&mut self, rt: &R, board: &Board, quiet: &mut Quiet) -> bool
         ensures { IsSameEngine self.old self.new }

@@ -5,14 +5,13 @@ ghost use Rattle.cast_report.specs.Linked.{event_of};
 ghost use Rattle.cast_node.specs.Calls.{sent_reply};
 ghost use Rattle.cast_node.specs.Kept.{nothing_kept};
 ghost use Rattle.cast_node.specs.Turns.{Gives, frame_made};
-ghost use Rattle.cast_model.specs.OwnSteps.{nothing};
 ghost use Rattle.cast_report.specs.declared.report.EngineEnd.TheVariants.{Crashed};
 ghost use Rattle.cast_engine.specs.Journals.{MayLog, LogsStep, LogsOrder, OnlyEnds, Halts, HaltsBy, Rises, EndsAs, AsksOrder, IsQuietEnd};
 
 use crate::parcel::Parcel;
 use cast_desk::OrderIn;
 use cast_message::{Config, Event, Frame, FrameKind, Item, List, NodeId, Outcome, StepFault};
-use cast_node::{Entry, EntryKind, Node, Origin};
+use cast_node::{Entry, EntryKind, Node, Origin, no_news};
 use cast_report::EngineEnd;
 use std::alloc::{AllocError, Global};
 use std::marker::Model;
@@ -313,14 +312,4 @@ fn ask(node: &mut Node, item: Item) -> Result<(Item, Outcome), StepFault>
     let copy = item.copy()?;
     let (_number, outcome) = node.order(item)?;
     Ok((copy, outcome))
-}
-
-/// Nothing is delivered or decided.
-fn no_news(alloc: Global) -> Outcome
-    ensures { result ≡ nothing }
-{
-    Outcome {
-        deliveries: List::new(alloc),
-        decisions: List::new(alloc),
-    }
 }

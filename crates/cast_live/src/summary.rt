@@ -44,10 +44,11 @@ pub fn summarize(alloc: Global, run: &FinishedRun) -> Result<Summary, AllocError
     })
 }
 
-/// Writes the summary of the run. It takes no memory. A refusal comes only where the writer failed or took no byte; a prefix of
-/// the text stands then.
+/// Writes the summary of the run, of which `summarize` said so. It takes no memory. A refusal comes only where the writer failed
+/// or took no byte; a prefix of the text stands then.
 pub fn write_summary<W: Write>(run: &FinishedRun, said: Summary, writer: &mut Meter<W>) -> Written
     requires run { IsFinished run.now }
+    requires said { IsSummaryOf run.now.report.config run.now.assembly.events said }
     requires writer { writer.old.failed ≡ false }
     ensures { Puts W.contents writer.old writer.new result
         (summary_text run.now.report.config (history run.now.report.config run.now.assembly.events)

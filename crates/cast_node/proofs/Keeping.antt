@@ -1,5 +1,5 @@
 -- What a node's fields keep, through its steps.
-use Rattle.std.specs.Prelude.{◌≡◌, ℕ, ◌+◌, ◌-◌, ◌≤◌, ◌==◌, nat_le, Bool, true, false, not, ◌&&◌, ◌||◌, List, [], ◌∷◌, ◌++◌, length, refl}
+use Rattle.std.specs.Prelude.{◌≡◌, ℕ, ◌+◌, ◌-◌, ◌≤◌, ◌==◌, nat_le, Bool, true, false, not, ◌&&◌, ◌||◌, List, [], ◌∷◌, ◌++◌, length, refl, Result, Ok, Err, OnErr, is_err}
 use Rattle.std.specs.List.{list_any}
 use Rattle.std.specs.Ordering.{nat_cmp, eq_by_cmp}
 use Rattle.std.specs.Cmp.{nat_cmp_total}
@@ -44,33 +44,22 @@ withdrawn proposed items (Data payload) h e = refl
 withdrawn proposed items Close h e = refl
 withdrawn proposed items (Propose j value) h e = remove-inserted proposed j (h j ∙ e)
 
--- nothing changes, but that something may be owed
+-- nothing changes
 pub keeps_all : (config : Config) (me : ℕ) (stream stream' : List Item) (closed : Bool) (proposed proposed' : set.FinSet nat_cmp) (relay relay' : Held) (outgoing outgoing' : List (Link Message)) (incoming : List (set.FinSet nat_cmp)) (ds ds' : Delivering) (quiet : Bool) →
-    IsNode config me stream closed proposed relay outgoing incoming ds quiet → stream' ≡ stream → proposed' ≡ proposed → relay' ≡ relay → outgoing' ≡ outgoing → ds' ≡ ds → IsNode config me stream' closed proposed' relay' outgoing' incoming ds' false
+    IsNode config me stream closed proposed relay outgoing incoming ds quiet → stream' ≡ stream → proposed' ≡ proposed → relay' ≡ relay → outgoing' ≡ outgoing → ds' ≡ ds → IsNode config me stream' closed proposed' relay' outgoing' incoming ds' quiet
 keeps_all config me stream stream' closed proposed proposed' relay relay' outgoing outgoing' incoming ds ds' quiet h s p r o d =
-    subst (λ x. IsNode config me x closed proposed' relay' outgoing' incoming ds' false) (sym s)
-    (subst (λ x. IsNode config me stream closed x relay' outgoing' incoming ds' false) (sym p)
-    (subst (λ x. IsNode config me stream closed proposed x outgoing' incoming ds' false) (sym r)
-    (subst (λ x. IsNode config me stream closed proposed relay x incoming ds' false) (sym o)
-    (subst (λ x. IsNode config me stream closed proposed relay outgoing incoming x false) (sym d) (unquiet h)))))
-  where
-    unquiet : IsNode config me stream closed proposed relay outgoing incoming ds quiet → IsNode config me stream closed proposed relay outgoing incoming ds false
-    unquiet h = record {
-      place = h.place;
-      relay_me = h.relay_me;
-      relay_own = h.relay_own;
-      room = h.room;
-      closes = h.closes;
-      proposals = h.proposals;
-      mode = h.mode;
-      faults = h.faults;
-      peers_out = h.peers_out;
-      peers_in = h.peers_in;
-      senders = h.senders;
-      rows = h.rows;
-      owes = h.owes;
-      silent = λ e. absurd (false≢true e);
-    }
+    subst (λ x. IsNode config me x closed proposed' relay' outgoing' incoming ds' quiet) (sym s)
+    (subst (λ x. IsNode config me stream closed x relay' outgoing' incoming ds' quiet) (sym p)
+    (subst (λ x. IsNode config me stream closed proposed x outgoing' incoming ds' quiet) (sym r)
+    (subst (λ x. IsNode config me stream closed proposed relay x incoming ds' quiet) (sym o)
+    (subst (λ x. IsNode config me stream closed proposed relay outgoing incoming x quiet) (sym d) h))))
+
+-- what was refused leaves nothing owed, where nothing was
+pub still_silent : {X E : Type 0} (r : Result X E) (quiet : Bool) (outgoing outgoing' : List (Link Message)) → OnErr r (outgoing' ≡ outgoing) → (quiet ≡ true → OwesNothing outgoing) → (quiet && is_err r) ≡ true → OwesNothing outgoing'
+still_silent (Err x) true outgoing outgoing' same silent e = subst OwesNothing (sym same) (silent refl)
+still_silent (Err x) false outgoing outgoing' same silent e = absurd (false≢true e)
+still_silent (Ok x) true outgoing outgoing' same silent e = absurd (false≢true e)
+still_silent (Ok x) false outgoing outgoing' same silent e = absurd (false≢true e)
 
 -- lists of the same length
 pub keeps_rows : (config : Config) (me : ℕ) (stream : List Item) (closed : Bool) (proposed : set.FinSet nat_cmp) (relay relay' : Held) (outgoing outgoing' : List (Link Message)) (incoming incoming' : List (set.FinSet nat_cmp)) (ds ds' : Delivering) (quiet quiet' : Bool) →

@@ -113,7 +113,8 @@ impl Deliveries {
         self.agree.decision(instance)
     }
 
-    /// These nodes are known to hold a pair, which came in this slot. Where they are enough, what has its turn by it is delivered.
+    /// These nodes are known to hold a pair, which came in this slot. Where they are enough, what has its turn by it is
+    /// delivered.
     pub fn tell<S: TakesSlot>(
         &mut self,
         sender: NodeId,

@@ -429,15 +429,17 @@ impl Node {
             source: from,
             members: first_members(self.me, message.sender, from),
         };
-        self.quiet = false;
-        take_up_carried(
+        let answer = take_up_carried(
             &mut self.relay,
             &mut self.outgoing,
             &mut self.deliveries,
             &mut self.incoming[place],
             slot,
             fresh,
-        )
+        );
+        // Where it was refused no more is owed than before.
+        self.quiet &= answer.is_err();
+        answer
     }
 
     // Takes a slot of a peer with a message that the node holds in it.
@@ -707,7 +709,6 @@ impl Node {
         self.stream.reserve(1)?;
         let kept = item.copy()?;
         propose(&mut self.proposed, &kept)?;
-        self.quiet = false;
         match take_up_own(
             &mut self.relay,
             &mut self.outgoing,
@@ -716,6 +717,7 @@ impl Node {
             item,
         ) {
             Ok(outcome) => {
+                self.quiet = false;
                 self.closed = is_close(&kept);
                 self.stream.push_reserved(kept);
                 Ok(outcome)

@@ -72,12 +72,8 @@ pub fn make(
 pub fn find(marks: &Vec<Vec<Mark>>, from: NodeId, seq: u64) -> Result<Mark, StepFault>
     ensures { FindsMark (map (λ row. row.items) marks.now.items) from seq result }
 {
-    let Some(row) = marks.get(usize::from(from.0)) else {
-        return Err(StepFault::NoNode);
-    };
-    let Some(mark) = row.get(seq as usize) else {
-        return Err(StepFault::NoFrame);
-    };
+    let row = marks.get(usize::from(from.0)).ok_or(StepFault::NoNode)?;
+    let mark = row.get(seq as usize).ok_or(StepFault::NoFrame)?;
     Ok(*mark)
 }
 
@@ -209,8 +205,5 @@ pub fn arrive(node: &mut Node, frame: &Frame) -> Reply
 fn or_memory(fault: Option<StepFault>) -> StepFault
     ensures { IsRefused fault result }
 {
-    match fault {
-        Some(fault) => fault,
-        None => StepFault::Memory,
-    }
+    fault.unwrap_or(StepFault::Memory)
 }

@@ -153,10 +153,7 @@ impl World {
             let outcome = no_news(self.alloc);
             return Ok(Answer::Arrived { node, outcome });
         }
-        let mark = match frames::find(&self.marks, from, seq) {
-            Ok(mark) => mark,
-            Err(fault) => return Err(fault),
-        };
+        let mark = frames::find(&self.marks, from, seq)?;
         let place = usize::from(mark.to.0);
         if let Some(fault) = self.nodes[place].arrive_fault() {
             return Err(fault);

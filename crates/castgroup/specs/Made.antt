@@ -9,10 +9,11 @@
 --     BreaksOff command input old new     after a fault the known bytes are a front of the old ones and what the command makes of its
 --                                         input behind them
 --     RunsScript input run                the run is of the script that is the input
---     output_text output run              what is written of a group that ran in threads
+--     IsTold output run                   what an output says of a group that ran in threads is so
+--     output_text output run              what is written of such a group
 use Rattle.std.specs.Prelude.{◌≡◌, ◌<◌, ◌≤◌, ◌++◌, ◌⊎◌, ℕ, List, [], ◌∷◌, length, Bool, true, false, Option, None, Some, IfSome, Err}
 use Rattle.std.specs.Io.KnownBytes.{append_known}
-use Rattle.cast_live.specs.Live.{IsRunOf, ends_of, summary_text}
+use Rattle.cast_live.specs.Live.{IsRunOf, IsSummaryOf, ends_of, summary_text}
 use Rattle.cast_live.specs.Replayed.{record_of_accepted}
 use Rattle.cast_live.specs.declared.live.FinishedRun.{FinishedRun}
 use Rattle.cast_model.specs.Replies.{history}
@@ -76,6 +77,10 @@ pub record RunsScript (input : Option (List ℕ)) (run : FinishedRun) : Type 0 w
   pub read : IsScriptIn input script
   pub config : run.report.config ≡ script.config
   pub ran : IsRunOf script run.report.reports
+
+abbrev pub IsTold : Output → FinishedRun → Type 0
+IsTold (Kept kept) run = Unit {0}
+IsTold (Summary said) run = IsSummaryOf run.report.config run.assembly.events said
 
 abbrev pub output_text : Output → FinishedRun → List ℕ
 output_text (Kept Record) run = record_text (record_of_accepted run.report.config run.assembly.events)

@@ -2,9 +2,9 @@
 ghost use Rattle.std.specs.Prelude.{◌≡◌, [], false, IfOk, OnOk, OnErr};
 ghost use Rattle.std.specs.Io.Buffered.{writer_buffer, writer_inner};
 ghost use Rattle.std.specs.Io.KnownBytes.{Appends, append_known};
-ghost use Rattle.cast_live.specs.Live.{IsFinished};
+ghost use Rattle.cast_live.specs.Live.{IsFinished, IsSummaryOf};
 ghost use Rattle.cast_text.specs.Text.{WroteFront};
-ghost use Rattle.castgroup.specs.Made.{IsCut, RunsScript, output_text};
+ghost use Rattle.castgroup.specs.Made.{IsCut, IsTold, RunsScript, output_text};
 
 use crate::explain::{explain_fault, explain_output, explain_run};
 use crate::output::hand_on;
@@ -122,7 +122,7 @@ fn run_live_script<I: Read, R: Runtime + AllocGlobal + Threads + Wait + Copy + S
     };
     let run = run_script(*rt, rt.alloc(), script, &progress);
     if let Some(teller) = teller {
-        teller.stop(rt);
+        teller.stop();
     }
     run
 }
@@ -158,6 +158,7 @@ enum Output {
 impl Output {
     fn write<W: Write>(self, run: &FinishedRun, writer: &mut Meter<W>) -> Result<(), TextFault>
         requires run { IsFinished run.now }
+        requires told { IsTold self run.now }
         requires writer { writer.old.failed ≡ false }
         ensures made { OnOk result (Appends (W.contents writer.old.inner)
             (W.contents writer.new.inner) (output_text self run.now)) }
@@ -241,11 +242,13 @@ fn write_file<'a, R: Runtime + AllocGlobal>(
     }
 }
 
+// Writes the summary to standard output, and answers it.
 fn tell_summary<'a, R: Runtime + AllocGlobal>(
     rt: &R,
     run: &FinishedRun,
 ) -> Result<Summary, Stop<'a>>
     requires { IsFinished run.now }
+    ensures { IfOk result (IsSummaryOf run.now.report.config run.now.assembly.events) }
 {
     let stop = |fault, error| {
         Err(Stop {
@@ -271,7 +274,9 @@ fn write_through<W: Write + Drop>(
     output: Output,
     buffer: BufWriter<W>,
 ) -> (Result<(), TextFault>, W)
-    requires { IsFinished run.now × (writer_buffer buffer ≡ []) }
+    requires run { IsFinished run.now }
+    requires told { IsTold output run.now }
+    requires buffer { writer_buffer buffer ≡ [] }
     ensures made { OnOk result.0 (Appends (W.contents (writer_inner buffer)) (W.contents result.1)
         (output_text output run.now)) }
     ensures front { OnErr result.0 (IsCut

@@ -6,7 +6,7 @@ use std::io::Stderr;
 use std::sync::atomic::{AtomicBool, Ordering};
 use std::sync::{Arc, Wait};
 use std::thread;
-use std::thread::{JoinHandle, Parker, Threads};
+use std::thread::{Parker, Threads};
 use std::time::Duration;
 
 const SECONDS: u64 = 1;
@@ -18,11 +18,11 @@ struct Bell {
     parker: Parker,
 }
 
-/// A thread that tells how far a run is, until it is told that the run has ended.
+/// A thread that tells how far a run is, until it is told that the run has ended. It is not joined: where standard error takes
+/// nothing it waits for that, and what became of the run is told all the same.
 #[derive(Drop)]
 pub struct Teller {
     bell: Arc<Bell, Global>,
-    thread: JoinHandle<()>,
 }
 
 /// How many deliveries a run of the script can make: each item at each node. A run in which a node does not stop by itself, or an
@@ -53,16 +53,14 @@ impl Teller {
         let progress = Arc::try_clone(progress).ok()?;
         let heard = Arc::try_clone(&bell).ok()?;
         let tell = move || tell_each_second(&rt, stderr, &progress, due, &heard);
-        let thread = thread::spawn(&rt, tell).ok()?;
-        Some(Teller { bell, thread })
+        let _thread = thread::spawn(&rt, tell).ok()?;
+        Some(Teller { bell })
     }
 
-    /// Stops telling, as the run has ended, and joins the thread.
-    pub fn stop<R: Threads>(self, rt: &R) {
-        let Teller { bell, thread } = self;
-        bell.ended.store(true, Ordering::SeqCst);
-        bell.parker.unpark();
-        thread.join(rt);
+    /// Stops telling, as the run has ended.
+    pub fn stop(&self) {
+        self.bell.ended.store(true, Ordering::SeqCst);
+        self.bell.parker.unpark();
     }
 }
 

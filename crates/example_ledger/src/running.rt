@@ -15,7 +15,7 @@ use cast_message::{Config, NodeId};
 use cast_report::GroupReport;
 use cast_run::{ClientReport, LiveFault, OpenGate, run_live};
 use cast_script::FaultPlan;
-use std::alloc::{AllocError, Global};
+use std::alloc::Global;
 use std::sync::Wait;
 use std::thread::Threads;
 
@@ -36,9 +36,9 @@ pub struct RunningLedger {
 }
 
 /// Runs a group in threads as `run_live` does, with a plan of what goes wrong and at most 4,000,000 turns a node, and merges what
-/// its nodes logged. Whether it has come to rest, `assembly.world` says. It is refused as `run_live` refuses it: for a teller at a
-/// node that does not exist, more than 4 at one, or a plan that names a node that does not exist; for want of memory; for a thread
-/// that isn't started.
+/// its nodes logged. Whether it has come to rest, `assembly.world` says. It is refused as `run_live` refuses it: for a teller at
+/// a node that does not exist, more than 4 at one, or a plan that names a node that does not exist; for want of memory; for a
+/// thread that isn't started.
 pub fn run_tellers<R: Threads + Wait + Copy + Send + 'static>(
     rt: R,
     alloc: Global,
@@ -73,7 +73,7 @@ pub fn run_tellers<R: Threads + Wait + Copy + Send + 'static>(
     ensures world { IfOk result (λ ledger.
         Stands config (history config ledger.assembly.events) ledger.assembly.world) }
 {
-    let gates = open_gates(alloc, config.nodes())?;
+    let gates = OpenGate::for_nodes(alloc, config.nodes())?;
     let live = run_live(rt, alloc, config, plan, tellers, gates, TURNS)?;
     let assembly = assemble(alloc, &live.report)?;
     Ok(RunningLedger {
@@ -82,8 +82,4 @@ pub fn run_tellers<R: Threads + Wait + Copy + Send + 'static>(
         report: live.report,
         assembly,
     })
-}
-
-fn open_gates(alloc: Global, nodes: u64) -> Result<Vec<OpenGate>, AllocError> {
-    Ok(vec![in alloc; OpenGate; nodes as usize]?)
 }

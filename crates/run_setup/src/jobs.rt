@@ -4,7 +4,7 @@ ghost use Rattle.run_setup.specs.NewJobs.{AreNew};
 
 use bytes::Bytes;
 use cast_message::{Item, List, NodeId, Payload};
-use cast_run::{OpenGate, SubmitAll};
+use cast_run::SubmitAll;
 use std::alloc::{AllocError, Global};
 
 /// So many items, each a payload of one byte, the letter a.
@@ -29,9 +29,4 @@ pub fn submit_each(
         jobs.push((NodeId(*node), SubmitAll::new(data_items(alloc, items)?)))?;
     }
     Ok(jobs)
-}
-
-/// A gate for each of so many nodes that lets every turn pass.
-pub fn open_gates(alloc: Global, nodes: u64) -> Result<Vec<OpenGate>, AllocError> {
-    Ok(vec![in alloc; OpenGate; nodes as usize]?)
 }

@@ -8,6 +8,6 @@ mod plan;
 mod shape;
 
 pub use clients::{Keeper, Silent};
-pub use jobs::{data_items, open_gates, submit_each};
+pub use jobs::{data_items, submit_each};
 pub use plan::{Link, links, lose_every, no_faults};
 pub use shape::Shape;

@@ -8,8 +8,8 @@ use anyhow::Result;
 use cast_desk::Notice;
 use cast_message::{Item, List, NodeId};
 use cast_node::EntryKind;
-use cast_run::{LiveRun, run_live};
-use run_setup::{Keeper, Shape, Silent, data_items, no_faults, open_gates};
+use cast_run::{LiveRun, OpenGate, run_live};
+use run_setup::{Keeper, Shape, Silent, data_items, no_faults};
 use std::alloc::{AllocError, Global};
 use std::fmt;
 use std::fmt::{Display, Formatter, Write};
@@ -72,7 +72,7 @@ fn print_kept<R: Threads + Wait + Print + Copy + Send + 'static>(
 ) -> Result<()> {
     let config = Shape::new(1, 0, 1).config()?;
     let jobs = one_keeper(alloc, items)?;
-    let gates = open_gates(alloc, 1)?;
+    let gates = OpenGate::for_nodes(alloc, 1)?;
     let Ok(run) = run_live(rt, alloc, config, &no_faults(alloc), jobs, gates, TURNS) else {
         return Err(RowFault::NotRun.into());
     };
@@ -108,7 +108,7 @@ fn run_silent<R: Threads + Wait + Copy + Send + 'static>(
     let mut shape = Shape::new(1, 0, 1);
     shape.box_size = 1;
     let config = shape.config()?;
-    let gates = open_gates(alloc, 1)?;
+    let gates = OpenGate::for_nodes(alloc, 1)?;
     match run_live(rt, alloc, config, &no_faults(alloc), jobs, gates, TURNS) {
         Ok(run) => Ok(run),
         Err(_) => Err(RowFault::NotRun.into()),

@@ -1,9 +1,9 @@
 //! What `run_live` refuses before it starts a thread, in the order in which it asks.
 use anyhow::Result;
 use cast_message::{List, NodeId};
-use cast_run::{LiveFault, run_live};
+use cast_run::{LiveFault, OpenGate, run_live};
 use cast_script::{Fault, FaultPlan, FrameKind};
-use run_setup::{Link, Shape, no_faults, open_gates, submit_each};
+use run_setup::{Link, Shape, no_faults, submit_each};
 use std::alloc::{AllocError, Global};
 use std::sync::Wait;
 use std::thread::Threads;
@@ -50,7 +50,7 @@ fn refusal<R: Threads + Wait + Copy + Send + 'static>(
 ) -> Result<&'static str> {
     let config = Shape::new(2, 0, 1).config()?;
     let jobs = submit_each(alloc, nodes, 1)?;
-    let gates = open_gates(alloc, gates)?;
+    let gates = OpenGate::for_nodes(alloc, gates)?;
     Ok(
         match run_live(rt, alloc, config, &plan, jobs, gates, 1000) {
             Ok(_) => "none",

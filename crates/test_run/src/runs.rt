@@ -1,9 +1,9 @@
 //! Runs with a job of some items at each node and open gates.
 use crate::seen::{Seen, see};
 use anyhow::Result;
-use cast_run::{LiveFault, LiveRun, SubmitAll, run_live};
+use cast_run::{LiveFault, LiveRun, OpenGate, SubmitAll, run_live};
 use cast_script::FaultPlan;
-use run_setup::{Shape, open_gates, submit_each};
+use run_setup::{Shape, submit_each};
 use std::alloc::Global;
 use std::sync::Wait;
 use std::thread::Threads;
@@ -31,7 +31,7 @@ pub fn run_jobs<R: Threads + Wait + Copy + Send + 'static>(
 ) -> Result<Result<LiveRun<SubmitAll>, LiveFault>> {
     let config = shape.config()?;
     let jobs = submit_each(alloc, nodes, items)?;
-    let gates = open_gates(alloc, shape.nodes)?;
+    let gates = OpenGate::for_nodes(alloc, shape.nodes)?;
     Ok(run_live(rt, alloc, config, plan, jobs, gates, turns))
 }
 

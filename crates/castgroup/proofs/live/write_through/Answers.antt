@@ -14,4 +14,4 @@ returns-clause-front g c =
     let written = writer_contents contents c.write-done.new.writer.inner in
     let made = subst (λ w. OnOk c.write-done.result (Appends (writer_contents contents w) written text)) c.new-meter.ensures.inner c.write-done.ensures.made in
     let broke = subst (λ w. OnErr c.write-done.result (WroteFront (writer_contents contents w) written text)) c.new-meter.ensures.inner c.write-done.ensures.front in
-    front_handed (contents (writer_inner buffer)) written (contents c.hand_on.result.1) (writer_buffer buffer) text c.write-done.result c.hand_on.result.0 c.requires.1 made broke c.hand_on.ensures.cut
+    front_handed (contents (writer_inner buffer)) written (contents c.hand_on.result.1) (writer_buffer buffer) text c.write-done.result c.hand_on.result.0 c.requires.buffer made broke c.hand_on.ensures.cut
