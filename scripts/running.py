@@ -10,6 +10,10 @@ from pathlib import Path
 SCRIPTS = Path(__file__).resolve().parent
 TOP = SCRIPTS.parent
 ROWS = TOP / "rows"
+ROW_ENDINGS = (
+    *("script.json", "script.json.parts", "record", "record.parts"),
+    *("stdout", "stdout.pattern", "stderr", "stderr.pattern", "status"),
+)
 # Each allocation of a program is refused in turn, up to this one: those that are run so make some hundreds.
 MOST_ALLOCATIONS = 5000
 # So many runs in succession that were refused nothing are past the last allocation.
@@ -30,16 +34,35 @@ def program(usage, path):
     return str(Path(path).resolve())
 
 
-def words(usage, least=1):
-    """The words behind the script's name, so many at the least. The first names a program, and is its whole path here."""
+def words(usage, least=1, most=1):
+    """The words behind the script's name, so many at the least and at most. The first names a program, and is its whole path
+    here."""
     if len(sys.argv) <= least:
         end(usage, "a word is missing")
+    if len(sys.argv) - 1 > most:
+        end(usage, f"{sys.argv[most + 1]} is a word too many")
     return [program(usage, sys.argv[1]), *sys.argv[2:]]
+
+
+def numbers(usage, words, defaults):
+    """The numbers that words name, with defaults for those that are missing."""
+    odd = [word for word in words if not word.isdecimal()]
+    if odd:
+        end(usage, f"{odd[0]} is no number")
+    return [int(word) for word in words] + defaults[len(words):]
+
+
+def row_at(path):
+    """The row to which a file belongs, by its path without an ending."""
+    ending = next((ending for ending in ROW_ENDINGS if path.name.endswith(f".{ending}")), None)
+    if ending is None:
+        raise SystemExit(f"{path}: no file of a row")
+    return path.with_name(path.name.removesuffix(f".{ending}"))
 
 
 def rows_of(command):
     """The rows of a command, or of all, each by its path without an ending; scripts/rows tells what stands there."""
-    return sorted(path.with_name(path.name.removesuffix(".status")) for path in ROWS.glob(f"{command}/*.status"))
+    return sorted({row_at(path) for path in ROWS.glob(f"{command}/*")})
 
 
 def beside(row, ending):
