@@ -11,7 +11,7 @@ use Rattle.cast_model.specs.OwnSteps.{own_fault, own_made, own_delivered, own_de
 use Rattle.cast_agree.specs.Counted.{decision}
 use Rattle.cast_node.specs.Kept.{Kept, nothing_kept, link_to, knowers_of}
 use Rattle.cast_node.specs.Turns.{Gives, carry_of, took_of}
-use Rattle.cast_node.specs.Stands.{Stands, Continues}
+use Rattle.cast_node.specs.Stands.{Stands, Continues, owed_in, is_known_in}
 
 abbrev pub BeginsWithNothing : Type 0
 BeginsWithNothing =
@@ -38,12 +38,15 @@ abbrev pub OwesAsItsSteps : Type 0
 OwesAsItsSteps =
     (config : Config) (me : ℕ) (steps : Steps) (kept : Kept) → Stands config me steps kept →
     (q : ℕ) → q < config.nodes → q ≢ me →
-    finite.len (link_to kept q).owed ≡ length (own_owed me steps q)
+    (finite.len (link_to kept q).owed ≡ length (own_owed me steps q))
+    × ((slot : ℕ) → finite.get (link_to kept q).owed slot ≡ owed_in me steps q slot)
 
 abbrev pub KnowsAsItsSteps : Type 0
 KnowsAsItsSteps =
     (config : Config) (me : ℕ) (steps : Steps) (kept : Kept) → Stands config me steps kept →
-    (s i : ℕ) → s < config.nodes → set.len (knowers_of kept s i) ≡ own_known_by config me steps s i
+    (s i : ℕ) → s < config.nodes →
+    (set.len (knowers_of kept s i) ≡ own_known_by config me steps s i)
+    × ((r : ℕ) → set.contains (knowers_of kept s i) r ≡ is_known_in config me steps s i r)
 
 abbrev pub MakesTheFrames : Type 0
 MakesTheFrames =

@@ -1,9 +1,11 @@
 -- When what a node keeps stands for its steps: each part shows what the definitions say of them.
 --     item_at hs s i                 the item of a held pair
+--     owed_in me steps q slot        what is owed to q in a slot
+--     is_known_in .. s i r           node r is known to hold a pair that the node holds
 --     StandsOut                      what it gave a peer, and owes it
 --     Stands config me steps kept    the node has these steps behind it
 --     Continues                      how a node goes on by a step
-use Rattle.std.specs.Prelude.{◌≡◌, ◌≢◌, ℕ, ◌-◌, ◌<◌, nat_lt, not, ◌&&◌, if◌then◌else◌, List, [], ◌∷◌, length, map, slice_index_or, Option, Some, None, option_map, Result, Ok, Err}
+use Rattle.std.specs.Prelude.{◌≡◌, ◌≢◌, ℕ, ◌-◌, ◌<◌, nat_lt, Bool, not, ◌&&◌, if◌then◌else◌, List, [], ◌∷◌, length, map, slice_index_or, Option, Some, None, option_map, Result, Ok, Err}
 use Rattle.std.specs.List.{filter}
 use Rattle.std.specs.FinSet as set
 use Rattle.std.specs.FinMap as finite
@@ -34,6 +36,10 @@ owed_in me steps q slot =
     if nat_lt slot (length (own_given me steps q)) && not (own_acked steps q slot)
     then Some (message_in (own_given me steps q) slot)
     else None
+
+-- node r is known to hold the pair, which is held
+abbrev pub is_known_in : Config → ℕ → Steps → ℕ → ℕ → ℕ → Bool
+is_known_in config me steps s i r = has_pair (own_copies me steps) s i && (nat_lt r config.nodes && own_knows me steps s i r)
 
 -- how many slots were given to q, and the messages of those that q has not acknowledged
 pub record StandsOut (me : ℕ) (steps : Steps) (q : ℕ) (link : Link Message) : Type 0 where
@@ -70,8 +76,7 @@ pub record Stands (config : Config) (me : ℕ) (steps : Steps) (kept : Kept) : T
       (held_of kept.hold_back s)
   pub senders_known : length kept.knowers ≡ config.nodes
   pub knows : (s i r : ℕ) → s < config.nodes →
-      set.contains (knowers_of kept s i) r
-      ≡ (has_pair (own_copies me steps) s i && (nat_lt r config.nodes && own_knows me steps s i r))
+      set.contains (knowers_of kept s i) r ≡ is_known_in config me steps s i r
   pub senders_delivered : length kept.delivered ≡ config.nodes
   pub delivers : (s : ℕ) → s < config.nodes →
       slice_index_or kept.delivered s []

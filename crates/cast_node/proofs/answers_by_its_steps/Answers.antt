@@ -9,7 +9,7 @@ returns c = record {
   goes_on = continues;
   delivered = shows_delivered;
   decided = shows_decision;
-  owed = shows_owed;
-  known = shows_known_by;
+  owed = λ config me steps kept st q l e. (shows_owed config me steps kept st q l e, (st.out q l e).owed);
+  known = λ config me steps kept st s i l. (shows_known_by config me steps kept st s i l, λ r. st.knows s i r l);
   frames = λ config me steps kept st. (carries config me steps kept st, tells_taken config me steps kept st);
 }
