@@ -7,7 +7,7 @@ use Rattle.std.specs.Map.{lookup}
 use Rattle.std.specs.BTreeMap.{is_at}
 use Rattle.std.specs.FinMap as map
 use Rattle.std.specs.FinMap.{get-insert, get-remove, same_map, nat_cmp-IsAntisymmetric}
-use Rattle.std.proofs.Common.{sym, ap, ◌∙◌, arith, inl, inr, append_assoc}
+use Rattle.std.proofs.Common.{sym, ap, ◌∙◌, arith, inl, inr, append-nil, append_assoc}
 use Rattle.std.proofs.lemmas.Bool.Decides.{nat_tests, eqb_tells}
 use Rattle.cast_message.specs.declared.message.Item.{Item}
 use Rattle.cast_message.specs.declared.message.Item.TheVariants.{Data, Propose, Close}
@@ -17,7 +17,7 @@ use Rattle.cast_agree.specs.declared.tally.Tally.{Tally}
 use Rattle.cast_agree.specs.declared.counting.Before.{Before}
 use Rattle.cast_agree.specs.Tallies.{tally_after}
 use Rattle.cast_agree.specs.Counted.{Counted, tally_at, counted_after, decision_by}
-use Rattle.cast_agree.specs.Journal.{counted_all, decisions_all, with_before, restored, before_of}
+use Rattle.cast_agree.specs.Journal.{counted_all, decisions_all, befores_all, with_before, restored, before_of}
 use Rattle.cast_agree.proofs.Maps.{get-lookup, inserted, removed}
 use Rattle.cast_agree.proofs.Steps.{seen}
 
@@ -103,11 +103,7 @@ decisions_all-next c new m rest all before after e n d =
 
 pub decisions_all-none : (c : Counted) (all : List Message) (ds : List Decision) → all ≡ [] → ds ++ decisions_all c all ≡ ds
 unfolding decisions_all
-decisions_all-none c all ds e = ap (λ ms. ds ++ decisions_all c ms) e ∙ append_none ds
-  where
-    append_none : (ds : List Decision) → ds ++ [] ≡ ds
-    append_none [] = refl
-    append_none (d ∷ ds) = ap (λ es. d ∷ es) (append_none ds)
+decisions_all-none c all ds e = ap (λ ms. ds ++ decisions_all c ms) e ∙ append-nil ds
 
 -- ---- one tally among the entries of a tree map
 
@@ -129,3 +125,14 @@ missing_entry quorum es fs counted j o t is e none h =
     ap (seen quorum) h
     ∙ sym (ap (λ b. if b then record (seen quorum es) { tallies = map.insert (map.from_entries es) j t } else seen quorum es) (found es j false none))
     ∙ (λ i. with_before (is i) j (sym e i))
+
+pub befores_all-next : (c new : Counted) (m : Message) (rest all : List Message) (before after : List Before) → all ≡ m ∷ rest → new ≡ counted_after c m.sender m.item → after ≡ before ++ before_of c m.item → after ++ befores_all new rest ≡ before ++ befores_all c all
+unfolding befores_all
+befores_all-next c new m rest all before after e n d =
+    (λ i. d i ++ befores_all (n i) rest)
+    ∙ append_assoc before (before_of c m.item) (befores_all (counted_after c m.sender m.item) rest)
+    ∙ ap (λ ms. before ++ befores_all c ms) (sym e)
+
+pub befores_all-none : (c : Counted) (all : List Message) (bs : List Before) → all ≡ [] → bs ++ befores_all c all ≡ bs
+unfolding befores_all
+befores_all-none c all bs e = ap (λ ms. bs ++ befores_all c ms) e ∙ append-nil bs

@@ -1,6 +1,7 @@
 -- What was counted at one go, and how it is taken back.
 --     counted_all counted ms       what is counted after these messages were delivered, in order
 --     decisions_all counted ms     the decisions that they complete
+--     befores_all counted ms       what is kept of the proposals among them, to take them back
 --     restored counted before      what is counted with the tallies as they were, the last first
 use Rattle.std.specs.Prelude.{ℕ, List, [], ◌∷◌, ◌++◌, Option, Some, None, if◌then◌else◌}
 use Rattle.std.specs.Option.{option_to_list}
@@ -21,6 +22,15 @@ unfoldable pub decisions_all : Counted → List Message → List Decision
 decisions_all counted [] = []
 decisions_all counted (m ∷ ms) = option_to_list (decision_by counted m.sender m.item) ++ decisions_all (counted_after counted m.sender m.item) ms
 
+-- what is kept of a proposal
+abbrev pub before_of : Counted → Item → List Before
+before_of counted (Propose instance value) = record { instance = instance; tally = map.get counted.tallies instance } ∷ []
+before_of counted _ = []
+
+unfoldable pub befores_all : Counted → List Message → List Before
+befores_all counted [] = []
+befores_all counted (m ∷ ms) = before_of counted m.item ++ befores_all (counted_after counted m.sender m.item) ms
+
 -- a tally that is there takes its value of before, or goes
 abbrev pub with_before : Counted → ℕ → Option Tally → Counted
 with_before counted instance None = record counted { tallies = map.remove counted.tallies instance }
@@ -32,8 +42,3 @@ with_before counted instance (Some tally) =
 abbrev pub restored : Counted → List Before → Counted
 restored counted [] = counted
 restored counted (b ∷ before) = with_before (restored counted before) b.instance b.tally
-
--- what is kept of a proposal
-abbrev pub before_of : Counted → Item → List Before
-before_of counted (Propose instance value) = record { instance = instance; tally = map.get counted.tallies instance } ∷ []
-before_of counted _ = []

@@ -7,7 +7,7 @@ ghost use Rattle.std.specs.Prelude.{◌≡◌, ◌-◌, ◌<◌, ◌++◌, IfOk,
 ghost use Rattle.std.specs.Option.{option_to_list};
 ghost use Rattle.std.specs.FinMap as map;
 ghost use Rattle.cast_agree.specs.Counted.{counted_after, decision_by, decision};
-ghost use Rattle.cast_agree.specs.Journal.{counted_all, decisions_all, with_before, restored, before_of};
+ghost use Rattle.cast_agree.specs.Journal.{counted_all, decisions_all, befores_all, with_before, restored, before_of};
 ghost use Rattle.cast_agree.specs.Proposals.{DecidesLeast};
 
 mod counting;
@@ -92,6 +92,8 @@ impl Agree {
     pub fn count_all(&mut self, messages: &[Message]) -> Result<Counting, AllocError>
         ensures decisions { IfOk result
             (λ counting. counting.decisions.items ≡ decisions_all self.old messages.now) }
+        ensures before { IfOk result
+            (λ counting. counting.before.items ≡ befores_all self.old messages.now) }
         ensures ok { OnOk result (self.new ≡ counted_all self.old messages.now) }
         ensures back { IfOk result
             (λ counting. restored self.new counting.before.items ≡ self.old) }

@@ -65,7 +65,8 @@ impl Picture {
     }
 
     /// Takes an event, which has this place in its script, and the reply to it. A reply that is not one to the event leaves
-    /// nothing. A picture of more than 2^40 points in width finds no memory.
+    /// nothing. A picture of more than 2^40 points in width finds no memory. After a refusal it may have a part of the event's
+    /// marks, and is not to be finished.
     pub fn take(&mut self, index: u64, event: &Event, reply: &Reply) -> Result<(), AllocError>
         ensures { OnOk result (sheet_of self.new
             ≡ drawn_after (sheet_of self.old) index event.now reply.now) }
@@ -84,7 +85,8 @@ impl Picture {
         self.settle = self.next;
     }
 
-    /// The settle that began last, which has this place in its script, is over.
+    /// The settle that began last, which has this place in its script, is over. It is refused as `take` is, and then the picture is
+    /// not to be finished.
     pub fn end_settle(&mut self, index: u64) -> Result<(), AllocError>
         ensures { OnOk result (sheet_of self.new ≡ settle_ended (sheet_of self.old) index) }
     {

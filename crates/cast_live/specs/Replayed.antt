@@ -39,7 +39,7 @@ abbrev pub record_of_accepted : Config → List Event → List Line
 record_of_accepted config events = run_record config events (replies config events)
 
 pub record RecordsReplay (config : Config) (events : List Event) : Type 0 where
-  -- whatever running the text of that script writes, to its end, is that record
+  -- whatever running the text of that script writes, to its end, is that record (a text that is too long for an input is not run)
   pub replays : (old new : Option (List ℕ)) → WritesRecord (Some (script_text config events)) old new → Appends old new (record_text (record_of_accepted config events))
   -- that text is refused for want of memory alone
   pub not_refused : (read_failed failed : Bool) (old new : Option (List ℕ)) (fault : ScriptFault) → Records (Some (script_text config events)) read_failed old new failed (Err (faults.Script fault)) → fault ≡ Memory

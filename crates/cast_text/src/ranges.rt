@@ -6,7 +6,7 @@ ghost use Rattle.cast_text.specs.Ranges.{HasItemRange, HasEventRange, HasScriptR
 use cast_message::{Event, Item};
 use cast_script::ScriptEvent;
 
-/// The numbers of these events have 64 bits and their bytes eight, and there are fewer than 2^64 of them.
+/// The numbers in the items that these events order have 64 bits and their bytes eight, and there are fewer than 2^64 events.
 pub fn tell_ranges(events: &[ScriptEvent])
     ensures ranges { HaveScriptRanges events.now }
     ensures few { length events.now < 2 ^ 64 }
@@ -26,7 +26,7 @@ fn tell_script_range(event: &ScriptEvent)
     }
 }
 
-/// The same of one event of the group.
+/// The same of the item that one event of the group orders, where it does.
 pub fn tell_event_range(event: &Event)
     ensures { HasEventRange event.now }
 {

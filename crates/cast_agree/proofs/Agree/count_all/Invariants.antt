@@ -1,5 +1,5 @@
 use Rattle.std.proofs.Common.{◌≡◌, ◌++◌, drop}
-use Rattle.cast_agree.specs.Journal.{counted_all, decisions_all, restored}
+use Rattle.cast_agree.specs.Journal.{counted_all, decisions_all, befores_all, restored}
 use Rattle.cast_agree.proofs.Agree.count_all.Given as goal
 
 abbrev pub invariant-loop-message : goal.invariant-loop-message
@@ -8,5 +8,6 @@ invariant-loop-message l =
     record {
       counted : counted_all l.self rest ≡ counted_all l.fn.self l.fn.messages;
       decided : l.decisions.items ++ decisions_all l.self rest ≡ decisions_all l.fn.self l.fn.messages;
+      kept : l.before.items ++ befores_all l.self rest ≡ befores_all l.fn.self l.fn.messages;
       back : restored l.self l.before.items ≡ l.fn.self;
     }
