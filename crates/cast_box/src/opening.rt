@@ -22,7 +22,7 @@ pub const MOST_PUTTERS: u64 = 64;
 pub enum BoxFault {
     #[error("the size of the box is not 1 to 4096")]
     Size,
-    #[error("the number of putters is not 1 to 64")]
+    #[error("the number of putters is 0, or more than the box may have")]
     Putters,
     #[error("out of memory")]
     Memory,
