@@ -85,8 +85,8 @@ impl Picture {
         self.settle = self.next;
     }
 
-    /// The settle that began last, which has this place in its script, is over. It is refused as `take` is, and then the picture is
-    /// not to be finished.
+    /// The settle that began last, which has this place in its script, is over. It is refused as `take` is, and then the picture
+    /// is not to be finished.
     pub fn end_settle(&mut self, index: u64) -> Result<(), AllocError>
         ensures { OnOk result (sheet_of self.new ≡ settle_ended (sheet_of self.old) index) }
     {

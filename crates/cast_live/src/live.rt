@@ -118,7 +118,8 @@ pub fn write_replay_of<W: Write>(run: &FinishedRun, writer: &mut Meter<W>) -> Re
     ensures text { Puts W.contents writer.old writer.new result
         (script_text run.now.report.config run.now.assembly.events) }
     ensures fault { IfErr result (λ fault. fault ≡ TextFault.Write) }
-    // Running that script, where it is no longer than an input may be, writes the record of the run, and no line of it is a refusal.
+    // Running that script, where it is no longer than an input may be, writes the record of the run, in which no line is a
+    // refusal.
     ensures law { RecordsReplay run.now.report.config run.now.assembly.events }
 {
     let config = run.report.config();

@@ -14,9 +14,9 @@ use cast_text::{TextFault, put_head, put_line, tell_event_range};
 use cast_words::Meter;
 use std::io::Write;
 
-/// Running the script that `write_script` writes for this configuration and these events, where it is no longer than an input may
-/// be, writes the record that `write_run_record` writes of them and the replies to them. That record is good, and where all events
-/// are accepted no line of it is a refusal.
+/// Running the script that `write_script` writes for this configuration and these events, where it is no longer than an input
+/// may be, writes the record that `write_run_record` writes of them and the replies to them. That record is good, and where all
+/// events are accepted no line of it is a refusal.
 pub fn is_replayed(config: &Config, events: &[Event])
     ensures law { RecordsReplay config.now events.now }
 {
