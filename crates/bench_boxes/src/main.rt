@@ -5,7 +5,7 @@
 
 ghost use Rattle.std.specs.Prelude.{◌≤◌};
 
-use anyhow::Result;
+use anyhow::{Context, Result, bail};
 use cast_box::{Full, Putter, Taker, make_box};
 use std::alloc::Global;
 use std::rt::Runtime;
@@ -26,7 +26,7 @@ struct Wanted {
 }
 
 fn main(rt: HostRuntime) -> Result<()> {
-    let wanted = from_arguments(&rt)?;
+    let wanted = from_arguments(&rt, rt.alloc())?;
     for putters in [1, 2, 8, 64] {
         let start = Instant::now(&rt)?;
         let taken = pass_through(
@@ -47,16 +47,28 @@ fn main(rt: HostRuntime) -> Result<()> {
     Ok(())
 }
 
-// The arguments, each a number; else the short run.
-fn from_arguments<R: Runtime>(rt: &R) -> Result<Wanted> {
-    let mut args = env::args(rt)?.skip(1);
-    let numbers = args.next().and_then(|text| text.parse::<u64>().ok());
-    let places = args.next().and_then(|text| text.parse::<u64>().ok());
+// What the arguments ask for, each a number; the short run where there are none.
+fn from_arguments<R: Runtime>(rt: &R, alloc: Global) -> Result<Wanted> {
+    let mut given = Vec::new(alloc);
+    for word in env::args(rt)?.skip(1) {
+        given.push(number(word.as_str())?)?;
+    }
+    let (numbers, places, timed) = match given.as_slice() {
+        [] => (6_400, 256, false),
+        &[numbers] => (numbers, 256, true),
+        &[numbers, places] => (numbers, places, true),
+        _ => bail!("usage: bench_boxes [NUMBERS [PLACES]]"),
+    };
     Ok(Wanted {
-        numbers: numbers.unwrap_or(6400),
-        places: places.unwrap_or(256),
-        timed: numbers.is_some(),
+        numbers,
+        places,
+        timed,
     })
+}
+
+fn number(word: &str) -> Result<u64> {
+    word.parse::<u64>()
+        .context(format_args!("reading the argument {word:?}"))
 }
 
 // Each putter puts `count` numbers in a thread of its own, and this thread takes them all. The answer is how many it took.

@@ -3,7 +3,7 @@
 //! `time LOGS ENTRIES` it does so for so many logs of so many entries each; with no argument it prints how it is used.
 #![tactic(auto)]
 
-use anyhow::Result;
+use anyhow::{Context, Result, bail, ensure};
 use cast_merge::assemble;
 use cast_message::{Config, FrameKind, Item, Mode, NodeId};
 use cast_report::GroupReport;
@@ -13,6 +13,8 @@ use std::env;
 use std::rt::{Clock, Env};
 use std::time::Instant;
 use test_merge::Weave;
+
+const USAGE: &str = "usage: bench_merge time [LOGS ENTRIES]";
 
 // How many logs there are, and how many entries each has.
 const SIZES: [(u64, u64); 7] = [
@@ -30,17 +32,30 @@ const ROUNDS: u64 = 5;
 
 fn main(rt: HostRuntime) -> Result<()> {
     let mut args = env::args(&rt)?.skip(1);
-    if args.next().is_none() {
-        println!(rt; "usage: bench_merge time [LOGS ENTRIES]")?;
+    let Some(command) = args.next() else {
+        println!(rt; "{USAGE}")?;
         return Ok(());
+    };
+    ensure!(command.as_str() == "time", USAGE);
+    let mut numbers = Vec::new(rt.alloc());
+    for word in args {
+        numbers.push(number(word.as_str())?)?;
     }
-    let logs = args.next().and_then(|text| text.parse::<u64>().ok());
-    let entries = args.next().and_then(|text| text.parse::<u64>().ok());
-    if let (Some(logs), Some(entries)) = (logs, entries) {
-        return measure(&rt, rt.alloc(), logs, entries);
+    match numbers.as_slice() {
+        [] => measure_all(&rt, rt.alloc()),
+        &[logs, entries] => measure(&rt, rt.alloc(), logs, entries),
+        _ => bail!(USAGE),
     }
+}
+
+fn number(word: &str) -> Result<u64> {
+    word.parse::<u64>()
+        .context(format_args!("reading the argument {word:?}"))
+}
+
+fn measure_all(rt: &(impl Clock + Print), alloc: Global) -> Result<()> {
     for (logs, entries) in SIZES {
-        measure(&rt, rt.alloc(), logs, entries)?;
+        measure(rt, alloc, logs, entries)?;
     }
     Ok(())
 }
