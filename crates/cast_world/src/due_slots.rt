@@ -87,7 +87,8 @@ impl DueSlots {
     /// Takes the first slot, where there is one.
     pub fn pop_front(&mut self) -> Option<DueSlot>
         ensures some { IfSome result (λ due. self.old ≡ due ∷ self.new) }
-        ensures none { IfNone result ((self.old ≡ []) × (self.new ≡ [])) }
+        ensures none { IfNone result (self.old ≡ []) }
+        ensures empty { IfNone result (self.new ≡ []) }
     {
         let run = *self.runs.get(self.place)?;
         match run.rest() {

@@ -5,7 +5,9 @@ use test_boxes::exchange;
 
 #[test]
 fn box_of_one(rt: HostRuntime) -> Result<(), Fail> {
-    let (mut putters, mut taker) = make_box::<u64>(rt.alloc(), 1, 2)?;
+    let Ok((mut putters, mut taker)) = make_box::<u64>(rt.alloc(), 1, 2) else {
+        return Err(Fail::new("no box of one place"));
+    };
     assert!(&rt; putters[0].put(&rt, 10).is_ok());
     assert!(&rt; putters[1].put(&rt, 20).map_err(|full| full.item) == Err(20));
     assert!(&rt; taker.take(&rt) == Some(10));
