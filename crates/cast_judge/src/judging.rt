@@ -149,7 +149,8 @@ impl Judging {
         self.keep_tail(rest)
     }
 
-    // Takes a line and its line feed off the front of the bytes, and tells what follows. None changes nothing: there is no line feed.
+    // Takes a line and its line feed off the front of the bytes, and tells what follows. None changes nothing: there is no line
+    // feed.
     fn take_line<'a>(&mut self, bytes: &'a [u8]) -> Result<Option<&'a [u8]>, AllocError>
         requires reading { is_reading self.old ≡ true }
         requires room { self.old.lines + length bytes.now ≤ self.old.fed }

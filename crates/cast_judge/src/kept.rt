@@ -92,8 +92,8 @@ impl Kept {
         }
     }
 
-    /// Takes a delivery that breaks no rule, where its rest begins with the word that is kept of its item, and a line feed. It tells
-    /// where in the rest the line ends, behind its line feed. Any other line changes nothing.
+    /// Takes a delivery that breaks no rule, where its rest begins with the word that is kept of its item, and a line feed. It
+    /// tells where in the rest the line ends, behind its line feed. Any other line changes nothing.
     pub fn deliver(&mut self, delivery: &Delivery<'_>) -> Option<usize>
         ensures { Delivers self.old self.new delivery.now result }
     {

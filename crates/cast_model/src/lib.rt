@@ -13,8 +13,8 @@ ghost use Rattle.cast_model.specs.RestLaws.{NodesMakeTheFrames, NodesDeliverAsTh
 /// What a node delivers from a sender is a prefix of what that sender broadcast, with nothing after its close; each
 /// decided value was proposed in its instance; and where the faults are fewer than k, at most k values are decided. What the
 /// replies say of deliveries is what each node has delivered, and what they say of decisions what it shows as decided, each once;
-/// the last two hold of what nodes show as decided too, and what is acknowledged was taken. Where no fault is tolerated, the replies
-/// are the same in uniform mode as in basic mode.
+/// the last two hold of what nodes show as decided too, and what is acknowledged was taken. Where no fault is tolerated, the
+/// replies are the same in uniform mode as in basic mode.
 pub fn keeps_order_and_agrees()
     ensures prefix { AllRunsDeliverPrefixes }
     ensures closed { AllRunsCloseStreams }

@@ -1,5 +1,5 @@
-//! Lines read from the front, number by number. What is read so is what the words of the line say; where a line is not read so, that
-//! says nothing of it.
+//! Lines read from the front, number by number. What is read so is what the words of the line say; where a line is not read so,
+//! that says nothing of it.
 ghost use Rattle.std.specs.Prelude.{◌≡◌, ◌<◌, ◌∷◌, length, slice_index, Some, IfSome};
 ghost use Rattle.cast_record.specs.Reading.{line_of};
 ghost use Rattle.cast_record.specs.WordLines.{line_said};
@@ -80,8 +80,8 @@ fn decision_from<'a>(rest: &[u8]) -> Option<WordLine<'a>>
     })
 }
 
-// The node that the first word names, with one digit or two, and what stands after the blank behind it. A compiler need not branch
-// by how many digits there are, which no processor can foresee.
+// The node that the first word names, with one digit or two, and what stands after the blank behind it. A compiler need not
+// branch by how many digits there are, which no processor can foresee.
 fn split_node(bytes: &[u8]) -> Option<(u8, &[u8])>
     ensures { IfSome result (λ parts. BeginsWithNode bytes.now parts.0 parts.1.now) }
 {

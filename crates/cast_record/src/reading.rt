@@ -18,7 +18,8 @@ use std::alloc::{AllocError, Global};
 const BLANK: u8 = b' ';
 
 /// The line within its ranges whose text these bytes are, without its line feed; none where there is none. A node is a
-/// number below 256, whatever group the line stands in, and a head has its own ranges. Memory is wanted only where they are a line.
+/// number below 256, whatever group the line stands in, and a head has its own ranges. Memory is wanted only where they are a
+/// line.
 pub fn read_line(alloc: Global, bytes: &[u8]) -> Result<Option<Line>, AllocError>
     ensures exact { IfOk result (IsReadOf bytes.now) }
     ensures value { IfOk result (λ line. line ≡ line_of bytes.now) }
