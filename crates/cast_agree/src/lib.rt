@@ -6,7 +6,7 @@
 ghost use Rattle.std.specs.Prelude.{◌≡◌, ◌-◌, ◌<◌, ◌++◌, IfOk, OnOk, OnErr};
 ghost use Rattle.std.specs.Option.{option_to_list};
 ghost use Rattle.std.specs.FinMap as map;
-ghost use Rattle.cast_agree.specs.Counted.{counted_after, decision_by, decision};
+ghost use Rattle.cast_agree.specs.Counted.{counted_after, decision_by, decision, IsFirst};
 ghost use Rattle.cast_agree.specs.Journal.{counted_all, decisions_all, befores_all, with_before, restored, before_of};
 ghost use Rattle.cast_agree.specs.Proposals.{DecidesLeast};
 
@@ -64,12 +64,13 @@ impl Agree {
 
     /// Counts an item that was delivered from a sender, and gives the decision that it completes: there is one exactly
     /// where this is the proposal of the (n - f)-th distinct sender in its instance. A second proposal of a sender in an
-    /// instance is not counted.
+    /// instance is not counted. It takes memory only for the first proposal of an instance.
     pub fn delivered(&mut self, sender: NodeId, item: &Item) -> Result<Option<Decision>, AllocError>
         ensures decision { IfOk result
             (λ decision. decision ≡ decision_by self.old sender item.now) }
         ensures ok { OnOk result (self.new ≡ counted_after self.old sender item.now) }
         ensures err { OnErr result (self.new ≡ self.old) }
+        ensures first { OnErr result (IsFirst self.old item.now) }
     {
         let Item::Propose { instance, value } = item else {
             return Ok(None);

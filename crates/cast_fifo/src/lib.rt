@@ -63,7 +63,7 @@ impl HoldBack {
     }
 
     /// Keeps a message, of two of one pair the first. The sender is below the number of nodes, and the number below
-    /// `u64::MAX`. What was kept can be taken back.
+    /// `u64::MAX`. What was kept can be taken back. For the second it takes no memory.
     #[tactic(auto, using(crate::proofs::TakenBack::all_taken_back))]
     pub fn hold(&mut self, message: Message) -> Result<(), AllocError>
         requires sender { message.sender < length self.old }
@@ -72,6 +72,8 @@ impl HoldBack {
         ensures back { came (held_of self.old message.sender) message.number ≡ false → OnOk result
             (without_message self.new message.sender message.number ≡ self.old) }
         ensures err { OnErr result (self.new ≡ self.old) }
+        ensures again { OnErr result
+            (came (held_of self.old message.sender) message.number ≡ false) }
     {
         let Message {
             sender,
@@ -83,7 +85,7 @@ impl HoldBack {
     }
 
     /// Marks a pair that was held or offered, and answers the messages whose turn has come, in order. The sender is
-    /// below the number of nodes.
+    /// below the number of nodes. It takes memory only where it is this pair's turn.
     pub fn known(&mut self, sender: NodeId, number: u64) -> Result<Vec<Message>, AllocError>
         requires sender { sender < length self.old }
         requires came { came (held_of self.old sender) number ≡ true }
@@ -91,6 +93,7 @@ impl HoldBack {
             messages.items ≡ answer self.old (Known sender number)) }
         ensures ok { OnOk result (self.new ≡ held_after self.old (Known sender number)) }
         ensures err { OnErr result (self.new ≡ self.old) }
+        ensures turn { OnErr result (number ≡ (held_of self.old sender).next) }
     {
         self.senders[usize::from(sender.0)].known(self.alloc, sender, number)
     }
@@ -125,13 +128,14 @@ impl HoldBack {
     }
 
     /// Copies of the messages that `known` of a pair would answer, in order: none where the pair was not held or offered. The
-    /// sender is below the number of nodes.
+    /// sender is below the number of nodes. It takes memory only where it is this pair's turn.
     pub fn ready(&self, sender: NodeId, number: u64) -> Result<Vec<Message>, AllocError>
         requires { sender < length self.now }
         ensures messages { IfOk result (λ messages.
             messages.items ≡ answer self.now (Known sender number)) }
         ensures none { came (held_of self.now sender) number ≡ false →
             IfOk result (λ messages. messages.items ≡ []) }
+        ensures turn { OnErr result (number ≡ (held_of self.now sender).next) }
     {
         self.senders[usize::from(sender.0)].ready(self.alloc, sender, number)
     }
@@ -153,7 +157,8 @@ impl HoldBack {
     }
 
     /// Keeps a message and marks its pair in one, and answers the messages whose turn has come, in order: none where the
-    /// pair was offered before. The sender is below the number of nodes, and the number below `u64::MAX`.
+    /// pair was offered before. The sender is below the number of nodes, and the number below `u64::MAX`. For a pair that was
+    /// held or offered it takes memory only where it is this pair's turn.
     pub fn offer(&mut self, message: Message) -> Result<Vec<Message>, AllocError>
         requires sender { message.sender < length self.old }
         requires number { message.number + 1 < 2 ^ 64 }
@@ -161,6 +166,8 @@ impl HoldBack {
             messages.items ≡ answer self.old (Offer message)) }
         ensures ok { OnOk result (self.new ≡ held_after self.old (Offer message)) }
         ensures err { OnErr result (self.new ≡ self.old) }
+        ensures again { came (held_of self.old message.sender) message.number ≡ true →
+            OnErr result (message.number ≡ (held_of self.old message.sender).next) }
     {
         let Message {
             sender,

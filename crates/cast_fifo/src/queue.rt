@@ -70,11 +70,12 @@ impl Queue {
         self.closed
     }
 
-    /// Keeps an item, of two of one number the first.
+    /// Keeps an item, of two of one number the first. For the second it takes no memory.
     pub fn hold(&mut self, number: u64, item: Item) -> Result<(), AllocError>
         requires { number + 1 < 2 ^ 64 }
         ensures ok { OnOk result (self.new ≡ with_item self.old number item) }
         ensures err { OnErr result (self.new ≡ self.old) }
+        ensures again { OnErr result (came self.old number ≡ false) }
     {
         if self.came(number) {
             return Ok(());
@@ -82,7 +83,7 @@ impl Queue {
         self.keep(number, Waiting { item, known: false })
     }
 
-    /// Marks a number that came, and answers the messages whose turn has come.
+    /// Marks a number that came, and answers the messages whose turn has come. It takes memory for these alone.
     pub fn known(
         &mut self,
         alloc: Global,
@@ -94,6 +95,7 @@ impl Queue {
             messages.items ≡ numbered sender self.old.next (known_items self.old number)) }
         ensures ok { OnOk result (self.new ≡ known_after self.old number) }
         ensures err { OnErr result (self.new ≡ self.old) }
+        ensures turn { OnErr result (number ≡ self.old.next) }
     {
         if number == self.next {
             return self.turn(alloc, sender, None);
@@ -117,6 +119,7 @@ impl Queue {
             messages.items ≡ numbered sender self.old.next (offered_items self.old number item)) }
         ensures ok { OnOk result (self.new ≡ offered_after self.old number item) }
         ensures err { OnErr result (self.new ≡ self.old) }
+        ensures again { came self.old number ≡ true → OnErr result (number ≡ self.old.next) }
     {
         if self.came(number) {
             return self.known(alloc, sender, number);
@@ -170,6 +173,7 @@ impl Queue {
             messages.items ≡ numbered sender self.now.next (known_items self.now number)) }
         ensures none { came self.now number ≡ false →
             IfOk result (λ messages. messages.items ≡ []) }
+        ensures turn { OnErr result (number ≡ self.now.next) }
     {
         let mut messages = Vec::new(alloc);
         if number != self.next {

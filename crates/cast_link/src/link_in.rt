@@ -1,5 +1,5 @@
 //! The slots taken from a peer, as a base, bits for the slots from the base on, and an ordered set for those farther away.
-ghost use Rattle.std.specs.Prelude.{◌≡◌, ◌-◌, ◌<◌, not, IfOk, OnOk, OnErr};
+ghost use Rattle.std.specs.Prelude.{◌≡◌, ◌-◌, ◌<◌, false, not, IfOk, OnOk, OnErr};
 ghost use Rattle.std.specs.FinSet as set;
 
 use crate::bits::{REACH, advance, bit_of, has_bit, make_room, set_bit};
@@ -46,11 +46,12 @@ impl LinkIn {
         }
     }
 
-    /// Takes a slot, and says whether it is the first time.
+    /// Takes a slot, and says whether it is the first time. A slot that was taken takes no memory.
     pub fn take(&mut self, slot: u64) -> Result<bool, AllocError>
         ensures test { IfOk result (λ first. first ≡ not (set.contains self.old slot)) }
         ensures ok { OnOk result (self.new ≡ set.insert self.old slot) }
         ensures err { OnErr result (self.new ≡ self.old) }
+        ensures again { OnErr result (set.contains self.old slot ≡ false) }
     {
         if self.may_ack(slot) {
             return Ok(false);

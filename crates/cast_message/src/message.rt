@@ -1,5 +1,6 @@
 //! What nodes broadcast, and the frames that carry it between them.
-ghost use Rattle.std.specs.Prelude.{◌≡◌, IfOk};
+ghost use Rattle.std.specs.Prelude.{◌≡◌, true, IfOk, OnErr};
+ghost use Rattle.cast_message.specs.Copies.{has_payload, carries_payload};
 
 use crate::payload::Payload;
 use std::alloc::AllocError;
@@ -31,9 +32,10 @@ pub enum Item {
 }
 
 impl Item {
-    /// An equal item, or want of memory. The payload's bytes are shared, not copied.
+    /// An equal item, or want of memory, which only a payload takes: its bytes are shared, not copied, and counted.
     pub fn copy(&self) -> Result<Item, AllocError>
-        ensures { IfOk result (λ copy. copy ≡ self.now) }
+        ensures ok { IfOk result (λ copy. copy ≡ self.now) }
+        ensures err { OnErr result (has_payload self.now ≡ true) }
     {
         match self {
             Item::Data(payload) => Ok(Item::Data(payload.copy()?)),
@@ -55,9 +57,10 @@ pub struct Message {
 }
 
 impl Message {
-    /// An equal message, or want of memory.
+    /// An equal message, or want of memory, which only a payload takes.
     pub fn copy(&self) -> Result<Message, AllocError>
-        ensures { IfOk result (λ copy. copy ≡ self.now) }
+        ensures ok { IfOk result (λ copy. copy ≡ self.now) }
+        ensures err { OnErr result (has_payload self.now.item ≡ true) }
     {
         let item = self.item.copy()?;
         Ok(Message {
@@ -104,9 +107,10 @@ pub enum FrameKind {
 }
 
 impl Frame {
-    /// An equal frame, or want of memory.
+    /// An equal frame, or want of memory, which only a payload takes.
     pub fn copy(&self) -> Result<Frame, AllocError>
-        ensures { IfOk result (λ copy. copy ≡ self.now) }
+        ensures ok { IfOk result (λ copy. copy ≡ self.now) }
+        ensures err { OnErr result (carries_payload self.now.body ≡ true) }
     {
         let body = match &self.body {
             FrameBody::Carry { slot, message } => FrameBody::Carry {

@@ -12,7 +12,7 @@ ghost use Rattle.cast_agree.specs.Counted.{decision};
 ghost use Rattle.cast_link.specs.Links.{IsLeastFrom};
 ghost use Rattle.cast_relay.specs.Held.{holds};
 ghost use Rattle.cast_node.specs.Kept.{nothing_kept, link_to, knowers_of};
-ghost use Rattle.cast_node.specs.Turns.{Gives, kept_fault, kept_view, carry_of, took_of, message_owed, ordered, arrived_body, may_arrive};
+ghost use Rattle.cast_node.specs.Turns.{Gives, kept_fault, kept_view, carry_of, took_of, message_owed, ordered, arrived_body, is_awaited, may_arrive};
 ghost use Rattle.cast_model.specs.Refusals.{no_node, self_link, crashed, first_fault, is_close, is_too_long, is_second_proposal};
 ghost use Rattle.cast_node.specs.Taking.{with_proposal, without_proposal};
 ghost use Rattle.cast_node.specs.Calls.{is_peer, may_carry, carry_slot, carried_frame, took_frame, ordered_reply, sent_reply, number_reply, numbered_reply, arrived_reply, silent_reply, crashed_reply};
@@ -201,7 +201,8 @@ impl Node {
 
     /// Takes a frame that arrives, and answers what is delivered and decided. The frame is for this node. Refused is an arrival
     /// at a crashed node, and else want of memory. A refusal changes nothing, nor does a frame that no node of the group could
-    /// have made for this node, of which nothing comes, not even want of memory.
+    /// have made for this node, of which nothing comes, not even want of memory; nor does that come of an acknowledgement of a
+    /// slot that is not owed, such as a second one.
     #[tactic(auto, using(std::proofs::lemmas::Bool::Decides::nat_tests), unfolding(cast_model::specs::Refusals::first_fault, crate::specs::Turns::kept_fault))]
     pub fn arrive(&mut self, frame: &Frame) -> Result<Outcome, StepFault>
         requires { frame.now.to ≡ self.old.me }
@@ -209,6 +210,8 @@ impl Node {
             (arrived_reply self.old.me result) self.new }
         ensures possible { OnErr result
             (self.old.live ≡ true → may_arrive self.old frame.now ≡ true) }
+        ensures awaited { OnErr result (self.old.live ≡ true →
+            is_awaited self.old frame.now.from frame.now.body ≡ true) }
     {
         if !self.live {
             return Err(StepFault::Crashed);
@@ -474,6 +477,7 @@ impl Node {
             outcome ≡ (arrived_body self.old from (Took slot)).outcome) }
         ensures ok { OnOk result (self.new ≡ (arrived_body self.old from (Took slot)).kept) }
         ensures err { OnErr result (self.new ≡ self.old) }
+        ensures awaited { OnErr result (is_awaited self.old from (Took slot) ≡ true) }
     {
         let Some(message) = self.outgoing.message(from, slot) else {
             return Ok(no_news(self.alloc));

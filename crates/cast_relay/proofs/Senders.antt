@@ -153,14 +153,23 @@ own_fewer sets me own place v at within e h i l =
 pub own_fresh : (sets : List Numbers) (held : Held) (me own : ℕ) → seen me own sets ≡ held → HoldsOwnBelow me own sets → holds held held.me held.own ≡ false
 own_fresh sets held me own is h = sym (ap (λ (h : Held). holds h h.me h.own) is) ∙ ap (λ s. set.contains s own) (numbers_of-by_sender sets me) ∙ h own (omega arith)
 
--- what an arrival is answered
-pub answer : (held : Held) (s i : ℕ) (sets room : List Numbers) (me own place : ℕ) (fresh : Bool) → seen me own sets ≡ held → by_sender room ≡ by_sender sets → place ≡ s → fresh ≡ not (set.contains (numbers_of room place) i) → holds held s i ≡ not fresh
-answer held s i sets room me own place fresh is same at e =
+-- a pair is held where its number is in its sender's place
+pub holds_as : (held : Held) (s i : ℕ) (sets room : List Numbers) (me own place : ℕ) → seen me own sets ≡ held → by_sender room ≡ by_sender sets → place ≡ s → holds held s i ≡ set.contains (numbers_of room place) i
+holds_as held s i sets room me own place is same at =
     sym (ap (λ (h : Held). holds h s i) is)
     ∙ ap (λ xs. set.contains (numbers_of xs s) i) (sym same)
     ∙ ap (λ n. set.contains n i) (numbers_of-by_sender room s ∙ ap (numbers_of room) (sym at))
-    ∙ twice _
-    ∙ ap not (sym e)
+
+-- none is of a sender without a place
+pub holds_none : (sets : List Numbers) (held : Held) (me own s i : ℕ) → seen me own sets ≡ held → length sets ≤ s → holds held s i ≡ false
+holds_none sets held me own s i is l =
+    sym (ap (λ (h : Held). holds h s i) is)
+    ∙ ap (λ n. set.contains n i) (numbers_of-by_sender sets s ∙ get_or_past sets s (set.empty {R = nat_cmp}) l)
+    ∙ contains-empty nat_cmp i
+
+-- what an arrival is answered
+pub answer : (held : Held) (s i : ℕ) (sets room : List Numbers) (me own place : ℕ) (fresh : Bool) → seen me own sets ≡ held → by_sender room ≡ by_sender sets → place ≡ s → fresh ≡ not (set.contains (numbers_of room place) i) → holds held s i ≡ not fresh
+answer held s i sets room me own place fresh is same at e = holds_as held s i sets room me own place is same at ∙ twice _ ∙ ap not (sym e)
   where
     twice : (b : Bool) → b ≡ not (not b)
     twice true = refl

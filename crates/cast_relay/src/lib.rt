@@ -91,7 +91,7 @@ impl Relay {
     }
 
     /// Holds the pair of another node's message that arrived from a peer, and says whether it was held before, by whichever
-    /// peer.
+    /// peer. A pair that was held takes no memory.
     pub fn arrive(&mut self, message: &Message, _from: NodeId) -> Result<Taken, AllocError>
         requires { message.now.sender ≢ self.old.me }
         ensures taken { IfOk result
@@ -101,6 +101,8 @@ impl Relay {
         ensures back { holds self.old message.now.sender message.now.number ≡ false → OnOk result
             (without_pair self.new message.now.sender message.now.number ≡ self.old) }
         ensures err { OnErr result (self.new ≡ self.old) }
+        ensures again { OnErr result
+            (holds self.old message.now.sender message.now.number ≡ false) }
     {
         let place = place_of(message.sender);
         make_places(self.alloc, &mut self.numbers, place)?;
@@ -167,6 +169,7 @@ fn make_places(alloc: Global, numbers: &mut Vec<NumberSet>, place: usize) -> Res
     ensures same { by_sender numbers.new.items ≡ by_sender numbers.old.items }
     ensures few { length numbers.new.items ≤ 256 }
     ensures more { length numbers.old.items ≤ length numbers.new.items }
+    ensures needed { OnErr result (length numbers.old.items ≤ place) }
 {
     for _new in numbers.len()..place + 1 {
         numbers.push(NumberSet::new(alloc))?;

@@ -3,7 +3,7 @@ ghost use Rattle.std.specs.Prelude.{IfOk};
 ghost use Rattle.test_run.specs.NewJobs.{AreNewKeepers, AreNewSilent};
 ghost use Rattle.test_run.specs.Silence.{KeptSilent};
 
-use crate::runs::{RowFault, TURNS};
+use crate::runs::TURNS;
 use anyhow::Result;
 use cast_desk::Notice;
 use cast_message::{Item, List, NodeId};
@@ -39,20 +39,22 @@ impl Display for Told<'_> {
 pub fn replies_kept<R: Threads + Wait + Print + Copy + Send + 'static>(
     rt: R,
     alloc: Global,
+    row: &str,
 ) -> Result<()> {
-    print_kept(rt, alloc, "replies-kept", data_items(alloc, 3)?)
+    print_kept(rt, alloc, row, data_items(alloc, 3)?)
 }
 
 /// The feed has what the node decided, and the refusal of a second proposal in an instance.
 pub fn decision_kept<R: Threads + Wait + Print + Copy + Send + 'static>(
     rt: R,
     alloc: Global,
+    row: &str,
 ) -> Result<()> {
     let mut items = List::new(alloc);
     for (instance, value) in [(7, 3), (7, 4), (8, 4)] {
         items.push(Item::Propose { instance, value })?;
     }
-    print_kept(rt, alloc, "decision-kept", items)
+    print_kept(rt, alloc, row, items)
 }
 
 fn one_keeper(alloc: Global, items: List<Item>) -> Result<Vec<(NodeId, Keeper)>, AllocError>
@@ -73,9 +75,7 @@ fn print_kept<R: Threads + Wait + Print + Copy + Send + 'static>(
     let config = Shape::new(1, 0, 1).config()?;
     let jobs = one_keeper(alloc, items)?;
     let gates = OpenGate::for_nodes(alloc, 1)?;
-    let Ok(run) = run_live(rt, alloc, config, &no_faults(alloc), jobs, gates, TURNS) else {
-        return Err(RowFault::NotRun.into());
-    };
+    let run = run_live(rt, alloc, config, &no_faults(alloc), jobs, gates, TURNS)?;
     print!(&rt; "{row}:")?;
     for job in run.jobs.iter() {
         for notice in job.kept().iter() {
@@ -109,16 +109,14 @@ fn run_silent<R: Threads + Wait + Copy + Send + 'static>(
     shape.box_size = 1;
     let config = shape.config()?;
     let gates = OpenGate::for_nodes(alloc, 1)?;
-    match run_live(rt, alloc, config, &no_faults(alloc), jobs, gates, TURNS) {
-        Ok(run) => Ok(run),
-        Err(_) => Err(RowFault::NotRun.into()),
-    }
+    Ok(run_live(rt, alloc, config, &no_faults(alloc), jobs, gates, TURNS)?)
 }
 
 /// A job whose tray stays full holds nobody up: all that it submitted is taken.
 pub fn never_calls_next<R: Threads + Wait + Print + Copy + Send + 'static>(
     rt: R,
     alloc: Global,
+    row: &str,
 ) -> Result<()> {
     let run = run_silent(rt, alloc, one_silent(alloc)?)?;
     let mut steps: u64 = 0;
@@ -130,7 +128,7 @@ pub fn never_calls_next<R: Threads + Wait + Print + Copy + Send + 'static>(
     }
     for client in run.clients.iter() {
         println!(&rt;
-            "never-calls-next: {steps} steps, tickets {}, left {}",
+            "{row}: {steps} steps, tickets {}, left {}",
             client.tickets, client.left
         )?;
     }

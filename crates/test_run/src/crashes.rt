@@ -1,5 +1,5 @@
 //! Rows in which a node crashes.
-use crate::runs::{TURNS, expect_run, run_jobs};
+use crate::runs::{TURNS, run_jobs};
 use crate::seen::see;
 use anyhow::Result;
 use cast_message::{Event, NodeId};
@@ -23,21 +23,21 @@ fn run_crash<R: Threads + Wait + Copy + Send + 'static>(
     plan.faults.push(Fault::Crash { node, entries })?;
     let mut shape = Shape::new(2, 0, 1);
     shape.box_size = 4;
-    let run = run_jobs(rt, alloc, shape, &plan, &[0, 1], 20, TURNS)?;
-    Ok(expect_run(run)?)
+    Ok(run_jobs(rt, alloc, shape, &plan, &[0, 1], 20, TURNS)??)
 }
 
 /// A node that crashes after its fifth entry has broadcast at most five items.
 pub fn live_losses_crash<R: Threads + Wait + Print + Copy + Send + 'static>(
     rt: R,
     alloc: Global,
+    row: &str,
 ) -> Result<()> {
     let run = run_crash(rt, alloc, 5)?;
     let seen = see(alloc, &run.report)?;
     let crashed = seen.ended(1) == Some(EngineEnd::Crashed);
     let few = seen.count(0, 1).is_some_and(|count| count <= 5);
     println!(&rt;
-        "live-losses-crash: node 1 crashed {crashed}, at most 5 of it {few}, rest {}, good {}",
+        "{row}: node 1 crashed {crashed}, at most 5 of it {few}, rest {}, good {}",
         seen.rest,
         seen.is_good()
     )?;
@@ -48,20 +48,21 @@ pub fn live_losses_crash<R: Threads + Wait + Print + Copy + Send + 'static>(
 pub fn at_each_entry<R: Threads + Wait + Print + Copy + Send + 'static>(
     rt: R,
     alloc: Global,
+    row: &str,
 ) -> Result<()> {
-    let mut in_place: u64 = 0;
-    let mut good: u64 = 0;
     for entries in 0..=30 {
         let run = run_crash(rt, alloc, entries)?;
-        let crashed = run
+        let in_place = run
             .report
             .reports()
             .get(1)
             .is_some_and(|node| ends_in_crash(node, entries));
-        in_place = in_place.saturating_add(u64::from(crashed));
-        good = good.saturating_add(u64::from(see(alloc, &run.report)?.is_good()));
+        let good = see(alloc, &run.report)?.is_good();
+        if !(in_place && good) {
+            println!(&rt; "{row}: after {entries} entries: in place {in_place}, good {good}")?;
+        }
     }
-    println!(&rt; "crash-at-each-entry: {in_place} of 31 in place, {good} good")?;
+    println!(&rt; "{row}: 31 crashes tried")?;
     Ok(())
 }
 

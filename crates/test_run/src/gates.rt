@@ -2,7 +2,7 @@
 ghost use Rattle.std.specs.Prelude.{IfOk, OnOk};
 ghost use Rattle.test_run.specs.NewJobs.{AreNewSignals, IsNewSignal};
 
-use crate::runs::{RowFault, TURNS};
+use crate::runs::TURNS;
 use anyhow::Result;
 use cast_desk::Client;
 use cast_message::NodeId;
@@ -130,9 +130,7 @@ pub fn meet<R: Threads + Wait + Print + Copy + Send + 'static>(
     let jobs = signal_jobs(alloc, nodes, &meeting)?;
     let gates = meeting_gates(alloc, nodes, &meeting)?;
     let config = Shape::new(u64::from(nodes), 0, 1).config()?;
-    if run_live(rt, alloc, config, &no_faults(alloc), jobs, gates, TURNS).is_err() {
-        return Err(RowFault::NotRun.into());
-    }
+    run_live(rt, alloc, config, &no_faults(alloc), jobs, gates, TURNS)?;
     let gave_up = meeting.gave_up.load(Ordering::SeqCst);
     let host = meeting.host_replies.load(Ordering::SeqCst);
     let guests = meeting.guest_replies.load(Ordering::SeqCst);

@@ -1,30 +1,69 @@
 //! Rows of one node whose log or whose clock is full.
-use crate::runs::{TURNS, run_jobs, seen_of};
+use crate::runs::{TURNS, run_jobs};
+use crate::seen::see;
 use anyhow::Result;
 use run_setup::{Shape, no_faults};
 use std::alloc::Global;
 use std::sync::Wait;
 use std::thread::Threads;
 
-/// How many items a node has, the first stamp of its clock, and how many entries its log takes.
-pub type Limits = (u64, u64, u64);
+/// What one node has to do, and what it has room for.
+pub struct Limits {
+    items: u64,
+    first_stamp: u64,
+    /// How many entries its log takes.
+    log_limit: u64,
+}
 
-pub const LIVE_LIMITS: [Limits; 2] = [(1, u64::MAX, 65_536), (2, 0, 1)];
+/// A clock with one stamp left, and a log with one place.
+pub const LIVE_LIMITS: [Limits; 2] = [
+    Limits {
+        items: 1,
+        first_stamp: u64::MAX,
+        log_limit: 65_536,
+    },
+    Limits {
+        items: 2,
+        first_stamp: 0,
+        log_limit: 1,
+    },
+];
 
-pub const FIVE_ITEMS: [Limits; 2] = [(5, 0, 3), (5, u64::MAX - 2, 65_536)];
+/// Five items, of which three have a place in the log, or two a stamp of the clock.
+pub const FIVE_ITEMS: [Limits; 2] = [
+    Limits {
+        items: 5,
+        first_stamp: 0,
+        log_limit: 3,
+    },
+    Limits {
+        items: 5,
+        first_stamp: u64::MAX - 2,
+        log_limit: 65_536,
+    },
+];
 
+/// The node with each of these limits ends with its log or its clock full.
 pub fn print_full<R: Threads + Wait + Print + Copy + Send + 'static>(
     rt: R,
     alloc: Global,
     row: &str,
     limits: [Limits; 2],
 ) -> Result<()> {
-    for (items, first_stamp, log_limit) in limits {
+    for limit in limits {
         let mut shape = Shape::new(1, 0, 1);
-        shape.first_stamp = first_stamp;
-        shape.log_limit = log_limit;
-        let run = run_jobs(rt, alloc, shape, &no_faults(alloc), &[0], items, TURNS)?;
-        let seen = seen_of(alloc, run)?;
+        shape.first_stamp = limit.first_stamp;
+        shape.log_limit = limit.log_limit;
+        let run = run_jobs(
+            rt,
+            alloc,
+            shape,
+            &no_faults(alloc),
+            &[0],
+            limit.items,
+            TURNS,
+        )??;
+        let seen = see(alloc, &run.report)?;
         println!(&rt; "{row}: {seen}")?;
     }
     Ok(())

@@ -1,8 +1,9 @@
 //! Rows in which carriers lose, repeat and delay frames, and those in which they don't.
-use crate::runs::{TURNS, run_jobs, seen_of};
+use crate::runs::{TURNS, run_jobs};
 use crate::seen::see;
 use anyhow::Result;
 use cast_message::List;
+use cast_report::EngineEnd;
 use cast_run::LiveFault;
 use cast_script::{FaultPlan, FrameKind};
 use run_setup::{Link, Shape, links, lose_every, no_faults};
@@ -14,30 +15,37 @@ use std::thread::Threads;
 pub fn live_losses<R: Threads + Wait + Print + Copy + Send + 'static>(
     rt: R,
     alloc: Global,
+    row: &str,
 ) -> Result<()> {
     let plan = lose_every(alloc, 2, 2)?;
     let mut shape = Shape::new(2, 0, 1);
     shape.box_size = 4;
-    let run = run_jobs(rt, alloc, shape, &plan, &[0, 1], 20, TURNS)?;
-    let seen = seen_of(alloc, run)?;
-    println!(&rt; "live-losses: {seen}")?;
+    let run = run_jobs(rt, alloc, shape, &plan, &[0, 1], 20, TURNS)??;
+    let seen = see(alloc, &run.report)?;
+    println!(&rt; "{row}: {seen}")?;
     Ok(())
 }
 
-/// All that node 0 carries to node 1 is lost: the group never rests, and the turns run out.
+/// All that node 0 carries to node 1 is lost: node 0 owes it for ever, until its turns run out.
 pub fn live_all_lost<R: Threads + Wait + Print + Copy + Send + 'static>(
     rt: R,
     alloc: Global,
+    row: &str,
 ) -> Result<()> {
     let mut faults = List::new(alloc);
     faults.push(Link { from: 0, to: 1 }.lose(FrameKind::Carry, 0, 1))?;
     let plan = FaultPlan { faults };
-    let run = run_jobs(rt, alloc, Shape::new(2, 0, 1), &plan, &[0], 1, 1_000_000)?;
-    let seen = seen_of(alloc, run)?;
-    let lost = seen.count(1, 0) == Some(0) && seen.count(1, 1) == Some(0);
-    let own = seen.count(0, 0) == Some(1) && seen.count(0, 1) == Some(0);
+    let run = run_jobs(rt, alloc, Shape::new(2, 0, 1), &plan, &[0], 1, 1_000_000)??;
+    let seen = see(alloc, &run.report)?;
+    print!(&rt; "{row}: delivered")?;
+    for node in seen.nodes.iter() {
+        for count in node.counts.iter() {
+            print!(&rt; " {count}")?;
+        }
+    }
     println!(&rt;
-        "live-all-lost: own item alone {own}, nothing there {lost}, rest {}, good {}",
+        ", node 0 at its last turn {}, rest {}, good {}",
+        seen.ended(0) == Some(EngineEnd::TurnLimit),
         seen.rest,
         seen.is_good()
     )?;
@@ -48,16 +56,17 @@ pub fn live_all_lost<R: Threads + Wait + Print + Copy + Send + 'static>(
 pub fn live_three_nodes<R: Threads + Wait + Print + Copy + Send + 'static>(
     rt: R,
     alloc: Global,
+    row: &str,
 ) -> Result<()> {
     let plan = no_faults(alloc);
     match run_jobs(rt, alloc, Shape::new(3, 1, 2), &plan, &[0, 1, 2], 1, TURNS)? {
         Ok(run) => {
             let seen = see(alloc, &run.report)?;
-            println!(&rt; "live-three-nodes: {seen}")?;
+            println!(&rt; "{row}: {seen}")?;
         }
-        Err(LiveFault::Memory) => println!(&rt; "live-three-nodes: out of memory")?,
-        Err(LiveFault::Threads) => println!(&rt; "live-three-nodes: a thread was refused")?,
-        Err(_) => println!(&rt; "live-three-nodes: refused")?,
+        Err(LiveFault::Memory) => println!(&rt; "{row}: out of memory")?,
+        Err(LiveFault::Threads) => println!(&rt; "{row}: a thread was refused")?,
+        Err(_) => println!(&rt; "{row}: refused")?,
     }
     Ok(())
 }
@@ -66,17 +75,18 @@ pub fn live_three_nodes<R: Threads + Wait + Print + Copy + Send + 'static>(
 pub fn one_place<R: Threads + Wait + Print + Copy + Send + 'static>(
     rt: R,
     alloc: Global,
+    row: &str,
 ) -> Result<()> {
     let mut shape = Shape::new(3, 1, 2);
     shape.box_size = 1;
-    let run = run_jobs(rt, alloc, shape, &no_faults(alloc), &[0, 1, 2], 20, TURNS)?;
-    let seen = seen_of(alloc, run)?;
+    let run = run_jobs(rt, alloc, shape, &no_faults(alloc), &[0, 1, 2], 20, TURNS)??;
+    let seen = see(alloc, &run.report)?;
     let within = seen
         .nodes
         .iter()
         .all(|node| node.counts.iter().all(|count| *count <= 20));
     println!(&rt;
-        "one-place: at most 20 of each {within}, good {}",
+        "{row}: at most 20 of each {within}, good {}",
         seen.is_good()
     )?;
     Ok(())
@@ -86,13 +96,14 @@ pub fn one_place<R: Threads + Wait + Print + Copy + Send + 'static>(
 pub fn every_fault<R: Threads + Wait + Print + Copy + Send + 'static>(
     rt: R,
     alloc: Global,
+    row: &str,
 ) -> Result<()> {
     let plan = faults_on_each(alloc)?;
     let mut shape = Shape::new(3, 1, 2);
     shape.box_size = 4;
-    let run = run_jobs(rt, alloc, shape, &plan, &[0, 1, 2], 20, TURNS)?;
-    let seen = seen_of(alloc, run)?;
-    println!(&rt; "every-fault-on-every-link: {seen}")?;
+    let run = run_jobs(rt, alloc, shape, &plan, &[0, 1, 2], 20, TURNS)??;
+    let seen = see(alloc, &run.report)?;
+    println!(&rt; "{row}: {seen}")?;
     Ok(())
 }
 

@@ -8,9 +8,11 @@ use std::alloc::{AllocError, Global};
 use std::sync::Wait;
 use std::thread::Threads;
 
+/// A job more, or at no node; gates for fewer nodes; a fault of a link to itself, or at no node.
 pub fn live_refusals<R: Threads + Wait + Print + Copy + Send + 'static>(
     rt: R,
     alloc: Global,
+    row: &str,
 ) -> Result<()> {
     let itself = Link { from: 0, to: 0 }.lose(FrameKind::Carry, 0, 1);
     let nobody = Fault::Crash {
@@ -26,7 +28,7 @@ pub fn live_refusals<R: Threads + Wait + Print + Copy + Send + 'static>(
         refusal(rt, alloc, &[0], 2, plan_of(alloc, itself)?)?,
         refusal(rt, alloc, &[0], 2, plan_of(alloc, nobody)?)?,
     ];
-    print!(&rt; "live-refusals:")?;
+    print!(&rt; "{row}:")?;
     for answer in answers {
         print!(&rt; " {answer}")?;
     }

@@ -36,6 +36,7 @@ pub enum SeenFault {
 }
 
 impl Seen {
+    /// Whether no line of the record breaks a rule.
     pub fn is_good(&self) -> bool {
         self.verdict == Verdict::Good
     }
@@ -45,6 +46,7 @@ impl Seen {
         self.nodes.get(node)?.counts.get(sender).copied()
     }
 
+    /// How the engine of the node ended.
     pub fn ended(&self, node: usize) -> Option<EngineEnd> {
         Some(self.nodes.get(node)?.ended)
     }

@@ -1,4 +1,4 @@
-use Rattle.std.proofs.Common.{◌≡◌, Some, None, Option, option_map, IsSome, sym, ap, ◌∙◌, subst, refl, arith}
+use Rattle.std.proofs.Common.{◌≡◌, rules, Some, None, Option, option_map, IsSome, sym, ap, ◌∙◌, subst, refl, arith}
 use Rattle.std.proofs.lemmas.Grind.{common_steps}
 use Rattle.cast_agree.specs.declared.tally.Tally.{Tally}
 use Rattle.std.proofs.Common.{ℕ, cond}
@@ -6,8 +6,8 @@ use Rattle.std.specs.Ordering.{nat_cmp}
 use Rattle.std.specs.Map.{lookup}
 use Rattle.std.specs.BTreeMap.{BTreeMap, is_at}
 use Rattle.cast_agree.specs.Tallies.{decided_by, tally_after}
-use Rattle.cast_agree.specs.Counted.{tally_at, decision_by, counted_after}
-use Rattle.cast_agree.proofs.Steps.{decided_by-found, stored}
+use Rattle.cast_agree.specs.Counted.{tally_at, decision_by, counted_after, IsFirst}
+use Rattle.cast_agree.proofs.Steps.{decided_by-found, nothing-found, stored}
 use Rattle.cast_agree.proofs.Agree.delivered.Goals as goal
 use Rattle.cast_agree.proofs.Agree.delivered.Goals.{in-Some, in-None+in_ok-insert-in-None}
 
@@ -30,3 +30,9 @@ returns-clause-ok c =
       | in-None+in_ok-insert-in-None w ↦
           w.self-is ∙ stored _ _ c.args.self.now c.self.view_is c.in-Propose.instance None w.in-None.ensures.value c.args.sender c.in-Propose.value w.count-decided-in-None.new.self (w.count-decided-in-None.ensures.after ∙ ap (λ t. tally_after c.self.inside.quorum t c.args.sender c.in-Propose.value) w.new-tally.ensures) _ (λ q. w.in_ok-insert-in-None.ensures.updates.0 q ∙ ap (λ (m : BTreeMap ℕ Tally). cond (is_at (nat_cmp c.in-Propose.instance) q) (Some w.count-decided-in-None.new.self) (lookup (is_at (nat_cmp q)) m.entries)) c.get_mut.follows.holds-at-none) ∙ after
     ]
+
+pub returns-in_err-insert-in-None-clause-first : goal.returns-in_err-insert-in-None-clause-first
+returns-in_err-insert-in-None-clause-first c =
+    let nothing = nothing-found _ _ c.args.self.now c.self.view_is c.in-Propose.instance c.in-None.ensures.value in
+    let first : IsFirst c.args.self.now c.args.item.now = subst (IsFirst c.args.self.now) (sym c.in-Propose.is) nothing in
+    search (rules, first)

@@ -1,12 +1,12 @@
 use Rattle.std.proofs.Math.ListN.{length-set}
-use Rattle.std.proofs.Common.{◌≡◌, ◌≢◌, ◌≤◌, ◌<◌, arith, length, not, sym, ap, ◌∙◌, if◌then◌else◌}
+use Rattle.std.proofs.Common.{rules, ◌≡◌, ◌≢◌, ◌≤◌, ◌<◌, arith, length, not, sym, ap, ◌∙◌, if◌then◌else◌, false}
 use Rattle.std.specs.Prelude.{slice_set}
 use Rattle.std.specs.FinSet as set
 use Rattle.std.proofs.lemmas.List.{get_or_default}
 use Rattle.cast_relay.specs.declared.Taken.TheVariants.{New, Known}
-use Rattle.cast_relay.specs.Held.{Held, HoldsOwnBelow, holds, with_pair, without_pair}
+use Rattle.cast_relay.specs.Held.{Held, HoldsOwnBelow, holds, numbers_of, with_pair, without_pair}
 use Rattle.cast_relay.proofs.TakenBack.{forgotten}
-use Rattle.cast_relay.proofs.Senders.{seen, put, answer, own_grown, own_other}
+use Rattle.cast_relay.proofs.Senders.{seen, put, answer, holds_as, holds_none, own_grown, own_other}
 use Rattle.cast_relay.proofs.Relay.arrive.Goals as goal
 use Rattle.cast_relay.proofs.Relay.arrive.Goals.{After-insert, In_ok-added}
 
@@ -48,6 +48,19 @@ returns-then-not-added-clause-back c new =
 
 pub returns-then-not-added-clause-taken : goal.returns-then-not-added-clause-taken
 returns-then-not-added-clause-taken c = sym (ap (λ b. if b then Known else New) (was_held (goal.at.returns-then-not-added-clause-taken c).In_ok-added ∙ ap not c.if-not-added.true))
+
+pub returns-in_err-make_places-clause-again : goal.returns-in_err-make_places-clause-again
+returns-in_err-make_places-clause-again c =
+    let none : holds c.args.self.now c.args.message.now.sender c.args.message.now.number ≡ false = holds_none c.self.inside.numbers.items c.args.self.now c.self.inside.me c.self.inside.own c.args.message.now.sender c.args.message.now.number c.self.view_is (omega (arith, c.in_err-make_places.ensures.needed, c.place_of-place.ensures.value)) in
+    search (rules, none)
+
+pub returns-in_err-added-clause-again : goal.returns-in_err-added-clause-again
+returns-in_err-added-clause-again c =
+    let room = c.make_places.new.numbers.items in
+    let place = c.place_of-place.result in
+    let absent : set.contains (numbers_of room place) c.args.message.now.number ≡ false = ap (λ n. set.contains n c.args.message.now.number) (sym (c.index_mut.ensures.value ∙ get_or_default room place _ set.empty c.in_ok-make_places.ensures.ok)) ∙ c.in_err-added.ensures.again in
+    let none : holds c.args.self.now c.args.message.now.sender c.args.message.now.number ≡ false = holds_as c.args.self.now c.args.message.now.sender c.args.message.now.number c.self.inside.numbers.items room c.self.inside.me c.self.inside.own place c.self.view_is c.make_places.ensures.same c.place_of-place.ensures.value ∙ absent in
+    search (rules, none)
 
 pub invariant_of-self : goal.invariant_of-self
 invariant_of-self c = (

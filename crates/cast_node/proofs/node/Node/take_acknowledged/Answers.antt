@@ -29,4 +29,4 @@ pub returns : goal.returns
 returns c =
     let told = word_told c.self.invariant c.args.from c.args.slot c.in-Some.message.now (links_of c.acknowledge.new.self) c.acknowledge.ensures c.self.inside.live c.self.inside.frames c.args.self.now c.insert.new.self c.tell.new.self c.self.view_is
     (sym c.message.ensures ∙ ap option_copied c.in-Some.is) (c.insert.ensures ∙ ap (λ members. set.insert members c.args.from) c.members-members.ensures) c.in_ok-outcome.ensures.ok in
-    record { outcome = c.in_ok-outcome.ensures.outcome ∙ told.1; ok = told.0; err = search rules }
+    record { outcome = c.in_ok-outcome.ensures.outcome ∙ told.1; ok = told.0; err = search rules; awaited = search rules }
