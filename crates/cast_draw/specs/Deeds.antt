@@ -5,7 +5,7 @@
 use Rattle.std.specs.Prelude.{ℕ, ◌+◌, ◌*◌, ◌/◌, ◌==◌, Bool, List, [], ◌∷◌, ◌++◌, map, take, drop, if◌then◌else◌}
 use Rattle.cast_message.specs.declared.message.Message.{Message}
 use Rattle.cast_message.specs.declared.message.Decision.{Decision}
-use Rattle.cast_model.specs.Refusals.{proposes}
+use Rattle.cast_message.specs.Items.{proposes_in}
 use Rattle.cast_draw.specs.Places.{place_x, row_of, top_of}
 use Rattle.cast_draw.specs.Marks.{delivery_text, decision_text}
 
@@ -16,7 +16,7 @@ pub data Deed : Type 0 where
 -- how many of these decisions the delivery brought: the first, where the message proposes in its instance
 abbrev pub brought : Message → List Decision → ℕ
 brought message [] = 0
-brought message (decision ∷ decisions) = if proposes decision.instance message.item then 1 else 0
+brought message (decision ∷ decisions) = if proposes_in decision.instance message.item then 1 else 0
 
 unfoldable pub deeds : List Message → List Decision → List Deed
 deeds [] decisions = map Decides decisions

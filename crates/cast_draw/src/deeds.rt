@@ -1,7 +1,7 @@
 //! What an event delivered and decided, below its node's line.
 ghost use Rattle.std.specs.Prelude.{◌≡◌, ◌<◌, ◌+◌, ◌^◌, ◌++◌, IfOk, OnOk, if◌then◌else◌, drop, length, map, true};
+ghost use Rattle.cast_message.specs.Items.{proposes_in};
 ghost use Rattle.cast_draw.specs.Deeds.{Delivers, Decides, brought, deed_text, deeds, deeds_text, width_of};
-ghost use Rattle.cast_model.specs.Refusals.{proposes};
 
 use crate::cell::{Cell, FOR_VALUES, NARROW, Spot, WIDE};
 use crate::ink::Ink;
@@ -102,7 +102,7 @@ fn is_brought(message: &Message, decisions: &[Decision], place: usize) -> bool
 }
 
 fn proposes(item: &Item, place: u64) -> bool
-    ensures { result ≡ proposes place item.now }
+    ensures { result ≡ proposes_in place item.now }
 {
     matches!(item, Item::Propose { instance, .. } if *instance == place)
 }

@@ -5,6 +5,7 @@ ghost use Rattle.cast_draw.specs.Labels.{item_label, value_label, proposal_label
 
 use crate::ink::Ink;
 use cast_message::Item;
+use cast_words::prefix;
 use itoa::Buffer;
 use std::alloc::AllocError;
 
@@ -55,13 +56,6 @@ fn put_prefix(ink: &mut Ink, bytes: &[u8], room: usize) -> Result<(), AllocError
     ensures { OnOk result (ink.new ≡ ink.old ++ take room bytes.now) }
 {
     ink.put_bytes(prefix(bytes, room))
-}
-
-// The first bytes, at most so many.
-fn prefix(bytes: &[u8], room: usize) -> &[u8]
-    ensures { result.now ≡ take room bytes.now }
-{
-    &bytes[..bytes.len().min(room)]
 }
 
 // Puts the dots behind a label that was cut.

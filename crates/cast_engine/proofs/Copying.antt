@@ -10,7 +10,8 @@ use Rattle.cast_engine.specs.declared.parcel.Parcel.{Parcel}
 use Rattle.cast_engine.specs.declared.carrier.Delayed.{Delayed}
 use Rattle.cast_engine.specs.declared.carrier.Fate.{Fate}
 use Rattle.cast_engine.specs.declared.carrier.Ordinals.{Ordinals}
-use Rattle.cast_engine.specs.Fates.{kind_of, one_more, fate_in, counted_where, counted_in}
+use Rattle.cast_engine.specs.Fates.{one_more, fate_in, counted_where, counted_in}
+use Rattle.cast_message.specs.Items.{kind_of}
 use Rattle.cast_engine.specs.Copies.{none_taken, counted_all, ordinals_after, frames_for, is_for, copies, copies_after, due_from, due, IsByPlan}
 use Rattle.cast_engine.specs.Carriers.{counted_down, kept_for, CarrierPlans, PutsUpTo, IsNoMore, IsByFate, IsKeptOrLost}
 

@@ -9,7 +9,8 @@ use Rattle.cast_script.specs.declared.script.Fault.{Fault}
 use Rattle.cast_engine.specs.declared.carrier.Fate.{Fate}
 use Rattle.cast_engine.specs.declared.carrier.NamedFrame.{NamedFrame}
 use Rattle.cast_engine.specs.declared.carrier.Ordinals.{Ordinals}
-use Rattle.cast_engine.specs.Fates.{loses, repeats, delay_by, delay_of, fate_by, suffered, kind_of, named, ordinal_of, one_more, fate_where, fate_in, counted_where, counted_in}
+use Rattle.cast_engine.specs.Fates.{loses, repeats, delay_by, delay_of, fate_by, suffered, named, ordinal_of, one_more, fate_where, fate_in, counted_where, counted_in}
+use Rattle.cast_message.specs.Items.{kind_of}
 
 or_none : (a b : Bool) → (a || (b || false)) ≡ (a || b)
 or_none true b = refl

@@ -10,15 +10,12 @@ use Rattle.cast_message.specs.declared.message.FrameBody.{FrameBody}
 use Rattle.cast_message.specs.declared.message.FrameBody.TheVariants as bodies
 use Rattle.cast_message.specs.declared.message.FrameKind.{FrameKind}
 use Rattle.cast_message.specs.declared.message.FrameKind.TheVariants.{Carry, Took}
+use Rattle.cast_message.specs.Items.{kind_of}
 use Rattle.cast_script.specs.declared.script.Fault.{Fault}
 use Rattle.cast_script.specs.declared.script.Fault.TheVariants.{Lose, Repeat, Delay, Crash}
 use Rattle.cast_engine.specs.declared.carrier.Fate.{Fate}
 use Rattle.cast_engine.specs.declared.carrier.NamedFrame.{NamedFrame}
 use Rattle.cast_engine.specs.declared.carrier.Ordinals.{Ordinals}
-
-abbrev pub kind_of : FrameBody → FrameKind
-kind_of (bodies.Carry slot message) = Carry
-kind_of (bodies.Took slot) = Took
 
 -- ---- which frames a fault names
 

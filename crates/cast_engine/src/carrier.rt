@@ -4,7 +4,7 @@ ghost use Rattle.std.specs.Prelude.{◌≡◌, ◌||◌, [], IfOk, if◌then◌e
 ghost use Rattle.cast_box.specs.Ends.{AreSamePutters};
 ghost use Rattle.cast_engine.specs.Copies.{IsByPlan, copies};
 ghost use Rattle.cast_engine.specs.Carriers.{IsSameCarrier, AreUnused, Brings, Moves, MovesOn, Puts, PutsUpTo, IsNoMore, IsByFate, IsKeptOrLost, counted_down};
-ghost use Rattle.cast_engine.specs.Fates.{kind_of, is_kind, is_among, names, suffered, fate_by, fate_in, ordinal_of, one_more, counted_in};
+ghost use Rattle.cast_engine.specs.Fates.{is_kind, is_among, names, suffered, fate_by, fate_in, ordinal_of, one_more, counted_in};
 
 use crate::board::Board;
 use crate::parcel::Parcel;
@@ -185,7 +185,7 @@ fn fate_of(faults: &[Fault], ordinals: &mut [Ordinals], parcel: &Parcel) -> Fate
     ensures counts { ordinals.new ≡ counted_in ordinals.old parcel.now.frame }
 {
     let to = parcel.frame.to;
-    let kind = kind_of(&parcel.frame.body);
+    let kind = parcel.frame.body.kind();
     let target = usize::from(to.0);
     if target >= ordinals.len() {
         return Fate {
@@ -203,16 +203,6 @@ fn fate_of(faults: &[Fault], ordinals: &mut [Ordinals], parcel: &Parcel) -> Fate
         ordinal,
     };
     fate_by(faults, &frame)
-}
-
-// The kind of a frame.
-fn kind_of(body: &FrameBody) -> FrameKind
-    ensures { result ≡ kind_of body.now }
-{
-    match body {
-        FrameBody::Carry { .. } => FrameKind::Carry,
-        FrameBody::Took { .. } => FrameKind::Took,
-    }
 }
 
 // The ordinal of the next frame of the kind, which stays at its greatest value once there.

@@ -1,7 +1,5 @@
 //! What is shown of the bytes of an input: the first 200 of them.
-ghost use Rattle.std.specs.Prelude.{◌≡◌, take};
-
-use cast_words::escaped;
+use cast_words::{escaped, prefix};
 use std::alloc::{AllocError, Global};
 
 /// The most bytes that are shown.
@@ -17,13 +15,6 @@ pub fn cut(alloc: Global, bytes: &[u8]) -> Result<String, AllocError> {
 pub fn quoted(alloc: Global, bytes: &[u8]) -> Result<String, AllocError> {
     let text = escaped(alloc, prefix(bytes, SHOWN))?;
     with_count(alloc, format!(in alloc; "\"{text}\"")?, bytes.len())
-}
-
-// The first bytes, at most so many.
-fn prefix(bytes: &[u8], room: usize) -> &[u8]
-    ensures { result.now ≡ take room bytes.now }
-{
-    &bytes[..bytes.len().min(room)]
 }
 
 fn with_count(alloc: Global, text: String, count: usize) -> Result<String, AllocError> {

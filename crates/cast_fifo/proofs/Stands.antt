@@ -13,7 +13,8 @@ use Rattle.cast_message.specs.declared.message.Item.TheVariants.{Close}
 use Rattle.cast_message.specs.declared.message.Message.{Message}
 use Rattle.cast_model.specs.History.{numbered}
 use Rattle.cast_fifo.specs.declared.waiting.Waiting.{Waiting}
-use Rattle.cast_fifo.specs.Held.{Held, waiting_at, came, marked, with_mark, with_item, run_from, rest_from, is_close, advanced, known_items, known_after}
+use Rattle.cast_fifo.specs.Held.{Held, waiting_at, came, marked, with_mark, with_item, run_from, rest_from, advanced, known_items, known_after}
+use Rattle.cast_message.specs.Items.{is_close}
 use Rattle.cast_fifo.specs.Calls.{first_of}
 use Rattle.cast_fifo.specs.HoldsBack.{Ascends, waiting_of, close_at, HoldsBack}
 use Rattle.cast_fifo.proofs.Entries.{Entries, at_true, at_false}

@@ -13,7 +13,8 @@ use Rattle.cast_message.specs.declared.message.Item.{Item}
 use Rattle.cast_message.specs.declared.message.Message.{Message}
 use Rattle.cast_model.specs.History.{numbered}
 use Rattle.cast_fifo.specs.declared.waiting.Waiting.{Waiting}
-use Rattle.cast_fifo.specs.Held.{Held, waiting_at, came, marked, with_mark, with_item, run_from, rest_from, is_close, advanced, turned_items, turned_after, known_items, known_after, offered_items, offered_after}
+use Rattle.cast_fifo.specs.Held.{Held, waiting_at, came, marked, with_mark, with_item, run_from, rest_from, advanced, turned_items, turned_after, known_items, known_after, offered_items, offered_after}
+use Rattle.cast_message.specs.Items.{is_close}
 use Rattle.cast_fifo.specs.Windows.{entries_from, entries_of, marked_front, front_item, HasFront, next_item, next_far, HasNext, StartsUnmarked, IsWindow}
 use Rattle.cast_fifo.proofs.Entries.{Places, Entries, seen, past, none_at, below_ring, insert_before, no_run, rest_none, eq_false, cons_nil}
 

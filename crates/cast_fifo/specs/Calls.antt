@@ -12,7 +12,8 @@ use Rattle.cast_message.specs.declared.message.Item.{Item}
 use Rattle.cast_message.specs.declared.message.Item.TheVariants.{Close}
 use Rattle.cast_message.specs.declared.message.Message.{Message}
 use Rattle.cast_model.specs.History.{numbered}
-use Rattle.cast_fifo.specs.Held.{Held, nothing_held, held_of, came, with_item, known_items, known_after, offered_items, offered_after, is_close}
+use Rattle.cast_fifo.specs.Held.{Held, nothing_held, held_of, came, with_item, known_items, known_after, offered_items, offered_after}
+use Rattle.cast_message.specs.Items.{is_close}
 
 pub data Call : Type 0 where
   Hold : Message → Call

@@ -20,6 +20,7 @@ use Rattle.std.specs.Map.{lookup, keys_of, set_value, remove_entry}
 use Rattle.std.specs.BTreeMap.{insert_entry, is_at}
 use Rattle.cast_message.specs.declared.message.Item.{Item}
 use Rattle.cast_message.specs.declared.message.Item.TheVariants.{Data, Propose, Close}
+use Rattle.cast_message.specs.Items.{is_close}
 use Rattle.cast_fifo.specs.declared.waiting.Waiting.{Waiting}
 
 pub record Held : Type 0 where
@@ -84,11 +85,6 @@ rest_from next (entry ∷ entries) =
 -- nothing waits 4,096 numbers or more past the next
 abbrev pub IsNear : Held → Type 0
 IsNear held = All (λ number. number < held.next + 4096) (keys_of held.waiting)
-
-abbrev pub is_close : Item → Bool
-is_close (Data payload) = false
-is_close (Propose instance value) = false
-is_close Close = true
 
 abbrev pub advanced : Held → Held
 advanced held =

@@ -5,7 +5,8 @@ use Rattle.std.specs.List.{list_any, range_with_len}
 use Rattle.cast_message.specs.declared.message.Item.{Item}
 use Rattle.cast_message.specs.declared.message.Item.TheVariants.{Close}
 use Rattle.cast_fifo.specs.declared.waiting.Waiting.{Waiting}
-use Rattle.cast_fifo.specs.Held.{Held, waiting_at, is_close}
+use Rattle.cast_fifo.specs.Held.{Held, waiting_at}
+use Rattle.cast_message.specs.Items.{is_close}
 
 -- numbers that rise from one on
 abbrev pub Ascends : ℕ → List (ℕ × Waiting) → Type 0

@@ -6,7 +6,8 @@ ghost use Rattle.std.specs.List.{All};
 ghost use Rattle.std.specs.Map.{keys_of};
 ghost use Rattle.std.specs.VecDeque.{deque_capacity};
 ghost use Rattle.cast_model.specs.History.{numbered};
-ghost use Rattle.cast_fifo.specs.Held.{nothing_held, waiting_at, came, marked, with_item, with_waiting, with_mark, run_from, is_close, known_items, known_after, offered_items, offered_after, turned_items, turned_after, advanced, without_item, item_due, IsNear};
+ghost use Rattle.cast_fifo.specs.Held.{nothing_held, waiting_at, came, marked, with_item, with_waiting, with_mark, run_from, known_items, known_after, offered_items, offered_after, turned_items, turned_after, advanced, without_item, item_due, IsNear};
+ghost use Rattle.cast_message.specs.Items.{is_close};
 ghost use Rattle.cast_fifo.specs.Windows.{AllFrom, held_in, entries_of, front_item, HasFront, next_item, next_far, HasNext, IsWindow};
 
 use crate::far::{clear_far, mark_far, ready_in_map, take_first};
@@ -323,22 +324,13 @@ fn pass(sender: NodeId, next: &mut u64, closed: &mut bool, item: Item, messages:
     ensures next { next.new ≡ next.old + 1 }
     ensures closed { closed.new ≡ (closed.old || is_close item) }
 {
-    *closed = *closed || is_close(&item);
+    *closed = *closed || item.is_close();
     messages.push_reserved(Message {
         sender,
         number: *next,
         item,
     });
     *next += 1;
-}
-
-fn is_close(item: &Item) -> bool
-    ensures { result ≡ is_close item.now }
-{
-    match item {
-        Item::Data(_) | Item::Propose { .. } => false,
-        Item::Close => true,
-    }
 }
 
 // The turn of the messages that are marked from the first place on.
@@ -361,7 +353,7 @@ fn release_front(
     ensures window { IsWindow next.new ring.new.items [] }
 {
     while let Some(item) = take_marked(ring) {
-        *closed = *closed || is_close(&item);
+        *closed = *closed || item.is_close();
         items.push_reserved(item);
         *next += 1;
     }

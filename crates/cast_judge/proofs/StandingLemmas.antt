@@ -11,6 +11,7 @@ use Rattle.cast_message.specs.declared.message.Item.{Item}
 use Rattle.cast_message.specs.declared.message.Item.TheVariants.{Propose}
 use Rattle.cast_message.specs.declared.message.Message.{Message}
 use Rattle.cast_message.specs.declared.message.Decision.{Decision}
+use Rattle.cast_message.specs.Items.{is_close, proposes_in}
 use Rattle.cast_record.specs.declared.line.Line.{Line}
 use Rattle.cast_record.specs.declared.line.Line.TheVariants.{Head, Head2, Broadcast, Delivered, Decided, Crashed, Refused, End}
 use Rattle.cast_record.specs.Ranges.{IsWithin}
@@ -36,7 +37,7 @@ counts_in line p counts = counts
 abbrev added : Line → ℕ → Sender → Sender
 added line p node = record {
   items = node.items ++ items_in line p;
-  closed = said.is_broadcast (λ m. nat_eq m.sender p && said.is_close m.item) line || node.closed;
+  closed = said.is_broadcast (λ m. nat_eq m.sender p && is_close m.item) line || node.closed;
   crashed = said.is_crash p line || node.crashed;
   delivered = counts_in line p node.delivered;
 }
@@ -67,7 +68,7 @@ node_added nodes (Head n f k) p e within = absurd (cc)
 node_added nodes (Head2 n f k mode) p e within = absurd (cc)
 node_added nodes (Broadcast m) p e within =
     set_at nodes m.sender p (λ node. kept.with_item node m.item)
-    (λ b node. record node { items = node.items ++ cond b (m.item ∷ []) []; closed = (b && said.is_close m.item) || node.closed })
+    (λ b node. record node { items = node.items ++ cond b (m.item ∷ []) []; closed = (b && is_close m.item) || node.closed })
     within (λ node. refl) with_nothing
 node_added nodes (Delivered q m) p e within =
     set_at nodes q p (λ node. kept.with_delivery node m.sender)
@@ -124,7 +125,7 @@ pub node_on : (past : List Line) (line : Line) (p : ℕ) (node : Sender) → len
 unfolding items_of said.has_closed said.has_crashed
 node_on past line p node short h = record {
   items = ap (λ items. items ++ items_in line p) h.items;
-  closed = ap (λ b. said.is_broadcast (λ m. nat_eq m.sender p && said.is_close m.item) line || b) h.closed;
+  closed = ap (λ b. said.is_broadcast (λ m. nat_eq m.sender p && is_close m.item) line || b) h.closed;
   crashed = ap (λ b. said.is_crash p line || b) h.crashed;
   room = room_added line p node.delivered h.room;
   delivered = delivered_added past line p node.delivered short h.room h.delivered;
@@ -136,8 +137,8 @@ proposal_on : (past : List Line) (m : Message) (j w q : ℕ) (instance : Instanc
 unfolding said.has_proposed said.is_proposed said.values_in
 proposal_on past m j w q instance is h = go (nat_eq q j) refl
   where
-    by : (p : ℕ) (b : Bool) → nat_eq q j ≡ b → said.is_broadcast (λ m. nat_eq m.sender p && said.proposes_in q m.item) (Broadcast m) ≡ (nat_eq m.sender p && b)
-    by p b e = ap (λ item. nat_eq m.sender p && said.proposes_in q item) is ∙ ap (λ b. nat_eq m.sender p && b) (test_swaps j q ∙ e)
+    by : (p : ℕ) (b : Bool) → nat_eq q j ≡ b → said.is_broadcast (λ m. nat_eq m.sender p && proposes_in q m.item) (Broadcast m) ≡ (nat_eq m.sender p && b)
+    by p b e = ap (λ item. nat_eq m.sender p && proposes_in q item) is ∙ ap (λ b. nat_eq m.sender p && b) (test_swaps j q ∙ e)
 
     for : (v : ℕ) (b : Bool) → nat_eq q j ≡ b → said.is_broadcast (λ m. said.proposes q v m.item) (Broadcast m) ≡ (b && nat_eq w v)
     for v b e = ap (λ item. said.proposes q v item) is ∙ ap (λ b. b && nat_eq w v) (test_swaps j q ∙ e)
@@ -165,7 +166,7 @@ proposal_on past m j w q instance is h = go (nat_eq q j) refl
     }
 
 -- an item that proposes nothing
-silent_on : (past : List Line) (m : Message) (q : ℕ) (instance : Instance) → ((j : ℕ) → said.proposes_in j m.item ≡ false) → ((j v : ℕ) → said.proposes j v m.item ≡ false) → StandsForInstance past q instance → StandsForInstance (Broadcast m ∷ past) q instance
+silent_on : (past : List Line) (m : Message) (q : ℕ) (instance : Instance) → ((j : ℕ) → proposes_in j m.item ≡ false) → ((j v : ℕ) → said.proposes j v m.item ≡ false) → StandsForInstance past q instance → StandsForInstance (Broadcast m ∷ past) q instance
 unfolding said.has_proposed said.is_proposed said.values_in
 silent_on past m q instance none never h = record {
   proposed = λ p. h.proposed p ∙ sym (ap (λ b. b || said.has_proposed past p q) (ap (λ b. nat_eq m.sender p && b) (none q) ∙ and_false (nat_eq m.sender p)));
@@ -176,7 +177,7 @@ silent_on past m q instance none never h = record {
 
 broadcast_on : (past : List Line) (m : Message) (item : Item) (q : ℕ) (instance : Instance) → m.item ≡ item → StandsForInstance past q instance → StandsForInstance (Broadcast m ∷ past) q (kept.item_changes m.sender item q instance)
 broadcast_on past m (Propose j w) q instance is h = proposal_on past m j w q instance is h
-broadcast_on past m item q instance is h = silent_on past m q instance (λ j. ap (said.proposes_in j) is) (λ j v. ap (said.proposes j v) is) h
+broadcast_on past m item q instance is h = silent_on past m q instance (λ j. ap (proposes_in j) is) (λ j v. ap (said.proposes j v) is) h
 
 decision_on : (past : List Line) (p : ℕ) (d : Decision) (q : ℕ) (instance : Instance) → said.is_proposed past d.instance d.value ≡ true → StandsForInstance past q instance → StandsForInstance (Decided p d ∷ past) q (kept.changed_at d.instance (adds.Decided d.value) q instance)
 unfolding said.has_proposed said.is_proposed said.values_in

@@ -8,6 +8,7 @@ use Rattle.std.specs.BTreeMap.{is_at}
 use Rattle.std.specs.Ordering.{nat_cmp}
 use Rattle.cast_message.specs.declared.message.Item.{Item}
 use Rattle.cast_message.specs.declared.message.Item.TheVariants.{Propose}
+use Rattle.cast_message.specs.Items.{is_close}
 use Rattle.cast_record.specs.declared.line.Line.{Line}
 use Rattle.cast_record.specs.declared.line.Line.TheVariants.{Head, Head2, Broadcast, Delivered, Decided, Crashed}
 use Rattle.cast_record.specs.declared.front.Delivery.{Delivery}
@@ -81,7 +82,7 @@ abbrev pub has_item : List Item → ℕ → Item → Bool
 has_item items number item = is_same (slice_get items number) item
 
 abbrev pub with_item : Sender → Item → Sender
-with_item node item = record node { items = node.items ++ item ∷ []; closed = said.is_close item || node.closed }
+with_item node item = record node { items = node.items ++ item ∷ []; closed = is_close item || node.closed }
 
 -- one more, up to the greatest number of 64 bits
 abbrev pub one_more : ℕ → ℕ

@@ -1,6 +1,6 @@
 //! What nodes broadcast, and the frames that carry it between them.
 ghost use Rattle.std.specs.Prelude.{◌≡◌, true, IfOk, OnErr};
-ghost use Rattle.cast_message.specs.Copies.{has_payload, carries_payload};
+ghost use Rattle.cast_message.specs.Items.{is_close, has_payload, kind_of, carries_payload};
 
 use crate::payload::Payload;
 use std::alloc::AllocError;
@@ -32,6 +32,13 @@ pub enum Item {
 }
 
 impl Item {
+    /// Whether it is the last item of a stream.
+    pub fn is_close(&self) -> bool
+        ensures { result ≡ is_close self.now }
+    {
+        matches!(self, Item::Close)
+    }
+
     /// An equal item, or want of memory, which only a payload takes: its bytes are shared, not copied, and counted.
     pub fn copy(&self) -> Result<Item, AllocError>
         ensures ok { IfOk result (λ copy. copy ≡ self.now) }
@@ -97,6 +104,18 @@ pub enum FrameBody {
     Carry { slot: u64, message: Message },
     /// The maker took this slot of what the target gives it.
     Took { slot: u64 },
+}
+
+impl FrameBody {
+    /// The kind of the frame.
+    pub fn kind(&self) -> FrameKind
+        ensures { result ≡ kind_of self.now }
+    {
+        match self {
+            FrameBody::Carry { .. } => FrameKind::Carry,
+            FrameBody::Took { .. } => FrameKind::Took,
+        }
+    }
 }
 
 /// The kind of a frame, by its body.

@@ -11,9 +11,9 @@ use Rattle.cast_message.specs.declared.config.Mode.TheVariants.{Basic, Uniform}
 use Rattle.cast_message.specs.declared.message.Item.{Item}
 use Rattle.cast_message.specs.declared.message.Item.TheVariants.{Data, Propose, Close}
 use Rattle.cast_message.specs.declared.message.Message.{Message}
+use Rattle.cast_message.specs.Items.{proposes_in}
 use Rattle.cast_model.specs.History.{History, stream, numbered, broadcast}
 use Rattle.cast_model.specs.Delivery.{nodes_of, is_ready, delivered, delivery_log, votes, value_in, decision}
-use Rattle.cast_model.specs.Refusals.{proposes}
 use Rattle.cast_model.specs.Replies.{IsAccepted, is_from}
 use Rattle.cast_model.specs.Rounds.{Rest, Live, FewCrashedIn, proposers}
 use Rattle.cast_model.proofs.Members.{Member, Member-filter, filter-Member, Member-list_any}
@@ -89,7 +89,7 @@ module _ (config : Config) (past : History) (accepted : IsAccepted config past) 
       decides p j ∙ ap (λ n. nat_le (config.nodes - config.faults) n) same ∙ sym (decides q j)
 
   -- an item that proposes has a value
-  value_of : (j : ℕ) (item : Item) → proposes j item ≡ true → (v : ℕ) × (value_in j item ≡ Some v)
+  value_of : (j : ℕ) (item : Item) → proposes_in j item ≡ true → (v : ℕ) × (value_in j item ≡ Some v)
   value_of j (Data bytes) e = absurd (cc)
   value_of j Close e = absurd (cc)
   value_of j (Propose instance value) e = (value, cond-true (instance == j) (Some value) None e)
@@ -98,11 +98,11 @@ module _ (config : Config) (past : History) (accepted : IsAccepted config past) 
   pub decided_where_proposed : (p q j : ℕ) → Live config past p → Live config past q → config.nodes - config.faults ≤ proposers config past p j → is_some (decision config past q j) ≡ true
   unfolding proposers
   decided_where_proposed p q j p_live q_live enough =
-      let test : ℕ → Bool = λ s. list_any (λ (message : Message). proposes j message.item) (delivered config past p s) in
+      let test : ℕ → Bool = λ s. list_any (λ (message : Message). proposes_in j message.item) (delivered config past p s) in
       let at_q = delivery_log config past q in
       let within : (s : ℕ) → Member s (filter test (nodes_of config)) → Member s (voters j at_q) = λ s m.
       (let passes = (Member-filter test s (nodes_of config) m).1 in
-      let found = Member-list_any (λ (message : Message). proposes j message.item) (delivered config past p s) passes in
+      let found = Member-list_any (λ (message : Message). proposes_in j message.item) (delivered config past p s) passes in
       let there_too = in_log p q s p_live q_live found.0 found.1 in
       let v = value_of j found.0.item found.2 in
       subst (λ x. Member x (voters j at_q)) there_too.1 (Member-voters j v.0 found.0 at_q there_too.0 v.1)) in

@@ -16,7 +16,7 @@ use Rattle.cast_message.specs.declared.message.Frame.{Frame}
 use Rattle.cast_message.specs.declared.message.FrameBody.{FrameBody}
 use Rattle.cast_message.specs.declared.message.FrameBody.TheVariants.{Carry, Took}
 use Rattle.cast_model.specs.History.{History, FirstCopy, stream, items_ordered, has_pair, first, frames, given, given_of, copy_at, copies_gained, copies_arriving, copies_brought}
-use Rattle.cast_model.specs.Refusals.{is_close}
+use Rattle.cast_message.specs.Items.{is_close}
 use Rattle.cast_model.specs.Replies.{causes, fault, after, after_by, reply, reply_by, IsAccepted}
 use Rattle.cast_model.specs.Steps.{Step, steps_of}
 use Rattle.cast_model.specs.OwnSteps.{own_given, own_fault, own_reply, is_possible, is_possible_body, is_ignored, node_reply, node_after, IsStep, orders, sends, acknowledges, takes, stops}

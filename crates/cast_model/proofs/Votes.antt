@@ -11,9 +11,10 @@ use Rattle.cast_message.specs.declared.event.Event.TheVariants.{Order, Send, Ack
 use Rattle.cast_message.specs.declared.message.Item.{Item}
 use Rattle.cast_message.specs.declared.message.Item.TheVariants.{Data, Propose, Close}
 use Rattle.cast_message.specs.declared.message.Message.{Message}
+use Rattle.cast_message.specs.Items.{proposes_in}
 use Rattle.cast_model.specs.History.{History, items_ordered, stream, numbered, broadcast}
 use Rattle.cast_model.specs.Delivery.{value_in, votes, delivery_log}
-use Rattle.cast_model.specs.Refusals.{is_second_proposal, proposes}
+use Rattle.cast_model.specs.Refusals.{is_second_proposal}
 use Rattle.cast_model.specs.Replies.{causes, fault, IsAccepted, is_from, IsPrefixOf}
 use Rattle.cast_model.proofs.Members.{here, there}
 use Rattle.cast_model.proofs.Accepted.{no_cause}
@@ -28,13 +29,13 @@ unfolding fault causes
 Order-new config past p item e = no_cause _ (causes config past (Order p item)) e (there (there (there (there here))))
 
 -- where no item proposes in the instance, there is no value
-no_values : (j : ℕ) (items : List Item) → list_any (proposes j) items ≡ false → filter_map (value_in j) items ≡ []
+no_values : (j : ℕ) (items : List Item) → list_any (proposes_in j) items ≡ false → filter_map (value_in j) items ≡ []
 no_values j [] e = refl
 no_values j (Data bytes ∷ items) e = no_values j items e
 no_values j (Close ∷ items) e = no_values j items e
 no_values j (Propose instance value ∷ items) e = by_test (instance == j) e (no_values j items)
   where
-    by_test : (b : Bool) → (b || list_any (proposes j) items) ≡ false → (list_any (proposes j) items ≡ false → filter_map (value_in j) items ≡ []) → cons_option (cond b (Some value) None) (filter_map (value_in j) items) ≡ []
+    by_test : (b : Bool) → (b || list_any (proposes_in j) items) ≡ false → (list_any (proposes_in j) items ≡ false → filter_map (value_in j) items ≡ []) → cons_option (cond b (Some value) None) (filter_map (value_in j) items) ≡ []
     by_test true e ih = absurd (false≢true (sym e))
     by_test false e ih = ih e
 
@@ -48,7 +49,7 @@ added_values config past (Order node item) e j s = by_test (node == s) refl
     by_item (Data bytes) new = inl refl
     by_item Close new = inl refl
     by_item (Propose instance value) new = elim (cases_eq instance j) [
-      | inl same ↦ inr (no_values j (stream past s) (subst (λ k. list_any (proposes k) (stream past s) ≡ false) same new), rw (eq-eqb instance j same) (omega arith))
+      | inl same ↦ inr (no_values j (stream past s) (subst (λ k. list_any (proposes_in k) (stream past s) ≡ false) same new), rw (eq-eqb instance j same) (omega arith))
       | inr differs ↦ inl (ap (λ b. cons_option (cond b (Some value) None) []) (ne_eqb instance j differs))
     ]
 

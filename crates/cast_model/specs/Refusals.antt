@@ -12,24 +12,16 @@ use Rattle.cast_message.specs.declared.event.StepFault.{StepFault}
 use Rattle.cast_message.specs.declared.event.StepFault.TheVariants.{NoNode, SelfLink, Crashed, Closed, TooLong, AlreadyProposed, StreamFull, NoSlot, Acked, NotTaken, FramesFull}
 use Rattle.cast_message.specs.declared.message.Item.{Item}
 use Rattle.cast_message.specs.declared.message.Item.TheVariants.{Data, Propose, Close}
+use Rattle.cast_message.specs.Items.{is_close, proposes_in}
 use Rattle.cast_model.specs.Steps.{Step, Ordered, Sent, Acknowledged, Arrived, Stopped}
-
-abbrev pub is_close : Item → Bool
-is_close Close = true
-is_close _ = false
 
 abbrev pub is_too_long : Item → Bool
 is_too_long (Data bytes) = nat_lt payload_limit (length bytes)
 is_too_long _ = false
 
--- the item proposes in instance j
-abbrev pub proposes : ℕ → Item → Bool
-proposes j (Propose instance value) = instance == j
-proposes j _ = false
-
 -- the item proposes in an instance in which one of these does
 abbrev pub is_second_proposal : List Item → Item → Bool
-is_second_proposal items (Propose instance value) = list_any (proposes instance) items
+is_second_proposal items (Propose instance value) = list_any (proposes_in instance) items
 is_second_proposal items _ = false
 
 -- Why a step may be refused: whether the cause holds, and the refusal.

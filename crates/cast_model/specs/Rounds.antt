@@ -15,8 +15,8 @@ use Rattle.cast_message.specs.declared.event.Event.TheVariants.{Send, Ack, Arriv
 use Rattle.cast_model.specs.History.{History, is_live, has_pair, first, given, frames, acked}
 use Rattle.cast_message.specs.declared.config.Mode.{Mode}
 use Rattle.cast_message.specs.declared.config.Mode.TheVariants.{Basic, Uniform}
+use Rattle.cast_message.specs.Items.{proposes_in}
 use Rattle.cast_model.specs.Delivery.{nodes_of, delivered}
-use Rattle.cast_model.specs.Refusals.{proposes}
 use Rattle.cast_model.specs.Replies.{fault, history_from}
 
 -- the slots given to q that it has not acknowledged to p, ascending
@@ -104,4 +104,4 @@ FewCrashedIn Uniform config past = 0 < config.faults → HaveFewCrashed config p
 
 -- of how many nodes a proposal of instance j stands in what p delivered
 unfoldable pub proposers : Config → History → ℕ → ℕ → ℕ
-proposers config past p j = count_by (λ s. list_any (λ message. proposes j message.item) (delivered config past p s)) (nodes_of config)
+proposers config past p j = count_by (λ s. list_any (λ message. proposes_in j message.item) (delivered config past p s)) (nodes_of config)

@@ -11,7 +11,8 @@ use Rattle.std.proofs.lemmas.Bool.Decides.{nat_tests}
 use Rattle.cast_message.specs.declared.config.Config.{Config}
 use Rattle.cast_message.specs.declared.message.Item.{Item}
 use Rattle.cast_message.specs.declared.message.Item.TheVariants.{Data, Propose, Close}
-use Rattle.cast_model.specs.Refusals.{is_close, proposes, is_second_proposal}
+use Rattle.cast_model.specs.Refusals.{is_second_proposal}
+use Rattle.cast_message.specs.Items.{is_close, proposes_in}
 use Rattle.cast_message.specs.declared.message.Message.{Message}
 use Rattle.cast_link.specs.Links.{Link}
 use Rattle.cast_relay.specs.Held.{Held}
@@ -26,20 +27,20 @@ any_end : (f : Item → Bool) (items : List Item) (item : Item) → list_any f (
 any_end f [] item = or_false (f item)
 any_end f (x ∷ items) item = ap (λ b. f x || b) (any_end f items item) ∙ or_assoc (f x) (list_any f items) (f item)
 
-proposed_more : (proposed : set.FinSet nat_cmp) (items : List Item) (item : Item) (j : ℕ) → set.contains proposed j ≡ list_any (proposes j) items → set.contains (with_proposal proposed item) j ≡ list_any (proposes j) (items ++ item ∷ [])
-proposed_more proposed items (Data payload) j h = h ∙ sym (or_false (list_any (proposes j) items)) ∙ sym (any_end (proposes j) items (Data payload))
-proposed_more proposed items Close j h = h ∙ sym (or_false (list_any (proposes j) items)) ∙ sym (any_end (proposes j) items Close)
+proposed_more : (proposed : set.FinSet nat_cmp) (items : List Item) (item : Item) (j : ℕ) → set.contains proposed j ≡ list_any (proposes_in j) items → set.contains (with_proposal proposed item) j ≡ list_any (proposes_in j) (items ++ item ∷ [])
+proposed_more proposed items (Data payload) j h = h ∙ sym (or_false (list_any (proposes_in j) items)) ∙ sym (any_end (proposes_in j) items (Data payload))
+proposed_more proposed items Close j h = h ∙ sym (or_false (list_any (proposes_in j) items)) ∙ sym (any_end (proposes_in j) items Close)
 proposed_more proposed items (Propose k value) j h =
     contains-insert nat_cmp_total proposed k j
     ∙ (λ i. tie i || h i)
-    ∙ or_comm (k == j) (list_any (proposes j) items)
-    ∙ sym (any_end (proposes j) items (Propose k value))
+    ∙ or_comm (k == j) (list_any (proposes_in j) items)
+    ∙ sym (any_end (proposes_in j) items (Propose k value))
   where
     tie : eq_by_cmp nat_cmp j k ≡ (k == j)
     tie = grind (arith, nat_tests)
 
 -- a proposal that is noted and withdrawn
-pub withdrawn : (proposed : set.FinSet nat_cmp) (items : List Item) (item : Item) → ((j : ℕ) → set.contains proposed j ≡ list_any (proposes j) items) → is_second_proposal items item ≡ false → without_proposal (with_proposal proposed item) item ≡ proposed
+pub withdrawn : (proposed : set.FinSet nat_cmp) (items : List Item) (item : Item) → ((j : ℕ) → set.contains proposed j ≡ list_any (proposes_in j) items) → is_second_proposal items item ≡ false → without_proposal (with_proposal proposed item) item ≡ proposed
 withdrawn proposed items (Data payload) h e = refl
 withdrawn proposed items Close h e = refl
 withdrawn proposed items (Propose j value) h e = remove-inserted proposed j (h j ∙ e)
@@ -98,7 +99,7 @@ keeps_own config me stream stream' closed closed' proposed proposed' relay relay
       relay_own = omega (arith, w, h.relay_own, long);
       room = λ e. let l = below config.item_limit (length stream) (is_close item) full (sym cl ∙ e) in omega (arith, l, long);
       closes = cl ∙ sym (ap (list_any is_close) s ∙ any_end is_close stream item ∙ ap (λ b. b || is_close item) unclosed);
-      proposals = λ j. ap (λ x. set.contains x j) p ∙ proposed_more proposed stream item j (h.proposals j) ∙ ap (list_any (proposes j)) (sym s);
+      proposals = λ j. ap (λ x. set.contains x j) p ∙ proposed_more proposed stream item j (h.proposals j) ∙ ap (list_any (proposes_in j)) (sym s);
       mode = a ∙ h.mode;
       faults = b ∙ h.faults;
       peers_out = o ∙ h.peers_out;

@@ -11,7 +11,7 @@ use Rattle.std.proofs.lemmas.Bool.Decides.{nat_tests}
 use Rattle.cast_message.specs.declared.config.Config.{Config}
 use Rattle.cast_message.specs.declared.message.Item.{Item}
 use Rattle.cast_message.specs.declared.message.Message.{Message}
-use Rattle.cast_model.specs.Refusals.{is_close}
+use Rattle.cast_message.specs.Items.{is_close}
 use Rattle.cast_model.specs.Steps.{Ordered, Sent, Acknowledged}
 use Rattle.cast_model.proofs.Accepted.{no_cause}
 use Rattle.cast_model.proofs.Members.{here, there}

@@ -9,7 +9,7 @@ use Rattle.std.specs.Coded.{Coded, code_by, coded×, coded_ℕ, coded_list, code
 use Rattle.cast_message.specs.declared.config.Config.{Config}
 use Rattle.cast_message.specs.declared.message.Item.{Item}
 use Rattle.cast_message.specs.declared.message.Message.{Message}
-use Rattle.cast_model.specs.Refusals.{is_close, proposes}
+use Rattle.cast_message.specs.Items.{is_close, proposes_in}
 use Rattle.cast_link.specs.Links.{Link, link_code}
 use Rattle.cast_relay.specs.Held.{Held, held_code}
 use Rattle.cast_fifo.specs.declared.waiting.Waiting.{Waiting}
@@ -35,7 +35,7 @@ pub record IsNode (config : Config) (me : ℕ) (stream : List Item) (closed : Bo
   pub relay_own : relay.own ≡ length stream
   pub room : closed ≡ false → length stream + 1 ≤ config.item_limit
   pub closes : closed ≡ list_any is_close stream
-  pub proposals : (j : ℕ) → set.contains proposed j ≡ list_any (proposes j) stream
+  pub proposals : (j : ℕ) → set.contains proposed j ≡ list_any (proposes_in j) stream
   pub mode : deliveries.mode ≡ config.mode
   pub faults : deliveries.faults ≡ config.faults
   pub peers_out : length outgoing ≡ config.nodes

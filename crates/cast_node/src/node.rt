@@ -13,7 +13,7 @@ ghost use Rattle.cast_link.specs.Links.{IsLeastFrom};
 ghost use Rattle.cast_relay.specs.Held.{holds};
 ghost use Rattle.cast_node.specs.Kept.{nothing_kept, link_to, knowers_of};
 ghost use Rattle.cast_node.specs.Turns.{Gives, kept_fault, kept_view, carry_of, took_of, message_owed, ordered, arrived_body, is_awaited, may_arrive};
-ghost use Rattle.cast_model.specs.Refusals.{no_node, self_link, crashed, first_fault, is_close, is_too_long, is_second_proposal};
+ghost use Rattle.cast_model.specs.Refusals.{no_node, self_link, crashed, first_fault, is_too_long, is_second_proposal};
 ghost use Rattle.cast_node.specs.Taking.{with_proposal, without_proposal};
 ghost use Rattle.cast_node.specs.Calls.{is_peer, may_carry, carry_slot, carried_frame, took_frame, ordered_reply, sent_reply, number_reply, numbered_reply, arrived_reply, silent_reply, crashed_reply};
 
@@ -618,7 +618,7 @@ impl Node {
         if self.has_proposed(item) {
             return Some(StepFault::AlreadyProposed);
         }
-        if !is_close(item) && self.config.item_limit() - 1 <= self.stream.len() as u64 {
+        if !item.is_close() && self.config.item_limit() - 1 <= self.stream.len() as u64 {
             return Some(StepFault::StreamFull);
         }
         None
@@ -722,7 +722,7 @@ impl Node {
         ) {
             Ok(outcome) => {
                 self.quiet = false;
-                self.closed = is_close(&kept);
+                self.closed = kept.is_close();
                 self.stream.push_reserved(kept);
                 Ok(outcome)
             }
@@ -732,12 +732,6 @@ impl Node {
             }
         }
     }
-}
-
-fn is_close(item: &Item) -> bool
-    ensures { result ≡ is_close item.now }
-{
-    matches!(item, Item::Close)
 }
 
 fn is_too_long(item: &Item) -> bool

@@ -8,6 +8,7 @@ use Rattle.cast_message.specs.declared.message.Item.{Item}
 use Rattle.cast_message.specs.declared.message.Item.TheVariants.{Data, Propose, Close}
 use Rattle.cast_message.specs.declared.message.Message.{Message}
 use Rattle.cast_message.specs.declared.message.Decision.{Decision}
+use Rattle.cast_message.specs.Items.{is_close, proposes_in}
 use Rattle.cast_record.specs.declared.line.Line.{Line}
 use Rattle.cast_record.specs.declared.line.Line.TheVariants.{Head, Head2, Broadcast, Delivered, Decided, Crashed, Refused, End}
 use Rattle.cast_record.specs.declared.verdict.Verdict.TheVariants.{Good, Bad}
@@ -68,11 +69,11 @@ module _ (n f k : ℕ) (xs : List Line) where
 
   closed_same : (p : ℕ) → said.has_closed (under n f k xs) p ≡ said.has_closed (renewed n f k xs) p
   unfolding said.has_closed
-  closed_same p = any_same (said.is_broadcast (λ m. nat_eq m.sender p && said.is_close m.item)) (Head n f k) (Head2 n f k Basic) xs refl
+  closed_same p = any_same (said.is_broadcast (λ m. nat_eq m.sender p && is_close m.item)) (Head n f k) (Head2 n f k Basic) xs refl
 
   proposed_same : (p j : ℕ) → said.has_proposed (under n f k xs) p j ≡ said.has_proposed (renewed n f k xs) p j
   unfolding said.has_proposed
-  proposed_same p j = any_same (said.is_broadcast (λ m. nat_eq m.sender p && said.proposes_in j m.item)) (Head n f k) (Head2 n f k Basic) xs refl
+  proposed_same p j = any_same (said.is_broadcast (λ m. nat_eq m.sender p && proposes_in j m.item)) (Head n f k) (Head2 n f k Basic) xs refl
 
   is_proposed_same : (j w : ℕ) → said.is_proposed (under n f k xs) j w ≡ said.is_proposed (renewed n f k xs) j w
   unfolding said.is_proposed

@@ -7,19 +7,11 @@ use Rattle.std.specs.Str.{bytes_eq}
 use Rattle.cast_message.specs.declared.message.Item.{Item}
 use Rattle.cast_message.specs.declared.message.Item.TheVariants.{Data, Propose, Close}
 use Rattle.cast_message.specs.declared.message.Message.{Message}
+use Rattle.cast_message.specs.Items.{is_close, proposes_in}
 use Rattle.cast_record.specs.declared.line.Line.{Line}
 use Rattle.cast_record.specs.declared.line.Line.TheVariants.{Head, Head2, Broadcast, Delivered, Decided, Crashed, End}
 
 -- ---- what a line says
-
-abbrev pub is_close : Item → Bool
-is_close Close = true
-is_close _ = false
-
--- the item proposes in instance j
-abbrev pub proposes_in : ℕ → Item → Bool
-proposes_in j (Propose instance value) = instance == j
-proposes_in j _ = false
 
 -- the item proposes the value w in instance j
 abbrev pub proposes : ℕ → ℕ → Item → Bool

@@ -2,7 +2,7 @@
 ghost use Rattle.std.specs.Prelude.{◌≡◌, Some, option_map};
 ghost use Rattle.std.specs.List.{list_all};
 ghost use Rattle.cast_record.specs.Reading.{item_of, item_named, data_of, proposal_of};
-ghost use Rattle.cast_record.specs.Rules.{is_close};
+ghost use Rattle.cast_message.specs.Items.{is_close};
 ghost use Rattle.cast_record.specs.ItemWords.{kind_of, is_hex, is_hex_digit, proposal_in};
 
 use crate::parts::two_parts;

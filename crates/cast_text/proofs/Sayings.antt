@@ -10,6 +10,7 @@ use Rattle.cast_message.specs.declared.message.Item.{Item}
 use Rattle.cast_message.specs.declared.message.Item.TheVariants.{Data, Propose, Close}
 use Rattle.cast_message.specs.declared.message.Message.{Message}
 use Rattle.cast_message.specs.declared.message.Decision.{Decision}
+use Rattle.cast_message.specs.Items.{is_close, proposes_in}
 use Rattle.cast_model.specs.Refusals as refused
 use Rattle.cast_model.specs.Replies as replies
 use Rattle.cast_model.proofs.Members.{Member, here, there, Member-uncons, Member-Contains, list_any-Member}
@@ -97,27 +98,13 @@ proposed_by xs s j w m =
     same_test : (j w : ℕ) → (nat_eq j j && nat_eq w w) ≡ true
     same_test j w = grind (arith, nat_tests)
 
-any_same : {A : Type 0} (f g : A → Bool) → ((x : A) → f x ≡ g x) → (xs : List A) → list_any f xs ≡ list_any g xs
-any_same f g e [] = refl
-any_same f g e (x ∷ xs) = λ i. e x i || any_same f g e xs i
-
-close_same : (item : Item) → said.is_close item ≡ refused.is_close item
-close_same (Data payload) = refl
-close_same (Propose j w) = refl
-close_same Close = refl
-
-proposes_same : (j : ℕ) (item : Item) → said.proposes_in j item ≡ refused.proposes j item
-proposes_same j (Data payload) = refl
-proposes_same j (Propose k w) = refl
-proposes_same j Close = refl
-
-closed_by : (xs : List Line) (p : ℕ) → said.has_closed xs p ≡ list_any refused.is_close (items_of xs p)
+closed_by : (xs : List Line) (p : ℕ) → said.has_closed xs p ≡ list_any is_close (items_of xs p)
 unfolding said.has_closed
-closed_by xs p = items_any said.is_close xs p ∙ any_same said.is_close refused.is_close close_same (items_of xs p)
+closed_by xs p = items_any is_close xs p
 
-has_proposed_by : (xs : List Line) (p j : ℕ) → said.has_proposed xs p j ≡ list_any (refused.proposes j) (items_of xs p)
+has_proposed_by : (xs : List Line) (p j : ℕ) → said.has_proposed xs p j ≡ list_any (proposes_in j) (items_of xs p)
 unfolding said.has_proposed
-has_proposed_by xs p j = items_any (said.proposes_in j) xs p ∙ any_same (said.proposes_in j) (refused.proposes j) (proposes_same j) (items_of xs p)
+has_proposed_by xs p j = items_any (proposes_in j) xs p
 
 -- ---- what the lines say
 
@@ -167,17 +154,17 @@ same_item Close = refl
 module _ (config : Config) (streams : ℕ → List Item) (counts : ℕ → ℕ → ℕ) (live : ℕ → Bool) (values : ℕ → List ℕ) (xs : List Line) (h : Says config streams counts live values xs) where
   second_same : (p : ℕ) (item : Item) → said.is_second_proposal xs p item ≡ refused.is_second_proposal (streams p) item
   second_same p (Data payload) = refl
-  second_same p (Propose j w) = has_proposed_by xs p j ∙ ap (list_any (refused.proposes j)) (h.items p)
+  second_same p (Propose j w) = has_proposed_by xs p j ∙ ap (list_any (proposes_in j)) (h.items p)
   second_same p Close = refl
 
   -- a broadcast
-  pub broadcast_sound : (p : ℕ) (item : Item) → p < config.nodes → live p ≡ true → list_any refused.is_close (streams p) ≡ false → refused.is_second_proposal (streams p) item ≡ false
+  pub broadcast_sound : (p : ℕ) (item : Item) → p < config.nodes → live p ≡ true → list_any is_close (streams p) ≡ false → refused.is_second_proposal (streams p) item ≡ false
       → said.broken xs (Broadcast (record { sender = p; number = length (streams p); item = item })) ≡ None
   broadcast_sound p item node up closed once =
       let line = Broadcast (record { sender = p; number = length (streams p); item = item }) in
       none_broken xs line (placed config streams counts live values xs h line refl (below_test p config.nodes node))
       (equal_numbers (length (streams p)) (said.broadcasts_of xs p) (ap length (sym (h.items p)) ∙ items_counted xs p))
-      (closed_by xs p ∙ ap (list_any refused.is_close) (h.items p) ∙ closed)
+      (closed_by xs p ∙ ap (list_any is_close) (h.items p) ∙ closed)
       refl refl (alive config streams counts live values xs h p up) (second_same p item ∙ once)
 
   -- a delivery

@@ -16,6 +16,6 @@ pub use hex::hex_digit;
 pub use meter::{Failed, Meter};
 pub use mode::mode_name;
 pub use numbers::number;
-pub use shown::escaped;
+pub use shown::{escaped, prefix};
 pub use unhex::bytes_of;
 pub use writing::{WriteFault, Written, write_bytes, write_hex, write_number};

@@ -1,5 +1,5 @@
 //! Bytes as they are shown to a reader: printing ASCII as it is, all else by its number.
-ghost use Rattle.std.specs.Prelude.{◌≡◌, ◌++◌, IfOk, OnOk, string_bytes};
+ghost use Rattle.std.specs.Prelude.{◌≡◌, ◌++◌, IfOk, OnOk, string_bytes, take};
 ghost use Rattle.cast_words.specs.Shown.{shown, shown_byte, by_number, is_printing};
 
 use std::alloc::{AllocError, Global};
@@ -37,4 +37,11 @@ fn put_number(text: &mut String, byte: u8) -> Result<(), AllocError>
     ensures { OnOk result (string_bytes text.new ≡ string_bytes text.old ++ by_number byte) }
 {
     write!(text, "\\x{byte:02x}")
+}
+
+/// The first bytes, at most so many.
+pub fn prefix(bytes: &[u8], room: usize) -> &[u8]
+    ensures { result.now ≡ take room bytes.now }
+{
+    &bytes[..bytes.len().min(room)]
 }

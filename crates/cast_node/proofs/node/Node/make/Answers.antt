@@ -2,7 +2,7 @@ use Rattle.std.proofs.Common.{◌≡◌, subst, ◌∙◌, ap, length, sym, arit
 use Rattle.std.specs.FinSet as set
 use Rattle.std.specs.FinSet.{contains-empty}
 use Rattle.std.specs.Ordering.{nat_cmp}
-use Rattle.cast_model.specs.Refusals.{is_close, proposes}
+use Rattle.cast_message.specs.Items.{is_close, proposes_in}
 use Rattle.std.specs.List.{list_any}
 use Rattle.cast_relay.specs.Held.{Held}
 use Rattle.cast_node.specs.Delivering.{Delivering}
@@ -25,7 +25,7 @@ invariant_of-result c =
       relay_own = ap (λ (h : Held). h.own) relay ∙ sym (ap length none);
       room = λ _. omega (arith, ap length none, c.args.config.now.some_item);
       closes = sym (ap (list_any is_close) none);
-      proposals = λ j. ap (λ s. set.contains s j) c.new-3.ensures ∙ contains-empty nat_cmp j ∙ sym (ap (list_any (proposes j)) none);
+      proposals = λ j. ap (λ s. set.contains s j) c.new-3.ensures ∙ contains-empty nat_cmp j ∙ sym (ap (list_any (proposes_in j)) none);
       mode = ap (λ (d : Delivering). d.mode) ds;
       faults = ap (λ (d : Delivering). d.faults) ds;
       peers_out = ap length out ∙ length-replicate _ _ ∙ c.nodes-2.ensures;

@@ -4,7 +4,7 @@ use Rattle.cast_node.specs.Delivering.{Delivering, waiting_in}
 use Rattle.cast_node.specs.Taking.{message_of, first_members, with_proposal, without_proposal}
 use Rattle.cast_node.proofs.Wholes.{OrderFine, order_fine, own_item, length-given, told_keeps}
 use Rattle.std.proofs.Math.ListN.{length-set}
-use Rattle.cast_model.specs.Refusals.{is_close}
+use Rattle.cast_message.specs.Items.{is_close}
 use Rattle.cast_node.specs.Sound.{Owes, IsWithin}
 use Rattle.cast_node.specs.Outgoing.{links_of}
 use Rattle.cast_node.proofs.Owing.{owes_given}
