@@ -17,7 +17,7 @@ use std::{env, thread};
 /// What the program was asked for.
 #[derive(Drop)]
 struct Wanted {
-    /// How many numbers go through the box in each measurement.
+    /// How many numbers go through the box in each measurement at most: each putter puts an equal share.
     numbers: u64,
     /// How many places the box has.
     places: u64,

@@ -7,20 +7,24 @@ mod hold_back;
 mod links;
 mod relay;
 
-use anyhow::Result;
+use anyhow::{Result, ensure};
 use std::alloc::Global;
 use std::env;
 use std::rt::{Clock, Env};
 use std::time::Instant;
 
+const USAGE: &str = "usage: bench_parts time";
+
 // How many calls are timed at a time. A node gives another at most 64 times 4,096 messages.
 const SIZES: [u64; 5] = [1_024, 4_096, 16_384, 65_536, 262_144];
 
 fn main(rt: HostRuntime) -> Result<()> {
-    if env::args(&rt)?.count() < 2 {
-        println!(rt; "usage: bench_parts time")?;
+    let mut args = env::args(&rt)?.skip(1);
+    let Some(command) = args.next() else {
+        println!(rt; "{USAGE}")?;
         return Ok(());
-    }
+    };
+    ensure!(command.as_str() == "time" && args.next().is_none(), USAGE);
     for calls in SIZES {
         links::links(&rt, rt.alloc(), calls)?;
         relay::relay(&rt, rt.alloc(), calls)?;

@@ -10,6 +10,7 @@ use std::io;
 pub struct Call<'a> {
     /// The file that is read; standard input where none is named.
     pub path: Option<&'a str>,
+    /// Whether a line on standard error says where a fault is, and why.
     pub explains: bool,
 }
 
@@ -25,14 +26,18 @@ pub struct RunFiles<'a> {
 /// What the program is asked to do.
 #[derive(Clone, Copy)]
 pub enum Request<'a> {
+    /// To write the record of a script.
     Run(Call<'a>),
+    /// To judge a record.
     Judge(Call<'a>),
+    /// To run the group of a script in threads.
     Live {
         call: Call<'a>,
         files: RunFiles<'a>,
         /// Whether it is told how far the run is, also where standard error is no terminal.
         tells_progress: bool,
     },
+    /// To draw the run of a script.
     Draw {
         call: Call<'a>,
         /// The first event that is drawn, where one is named.
@@ -40,6 +45,7 @@ pub enum Request<'a> {
         /// The last, which does not stand before it.
         to: Option<u64>,
     },
+    /// To write a record with the new head.
     Migrate(Call<'a>),
 }
 

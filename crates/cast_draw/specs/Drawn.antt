@@ -14,7 +14,8 @@ use Rattle.cast_message.specs.declared.event.StepFault.{StepFault}
 use Rattle.cast_message.specs.declared.message.Item.{Item}
 use Rattle.cast_draw.specs.declared.links.Pair.{Pair}
 use Rattle.cast_draw.specs.declared.frames.Cargo.{Cargo}
-use Rattle.cast_draw.specs.declared.frames.Cargo.TheVariants.{Message, Word}
+use Rattle.cast_draw.specs.declared.frames.Cargo.TheVariants.{Message}
+use Rattle.cast_draw.specs.declared.frames.Cargo.TheVariants as cargos
 use Rattle.cast_draw.specs.declared.frames.Fate.TheVariants.{UnderWay}
 use Rattle.cast_draw.specs.declared.frames.MadeFrame.{MadeFrame}
 use Rattle.cast_draw.specs.Heights.{height_of}
@@ -89,7 +90,7 @@ sent_slot sheet index from to slot (Some pair) = sent sheet index from to slot (
 -- what a frame carries is held where it arrives
 abbrev pub held_of_cargo : List Gifts → ℕ → Cargo → ℕ → List Gifts
 held_of_cargo gifts node (Message pair) from = held_at gifts node pair from
-held_of_cargo gifts node Word from = gifts
+held_of_cargo gifts node cargos.Ack from = gifts
 
 -- an arrow
 abbrev pub arrived : Sheet → ℕ → ℕ → ℕ → ℕ → Outcome → Option MadeFrame → Sheet
@@ -122,7 +123,7 @@ refused sheet index fault =
 abbrev pub answered : Sheet → ℕ → Event → Answer → Sheet
 answered sheet index (Order node item) (Ordered number outcome) = ordered sheet index node item number outcome
 answered sheet index (Send from to slot) (Sent seq) = sent_slot sheet index from to slot (slot_of (gifts_at sheet.gifts from) to slot)
-answered sheet index (Ack from to slot) (Sent seq) = sent sheet index from to slot Word
+answered sheet index (Ack from to slot) (Sent seq) = sent sheet index from to slot cargos.Ack
 answered sheet index (Arrive from seq) (Arrived node outcome) = arrived sheet index from seq node outcome (slice_get (made_at sheet.made from) seq)
 answered sheet index (Crash node) Down = crashed sheet index node
 answered sheet index event answer = sheet

@@ -5,7 +5,7 @@
 --     leaving_text frame x y side             a short line: a frame that arrives by an event that is not shown
 use Rattle.std.specs.Prelude.{ℕ, ◌+◌, ◌-◌, List, [], ◌∷◌, codes, decimal}
 use Rattle.cast_draw.specs.declared.frames.Cargo.{Cargo}
-use Rattle.cast_draw.specs.declared.frames.Cargo.TheVariants.{Message, Word}
+use Rattle.cast_draw.specs.declared.frames.Cargo.TheVariants.{Message, Ack}
 use Rattle.cast_draw.specs.declared.frames.MadeFrame.{MadeFrame}
 use Rattle.cast_draw.specs.declared.side.Side.{Side}
 use Rattle.cast_draw.specs.declared.side.Side.TheVariants.{Up, Down}
@@ -14,7 +14,7 @@ use Rattle.cast_draw.specs.Pieces.{place_text}
 
 abbrev pub cargo_words : Cargo → ℕ → List ℕ
 cargo_words (Message pair) slot = joined (codes ": slot " ∷ decimal slot ∷ codes ", message " ∷ decimal pair.sender ∷ codes "." ∷ decimal pair.number ∷ [])
-cargo_words Word slot = joined (codes ": acknowledges slot " ∷ decimal slot ∷ [])
+cargo_words Ack slot = joined (codes ": acknowledges slot " ∷ decimal slot ∷ [])
 
 abbrev pub frame_words : MadeFrame → List ℕ
 frame_words frame =
@@ -25,7 +25,7 @@ frame_words frame =
 -- the colour of its message's sender, or that of acknowledgements
 abbrev pub class_of : Cargo → List ℕ
 class_of (Message pair) = joined (codes " s" ∷ colour_of pair.sender ∷ [])
-class_of Word = codes " k"
+class_of Ack = codes " k"
 
 -- a line from one point to another
 abbrev pub line_text : ℕ → ℕ → ℕ → ℕ → List ℕ

@@ -12,8 +12,8 @@ use std::marker::Model;
 pub enum Cargo {
     /// It carries this message.
     Message(Pair),
-    /// It acknowledges.
-    Word,
+    /// It acknowledges its slot.
+    Ack,
 }
 
 /// What became of a frame.
@@ -131,8 +131,7 @@ impl MadeFrames {
     pub fn push(&mut self, frame: &MadeFrame) -> Result<(), AllocError>
         ensures { OnOk result (self.new ≡ self.old ++ frame.now ∷ []) }
     {
-        let cargo: Cargo = frame.cargo;
-        self.frames.push(MadeFrame { cargo, ..*frame })?;
+        self.frames.push(*frame)?;
         Ok(())
     }
 

@@ -222,7 +222,7 @@ fn put_cargo(ink: &mut Ink, cargo: Cargo, slot: u64) -> Result<(), AllocError>
             Text(b"."),
             Number(pair.number),
         ]),
-        Cargo::Word => ink.put(&[Text(b": acknowledges slot "), Number(slot)]),
+        Cargo::Ack => ink.put(&[Text(b": acknowledges slot "), Number(slot)]),
     }
 }
 
@@ -232,7 +232,7 @@ fn put_class(ink: &mut Ink, frame: &MadeFrame) -> Result<(), AllocError>
 {
     match frame.cargo {
         Cargo::Message(pair) => ink.put(&[Text(b" s"), Number((pair.sender.0 % COLOURS) as u64)]),
-        Cargo::Word => ink.put(&[Text(b" k")]),
+        Cargo::Ack => ink.put(&[Text(b" k")]),
     }
 }
 

@@ -114,7 +114,7 @@ impl Picture {
                 self.take_send(index, *from, *to, *slot)
             }
             (Event::Ack { from, to, slot }, Answer::Sent { .. }) => {
-                self.take_frame(index, *from, *to, *slot, Cargo::Word)
+                self.take_frame(index, *from, *to, *slot, Cargo::Ack)
             }
             (Event::Arrive { from, seq }, Answer::Arrived { node, outcome }) => {
                 self.take_arrival(index, *from, *seq, *node, outcome)

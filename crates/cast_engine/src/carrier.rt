@@ -1,6 +1,6 @@
 //! A carrier: takes parcels from an outbox and puts each into the inbox of its frame's target, once, twice or never, as the
 //! plan says.
-ghost use Rattle.std.specs.Prelude.{◌≡◌, ◌||◌, [], IfOk, if◌then◌else◌, map};
+ghost use Rattle.std.specs.Prelude.{◌≡◌, ◌||◌, [], IfOk, if◌then◌else◌, map, max};
 ghost use Rattle.cast_box.specs.Ends.{AreSamePutters};
 ghost use Rattle.cast_engine.specs.Copies.{IsByPlan, copies};
 ghost use Rattle.cast_engine.specs.Carriers.{IsSameCarrier, AreUnused, Brings, Moves, MovesOn, Puts, PutsUpTo, IsNoMore, IsByFate, IsKeptOrLost, counted_down};
@@ -43,6 +43,13 @@ pub struct Fate {
     pub twice: bool,
 }
 
+// Handed on at once, and once.
+const UNHARMED: Fate = Fate {
+    lost: false,
+    delay: 0,
+    twice: false,
+};
+
 impl Fate {
     // Lost as well, where that is so.
     fn or_lost(self, lost: bool) -> Fate
@@ -54,8 +61,7 @@ impl Fate {
     {
         Fate {
             lost: self.lost || lost,
-            delay: self.delay,
-            twice: self.twice,
+            ..self
         }
     }
 
@@ -68,9 +74,22 @@ impl Fate {
         } }
     {
         Fate {
-            lost: self.lost,
-            delay: self.delay,
             twice: self.twice || twice,
+            ..self
+        }
+    }
+
+    // Of several delays the longest holds.
+    fn or_delayed(self, delay: u64) -> Fate
+        ensures { result ≡ record {
+          lost = self.lost;
+          delay = max self.delay delay;
+          twice = self.twice;
+        } }
+    {
+        Fate {
+            delay: self.delay.max(delay),
+            ..self
         }
     }
 }
@@ -188,11 +207,7 @@ fn fate_of(faults: &[Fault], ordinals: &mut [Ordinals], parcel: &Parcel) -> Fate
     let kind = parcel.frame.body.kind();
     let target = usize::from(to.0);
     if target >= ordinals.len() {
-        return Fate {
-            lost: false,
-            delay: 0,
-            twice: false,
-        };
+        return UNHARMED;
     }
     let counts = &mut ordinals[target];
     let ordinal = count(counts, kind);
@@ -250,16 +265,10 @@ impl NamedFrame {
 fn is_kind(kind: FrameKind, other: FrameKind) -> bool
     ensures { result ≡ is_kind kind other }
 {
-    match kind {
-        FrameKind::Carry => match other {
-            FrameKind::Carry => true,
-            FrameKind::Took => false,
-        },
-        FrameKind::Took => match other {
-            FrameKind::Carry => false,
-            FrameKind::Took => true,
-        },
-    }
+    matches!(
+        (kind, other),
+        (FrameKind::Carry, FrameKind::Carry) | (FrameKind::Took, FrameKind::Took)
+    )
 }
 
 // Whether the ordinal is first, first + step, first + 2 * step, ..; with no step, first alone.
@@ -276,18 +285,14 @@ fn is_among(first: u64, step: u64, ordinal: u64) -> bool
 fn fate_by(faults: &[Fault], frame: &NamedFrame) -> Fate
     ensures { result ≡ fate_by frame.now faults.now }
 {
-    let mut fate = Fate {
-        lost: false,
-        delay: 0,
-        twice: false,
-    };
+    let mut fate = UNHARMED;
     for fault in faults {
         fate = suffer(fate, *fault, frame);
     }
     fate
 }
 
-// What becomes of a frame by one fault more. Of several delays the longest holds.
+// What becomes of a frame by one fault more.
 fn suffer(fate: Fate, fault: Fault, frame: &NamedFrame) -> Fate
     ensures { result ≡ suffered frame.now fate fault }
 {
@@ -315,11 +320,7 @@ fn suffer(fate: Fate, fault: Fault, frame: &NamedFrame) -> Fate
             count,
         } => {
             if frame.is_hit(kind, from, to, first, step) {
-                Fate {
-                    lost: fate.lost,
-                    delay: fate.delay.max(count),
-                    twice: fate.twice,
-                }
+                fate.or_delayed(count)
             } else {
                 fate
             }

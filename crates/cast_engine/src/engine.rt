@@ -93,9 +93,9 @@ pub struct EngineParts {
     pub desk: Option<Desk>,
 }
 
-/// What an engine is made of.
+/// An engine's ends of its boxes, and the desk of its clients.
 #[derive(Drop)]
-pub struct EngineEnds {
+pub struct EngineBoxes {
     pub outbox: Putter<Parcel>,
     pub inbox: Taker<Parcel>,
     /// Where the node has clients.
@@ -103,39 +103,39 @@ pub struct EngineEnds {
 }
 
 impl Engine {
-    /// The engine of a new node, which crashes after so many entries, if it is to crash. All room that its log ever takes is
-    /// made here.
+    /// The engine of a new node, which crashes after so many entries, if it is to crash, and takes at most so many turns. All
+    /// room that its log ever takes is made here.
     pub fn new(
         alloc: Global,
         config: &Config,
         me: NodeId,
         crash: Option<u64>,
         turns: u64,
-        ends: EngineEnds,
+        boxes: EngineBoxes,
     ) -> Result<Engine, AllocError>
         requires node { me < config.now.nodes }
-        requires outbox { ends.outbox.put ≡ [] }
-        requires inbox { ends.inbox.taken ≡ [] }
-        requires desk { IsUnused ends.desk }
+        requires outbox { boxes.outbox.put ≡ [] }
+        requires inbox { boxes.inbox.taken ≡ [] }
+        requires desk { IsUnused boxes.desk }
         ensures { IfOk result (λ e.
             e ≡ record {
               config = config.now;
               me = me;
               crash = crash;
-              outbox = ends.outbox;
-              inbox = ends.inbox;
-              desk = ends.desk;
+              outbox = boxes.outbox;
+              inbox = boxes.inbox;
+              desk = boxes.desk;
             }) }
     {
         let journal = Journal::new(alloc, config, me, crash)?;
-        let places = first_places(alloc, clients_of(&ends.desk))?;
+        let places = first_places(alloc, clients_of(&boxes.desk))?;
         let resend = Resend::new(alloc, config)?;
         Ok(Engine {
             journal,
-            outbox: ends.outbox,
-            inbox: ends.inbox,
+            outbox: boxes.outbox,
+            inbox: boxes.inbox,
             held: None,
-            desk: ends.desk,
+            desk: boxes.desk,
             places,
             resend,
             turns,
@@ -144,7 +144,8 @@ impl Engine {
         })
     }
 
-    /// One turn.
+    /// Takes one turn: passes the gate, takes in parcels and acknowledges them, serves its clients, and sends a slot that is
+    /// due. `Ended` is answered where its log or its clock is full, its node crashes, no turn is left, or all engines are quiet.
     #[tactic(auto, using(crate::proofs::Again::desk_same))]
     pub fn turn<G: Gate, R: Wait>(
         &mut self,
@@ -485,19 +486,16 @@ pub fn run_engine<G: Gate + Drop, R: Wait>(
     let mut waiting = Waiting::new(PATIENCE);
     for _ in rt.forever() {
         if board.is_stopped() {
-            quiet.end(board);
-            return engine;
+            break;
         }
         match engine.turn(rt, &mut gate, board, &mut quiet) {
             Turn::Moved => waiting.found(),
             Turn::Idle => waiting.wait(rt),
-            Turn::Ended => {
-                quiet.end(board);
-                return engine;
-            }
+            Turn::Ended => break,
         }
     }
-    unreachable!()
+    quiet.end(board);
+    engine
 }
 
 // What is to be acknowledged of a frame that arrived.

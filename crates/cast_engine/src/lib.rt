@@ -15,7 +15,7 @@ mod waiting;
 
 pub use board::{Board, Quiet};
 pub use carrier::{Carrier, run_carrier};
-pub use engine::{Engine, EngineEnds, EngineParts, Turn, run_engine};
+pub use engine::{Engine, EngineBoxes, EngineParts, Turn, run_engine};
 pub use gate::{Gate, OpenGate};
 pub use parcel::Parcel;
 pub use progress::{CountingGate, Progress};

@@ -50,8 +50,10 @@ pub fn event_flaw(value: &Value) -> Flaw<'_> {
         Some(("settle", places)) => unless(places.is_empty(), value, "[\"settle\"]"),
         _ => None,
     };
-    let expected = EVENT;
-    flaw.unwrap_or(Flaw { value, expected })
+    flaw.unwrap_or(Flaw {
+        value,
+        expected: EVENT,
+    })
 }
 
 /// What is wrong with the value as a fault of a plan.
@@ -65,8 +67,10 @@ pub fn fault_flaw(value: &Value) -> Flaw<'_> {
         Some(("crash", places)) => count_flaw(value, places, "[\"crash\",NODE,ENTRIES]"),
         _ => None,
     };
-    let expected = FAULT;
-    flaw.unwrap_or(Flaw { value, expected })
+    flaw.unwrap_or(Flaw {
+        value,
+        expected: FAULT,
+    })
 }
 
 /// What is wrong with the value as a job.
@@ -75,8 +79,10 @@ pub fn job_flaw(value: &Value) -> Flaw<'_> {
         Some([node, items]) => not_node(node).or(items_flaw(items)),
         _ => None,
     };
-    let expected = "a job: [NODE,[[ITEM..],[ITEM..],..]]";
-    flaw.unwrap_or(Flaw { value, expected })
+    flaw.unwrap_or(Flaw {
+        value,
+        expected: "a job: [NODE,[[ITEM..],[ITEM..],..]]",
+    })
 }
 
 fn places(value: &Value) -> Option<&[Value]> {
@@ -92,7 +98,7 @@ fn name_and_places(value: &Value) -> Option<(&str, &[Value])> {
 fn order_flaw<'a>(value: &'a Value, places: &'a [Value]) -> Option<Flaw<'a>> {
     match places {
         [node, item @ ..] => not_node(node).or(item_flaw(value, item, ORDER)),
-        [] => unless(false, value, ORDER),
+        [] => flaw(value, ORDER),
     }
 }
 
@@ -100,7 +106,7 @@ fn order_flaw<'a>(value: &'a Value, places: &'a [Value]) -> Option<Flaw<'a>> {
 fn link_flaw<'a>(value: &'a Value, places: &'a [Value], form: &'static str) -> Option<Flaw<'a>> {
     match places {
         [from, to, slot] => not_node(from).or(not_node(to)).or(not_number(slot)),
-        _ => unless(false, value, form),
+        _ => flaw(value, form),
     }
 }
 
@@ -108,14 +114,14 @@ fn link_flaw<'a>(value: &'a Value, places: &'a [Value], form: &'static str) -> O
 fn count_flaw<'a>(value: &'a Value, places: &'a [Value], form: &'static str) -> Option<Flaw<'a>> {
     match places {
         [node, count] => not_node(node).or(not_number(count)),
-        _ => unless(false, value, form),
+        _ => flaw(value, form),
     }
 }
 
 fn crash_flaw<'a>(value: &'a Value, places: &'a [Value]) -> Option<Flaw<'a>> {
     match places {
         [node] => not_node(node),
-        _ => unless(false, value, "[\"crash\",NODE]"),
+        _ => flaw(value, "[\"crash\",NODE]"),
     }
 }
 
@@ -127,7 +133,7 @@ fn frames_flaw<'a>(value: &'a Value, places: &'a [Value], form: &'static str) ->
             .or(not_node(to))
             .or(not_number(first))
             .or(not_number(step)),
-        _ => unless(false, value, form),
+        _ => flaw(value, form),
     }
 }
 
@@ -139,13 +145,13 @@ fn delay_flaw<'a>(value: &'a Value, places: &'a [Value]) -> Option<Flaw<'a>> {
             .or(not_number(first))
             .or(not_number(step))
             .or(not_number(count)),
-        _ => unless(false, value, "[\"delay\",KIND,FROM,TO,FIRST,STEP,COUNT]"),
+        _ => flaw(value, "[\"delay\",KIND,FROM,TO,FIRST,STEP,COUNT]"),
     }
 }
 
 // What is wrong with the places of an item, which stand in this value.
 fn item_flaw<'a>(value: &'a Value, places: &'a [Value], form: &'static str) -> Option<Flaw<'a>> {
-    let whole = unless(false, value, form);
+    let whole = flaw(value, form);
     let Some((word, others)) = places.split_first() else {
         return whole;
     };
@@ -160,12 +166,12 @@ fn item_flaw<'a>(value: &'a Value, places: &'a [Value], form: &'static str) -> O
 // The first item that is none.
 fn items_flaw(value: &Value) -> Option<Flaw<'_>> {
     let Some(items) = places(value) else {
-        return unless(false, value, ITEMS);
+        return flaw(value, ITEMS);
     };
     for item in items {
         let flaw = match places(item) {
             Some(places) => item_flaw(item, places, ITEM),
-            None => unless(false, item, ITEM),
+            None => flaw(item, ITEM),
         };
         if flaw.is_some() {
             return flaw;
@@ -213,6 +219,11 @@ pub fn unless<'a>(is_right: bool, value: &'a Value, expected: &'static str) -> O
     if is_right {
         None
     } else {
-        Some(Flaw { value, expected })
+        flaw(value, expected)
     }
+}
+
+// What is expected of the value, which isn't right.
+fn flaw<'a>(value: &'a Value, expected: &'static str) -> Option<Flaw<'a>> {
+    Some(Flaw { value, expected })
 }

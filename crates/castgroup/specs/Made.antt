@@ -9,11 +9,12 @@
 --     BreaksOff command input old new     after a fault the known bytes are a front of the old ones and what the command makes of its
 --                                         input behind them
 --     RunsScript input run                the run is of the script that is the input
+--     RefusesRun input failed fault       no group was run, for a cause of reading its script, or of the script that was read
 --     IsTold output run                   what an output says of a group that ran in threads is so
 --     output_text output run              what is written of such a group
 use Rattle.std.specs.Prelude.{◌≡◌, ◌<◌, ◌≤◌, ◌++◌, ◌⊎◌, ℕ, List, [], ◌∷◌, length, Bool, true, false, Option, None, Some, IfSome, Err}
 use Rattle.std.specs.Io.KnownBytes.{append_known}
-use Rattle.cast_live.specs.Live.{IsRunOf, IsSummaryOf, ends_of, summary_text}
+use Rattle.cast_live.specs.Live.{IsRunOf, IsOfRunning, IsSummaryOf, ends_of, summary_text}
 use Rattle.cast_live.specs.Replayed.{record_of_accepted}
 use Rattle.cast_live.specs.declared.live.FinishedRun.{FinishedRun}
 use Rattle.cast_model.specs.Replies.{history}
@@ -25,12 +26,13 @@ use Rattle.cast_record.specs.declared.verdict.Verdict.TheVariants.{Good}
 use Rattle.cast_script.specs.Replay.{script_text}
 use Rattle.cast_script.specs.Script.{Reads}
 use Rattle.cast_script.specs.declared.script.Script.{Script}
+use Rattle.cast_script.specs.declared.script.ScriptFault.TheVariants as scripts
 use Rattle.cast_text.specs.Drawing.{WritesDrawing}
 use Rattle.cast_text.specs.Judging.{SaysVerdict, JudgesInput}
 use Rattle.cast_text.specs.Migrating.{WritesMigrated, IsInputMigrated}
 use Rattle.cast_text.specs.Pictured.{picture_of}
 use Rattle.cast_text.specs.Recorded.{record_of}
-use Rattle.cast_text.specs.Text.{IsScriptIn, WritesRecord, input_limit}
+use Rattle.cast_text.specs.Text.{IsScriptIn, IsOfScript, WritesRecord, input_limit}
 use Rattle.cast_text.specs.declared.fault.TextFault.{TextFault}
 use Rattle.cast_text.specs.declared.fault.TextFault.TheVariants as faults
 use Rattle.castgroup.specs.declared.live.Kept.TheVariants.{Record, Replay}
@@ -46,6 +48,7 @@ Makes Migrate input old new said = (said ≡ Good) × WritesMigrated input old n
 Makes (Draw window) input old new said = (said ≡ Good) × WritesDrawing window input old new
 
 abbrev pub RefusesText : TextCommand → List ℕ → TextFault → Type 0
+RefusesText command bytes (faults.Script scripts.Memory) = ⊥
 RefusesText Run bytes (faults.Script fault) = Reads (Err fault) bytes
 RefusesText (Draw window) bytes (faults.Script fault) = Reads (Err fault) bytes
 RefusesText Migrate bytes faults.NotV1 = HasNoHead bytes
@@ -77,6 +80,9 @@ pub record RunsScript (input : Option (List ℕ)) (run : FinishedRun) : Type 0 w
   pub read : IsScriptIn input script
   pub config : run.report.config ≡ script.config
   pub ran : IsRunOf script run.report.reports
+
+abbrev pub RefusesRun : Option (List ℕ) → Bool → TextFault → Type 0
+RefusesRun input failed fault = IsOfScript input failed fault ⊎ ((script : Script) × IsScriptIn input script × IsOfRunning script fault)
 
 abbrev pub IsTold : Output → FinishedRun → Type 0
 IsTold (Kept kept) run = Unit {0}

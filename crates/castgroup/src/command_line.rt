@@ -20,7 +20,7 @@ pub fn asks_to_explain(words: &[String]) -> bool {
 
 /// Says why there are no words: one is not UTF-8, or memory is wanting.
 pub fn refuse_words<R: Runtime + AllocGlobal>(rt: &R, error: &io::Error) -> Status {
-    if let io::ErrorKind::InvalidData = error.kind() {
+    if matches!(error.kind(), io::ErrorKind::InvalidData) {
         // Where standard error fails there is nowhere left to say so: the status tells it.
         let _ = eprintln!(rt; "error: a word of the command line is not UTF-8");
         return Status::Usage;

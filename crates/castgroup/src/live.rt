@@ -1,10 +1,10 @@
 //! The command `live`: a script's group in threads, the files that are kept of the run, and its summary.
-ghost use Rattle.std.specs.Prelude.{◌≡◌, [], false, IfOk, OnOk, OnErr};
+ghost use Rattle.std.specs.Prelude.{◌≡◌, [], true, false, IfOk, IfErr, OnOk, OnErr};
 ghost use Rattle.std.specs.Io.Buffered.{writer_buffer, writer_inner};
 ghost use Rattle.std.specs.Io.KnownBytes.{Appends, append_known};
 ghost use Rattle.cast_live.specs.Live.{IsFinished, IsSummaryOf};
-ghost use Rattle.cast_text.specs.Text.{WroteFront};
-ghost use Rattle.castgroup.specs.Made.{IsCut, IsTold, RunsScript, output_text};
+ghost use Rattle.cast_text.specs.Text.{TakesInput, Tells, WroteFront};
+ghost use Rattle.castgroup.specs.Made.{IsCut, IsTold, RefusesRun, RunsScript, output_text};
 
 use crate::explain::{explain_fault, explain_output, explain_run};
 use crate::output::hand_on;
@@ -78,7 +78,7 @@ impl<'a> Stop<'a> {
     }
 }
 
-// The status of a run whose outputs were written, and where it is bad and that is asked for, why.
+// The status of a run whose outputs were written. Where its record is bad, says why if that is asked for.
 fn tell_verdict<R: Runtime + AllocGlobal>(
     rt: &R,
     run: &FinishedRun,
@@ -94,17 +94,14 @@ fn tell_verdict<R: Runtime + AllocGlobal>(
 }
 
 fn status_of(summary: Summary) -> Status {
-    match summary {
-        Summary {
-            verdict: Verdict::Bad { .. },
-            ..
-        } => Status::Bad,
-        Summary { rest: false, .. } => Status::Restless,
-        Summary { rest: true, .. } => Status::Good,
+    match (summary.verdict, summary.rest) {
+        (Verdict::Bad { .. }, _) => Status::Bad,
+        (Verdict::Good, false) => Status::Restless,
+        (Verdict::Good, true) => Status::Good,
     }
 }
 
-/// Reads the script and runs its group, and where that is wanted tells how far it is.
+// Reads the script and runs its group, and where that is wanted tells how far it is.
 fn run_live_script<I: Read, R: Runtime + AllocGlobal + Threads + Wait + Copy + Send + 'static>(
     rt: &R,
     reader: &mut Meter<I>,
@@ -113,6 +110,10 @@ fn run_live_script<I: Read, R: Runtime + AllocGlobal + Threads + Wait + Copy + S
     requires { reader.old.failed ≡ false }
     ensures finished { IfOk result IsFinished }
     ensures ran { IfOk result (RunsScript (I.remaining reader.old.inner)) }
+    ensures refused { IfErr result (RefusesRun (I.remaining reader.old.inner) reader.new.failed) }
+    // What failed is told, and nothing else is.
+    ensures told { Tells result reader.new.failed false }
+    ensures taken { TakesInput (I.remaining reader.old.inner) (I.remaining reader.new.inner) }
 {
     let script = read_script_text(rt.alloc(), reader)?;
     let progress = Progress::shared(rt.alloc(), script.config.nodes())?;
@@ -164,6 +165,8 @@ impl Output {
             (W.contents writer.new.inner) (output_text self run.now)) }
         ensures front { OnErr result (WroteFront (W.contents writer.old.inner)
             (W.contents writer.new.inner) (output_text self run.now)) }
+        ensures fault { IfErr result (λ fault.
+            (fault ≡ TextFault.Write) × (writer.new.failed ≡ true)) }
     {
         match self {
             Output::Kept(Kept::Record) => write_record_of(run, writer),
@@ -173,8 +176,8 @@ impl Output {
     }
 }
 
-/// Writes the record and the replay to the files that are named, each whatever became of the other.
-/// Where neither is written, want of memory is told first, and else the record's fault.
+// Writes the record and the replay to the files that are named, each whatever became of the other.
+// Where neither is written, want of memory is told first, and else the record's fault.
 fn keep_files<'a, R: Runtime + AllocGlobal>(
     rt: &R,
     files: RunFiles<'a>,
@@ -190,7 +193,7 @@ fn keep_files<'a, R: Runtime + AllocGlobal>(
     }
 }
 
-/// Writes to the file, if one is named, and says so where the text is longer than this program reads.
+// Writes to the file, if one is named, and says so where the text is longer than this program reads.
 fn keep<'a, R: Runtime + AllocGlobal>(
     rt: &R,
     path: Option<&'a str>,
@@ -282,6 +285,7 @@ fn write_through<W: Write + Drop>(
     ensures front { OnErr result.0 (IsCut
         (append_known (W.contents (writer_inner buffer)) (output_text output run.now))
         (W.contents result.1)) }
+    ensures fault { IfErr result.0 (λ fault. fault ≡ TextFault.Write) }
 {
     let mut meter = Meter::new(buffer);
     let done = output.write(run, &mut meter);

@@ -1,5 +1,5 @@
-//! The program `castgroup`: files and exit statuses over the libraries `cast_text` and `cast_live`, as `cast_command` reads its
-//! command line.
+//! The program `castgroup`: opens files, calls the libraries `cast_text` and `cast_live`, and turns what came of it into an exit
+//! status. `cast_command` reads its command line.
 #![tactic(auto)]
 
 mod command_line;

@@ -9,7 +9,8 @@ use std::thread;
 use std::thread::{Parker, Threads};
 use std::time::Duration;
 
-const SECONDS: u64 = 1;
+// Seconds from one line to the next.
+const LINE_SECONDS: u64 = 1;
 
 /// What the thread that tells shares with the one that waits for the run.
 #[derive(Drop)]
@@ -66,7 +67,8 @@ impl Teller {
 
 fn tell_each_second<R: Wait>(rt: &R, stderr: Stderr, progress: &Progress, due: u64, bell: &Bell) {
     for _ in rt.forever() {
-        bell.parker.park_timeout(rt, Duration::from_secs(SECONDS));
+        bell.parker
+            .park_timeout(rt, Duration::from_secs(LINE_SECONDS));
         if bell.ended.load(Ordering::SeqCst) {
             return;
         }

@@ -1,7 +1,7 @@
 //! The commands that read one text and write another: `run`, `judge`, `migrate` and `draw`.
 ghost use Rattle.std.specs.Prelude.{◌≡◌, [], false, IfOk, IfErr, OnOk};
 ghost use Rattle.std.specs.Io.Buffered.{writer_buffer, writer_inner};
-ghost use Rattle.cast_text.specs.Text.{TakesInput};
+ghost use Rattle.cast_text.specs.Text.{TakesInput, Tells};
 ghost use Rattle.castgroup.specs.Made.{Makes, Refuses, BreaksOff};
 
 use crate::explain::{explain_fault, explain_verdict};
@@ -40,6 +40,8 @@ impl TextCommand {
         requires { (reader.old.failed ≡ false) × (writer.old.failed ≡ false) }
         ensures made { IfOk result (Makes self (R.remaining reader.old.inner)
             (W.contents writer.old.inner) (W.contents writer.new.inner)) }
+        // What failed is told, and nothing else is.
+        ensures told { Tells result reader.new.failed writer.new.failed }
         ensures read { OnOk result (reader.new.failed ≡ false) }
         ensures refused { IfErr result (Refuses self (R.remaining reader.old.inner)
             reader.new.failed) }

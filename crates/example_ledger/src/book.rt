@@ -10,13 +10,13 @@ use std::fmt;
 use std::fmt::{Display, Formatter, Write};
 use std::marker::Model;
 
-const NAMES: [&str; 4] = ["ada", "ben", "cleo", "dan"];
+const NAMES: [&str; ACCOUNTS as usize] = ["ada", "ben", "cleo", "dan"];
 
 /// What each account has received in all, and what it has sent. Both are sums, so the order of the transfers doesn't matter.
 #[derive(Clone, Copy, Debug, PartialEq, Eq)]
 pub struct Sheet {
-    pub received: [u64; 4],
-    pub sent: [u64; 4],
+    pub received: [u64; ACCOUNTS as usize],
+    pub sent: [u64; ACCOUNTS as usize],
 }
 
 impl Sheet {
@@ -27,8 +27,8 @@ impl Sheet {
         ensures { IsSheetOf result [] }
     {
         Sheet {
-            received: [0; 4],
-            sent: [0; 4],
+            received: [0; ACCOUNTS as usize],
+            sent: [0; ACCOUNTS as usize],
         }
     }
 

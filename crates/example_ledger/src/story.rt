@@ -19,16 +19,15 @@ const CLEO: u8 = 2;
 
 const DAN: u8 = 3;
 
-// How many items are ordered in all.
-const ITEMS: usize = 5;
+const NODES: u8 = 3;
 
 /// Three nodes, of which one may crash.
 pub fn config() -> Result<Config, ConfigFault> {
-    Config::check(3, 1, 1, 4096, 65536, 64, 0, Mode::Basic)
+    Config::check(u64::from(NODES), 1, 1, 4096, 65536, 64, 0, Mode::Basic)
 }
 
 /// What the client of each node orders, by node. One item says no transfer.
-pub fn orders(alloc: Global) -> Result<[List<Item>; 3], AllocError> {
+pub fn orders(alloc: Global) -> Result<[List<Item>; NODES as usize], AllocError> {
     let mut first = List::new(alloc);
     first.push(transfer(alloc, ADA, BEN, 30)?)?;
     first.push(transfer(alloc, ADA, CLEO, 20)?)?;
@@ -50,9 +49,14 @@ fn transfer(alloc: Global, from: u8, to: u8, amount: u16) -> Result<Item, AllocE
 pub fn tellers(alloc: Global) -> Result<Vec<(NodeId, Teller)>, AllocError>
     ensures { IfOk result (λ tellers. AreNewTellers tellers.items) }
 {
+    let orders = orders(alloc)?;
+    let mut count: usize = 0;
+    for items in orders.iter() {
+        count = count.saturating_add(items.as_slice().len());
+    }
     let mut tellers = Vec::new(alloc);
-    for (node, items) in orders(alloc)?.into_iter().enumerate() {
-        let teller = Teller::new(alloc, items, ITEMS);
+    for (node, items) in orders.into_iter().enumerate() {
+        let teller = Teller::new(alloc, items, count);
         tellers.push((NodeId(node as u8), teller))?;
     }
     Ok(tellers)
@@ -61,8 +65,8 @@ pub fn tellers(alloc: Global) -> Result<Vec<(NodeId, Teller)>, AllocError>
 /// On each link every second frame that carries a message is lost, the first one too.
 pub fn losses(alloc: Global) -> Result<FaultPlan, AllocError> {
     let mut faults = List::new(alloc);
-    for from in 0..3 {
-        for to in 0..3 {
+    for from in 0..NODES {
+        for to in 0..NODES {
             if from != to {
                 faults.push(lose_every_second(NodeId(from), NodeId(to)))?;
             }

@@ -1,4 +1,4 @@
-//! Jobs that submit items, and gates that are open.
+//! Lists of items, and jobs that submit them.
 ghost use Rattle.std.specs.Prelude.{IfOk};
 ghost use Rattle.run_setup.specs.NewJobs.{AreNew};
 

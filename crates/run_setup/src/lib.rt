@@ -1,4 +1,4 @@
-//! What a group is run with: its configuration, the plan of its faults, its jobs and its gates. For the rows of running
+//! What a group is run with: its configuration, the plan of its faults, and its jobs. For the rows of running
 //! threads (`test_run`) and their benchmark (`bench_run`).
 #![tactic(auto)]
 

@@ -38,6 +38,7 @@ fn put_frames<R: Wait>(rt: &R, out: &mut Putter<Parcel>) {
     }
 }
 
+// The numbers of the frames that come to an inbox, in their order.
 fn numbers<R: Wait>(rt: &R, alloc: Global, mut inbox: Taker<Parcel>) -> Result<Vec<u64>, Fail> {
     let mut numbers = Vec::new(alloc);
     for _ in 0..64 {
@@ -49,7 +50,7 @@ fn numbers<R: Wait>(rt: &R, alloc: Global, mut inbox: Taker<Parcel>) -> Result<V
     Ok(numbers)
 }
 
-// The numbers of the frames that come to an inbox, in their order.
+// By this plan the frames with these numbers come to the inbox, in this order.
 fn expect_carried(
     rt: &(impl Abort + AllocGlobal + Wait),
     plan: &[Fault],

@@ -262,7 +262,7 @@ fn expect_lines(
     lengths: &[usize],
 ) -> Result<(), Fail> {
     let bytes = text.as_bytes();
-    for end in 0..bytes.len() + 1 {
+    for end in 0..=bytes.len() {
         let line = read_line(rt.alloc(), &bytes[..end])?;
         assert_eq!(rt;
             (read_words(&bytes[..end]).is_some(), line.is_some()),
@@ -324,8 +324,8 @@ fn reads_deliveries_up_to_their_words(rt: HostRuntime) -> Result<(), Fail> {
 
 #[test]
 fn a_cut_delivery_is_read_from_its_last_blank_on(rt: HostRuntime) -> Result<(), Fail> {
-    let line = "d 1 0 12 data:61".as_bytes();
-    for end in 0..line.len() + 1 {
+    let line = b"d 1 0 12 data:61";
+    for end in 0..=line.len() {
         assert_eq!(rt;
             read_delivery(&line[..end]).is_some(),
             end >= 9,

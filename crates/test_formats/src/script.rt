@@ -347,21 +347,24 @@ fn reads_what_it_wrote(rt: HostRuntime) -> Result<(), Fail> {
     Ok(())
 }
 
-/// The same events, read off the tokens, and by the value, where a plan is beside them. The last list of events counts. What is
-/// read is compared; that the first was read off its tokens, and not by its value too, cannot be seen from here.
+/// Two lists of events, of which the last counts.
 const PLAIN: &str =
     r#"{"events":[["settle"]],"\u006eodes":3,"events":[["order",0,"data","0aff"],["order",1,"propose",7,18446744073709551615],["order",2,"close"],["send",255,0,1],["ack",0,1,2],["arrive",1,3],["crash",2],["settle"]],"faults":1,"choices":2,"plan":[],"jobs":[]}"#;
 
+/// The same with a plan beside them.
 const NOT_SO_PLAIN: &str =
     r#"{"events":[["settle"]],"\u006eodes":3,"events":[["order",0,"data","0aff"],["order",1,"propose",7,18446744073709551615],["order",2,"close"],["send",255,0,1],["ack",0,1,2],["arrive",1,3],["crash",2],["settle"]],"faults":1,"choices":2,"plan":[["crash",0,9]],"jobs":[]}"#;
 
+/// The same events, read off the tokens, and by the value, where a plan is beside them. What is read is compared; that the first
+/// was read off its tokens, and not by its value too, cannot be seen from here.
 #[test]
 fn reads_the_same_events_by_tokens_and_by_value(rt: HostRuntime) -> Result<(), Fail> {
     let plain = read_script(rt.alloc(), PLAIN.as_bytes())?;
     let by_value = read_script(rt.alloc(), NOT_SO_PLAIN.as_bytes())?;
-    assert!(rt; plain.events.as_slice().len() == 8);
-    assert!(rt; plain.events.as_slice() == by_value.events.as_slice());
-    assert!(rt; plain.config.nodes() == 3 && by_value.config.nodes() == 3);
+    assert_eq!(rt; plain.events.as_slice().len(), 8);
+    assert_eq!(rt; plain.events.as_slice(), by_value.events.as_slice());
+    assert_eq!(rt; plain.config.nodes(), 3);
+    assert_eq!(rt; by_value.config.nodes(), 3);
     Ok(())
 }
 

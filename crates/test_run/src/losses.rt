@@ -4,7 +4,6 @@ use crate::seen::see;
 use anyhow::Result;
 use cast_message::List;
 use cast_report::EngineEnd;
-use cast_run::LiveFault;
 use cast_script::{FaultPlan, FrameKind};
 use run_setup::{Link, Shape, links, lose_every, no_faults};
 use std::alloc::{AllocError, Global};
@@ -49,25 +48,6 @@ pub fn live_all_lost<R: Threads + Wait + Print + Copy + Send + 'static>(
         seen.rest,
         seen.is_good()
     )?;
-    Ok(())
-}
-
-/// Three nodes with an item each. A run that is refused says so: it is the row whose allocations are refused in turn.
-pub fn live_three_nodes<R: Threads + Wait + Print + Copy + Send + 'static>(
-    rt: R,
-    alloc: Global,
-    row: &str,
-) -> Result<()> {
-    let plan = no_faults(alloc);
-    match run_jobs(rt, alloc, Shape::new(3, 1, 2), &plan, &[0, 1, 2], 1, TURNS)? {
-        Ok(run) => {
-            let seen = see(alloc, &run.report)?;
-            println!(&rt; "{row}: {seen}")?;
-        }
-        Err(LiveFault::Memory) => println!(&rt; "{row}: out of memory")?,
-        Err(LiveFault::Threads) => println!(&rt; "{row}: a thread was refused")?,
-        Err(_) => println!(&rt; "{row}: refused")?,
-    }
     Ok(())
 }
 

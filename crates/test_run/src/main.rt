@@ -9,6 +9,7 @@ mod gates;
 mod limits;
 mod losses;
 mod refusals;
+mod refused;
 mod runs;
 mod seen;
 mod turns;
@@ -64,7 +65,7 @@ fn run_row<R: Threads + Wait + Print + Copy + Send + 'static>(
         "live-losses" => losses::live_losses(rt, alloc, name),
         "live-losses-crash" => crashes::live_losses_crash(rt, alloc, name),
         "live-all-lost" => losses::live_all_lost(rt, alloc, name),
-        "live-three-nodes" => losses::live_three_nodes(rt, alloc, name),
+        "live-three-nodes" => refused::live_three_nodes(rt, alloc, name),
         "live-limits" => limits::print_full(rt, alloc, name, limits::LIVE_LIMITS),
         "limits-of-five-items" => limits::print_full(rt, alloc, name, limits::FIVE_ITEMS),
         "replies-kept" => clients::replies_kept(rt, alloc, name),

@@ -19,13 +19,12 @@ loop-index-preserved c =
     let i = c.loop-index.index in
     let rest = record_text (lines_told (i + 1) (drop (i + 1) c.args.events.now) (drop (i + 1) c.args.replies.now) ++ End ∷ []) in
     let next = told-next i c.args.events.now c.args.replies.now c.index-events-index.result c.index-replies-index.result c.loop-index-test.true c.requires c.index-events-index.is c.index-replies-index.is in
-    fed_more _ (record_text c.as_slice.result.now) rest _ c.loop-index.judging c.feed_lines-in-loop-index.new.judging c.loop-index.invariant
-    (next ∙ ap (λ lines. record_text lines ++ rest) (sym (c.as_slice.ensures ∙ c.in_ok-lines.ensures.exact))) (c.in_ok-feed_lines-2.ensures)
+    fed_more _ _ rest _ c.loop-index.judging c.feed_event.new.judging c.loop-index.invariant next c.in_ok-feed_event.ensures
 
 pub returns : goal.returns
 returns c =
     let last = record_text (End ∷ []) in
     fed_all _ c.feed_lines-2.new.judging c.finish.result
     (fed_more _ last [] _ c.loop-index.judging c.feed_lines-2.new.judging c.loop-index.invariant
-    (told-end c.loop-index.index c.args.events.now c.args.replies.now c.loop-index-test.false ∙ sym (append-nil last)) (c.in_ok-feed_lines-3.ensures))
+    (told-end c.loop-index.index c.args.events.now c.args.replies.now c.loop-index-test.false ∙ sym (append-nil last)) (c.in_ok-feed_lines-2.ensures))
     c.finish.ensures.said

@@ -15,7 +15,7 @@ returns-then-number-self-clause-messages c =
 pub loop-turn-preserved : goal.loop-turn-preserved
 loop-turn-preserved c =
     let i = c.loop-turn.invariant in
-    let pushed = c.in_ok-push.ensures.items ∙ ap (λ item. c.loop-turn.messages.items ++ record { sender = c.args.sender; number = c.loop-turn.turn; item = item } ∷ []) c.in_ok-copy.ensures in
+    let pushed = c.in_ok-push.ensures.items ∙ ap (λ item. c.loop-turn.messages.items ++ record { sender = c.args.sender; number = c.loop-turn.turn; item = item } ∷ []) c.in_ok-copy.ensures.ok in
     let more = turn_more _ _ _ _ c.args.self.now c.self.invariant c.self.view_is c.len-most.ensures.ordered c.args.number c.args.sender c.loop-turn.turn c.in-Some.item.now c.loop-turn.messages.items c.push.new.self.items i.from i.upto (sym c.in-Some.ensures) pushed in
     record { from = omega (arith, i.from); upto = more.0; messages = more.1 ∙ i.messages }
 

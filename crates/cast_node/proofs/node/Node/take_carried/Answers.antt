@@ -38,7 +38,7 @@ invariant_of-self c =
     let long = done_or_not c.take_up_carried-answer.result (λ (ls : List (Link Message)). length ls ≡ length all) all gave (links_of c.take_up_carried-answer.new.outgoing) ends.spread.links same_links
     refl (length-given 0 (with_pair relay message.sender message.number) c.args.from message all) in
     let relays = done_or_not c.take_up_carried-answer.result (λ (h : Held). (h.me ≡ relay.me) × (h.own ≡ relay.own)) relay (with_pair relay message.sender message.number) c.take_up_carried-answer.new.relay ends.relay ends.err (refl, refl) (refl, refl) in
-    let same = c.in_ok-copy.ensures in
+    let same = c.in_ok-copy.ensures.ok in
     let nodes = ap (λ (k : Kept). k.config.nodes) c.self.view_is in
     let limit = ap (λ (k : Kept). k.config.item_limit) c.self.view_is in
     let within : (message.sender < c.self.inside.config.nodes) × (message.number < c.self.inside.config.item_limit) = (
@@ -57,7 +57,7 @@ invariant_of-self c =
 pub returns-clause-outcome : goal.returns-clause-outcome
 returns-clause-outcome c =
     let message = c.args.message.now in
-    let copied = c.in_ok-copy.ensures in
+    let copied = c.in_ok-copy.ensures.ok in
     let sender : message.sender < length c.self.inside.deliveries.knowers = omega (arith, c.self.invariant.rows, peer_below c.args.self.now message.sender c.requires.sender, ap (λ (k : Kept). k.config.nodes) c.self.view_is) in
     if_ok c.take_up_carried-answer.result _ _ c.take_up_carried-answer.ensures.spread.outcome
     (ap (λ (m : Message). outcome_in (waiting_in c.self.inside.deliveries m) m.sender m.number c.first_members.result) copied
@@ -66,7 +66,7 @@ returns-clause-outcome c =
 pub returns-clause-ok : goal.returns-clause-ok
 returns-clause-ok c =
     let message = c.args.message.now in
-    let copied = c.in_ok-copy.ensures in
+    let copied = c.in_ok-copy.ensures.ok in
     let copy = c.in_ok-copy.field-0 in
     let at = c.from-place.ensures ∙ c.from.view_is in
     let links = c.self.inside.incoming.items in

@@ -29,7 +29,7 @@ returns-in-Ok-clause-links c =
     let messages = c.self.inside.messages.items in
     let links = c.self.inside.links.items in
     let gave = given_whole c.self.inside.links.len c.give_all.new.links links c.as_mut_slice-links.result.now c.args.relay.now c.args.source c.args.message.now.sender _ (length messages) c.in-Ok.ensures.ok c.as_mut_slice-links.ensures.value c.self.inside.links.ok.0 (omega (arith, c.len-place.ensures, c.if-place.false, c.self.inside.messages.ok.0)) in
-    let more = c.in_ok-push.ensures.items ∙ ap (λ m. messages ++ m ∷ []) c.in_ok-copy.ensures in
+    let more = c.in_ok-push.ensures.items ∙ ap (λ m. messages ++ m ∷ []) c.in_ok-copy.ensures.ok in
     (λ i. map (link_through (more i)) (gave i))
     ∙ given_through 0 c.args.relay.now c.args.source c.args.message.now messages links c.self.invariant
     ∙ ap (λ o. given_from 0 c.args.relay.now c.args.source c.args.message.now (links_of o)) c.self.view_is
