@@ -89,6 +89,7 @@ fn merge_logs(alloc: Global, report: GroupReport) -> Result<FinishedRun, AllocEr
     ensures ok { IfOk result IsFinished }
 {
     let assembly = assemble(alloc, &report)?;
+    // Reading them tells a proof that they are linked.
     let _linked = report.reports();
     Ok(FinishedRun { report, assembly })
 }

@@ -14,9 +14,9 @@ use cast_text::{TextFault, put_head, put_line, tell_event_range};
 use cast_words::Meter;
 use std::io::Write;
 
-/// Running the script that `write_script` writes for this configuration and these events, where it is no longer than an input
-/// may be, writes the record that `write_run_record` writes of them and the replies to them. That record is good, and where all
-/// events are accepted no line of it is a refusal.
+/// A law, by which nothing is computed: running the script that `write_script` writes for this configuration and these events,
+/// where it is no longer than an input may be, writes the record that `write_run_record` writes of them and the replies to
+/// them. That record is good, and where all events are accepted no line of it is a refusal.
 pub fn is_replayed(config: &Config, events: &[Event])
     ensures law { RecordsReplay config.now events.now }
 {
@@ -28,6 +28,7 @@ fn tell_event_ranges(events: &[Event])
     ensures ranges { All HasEventRange events.now }
     ensures few { length events.now < 2 ^ 64 }
 {
+    // Reading it tells a proof that there are fewer than 2^64.
     let _count = events.len();
     for event in events {
         tell_event_range(event);

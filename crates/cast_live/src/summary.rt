@@ -135,6 +135,7 @@ fn delivered_count(config: &Config, world: &World, node: u8, sender: u8) -> u64
     ensures { (past : History) → Stands config.now past world.now →
         result ≡ length (delivered config.now past node sender) }
 {
+    // Reading it tells a proof that there are at most 64.
     let _nodes = config.nodes();
     match world.delivered(NodeId(node), NodeId(sender)) {
         Some(items) => items.len() as u64,
