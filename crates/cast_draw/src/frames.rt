@@ -131,7 +131,9 @@ impl MadeFrames {
     pub fn push(&mut self, frame: &MadeFrame) -> Result<(), AllocError>
         ensures { OnOk result (self.new ≡ self.old ++ frame.now ∷ []) }
     {
-        self.frames.push(*frame)?;
+        // The prover has no proof of `push(*frame)`, a copy of the whole record; it has one of a record that is written anew.
+        let cargo: Cargo = frame.cargo;
+        self.frames.push(MadeFrame { cargo, ..*frame })?;
         Ok(())
     }
 

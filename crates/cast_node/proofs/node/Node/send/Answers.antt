@@ -17,6 +17,6 @@ make_frame-requires c = (send_fine c.args.self.now c.args.to c.args.slot (sym c.
 
 pub returns-clause-frame : goal.returns-clause-frame
 returns-clause-frame c =
-    let found : finite.get (link_to c.args.self.now c.args.to).owed c.args.slot ≡ Some c.in_ok-message.message = sym (ap (λ k. finite.get (link_to k c.args.to).owed c.args.slot) c.self.view_is) ∙ sym c.message.ensures ∙ ap option_copied c.in-Some-message.is ∙ ap Some (sym c.in_ok-message.ensures) in
+    let found : finite.get (link_to c.args.self.now c.args.to).owed c.args.slot ≡ Some c.in_ok-message.message = sym (ap (λ k. finite.get (link_to k c.args.to).owed c.args.slot) c.self.view_is) ∙ sym c.message.ensures ∙ ap option_copied c.in-Some-message.is ∙ ap Some (sym c.in_ok-message.ensures.ok) in
     c.make_frame.ensures.frame
     ∙ (λ k. record { from = c.args.self.now.me; seq = c.args.self.now.frames; to = c.args.to; body = Carry c.args.slot (unwrap_or (sym found k) (record { sender = 0; number = 0; item = Close })) })
