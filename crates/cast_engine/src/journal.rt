@@ -208,16 +208,26 @@ impl Journal {
         } = order;
         let origin = Origin { client, ticket };
         let stamp = self.clock + 1;
-        let kind = match ask(&mut self.node, item) {
-            Ok((item, outcome)) => EntryKind::Step {
-                event: Event::Order { node, item },
-                origin: Some(origin),
-                outcome,
-            },
-            Err(fault) => EntryKind::Refused { origin, fault },
-        };
-        self.log.push_reserved(Entry { stamp, kind });
-        self.clock = stamp;
+        match ask(&mut self.node, item) {
+            Ok((item, outcome)) => {
+                self.log.push_reserved(Entry {
+                    stamp,
+                    kind: EntryKind::Step {
+                        event: Event::Order { node, item },
+                        origin: Some(origin),
+                        outcome,
+                    },
+                });
+                self.clock = stamp;
+            }
+            Err(fault) => {
+                self.log.push_reserved(Entry {
+                    stamp,
+                    kind: EntryKind::Refused { origin, fault },
+                });
+                self.clock = stamp;
+            }
+        }
     }
 
     /// Notes that the engine ends, where it has not.
