@@ -10,7 +10,7 @@ use crate::board::Board;
 use crate::parcel::Parcel;
 use crate::waiting::Waiting;
 use cast_box::{Putter, Taker};
-use cast_message::{FrameBody, FrameKind, NodeId};
+use cast_message::{FrameKind, NodeId};
 use cast_script::Fault;
 use std::alloc::{AllocError, Global};
 use std::marker::Model;

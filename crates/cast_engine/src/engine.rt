@@ -144,8 +144,9 @@ impl Engine {
         })
     }
 
-    /// Takes one turn: passes the gate, takes in parcels and acknowledges them, serves its clients, and sends a slot that is
-    /// due. `Ended` is answered where its log or its clock is full, its node crashes, no turn is left, or all engines are quiet.
+    /// Takes one turn: passes the gate, puts the parcel that waits, takes one and acknowledges it, takes an order, sends a slot
+    /// that is due, and puts notices. `Ended` is answered where the log or the clock is full, the node crashes, no turn is left,
+    /// or all engines are quiet.
     #[tactic(auto, using(crate::proofs::Again::desk_same))]
     pub fn turn<G: Gate, R: Wait>(
         &mut self,
@@ -486,16 +487,19 @@ pub fn run_engine<G: Gate + Drop, R: Wait>(
     let mut waiting = Waiting::new(PATIENCE);
     for _ in rt.forever() {
         if board.is_stopped() {
-            break;
+            quiet.end(board);
+            return engine;
         }
         match engine.turn(rt, &mut gate, board, &mut quiet) {
             Turn::Moved => waiting.found(),
             Turn::Idle => waiting.wait(rt),
-            Turn::Ended => break,
+            Turn::Ended => {
+                quiet.end(board);
+                return engine;
+            }
         }
     }
-    quiet.end(board);
-    engine
+    unreachable!()
 }
 
 // What is to be acknowledged of a frame that arrived.

@@ -41,7 +41,8 @@ fn feed_event(
     reply: &Reply,
 ) -> Result<(), AllocError>
     ensures { (text : List ℕ) → Stands text judging.old →
-        OnOk result (Stands (text ++ record_text (lines_for index event.now reply.now)) judging.new) }
+        OnOk result (Stands (text ++ record_text (lines_for index event.now reply.now))
+        judging.new) }
 {
     let mut meter = Meter::new(Vec::new(alloc));
     if write_lines_of(index, event, reply, &mut meter).is_err() {

@@ -12,12 +12,12 @@ returns-clause-fate c =
     let to = c.from-target.result in
     let is : to ≡ c.args.parcel.now.frame.to = search rules in
     let within : to < length c.args.ordinals.now = search rules in
-    fate_there c.args.faults.now c.args.ordinals.now c.args.parcel.now.frame to (counts_at c.args.ordinals.now to) c.kind_of-kind.result c.count-ordinal.result c.fate_by.result is (got c.args.ordinals.now to _ within)
-    c.kind_of-kind.ensures c.count-ordinal.ensures.ordinal c.fate_by.ensures
+    fate_there c.args.faults.now c.args.ordinals.now c.args.parcel.now.frame to (counts_at c.args.ordinals.now to) c.kind-kind.result c.count-ordinal.result c.fate_by.result is (got c.args.ordinals.now to _ within)
+    c.kind-kind.ensures c.count-ordinal.ensures.ordinal c.fate_by.ensures
 
 pub returns-clause-counts : goal.returns-clause-counts
 returns-clause-counts c =
     let to = c.from-target.result in
     let is : to ≡ c.args.parcel.now.frame.to = search rules in
     let within : to < length c.args.ordinals.now = search rules in
-    counted_there c.args.ordinals.now c.args.parcel.now.frame to (counts_at c.args.ordinals.now to) c.count-ordinal.new.counts c.kind_of-kind.result is (got c.args.ordinals.now to _ within) c.kind_of-kind.ensures c.count-ordinal.ensures.counts
+    counted_there c.args.ordinals.now c.args.parcel.now.frame to (counts_at c.args.ordinals.now to) c.count-ordinal.new.counts c.kind-kind.result is (got c.args.ordinals.now to _ within) c.kind-kind.ensures c.count-ordinal.ensures.counts
