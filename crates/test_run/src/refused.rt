@@ -1,31 +1,24 @@
-//! The row whose allocations and threads are refused in turn: no thread of a group is left when it answers.
+//! The row whose allocations and threads are refused in turn: no engine of the group is left when it answers.
 use crate::runs::TURNS;
 use crate::seen::see;
 use anyhow::Result;
 use cast_run::{Gate, LiveFault, run_live};
 use run_setup::{Shape, no_faults, submit_each};
 use std::alloc::{AllocError, Global};
-use std::sync::atomic::{AtomicU64, Ordering};
 use std::sync::{Arc, Wait};
-use std::thread;
 use std::thread::Threads;
 
-// How often the processor is given up to threads of a group, if any are left.
-const YIELDS: u64 = 1_000;
-
-/// Counts how often all gates of a group are passed.
+/// Stands open, and shares what the gates of all engines share, until its engine has ended.
 #[derive(Drop)]
-pub struct PassesGate {
-    passes: Arc<AtomicU64, Global>,
+pub struct SharingGate {
+    _share: Arc<(), Global>,
 }
 
-impl Gate for PassesGate {
-    fn pass<R: Wait>(&mut self, _rt: &R) {
-        self.passes.fetch_add(1, Ordering::SeqCst);
-    }
+impl Gate for SharingGate {
+    fn pass<R: Wait>(&mut self, _rt: &R) {}
 }
 
-/// Three nodes with an item each. A run that is refused says so. Whether it is or not, no gate is passed afterwards.
+/// Three nodes with an item each. A run that is refused says so. Whether it is or not, all engines have ended when it answers.
 pub fn live_three_nodes<R: Threads + Wait + Print + Copy + Send + 'static>(
     rt: R,
     alloc: Global,
@@ -33,11 +26,11 @@ pub fn live_three_nodes<R: Threads + Wait + Print + Copy + Send + 'static>(
 ) -> Result<()> {
     let config = Shape::new(3, 1, 2).config()?;
     let jobs = submit_each(alloc, &[0, 1, 2], 1)?;
-    let passes = Arc::new(alloc, AtomicU64::new(0))?;
-    let gates = passes_gates(alloc, 3, &passes)?;
+    let share = Arc::new(alloc, ())?;
+    let gates = sharing_gates(alloc, 3, &share)?;
     let run = run_live(rt, alloc, config, &no_faults(alloc), jobs, gates, TURNS);
-    if grows(&passes) {
-        println!(&rt; "{row}: a thread of the group goes on")?;
+    if Arc::strong_count(&share) > 1 {
+        println!(&rt; "{row}: an engine is left")?;
     }
     match run {
         Ok(run) => {
@@ -51,25 +44,16 @@ pub fn live_three_nodes<R: Threads + Wait + Print + Copy + Send + 'static>(
     Ok(())
 }
 
-fn passes_gates(
+fn sharing_gates(
     alloc: Global,
     nodes: usize,
-    passes: &Arc<AtomicU64, Global>,
-) -> Result<Vec<PassesGate>, AllocError> {
+    share: &Arc<(), Global>,
+) -> Result<Vec<SharingGate>, AllocError> {
     let mut gates = Vec::new(alloc);
     for _node in 0..nodes {
-        gates.push(PassesGate {
-            passes: Arc::try_clone(passes)?,
+        gates.push(SharingGate {
+            _share: Arc::try_clone(share)?,
         })?;
     }
     Ok(gates)
-}
-
-// Whether a counter grows while other threads may run.
-fn grows(counter: &AtomicU64) -> bool {
-    let before = counter.load(Ordering::SeqCst);
-    for _ in 0..YIELDS {
-        thread::yield_now();
-    }
-    counter.load(Ordering::SeqCst) != before
 }
