@@ -363,8 +363,7 @@ fn reads_the_same_events_by_tokens_and_by_value(rt: HostRuntime) -> Result<(), F
     let by_value = read_script(rt.alloc(), NOT_SO_PLAIN.as_bytes())?;
     assert_eq!(rt; plain.events.as_slice().len(), 8);
     assert_eq!(rt; plain.events.as_slice(), by_value.events.as_slice());
-    assert_eq!(rt; plain.config.nodes(), 3);
-    assert_eq!(rt; by_value.config.nodes(), 3);
+    assert_eq!(rt; (plain.config.nodes(), by_value.config.nodes()), (3, 3));
     Ok(())
 }
 
