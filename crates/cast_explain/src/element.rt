@@ -98,7 +98,7 @@ fn name_and_places(value: &Value) -> Option<(&str, &[Value])> {
 fn order_flaw<'a>(value: &'a Value, places: &'a [Value]) -> Option<Flaw<'a>> {
     match places {
         [node, item @ ..] => not_node(node).or(item_flaw(value, item, ORDER)),
-        [] => flaw(value, ORDER),
+        [] => wrong(value, ORDER),
     }
 }
 
@@ -106,7 +106,7 @@ fn order_flaw<'a>(value: &'a Value, places: &'a [Value]) -> Option<Flaw<'a>> {
 fn link_flaw<'a>(value: &'a Value, places: &'a [Value], form: &'static str) -> Option<Flaw<'a>> {
     match places {
         [from, to, slot] => not_node(from).or(not_node(to)).or(not_number(slot)),
-        _ => flaw(value, form),
+        _ => wrong(value, form),
     }
 }
 
@@ -114,14 +114,14 @@ fn link_flaw<'a>(value: &'a Value, places: &'a [Value], form: &'static str) -> O
 fn count_flaw<'a>(value: &'a Value, places: &'a [Value], form: &'static str) -> Option<Flaw<'a>> {
     match places {
         [node, count] => not_node(node).or(not_number(count)),
-        _ => flaw(value, form),
+        _ => wrong(value, form),
     }
 }
 
 fn crash_flaw<'a>(value: &'a Value, places: &'a [Value]) -> Option<Flaw<'a>> {
     match places {
         [node] => not_node(node),
-        _ => flaw(value, "[\"crash\",NODE]"),
+        _ => wrong(value, "[\"crash\",NODE]"),
     }
 }
 
@@ -133,7 +133,7 @@ fn frames_flaw<'a>(value: &'a Value, places: &'a [Value], form: &'static str) ->
             .or(not_node(to))
             .or(not_number(first))
             .or(not_number(step)),
-        _ => flaw(value, form),
+        _ => wrong(value, form),
     }
 }
 
@@ -145,13 +145,13 @@ fn delay_flaw<'a>(value: &'a Value, places: &'a [Value]) -> Option<Flaw<'a>> {
             .or(not_number(first))
             .or(not_number(step))
             .or(not_number(count)),
-        _ => flaw(value, "[\"delay\",KIND,FROM,TO,FIRST,STEP,COUNT]"),
+        _ => wrong(value, "[\"delay\",KIND,FROM,TO,FIRST,STEP,COUNT]"),
     }
 }
 
 // What is wrong with the places of an item, which stand in this value.
 fn item_flaw<'a>(value: &'a Value, places: &'a [Value], form: &'static str) -> Option<Flaw<'a>> {
-    let whole = flaw(value, form);
+    let whole = wrong(value, form);
     let Some((word, others)) = places.split_first() else {
         return whole;
     };
@@ -166,12 +166,12 @@ fn item_flaw<'a>(value: &'a Value, places: &'a [Value], form: &'static str) -> O
 // The first item that is none.
 fn items_flaw(value: &Value) -> Option<Flaw<'_>> {
     let Some(items) = places(value) else {
-        return flaw(value, ITEMS);
+        return wrong(value, ITEMS);
     };
     for item in items {
         let flaw = match places(item) {
             Some(places) => item_flaw(item, places, ITEM),
-            None => flaw(item, ITEM),
+            None => wrong(item, ITEM),
         };
         if flaw.is_some() {
             return flaw;
@@ -219,11 +219,11 @@ pub fn unless<'a>(is_right: bool, value: &'a Value, expected: &'static str) -> O
     if is_right {
         None
     } else {
-        flaw(value, expected)
+        wrong(value, expected)
     }
 }
 
 // What is expected of the value, which isn't right.
-fn flaw<'a>(value: &'a Value, expected: &'static str) -> Option<Flaw<'a>> {
+fn wrong<'a>(value: &'a Value, expected: &'static str) -> Option<Flaw<'a>> {
     Some(Flaw { value, expected })
 }
