@@ -7,7 +7,7 @@ returns-clause-ran g c =
 
 pub returns-clause-refused : goal.returns-clause-refused
 returns-clause-refused g c =
-    run_refused (g.I.Read.remaining c.args.reader.now.inner) c.read_script_text-script.new.reader.failed c.in_ok-script.script c.run_script-run.result c.in_ok-script.ensures.ok c.run_script-run.ensures.err
+    run_refused (g.I.Read.remaining c.args.reader.now.inner) c.read_script_text.new.reader.failed c.in_ok-script.script c.run_script-run.result c.in_ok-script.ensures.ok c.run_script-run.ensures.err
 
 pub returns-clause-told : goal.returns-clause-told
-returns-clause-told g c = run_told c.read_script_text-script.new.reader.failed c.in_ok-script.script c.run_script-run.result c.in_ok-script.ensures.told.0 c.run_script-run.ensures.err
+returns-clause-told g c = run_told c.read_script_text.new.reader.failed c.in_ok-script.script c.run_script-run.result c.in_ok-script.ensures.told.0 c.run_script-run.ensures.err
