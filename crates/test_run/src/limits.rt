@@ -8,6 +8,7 @@ use std::sync::Wait;
 use std::thread::Threads;
 
 /// What one node has to do, and what it has room for.
+#[derive(Clone, Copy)]
 pub struct Limits {
     items: u64,
     first_stamp: u64,
