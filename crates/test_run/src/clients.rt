@@ -109,7 +109,10 @@ fn run_silent<R: Threads + Wait + Copy + Send + 'static>(
     shape.box_size = 1;
     let config = shape.config()?;
     let gates = OpenGate::for_nodes(alloc, 1)?;
-    Ok(run_live(rt, alloc, config, &no_faults(alloc), jobs, gates, TURNS)?)
+    match run_live(rt, alloc, config, &no_faults(alloc), jobs, gates, TURNS) {
+        Ok(run) => Ok(run),
+        Err(fault) => Err(fault.into()),
+    }
 }
 
 /// A job whose tray stays full holds nobody up: all that it submitted is taken.
