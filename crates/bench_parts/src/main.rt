@@ -8,7 +8,6 @@ mod links;
 mod relay;
 
 use anyhow::{Result, ensure};
-use std::alloc::Global;
 use std::env;
 use std::rt::{Clock, Env};
 use std::time::Instant;

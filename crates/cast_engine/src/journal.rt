@@ -10,7 +10,7 @@ ghost use Rattle.cast_engine.specs.Journals.{MayLog, LogsStep, LogsOrder, OnlyEn
 
 use crate::parcel::Parcel;
 use cast_desk::OrderIn;
-use cast_message::{Config, Event, Frame, FrameKind, Item, List, NodeId, Outcome, StepFault};
+use cast_message::{Config, Event, Frame, FrameKind, Item, NodeId, Outcome, StepFault};
 use cast_node::{Entry, EntryKind, Node, Origin, no_news};
 use cast_report::EngineEnd;
 use std::alloc::{AllocError, Global};

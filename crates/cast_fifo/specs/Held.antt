@@ -19,7 +19,6 @@ use Rattle.std.specs.Ordering.{nat_cmp}
 use Rattle.std.specs.Map.{lookup, keys_of, set_value, remove_entry}
 use Rattle.std.specs.BTreeMap.{insert_entry, is_at}
 use Rattle.cast_message.specs.declared.message.Item.{Item}
-use Rattle.cast_message.specs.declared.message.Item.TheVariants.{Data, Propose, Close}
 use Rattle.cast_message.specs.Items.{is_close}
 use Rattle.cast_fifo.specs.declared.waiting.Waiting.{Waiting}
 

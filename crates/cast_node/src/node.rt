@@ -201,8 +201,8 @@ impl Node {
 
     /// Takes a frame that arrives, and answers what is delivered and decided. The frame is for this node. Refused is an arrival
     /// at a crashed node, and else want of memory. A refusal changes nothing, nor does a frame that no node of the group could
-    /// have made for this node, of which nothing comes, not even want of memory; nor does that come of an acknowledgement of a
-    /// slot that is not owed, such as a second one.
+    /// have made for this node, of which nothing comes, not even want of memory. An acknowledgement of a slot that is not owed,
+    /// such as a second one, is never refused for want of memory.
     #[tactic(auto, using(std::proofs::lemmas::Bool::Decides::nat_tests), unfolding(cast_model::specs::Refusals::first_fault, crate::specs::Turns::kept_fault))]
     pub fn arrive(&mut self, frame: &Frame) -> Result<Outcome, StepFault>
         requires { frame.now.to ≡ self.old.me }

@@ -1,4 +1,4 @@
-//! Bytes as they are shown to a reader: printing ASCII as it is, all else by its number.
+//! Bytes as they are shown to a reader: printing ASCII as it is, all else by its number; and the first of them.
 ghost use Rattle.std.specs.Prelude.{◌≡◌, ◌++◌, IfOk, OnOk, string_bytes, take};
 ghost use Rattle.cast_words.specs.Shown.{shown, shown_byte, by_number, is_printing};
 

@@ -10,7 +10,7 @@ ghost use Rattle.cast_world.specs.Rounds.{TakesAll, TakesRound, Spreads, events_
 
 use crate::due_slots::DueSlot;
 use crate::world::World;
-use cast_message::{Event, FRAME_LIMIT, List, NodeId, StepFault};
+use cast_message::{Event, FRAME_LIMIT, List, StepFault};
 use std::alloc::AllocError;
 
 // How many numbers a `NodeId` can have.
