@@ -126,12 +126,27 @@ missing_entry quorum es fs counted j o t is e none h =
     ∙ sym (ap (λ b. if b then record (seen quorum es) { tallies = map.insert (map.from_entries es) j t } else seen quorum es) (found es j false none))
     ∙ (λ i. with_before (is i) j (sym e i))
 
+first_empty : (xs ys : List Before) → xs ++ ys ≡ [] → xs ≡ []
+first_empty [] ys e = refl
+first_empty (x ∷ xs) ys e = let no : x ∷ (xs ++ ys) ≡ [] = e in absurd cc
+
+last_empty : (xs ys : List Before) → xs ++ ys ≡ [] → ys ≡ []
+last_empty [] ys e = e
+last_empty (x ∷ xs) ys e = let no : x ∷ (xs ++ ys) ≡ [] = e in absurd cc
+
 pub befores_all-next : (c new : Counted) (m : Message) (rest all : List Message) (before after : List Before) → all ≡ m ∷ rest → new ≡ counted_after c m.sender m.item → after ≡ before ++ before_of c m.item → after ++ befores_all new rest ≡ before ++ befores_all c all
 unfolding befores_all
 befores_all-next c new m rest all before after e n d =
     (λ i. d i ++ befores_all (n i) rest)
     ∙ append_assoc before (before_of c m.item) (befores_all (counted_after c m.sender m.item) rest)
     ∙ ap (λ ms. before ++ befores_all c ms) (sym e)
+
+-- where nothing is kept of all of them, nothing is of the next
+pub befores_all-nothing : (c : Counted) (m : Message) (rest all : List Message) (before : List Before) → all ≡ m ∷ rest → before ++ befores_all c all ≡ [] → before_of c m.item ≡ []
+unfolding befores_all
+befores_all-nothing c m rest all before e nothing =
+    first_empty (before_of c m.item) (befores_all (counted_after c m.sender m.item) rest)
+    (last_empty before (befores_all c (m ∷ rest)) (ap (λ ms. before ++ befores_all c ms) (sym e) ∙ nothing))
 
 pub befores_all-none : (c : Counted) (all : List Message) (bs : List Before) → all ≡ [] → bs ++ befores_all c all ≡ bs
 unfolding befores_all

@@ -3,7 +3,7 @@
 //! lie below any value decided so, so that at most f + 1 are.
 #![tactic(auto)]
 
-ghost use Rattle.std.specs.Prelude.{◌≡◌, ◌-◌, ◌<◌, ◌++◌, IfOk, OnOk, OnErr};
+ghost use Rattle.std.specs.Prelude.{◌≡◌, ◌≢◌, ◌-◌, ◌<◌, ◌++◌, [], IfOk, OnOk, OnErr};
 ghost use Rattle.std.specs.Option.{option_to_list};
 ghost use Rattle.std.specs.FinMap as map;
 ghost use Rattle.cast_agree.specs.Counted.{counted_after, decision_by, decision, IsFirst};
@@ -89,7 +89,7 @@ impl Agree {
     }
 
     /// Counts the items of messages that were delivered, in order, as `delivered` does. Where memory is wanting it counts none
-    /// of them.
+    /// of them. It takes memory only where one of them is a proposal.
     pub fn count_all(&mut self, messages: &[Message]) -> Result<Counting, AllocError>
         ensures decisions { IfOk result
             (λ counting. counting.decisions.items ≡ decisions_all self.old messages.now) }
@@ -99,6 +99,7 @@ impl Agree {
         ensures back { IfOk result
             (λ counting. restored self.new counting.before.items ≡ self.old) }
         ensures err { OnErr result (self.new ≡ self.old) }
+        ensures proposals { OnErr result (befores_all self.old messages.now ≢ []) }
     {
         let mut decisions = Vec::new(self.alloc);
         let mut before = Vec::new(self.alloc);
@@ -141,6 +142,7 @@ impl Agree {
             (before.new.items ≡ before.old.items ++ before_of self.old message.now.item) }
         ensures err { OnErr result (self.new ≡ self.old) }
         ensures as_before { OnErr result (before.new.items ≡ before.old.items) }
+        ensures proposes { OnErr result (before_of self.old message.now.item ≢ []) }
     {
         let Item::Propose { instance, .. } = &message.item else {
             return Ok(());

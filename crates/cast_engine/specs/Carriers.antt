@@ -1,5 +1,5 @@
 -- A carrier, as contracts see it, and what it keeps.
-use Rattle.std.specs.Prelude.{◌≡◌, ℕ, ◌+◌, ◌-◌, ◌≤◌, ◌==◌, nat_le, Bool, ◌&&◌, cond, if◌then◌else◌, List, [], ◌∷◌, ◌++◌, map, length, slice_get, Some}
+use Rattle.std.specs.Prelude.{◌≡◌, ℕ, ◌+◌, ◌-◌, ◌≤◌, ◌==◌, nat_le, Bool, true, false, ◌&&◌, cond, if◌then◌else◌, List, [], ◌∷◌, ◌++◌, map, length, slice_get, Some}
 use Rattle.std.specs.List.{count_by, sum_by}
 use Rattle.cast_box.specs.Ends.{PutterEnd, TakerEnd, IsSameTaker, AreSamePutters}
 use Rattle.cast_script.specs.declared.script.Fault.{Fault}
@@ -36,6 +36,11 @@ CarrierKeeps taken inboxes delayed = Brings taken inboxes × Delays taken delaye
 
 abbrev pub IsSameCarrier : CarrierState → CarrierState → Type 0
 IsSameCarrier old new = IsSameTaker old.outbox new.outbox × AreSamePutters old.inboxes new.inboxes × (new.faults ≡ old.faults)
+
+-- one parcel was taken from the outbox; or none, and nothing changed
+abbrev pub CarriesOne : CarrierState → CarrierState → Bool → Type 0
+CarriesOne old new true = (m : ℕ × Parcel) × (new.outbox.taken ≡ old.outbox.taken ++ m ∷ [])
+CarriesOne old new false = new ≡ old
 
 abbrev pub AreUnused : List (PutterEnd Parcel) → Type 0
 AreUnused inboxes = (q : ℕ) (p : PutterEnd Parcel) → slice_get inboxes q ≡ Some p → p.put ≡ []

@@ -3,7 +3,7 @@
 ghost use Rattle.std.specs.Prelude.{◌≡◌, ◌||◌, [], IfOk, if◌then◌else◌, map, max};
 ghost use Rattle.cast_box.specs.Ends.{AreSamePutters};
 ghost use Rattle.cast_engine.specs.Copies.{IsByPlan, copies};
-ghost use Rattle.cast_engine.specs.Carriers.{IsSameCarrier, AreUnused, Brings, Moves, MovesOn, Puts, PutsUpTo, IsNoMore, IsByFate, IsKeptOrLost, counted_down};
+ghost use Rattle.cast_engine.specs.Carriers.{IsSameCarrier, CarriesOne, AreUnused, Brings, Moves, MovesOn, Puts, PutsUpTo, IsNoMore, IsByFate, IsKeptOrLost, counted_down};
 ghost use Rattle.cast_engine.specs.Fates.{is_kind, is_among, names, suffered, fate_by, fate_in, ordinal_of, one_more, counted_in};
 
 use crate::board::Board;
@@ -148,9 +148,10 @@ impl Carrier {
         })
     }
 
-    /// Carries one parcel. Answers whether there was one.
+    /// Carries one parcel. Answers whether there was one; else nothing changed.
     pub fn carry<R: Wait>(&mut self, rt: &R) -> bool
-        ensures { IsSameCarrier self.old self.new }
+        ensures same { IsSameCarrier self.old self.new }
+        ensures one { CarriesOne self.old self.new result }
     {
         match self.outbox.take(rt) {
             Some(parcel) => {

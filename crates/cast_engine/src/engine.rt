@@ -30,7 +30,7 @@ const PATIENCE: u64 = 2 * LAST_SENT as u64;
 pub enum Turn {
     /// Something was done.
     Moved,
-    /// There was nothing to do.
+    /// There was nothing to do: nothing was put or taken, and no slot was due.
     Idle,
     /// The engine has ended.
     Ended,
@@ -80,6 +80,12 @@ impl Model for Engine {
 pub struct Owing {
     pub to: NodeId,
     pub slot: u64,
+}
+
+/// A parcel was taken, and this is to be acknowledged of it, where it carried a message.
+#[derive(Clone, Copy)]
+pub struct Received {
+    pub owing: Option<Owing>,
 }
 
 /// What an engine that ended leaves: the log and the node, the end, and the ends of its boxes.
@@ -204,7 +210,7 @@ impl Engine {
         self.trays_full = jobs_ended && !told && all_wait;
     }
 
-    // Puts the parcel that waits, takes one and acknowledges it. Answers whether it did any of it.
+    // Puts the parcel that waits, takes one and acknowledges it. Answers whether it put or took one.
     #[tactic(auto, using(crate::proofs::Again::desk_same))]
     fn exchange<R: Wait>(&mut self, rt: &R, board: &Board, quiet: &mut Quiet) -> bool
         ensures { IsSameEngine self.old self.new }
@@ -214,7 +220,7 @@ impl Engine {
         put || received
     }
 
-    // Takes a parcel, where none waits to be put, and acknowledges it. Answers whether it did.
+    // Takes a parcel, where none waits to be put, and acknowledges what it carries. Answers whether it took one.
     #[tactic(auto, using(crate::proofs::Again::desk_same))]
     fn receive_and_acknowledge<R: Wait>(&mut self, rt: &R, board: &Board, quiet: &mut Quiet) -> bool
         ensures { IsSameEngine self.old self.new }
@@ -222,11 +228,13 @@ impl Engine {
         if self.held.is_some() {
             return false;
         }
-        let Some(owing) = self.receive(rt) else {
+        let Some(Received { owing }) = self.receive(rt) else {
             return false;
         };
-        quiet.write(board, false);
-        self.make(rt, FrameKind::Took, owing.to, owing.slot);
+        if let Some(owing) = owing {
+            quiet.write(board, false);
+            self.make(rt, FrameKind::Took, owing.to, owing.slot);
+        }
         true
     }
 
@@ -289,9 +297,9 @@ impl Engine {
         hand(rt, &mut self.outbox, &mut self.held, parcel)
     }
 
-    // Takes one parcel, and logs its arrival. Answers what is to be acknowledged.
+    // Takes one parcel, where there is one, and logs its arrival.
     #[tactic(auto, using(crate::proofs::Again::desk_same))]
-    fn receive<R: Wait>(&mut self, rt: &R) -> Option<Owing>
+    fn receive<R: Wait>(&mut self, rt: &R) -> Option<Received>
         ensures { IsSameEngine self.old self.new }
     {
         if !self.journal.may_log() {
@@ -300,7 +308,8 @@ impl Engine {
         match self.inbox.take(rt) {
             Some(parcel) => {
                 self.resend.hear(self.journal.node(), &parcel.frame);
-                take_in(&mut self.journal, parcel)
+                let owing = take_in(&mut self.journal, parcel);
+                Some(Received { owing })
             }
             None => None,
         }

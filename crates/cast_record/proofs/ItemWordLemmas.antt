@@ -1,13 +1,13 @@
 -- What a word of an item says of it.
 use Rattle.std.proofs.Common.{◌≡◌, ℕ, ◌-◌, ◌%◌, ◌&&◌, Bool, true, false, cond, nat_lt, List, [], ◌∷◌, length, take, drop, Option, Some, None, option_map, refl, sym, ap, ◌∙◌, arith}
-use Rattle.std.specs.Prelude.{is_some, unwrap_or}
+use Rattle.std.specs.Prelude.{unwrap_or}
 use Rattle.std.specs.List.{list_all}
 use Rattle.std.proofs.lemmas.Grind.{common_steps}
 use Rattle.std.proofs.lemmas.List.{take-append-drop}
 use Rattle.std.proofs.lemmas.List.Folds.{list_all-append}
 use Rattle.cast_message.specs.declared.message.Item.{Item}
 use Rattle.cast_message.specs.declared.message.Item.TheVariants as items
-use Rattle.cast_record.specs.Reading.{data_of, item_of}
+use Rattle.cast_record.specs.Reading.{data_of, item_of, HasData}
 use Rattle.cast_words.specs.Unhex.{unhex, digit_of, byte_of, before}
 use Rattle.cast_record.specs.declared.item_word.ItemKind.{ItemKind}
 use Rattle.cast_record.specs.declared.item_word.ItemKind.TheVariants.{Data}
@@ -58,10 +58,10 @@ no_data digits short e = rw short (by_bytes (unhex digits) e)
     by_bytes None e = refl
     by_bytes (Some bytes) e = absurd (cc)
 
-pub some_data : (digits : List ℕ) → nat_lt 2048 (length digits) ≡ false → is_hex digits ≡ true → is_some (data_of digits) ≡ true
+pub some_data : (digits : List ℕ) → nat_lt 2048 (length digits) ≡ false → is_hex digits ≡ true → HasData (data_of digits)
 some_data digits short e = rw short (by_bytes (unhex digits) e)
   where
-    by_bytes : (o : Option (List ℕ)) → is_known o ≡ true → is_some (option_map items.Data o) ≡ true
+    by_bytes : (o : Option (List ℕ)) → is_known o ≡ true → HasData (option_map items.Data o)
     by_bytes None e = absurd (cc)
     by_bytes (Some bytes) e = refl
 

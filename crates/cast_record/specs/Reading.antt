@@ -2,7 +2,8 @@
 --     item_of word     the item that a word spells, if it spells one
 --     line_of bytes    the line that the bytes spell without a line feed, if they spell one
 --     IsReadOf bytes o     o is the line within its ranges whose text the bytes are, or none where there is none
-use Rattle.std.specs.Prelude.{◌≡◌, ℕ, ◌-◌, ◌==◌, ◌||◌, nat_lt, nat_le, if◌then◌else◌, List, [], ◌∷◌, length, take, drop, codes, Bool, false, Option, Some, None, option_map, option_and_then}
+--     HasData item     there is an item, and it is data; `MessageHasData` and `LineHasData` are of what brings one
+use Rattle.std.specs.Prelude.{◌≡◌, ℕ, ◌-◌, ◌==◌, ◌||◌, nat_lt, nat_le, if◌then◌else◌, IsSomeAnd, List, [], ◌∷◌, length, take, drop, codes, Bool, true, false, Option, Some, None, option_map, option_and_then}
 use Rattle.std.specs.Str.{bytes_eq}
 use Rattle.std.specs.List.{slice_split}
 use Rattle.cast_message.specs.declared.config.Mode.{Mode}
@@ -10,6 +11,7 @@ use Rattle.cast_message.specs.declared.config.Mode.TheVariants.{Basic, Uniform}
 use Rattle.cast_message.specs.declared.message.Item.{Item}
 use Rattle.cast_message.specs.declared.message.Item.TheVariants.{Data, Propose, Close}
 use Rattle.cast_message.specs.declared.message.Message.{Message}
+use Rattle.cast_message.specs.Items.{has_payload}
 use Rattle.cast_record.specs.declared.line.Line.{Line}
 use Rattle.cast_record.specs.declared.line.Line.TheVariants.{Head, Head2, Broadcast, Delivered, Decided, Crashed, Refused, End}
 use Rattle.cast_record.specs.Nodes.{node_of}
@@ -173,3 +175,19 @@ line_of bytes = line_of_words (slice_split (λ b. b == 32) bytes)
 abbrev pub IsReadOf : List ℕ → Option Line → Type 0
 IsReadOf bytes (Some line) = IsWithin line × (line_text line ≡ bytes)
 IsReadOf bytes None = (line : Line) → IsWithin line → line_text line ≡ bytes → ⊥
+
+-- ---- data, for which alone memory is taken
+
+abbrev pub HasData : Option Item → Type 0
+HasData item = IsSomeAnd item (λ item. has_payload item ≡ true)
+
+abbrev pub MessageHasData : Option Message → Type 0
+MessageHasData message = IsSomeAnd message (λ message. has_payload message.item ≡ true)
+
+abbrev pub brings_data : Line → Bool
+brings_data (Broadcast message) = has_payload message.item
+brings_data (Delivered node message) = has_payload message.item
+brings_data _ = false
+
+abbrev pub LineHasData : Option Line → Type 0
+LineHasData line = IsSomeAnd line (λ line. brings_data line ≡ true)

@@ -1,9 +1,9 @@
 //! Reading a line, the inverse of writing it.
-ghost use Rattle.std.specs.Prelude.{◌≡◌, ◌==◌, IfOk, IsSome, OnErr, option_and_then};
+ghost use Rattle.std.specs.Prelude.{◌≡◌, ◌==◌, IfOk, OnErr, option_and_then};
 ghost use Rattle.std.specs.List.{slice_split};
 ghost use Rattle.cast_record.specs.Reading.{IsReadOf, line_of, line_named, item_of, item_named, data_of, proposal_of, message_of};
 ghost use Rattle.cast_record.specs.Reading.{broadcast_by, delivered_by, decided_by, crashed_by, refused_by, refusal_within, head_by, head_within, is_outside, head2_by, head2_within, mode_of, is_mode_outside};
-ghost use Rattle.cast_record.specs.Reading.{one_of, two_of, three_of, four_of, end_named, short_line_named, pair_of};
+ghost use Rattle.cast_record.specs.Reading.{one_of, two_of, three_of, four_of, end_named, short_line_named, pair_of, HasData, MessageHasData, LineHasData};
 
 use crate::item_word::{MOST_DIGITS, is_hex};
 use crate::line::{FIRST_MOST_NODES, Line};
@@ -18,12 +18,12 @@ use std::alloc::{AllocError, Global};
 const BLANK: u8 = b' ';
 
 /// The line within its ranges whose text these bytes are, without its line feed; none where there is none. A node is a
-/// number below 256, whatever group the line stands in, and a head has its own ranges. Memory is wanted only where they are a
-/// line.
+/// number below 256, whatever group the line stands in, and a head has its own ranges. Memory is taken only where they are a
+/// line with data.
 pub fn read_line(alloc: Global, bytes: &[u8]) -> Result<Option<Line>, AllocError>
     ensures exact { IfOk result (IsReadOf bytes.now) }
     ensures value { IfOk result (λ line. line ≡ line_of bytes.now) }
-    ensures err { OnErr result (IsSome (line_of bytes.now)) }
+    ensures err { OnErr result (LineHasData (line_of bytes.now)) }
 {
     let (name, rest) = split_part(bytes, BLANK);
     match rest {
@@ -37,7 +37,7 @@ fn line(alloc: Global, name: &[u8], rest: &[u8]) -> Result<Option<Line>, AllocEr
     ensures value { IfOk result (λ line.
         line ≡ line_named name.now (slice_split (λ b. b == 32) rest.now)) }
     ensures err { OnErr result
-        (IsSome (line_named name.now (slice_split (λ b. b == 32) rest.now))) }
+        (LineHasData (line_named name.now (slice_split (λ b. b == 32) rest.now))) }
 {
     if name == b"d".as_slice() {
         delivered(alloc, rest)
@@ -80,7 +80,8 @@ fn delivered(alloc: Global, rest: &[u8]) -> Result<Option<Line>, AllocError>
     ensures value { IfOk result (λ line.
         line ≡ option_and_then delivered_by (four_of (slice_split (λ b. b == 32) rest.now))) }
     ensures err { OnErr result
-        (IsSome (option_and_then delivered_by (four_of (slice_split (λ b. b == 32) rest.now)))) }
+        (LineHasData (option_and_then delivered_by
+        (four_of (slice_split (λ b. b == 32) rest.now)))) }
 {
     let Some((receiver, sender, place, word)) = four_parts(rest, BLANK) else {
         return Ok(None);
@@ -99,7 +100,8 @@ fn broadcast(alloc: Global, rest: &[u8]) -> Result<Option<Line>, AllocError>
     ensures value { IfOk result (λ line.
         line ≡ option_and_then broadcast_by (three_of (slice_split (λ b. b == 32) rest.now))) }
     ensures err { OnErr result
-        (IsSome (option_and_then broadcast_by (three_of (slice_split (λ b. b == 32) rest.now)))) }
+        (LineHasData (option_and_then broadcast_by
+        (three_of (slice_split (λ b. b == 32) rest.now)))) }
 {
     let Some((sender, place, word)) = three_parts(rest, BLANK) else {
         return Ok(None);
@@ -115,7 +117,7 @@ fn message(
     word: &[u8],
 ) -> Result<Option<Message>, AllocError>
     ensures value { IfOk result (λ message. message ≡ message_of sender.now place.now word.now) }
-    ensures err { OnErr result (IsSome (message_of sender.now place.now word.now)) }
+    ensures err { OnErr result (MessageHasData (message_of sender.now place.now word.now)) }
 {
     let Some((sender, number)) = pair(sender, place) else {
         return Ok(None);
@@ -138,7 +140,7 @@ pub fn pair(sender: &[u8], place: &[u8]) -> Option<(NodeId, u64)>
 
 fn item(alloc: Global, word: &[u8]) -> Result<Option<Item>, AllocError>
     ensures value { IfOk result (λ item. item ≡ item_of word.now) }
-    ensures err { OnErr result (IsSome (item_of word.now)) }
+    ensures err { OnErr result (HasData (item_of word.now)) }
 {
     if word == b"close".as_slice() {
         return Ok(Some(Item::Close));
@@ -151,7 +153,7 @@ fn item(alloc: Global, word: &[u8]) -> Result<Option<Item>, AllocError>
 
 fn item_named(alloc: Global, name: &[u8], rest: &[u8]) -> Result<Option<Item>, AllocError>
     ensures value { IfOk result (λ item. item ≡ item_named name.now rest.now) }
-    ensures err { OnErr result (IsSome (item_named name.now rest.now)) }
+    ensures err { OnErr result (HasData (item_named name.now rest.now)) }
 {
     if name == b"data:".as_slice() {
         data(alloc, rest)
@@ -164,7 +166,7 @@ fn item_named(alloc: Global, name: &[u8], rest: &[u8]) -> Result<Option<Item>, A
 
 fn data(alloc: Global, digits: &[u8]) -> Result<Option<Item>, AllocError>
     ensures value { IfOk result (λ item. item ≡ data_of digits.now) }
-    ensures err { OnErr result (IsSome (data_of digits.now)) }
+    ensures err { OnErr result (HasData (data_of digits.now)) }
 {
     if digits.len() > MOST_DIGITS {
         return Ok(None);

@@ -44,7 +44,7 @@ pub enum Fault {
         first: u64,
         step: u64,
     },
-    /// These frames are handed on twice.
+    /// These frames are handed on twice, those that another fault loses not at all.
     Repeat {
         kind: FrameKind,
         from: NodeId,
@@ -52,7 +52,8 @@ pub enum Fault {
         first: u64,
         step: u64,
     },
-    /// These frames are kept until `count` more frames of either kind were taken for their target.
+    /// These frames are kept until `count` more frames of either kind were taken for their target, if none loses them. Of several
+    /// delays of a frame the longest holds.
     Delay {
         kind: FrameKind,
         from: NodeId,

@@ -1,12 +1,13 @@
 //! Bytes as they are shown to a reader: printing ASCII as it is, all else by its number; and the first of them.
-ghost use Rattle.std.specs.Prelude.{◌≡◌, ◌++◌, IfOk, OnOk, string_bytes, take};
+ghost use Rattle.std.specs.Prelude.{◌≡◌, ◌++◌, ◌<◌, IfOk, OnOk, OnErr, length, string_bytes, take};
 ghost use Rattle.cast_words.specs.Shown.{shown, shown_byte, by_number, is_printing};
 
 use std::alloc::{AllocError, Global};
 
-/// All bytes as they are shown.
+/// All bytes as they are shown. No bytes take no memory.
 pub fn escaped(alloc: Global, bytes: &[u8]) -> Result<String, AllocError>
-    ensures { IfOk result (λ text. string_bytes text ≡ shown bytes.now) }
+    ensures exact { IfOk result (λ text. string_bytes text ≡ shown bytes.now) }
+    ensures err { OnErr result (0 < length bytes.now) }
 {
     let mut text = String::new(alloc);
     for byte in bytes {

@@ -1,5 +1,5 @@
 use Rattle.std.proofs.Common.{◌≡◌, ◌+◌, ◌∷◌, drop, sym, ◌∙◌, arith}
-use Rattle.cast_agree.proofs.Journal.{restored-more, drop_next, drop_end, counted_all-next, counted_all-none, decisions_all-next, decisions_all-none, befores_all-next, befores_all-none}
+use Rattle.cast_agree.proofs.Journal.{restored-more, drop_next, drop_end, counted_all-next, counted_all-none, decisions_all-next, decisions_all-none, befores_all-next, befores_all-none, befores_all-nothing}
 use Rattle.cast_agree.proofs.Agree.count_all.Goals as goal
 
 pub loop-message-preserved : goal.loop-message-preserved
@@ -29,3 +29,9 @@ pub returns-clause-ok : goal.returns-clause-ok
 returns-clause-ok c =
     let end = drop_end c.args.messages.now c.loop-message.message-index (omega (arith, c.loop-message-test.false, c.loop-message.auto.message-index-end)) in
     sym (counted_all-none c.loop-message.self _ end) ∙ c.loop-message.invariant.counted
+
+pub returns-in-Err-clause-proposals : goal.returns-in-Err-clause-proposals
+returns-in-Err-clause-proposals c nothing =
+    let m = c.message-item.result in
+    let next : drop c.loop-message.message-index c.args.messages.now ≡ m ∷ drop (c.loop-message.message-index + 1) c.args.messages.now = drop_next c.args.messages.now c.loop-message.message-index m (omega (arith, c.loop-message-test.true, c.loop-message.auto.message-index-end)) c.message-item.is in
+    c.in-Err.ensures.proposes (befores_all-nothing c.loop-message.self m _ _ c.loop-message.before.items next (c.loop-message.invariant.kept ∙ nothing))

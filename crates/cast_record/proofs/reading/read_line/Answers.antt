@@ -1,9 +1,9 @@
 use Rattle.std.proofs.Common.{◌≡◌, ◌∙◌, ◌∷◌, ap, subst, option_map, nat_eq}
-use Rattle.std.specs.Prelude.{IsSome, OnErr}
+use Rattle.std.specs.Prelude.{OnErr}
 use Rattle.std.specs.List.{slice_split}
 use Rattle.std.proofs.lemmas.Result.{IfOk-weaker}
 use Rattle.cast_record.specs.Parts.{parts_of}
-use Rattle.cast_record.specs.Reading.{IsReadOf, line_of, line_named}
+use Rattle.cast_record.specs.Reading.{IsReadOf, LineHasData, line_of, line_named}
 use Rattle.cast_record.proofs.ReadLemmas.{exact, line_by_parts, line_by_one_part}
 use Rattle.cast_record.proofs.reading.read_line.Goals as goal
 
@@ -25,7 +25,7 @@ pub returns-in-Some-clause-err : goal.returns-in-Some-clause-err
 returns-in-Some-clause-err c =
     let bytes = c.args.bytes.now in
     let cut = c.split_part.ensures ∙ ap (λ rest. c.split_part.result.0.now ∷ parts_of 32 (option_map (λ r. r.now) rest)) c.in-Some.is in
-    subst (λ line. OnErr c.line.result (IsSome line)) (line_by_parts bytes c.split_part.result.0.now c.in-Some.rest.now cut) c.line.ensures.err
+    subst (λ line. OnErr c.line.result (LineHasData line)) (line_by_parts bytes c.split_part.result.0.now c.in-Some.rest.now cut) c.line.ensures.err
 
 pub returns-in-None-clause-exact : goal.returns-in-None-clause-exact
 returns-in-None-clause-exact c =

@@ -28,8 +28,8 @@ invariant_of-self-in-None g c =
     let i = c.self.inside in
     subst (λ l. CarrierKeeps l i.inboxes.items i.delayed.items × CarrierPlans i.faults.items i.ordinals.items l i.inboxes.items i.delayed.items) (sym c.in-None.ensures.taken) c.self.invariant
 
-pub returns-in-None : goal.returns-in-None
-returns-in-None g c =
+pub returns-in-None-clause-same : goal.returns-in-None-clause-same
+returns-in-None-clause-same g c =
     let is = c.self.view_is in
     let same = c.take.ensures.same in
     let all = c.self.inside.inboxes.items in
