@@ -1,5 +1,5 @@
 -- An engine, as contracts see it, and what it keeps.
-use Rattle.std.specs.Prelude.{◌≡◌, ℕ, ◌<◌, List, [], ◌∷◌, ◌++◌, map, slice_get, Option, Some, None, ◌⊎◌}
+use Rattle.std.specs.Prelude.{◌≡◌, ℕ, ◌<◌, List, [], ◌∷◌, ◌++◌, map, slice_get, Option, Some, None, ◌⊎◌, ⊤}
 use Rattle.cast_message.specs.declared.config.Config.{Config}
 use Rattle.cast_box.specs.Ends.{PutterEnd, TakerEnd, IsSamePutter, IsSameTaker, AreSamePutters}
 use Rattle.cast_node.specs.declared.entry.Entry.{Entry}
@@ -8,6 +8,8 @@ use Rattle.cast_desk.specs.declared.desk.OrderIn.{OrderIn}
 use Rattle.cast_desk.specs.declared.notice.Notice.{Notice}
 use Rattle.cast_engine.specs.declared.parcel.Parcel.{Parcel}
 use Rattle.cast_engine.specs.declared.feeding.Place.{Place}
+use Rattle.cast_engine.specs.declared.engine.Turn.{Turn}
+use Rattle.cast_engine.specs.declared.engine.Turn.TheVariants.{Idle}
 use Rattle.cast_engine.specs.Runs.{EngineKeeps, Has, HasTakenEach, parcel, made_of}
 use Rattle.cast_report.specs.Linked.{Trail, IsLogOf, made_in, stamped, EachArrival}
 use Rattle.cast_box.specs.Lists.{StartsWith}
@@ -49,6 +51,15 @@ pub record IsSameEngine (old new : EngineState) : Type 0 where
   pub outbox : IsSamePutter old.outbox new.outbox
   pub inbox : IsSameTaker old.inbox new.inbox
   pub desk : IsSameDesk old.desk new.desk
+
+-- nothing was put or taken
+abbrev pub HasSameBoxes : EngineState → EngineState → Type 0
+HasSameBoxes old new = (new.outbox ≡ old.outbox) × (new.inbox ≡ old.inbox)
+
+-- in an idle turn nothing was put or taken
+abbrev pub IsIdleRightly : Turn → EngineState → EngineState → Type 0
+IsIdleRightly Idle old new = HasSameBoxes old new
+IsIdleRightly _ old new = ⊤
 
 abbrev pub KeepsOf : JournalState → List Parcel → Option Parcel → List (ℕ × Parcel) → List (ℕ × OrderIn) → Type 0
 KeepsOf j put held arrived orders = EngineKeeps j.config j.node.me j.node j.log put held arrived orders

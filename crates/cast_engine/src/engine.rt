@@ -1,8 +1,8 @@
 //! An engine: the owner of a node, its log and its clock, with the ends of its boxes.
-ghost use Rattle.std.specs.Prelude.{◌≡◌, ◌<◌, [], length, IfOk};
+ghost use Rattle.std.specs.Prelude.{◌≡◌, ◌<◌, [], length, IfOk, IfNone, IsFalse};
 ghost use Rattle.cast_box.specs.Ends.{IsSamePutter, IsNextToEnd};
 ghost use Rattle.cast_engine.specs.Group.{with_ended};
-ghost use Rattle.cast_engine.specs.Engines.{EngineState, IsSameEngine, IsSameDesk, TakesOrder, TakesIn, Handed, Leaves, Tells, WereTold, IsUnused, trays_at};
+ghost use Rattle.cast_engine.specs.Engines.{EngineState, IsSameEngine, HasSameBoxes, IsIdleRightly, IsSameDesk, TakesOrder, TakesIn, Handed, Leaves, Tells, WereTold, IsUnused, trays_at};
 ghost use Rattle.cast_engine.specs.Journals.{MayLog, IsQuietEnd};
 
 use crate::board::{Board, Quiet};
@@ -152,7 +152,7 @@ impl Engine {
 
     /// Takes one turn: passes the gate, puts the parcel that waits, takes one and acknowledges it, takes an order, sends a slot
     /// that is due, and puts notices. `Ended` is answered where the log or the clock is full, the node crashes, no turn is left,
-    /// or all engines are quiet.
+    /// or all engines are quiet; `Idle` only where no parcel was put or taken (`idle`).
     #[tactic(auto, using(crate::proofs::Again::desk_same))]
     pub fn turn<G: Gate, R: Wait>(
         &mut self,
@@ -161,7 +161,8 @@ impl Engine {
         board: &Board,
         quiet: &mut Quiet,
     ) -> Turn
-        ensures { IsSameEngine self.old self.new }
+        ensures same { IsSameEngine self.old self.new }
+        ensures idle { IsIdleRightly result self.old self.new }
     {
         if !self.may_go_on() {
             return Turn::Ended;
@@ -188,7 +189,8 @@ impl Engine {
     // the trays full: once no job is left, both stay so, and are looked at no more.
     #[tactic(auto, using(crate::proofs::Again::desk_same))]
     fn work<R: Wait>(&mut self, rt: &R, board: &Board, quiet: &mut Quiet) -> bool
-        ensures { IsSameEngine self.old self.new }
+        ensures same { IsSameEngine self.old self.new }
+        ensures idle { IsFalse result → HasSameBoxes self.old self.new }
     {
         let exchanged = self.exchange(rt, board, quiet);
         let jobs_ended = quiet.jobs_ended(board);
@@ -213,7 +215,8 @@ impl Engine {
     // Puts the parcel that waits, takes one and acknowledges it. Answers whether it put or took one.
     #[tactic(auto, using(crate::proofs::Again::desk_same))]
     fn exchange<R: Wait>(&mut self, rt: &R, board: &Board, quiet: &mut Quiet) -> bool
-        ensures { IsSameEngine self.old self.new }
+        ensures same { IsSameEngine self.old self.new }
+        ensures idle { IsFalse result → HasSameBoxes self.old self.new }
     {
         let put = self.flush(rt);
         let received = self.receive_and_acknowledge(rt, board, quiet);
@@ -223,7 +226,8 @@ impl Engine {
     // Takes a parcel, where none waits to be put, and acknowledges what it carries. Answers whether it took one.
     #[tactic(auto, using(crate::proofs::Again::desk_same))]
     fn receive_and_acknowledge<R: Wait>(&mut self, rt: &R, board: &Board, quiet: &mut Quiet) -> bool
-        ensures { IsSameEngine self.old self.new }
+        ensures same { IsSameEngine self.old self.new }
+        ensures idle { IsFalse result → HasSameBoxes self.old self.new }
     {
         if self.held.is_some() {
             return false;
@@ -289,7 +293,8 @@ impl Engine {
     // Puts the parcel that the outbox refused last, where there is one. Answers whether it was put.
     #[tactic(auto, using(crate::proofs::Again::desk_same))]
     fn flush<R: Wait>(&mut self, rt: &R) -> bool
-        ensures { IsSameEngine self.old self.new }
+        ensures same { IsSameEngine self.old self.new }
+        ensures idle { IsFalse result → HasSameBoxes self.old self.new }
     {
         let Some(parcel) = self.held.take() else {
             return false;
@@ -300,7 +305,8 @@ impl Engine {
     // Takes one parcel, where there is one, and logs its arrival.
     #[tactic(auto, using(crate::proofs::Again::desk_same))]
     fn receive<R: Wait>(&mut self, rt: &R) -> Option<Received>
-        ensures { IsSameEngine self.old self.new }
+        ensures same { IsSameEngine self.old self.new }
+        ensures none { IfNone result (HasSameBoxes self.old self.new) }
     {
         if !self.journal.may_log() {
             return None;
@@ -319,7 +325,8 @@ impl Engine {
     // was made.
     #[tactic(auto, using(crate::proofs::Again::desk_same))]
     fn make<R: Wait>(&mut self, rt: &R, kind: FrameKind, to: NodeId, slot: u64) -> bool
-        ensures { IsSameEngine self.old self.new }
+        ensures same { IsSameEngine self.old self.new }
+        ensures idle { IsFalse result → HasSameBoxes self.old self.new }
     {
         if self.held.is_some() || !self.journal.may_log() {
             return false;
@@ -334,7 +341,8 @@ impl Engine {
     // Sends a slot that is due, to the next peer in cyclic order to which one is. Answers whether it did.
     #[tactic(auto, using(crate::proofs::Again::desk_same))]
     fn resend<R: Wait>(&mut self, rt: &R) -> bool
-        ensures { IsSameEngine self.old self.new }
+        ensures same { IsSameEngine self.old self.new }
+        ensures idle { IsFalse result → HasSameBoxes self.old self.new }
     {
         self.next_turn();
         self.send_due(rt)
@@ -343,7 +351,8 @@ impl Engine {
     // Sends the slot that is due next. Answers whether there was one.
     #[tactic(auto, using(crate::proofs::Again::desk_same))]
     fn send_due<R: Wait>(&mut self, rt: &R) -> bool
-        ensures { IsSameEngine self.old self.new }
+        ensures same { IsSameEngine self.old self.new }
+        ensures idle { IsFalse result → HasSameBoxes self.old self.new }
     {
         if self.held.is_some() {
             return false;
@@ -369,7 +378,8 @@ impl Engine {
     // For each client, puts the next notice of its feed, where the tray has room. Answers whether one was put.
     #[tactic(auto, using(crate::proofs::Again::desk_same))]
     fn notify<R: Wait>(&mut self, rt: &R) -> bool
-        ensures { IsSameEngine self.old self.new }
+        ensures same { IsSameEngine self.old self.new }
+        ensures boxes { HasSameBoxes self.old self.new }
     {
         if self.trays_full {
             return false;
@@ -383,7 +393,8 @@ impl Engine {
     // Whether the engine may go on: its log and its clock are not full, and no crash is due, which is logged here.
     #[tactic(auto, using(crate::proofs::Again::desk_same))]
     fn may_go_on(&mut self) -> bool
-        ensures { IsSameEngine self.old self.new }
+        ensures same { IsSameEngine self.old self.new }
+        ensures boxes { HasSameBoxes self.old self.new }
     {
         self.journal.may_log()
     }
@@ -392,7 +403,8 @@ impl Engine {
     #[tactic(auto, using(crate::proofs::Again::desk_same))]
     fn end(&mut self, end: EngineEnd)
         requires { IsQuietEnd end }
-        ensures { IsSameEngine self.old self.new }
+        ensures same { IsSameEngine self.old self.new }
+        ensures boxes { HasSameBoxes self.old self.new }
     {
         self.journal.end(end);
     }
@@ -400,7 +412,8 @@ impl Engine {
     // Counts the turn. Answers whether there was one left.
     #[tactic(auto, using(crate::proofs::Again::desk_same))]
     fn count_turn(&mut self) -> bool
-        ensures { IsSameEngine self.old self.new }
+        ensures same { IsSameEngine self.old self.new }
+        ensures boxes { HasSameBoxes self.old self.new }
     {
         if self.turns == 0 {
             return false;
@@ -412,7 +425,8 @@ impl Engine {
     // Takes one order and logs it. Answers whether there was one.
     #[tactic(auto, using(crate::proofs::Again::desk_same))]
     fn take_order<R: Wait>(&mut self, rt: &R) -> bool
-        ensures { IsSameEngine self.old self.new }
+        ensures same { IsSameEngine self.old self.new }
+        ensures boxes { HasSameBoxes self.old self.new }
     {
         if self.no_orders || !self.journal.may_log() {
             return false;
@@ -531,6 +545,7 @@ fn hand<R: Wait>(
 ) -> bool
     ensures same { IsSamePutter outbox.old outbox.new }
     ensures handed { Handed outbox.old.put outbox.new.put held.new parcel }
+    ensures kept { IsFalse result → outbox.new ≡ outbox.old }
 {
     match outbox.put(rt, parcel) {
         Ok(()) => {

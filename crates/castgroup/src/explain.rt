@@ -95,7 +95,7 @@ fn words_on_input<R: Runtime + AllocGlobal>(
         TextFault::Script(fault) => script_words(alloc, name.as_str(), bytes.as_slice(), fault),
         TextFault::Live(fault) => group_words(alloc, name.as_str(), bytes.as_slice(), fault),
         TextFault::NotV1 => head_words(alloc, name.as_str(), bytes.as_slice()),
-        _ => Ok(None),
+        TextFault::Read | TextFault::TooLong | TextFault::Write | TextFault::Memory => Ok(None),
     }
 }
 

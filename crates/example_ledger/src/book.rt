@@ -1,5 +1,5 @@
 //! The book of a node: what it has applied, in order, and the sheet of that.
-ghost use Rattle.std.specs.Prelude.{◌≡◌, ◌<◌, ◌++◌, ◌∷◌, [], ◌+◌, ◌-◌, length, OnOk};
+ghost use Rattle.std.specs.Prelude.{◌≡◌, ◌<◌, ◌≤◌, ◌++◌, ◌∷◌, [], ◌+◌, ◌-◌, length, OnOk, OnErr};
 ghost use Rattle.example_ledger.specs.Transfers.{account_count};
 ghost use Rattle.example_ledger.specs.Sheets.{added};
 
@@ -91,10 +91,11 @@ impl Book {
         }
     }
 
-    /// Makes room for one more message, or answers want of memory.
+    /// Makes room for one more message, or answers want of memory, where there is none.
     pub fn reserve(&mut self) -> Result<(), AllocError>
         ensures journal { self.new.journal ≡ self.old.journal }
         ensures room { OnOk result (length self.new.journal < self.new.room) }
+        ensures full { OnErr result (self.old.room ≤ length self.old.journal) }
     {
         self.journal.reserve(1)
     }

@@ -1,11 +1,12 @@
 //! The ledger of a group that runs in threads: each node has a teller, and the tellers' books come out.
 ghost use Rattle.std.specs.Prelude.{◌≡◌, ℕ, IfOk, None, Some, map, slice_get};
-ghost use Rattle.cast_model.specs.Replies.{history};
+ghost use Rattle.cast_model.specs.Replies.{history, replies};
 ghost use Rattle.cast_world.specs.Group.{Stands};
 ghost use Rattle.cast_merge.specs.Merge.{TellsMerge};
 ghost use Rattle.cast_engine.specs.Journals.{EndsAs};
 ghost use Rattle.cast_engine.specs.Plans.{crash_from};
 ghost use Rattle.cast_report.specs.declared.report.NodeReport.{NodeReport};
+ghost use Rattle.cast_run.specs.Planned.{faults_of, KeepsTo};
 ghost use Rattle.cast_run.specs.Serves.{AreServed};
 ghost use Rattle.example_ledger.specs.Tellers.{AreNewTellers, TellerFact, OrdersAreGiven, TellersApplyPrefixes, TellersKeepSheets};
 
@@ -60,16 +61,21 @@ pub fn run_tellers<R: Threads + Wait + Copy + Send + 'static>(
     ensures served { IfOk result (λ ledger. AreServed config TellerFact tellers.items
         ledger.report.reports ledger.tellers.items ledger.clients.items) }
 
-    // Each log ends as the plan and the limit say.
+    // What arrives keeps to the plan, and each log ends as the plan and the limit say.
+    ensures config { IfOk result (λ ledger. ledger.report.config ≡ config) }
+    ensures planned { IfOk result (λ ledger.
+        KeepsTo config (faults_of plan.now.faults) ledger.report.reports) }
     ensures logs { IfOk result (λ ledger. (p : ℕ) (report : NodeReport)
         → slice_get ledger.report.reports p ≡ Some report
         → EndsAs config.log_limit (crash_from p None plan.now.faults)
         (Some report.ended) report.log) }
 
-    // The events are what the nodes logged, and the world shows what became of the group.
+    // The events are what the nodes logged, with their replies, and the world shows what became of the group.
     ensures merge { IfOk result (λ ledger. TellsMerge
         (map (λ report. report.log) ledger.report.reports)
         ledger.assembly.events ledger.assembly.replies) }
+    ensures replies { IfOk result (λ ledger.
+        ledger.assembly.replies ≡ replies config ledger.assembly.events) }
     ensures world { IfOk result (λ ledger.
         Stands config (history config ledger.assembly.events) ledger.assembly.world) }
 {

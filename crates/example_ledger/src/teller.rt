@@ -112,8 +112,8 @@ impl Teller {
         }
     }
 
-    /// Whether all was ordered and so many messages were applied. An order that its node refused is not made again: then the
-    /// teller is not done when the run ends.
+    /// Whether all was ordered and so many messages were applied. An order that its node refused is not made again, and its
+    /// message, which is never delivered, is not among them.
     pub fn is_done(&self) -> bool
         ensures { IsTrue result ↔ (length self.now.items ≤ self.now.next)
             × (self.now.expected ≤ length self.now.book.journal) }

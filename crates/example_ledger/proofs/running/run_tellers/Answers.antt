@@ -1,5 +1,5 @@
-use Rattle.std.proofs.Common.{subst}
-use Rattle.cast_model.specs.Replies.{history}
+use Rattle.std.proofs.Common.{◌≡◌, subst}
+use Rattle.cast_model.specs.Replies.{history, replies}
 use Rattle.cast_world.specs.Group.{Stands}
 use Rattle.example_ledger.proofs.Given.{orders_are_given}
 use Rattle.example_ledger.proofs.Telling.{tellers_apply_prefixes, tellers_keep_sheets}
@@ -9,6 +9,11 @@ pub returns-clause-world : goal.returns-clause-world
 returns-clause-world g c =
     let assembly = c.in_ok-assembly.assembly in
     subst (λ config. Stands config (history config assembly.events) assembly.world) c.in_ok-live.ensures.config c.in_ok-assembly.ensures.stands
+
+pub returns-clause-replies : goal.returns-clause-replies
+returns-clause-replies g c =
+    let assembly = c.in_ok-assembly.assembly in
+    subst (λ config. assembly.replies ≡ replies config assembly.events) c.in_ok-live.ensures.config c.in_ok-assembly.ensures.replies
 
 pub returns-clause-prefix : goal.returns-clause-prefix
 returns-clause-prefix g c =

@@ -27,8 +27,8 @@ invariant_of-self g c =
     (ap (λ (t : TakerEnd OrderIn). t.taken) c.notify_all.ensures.orders ∙ sym (ap (λ (o : Option Desk). taken_at o) c.in-Some.is))
     (subst (λ (l : List Entry). AreFed l now.trays.items c.notify_all.new.places.items) c.log.ensures c.notify_all.ensures.fed)
 
-pub returns-in-Some : goal.returns-in-Some
-returns-in-Some g c =
+pub returns-in-Some-clause-same : goal.returns-in-Some-clause-same
+returns-in-Some-clause-same g c =
     let i = c.self.inside in
     let d = c.in-Some.desk in
     let now = c.notify_all.new.desk in

@@ -17,8 +17,8 @@ invariant_of-self-in-Some g c =
     stays_taken j c.take_in-owing.new.journal i.outbox.put i.held i.inbox.taken _ i.places.items (stays_same i.journal j i.outbox.put i.held i.inbox.taken _ i.places.items c.self.invariant (c.if-not-may_log.ensures.may refl).0)
     _ c.in-Some.ensures.taken.0 c.in-Some.parcel c.in-Some.ensures.taken.2 c.take_in-owing.ensures
 
-pub returns-in-Some : goal.returns-in-Some
-returns-in-Some g c =
+pub returns-in-Some-clause-same : goal.returns-in-Some-clause-same
+returns-in-Some-clause-same g c =
     let i = c.self.inside in
     let j = c.may_log.new.self in
     let k = c.take_in-owing.new.journal in
