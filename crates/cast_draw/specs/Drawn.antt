@@ -1,9 +1,10 @@
 -- What an event adds to a picture, by the reply to it: each accepted order a dot, each arrival an arrow from where its frame was
--- made to where it arrives, each crash a cross, each refusal a pale mark; and below, what was delivered and decided. Of an event
--- that is not shown nothing is drawn, and no column is taken.
+-- made to where it arrives, each crash a cross, each refusal a pale mark; and below, what was delivered and decided. An event
+-- that is not shown takes no column and adds no mark; but a crash ends its node's line, also where it is not shown.
 --     drawn_after sheet index event reply     the picture after an event that has this place in the script
 --     settle_begun, settle_ended              the picture as a settle begins, and is over
-use Rattle.std.specs.Prelude.{ℕ, ◌+◌, ◌-◌, Bool, nat_lt, max, if◌then◌else◌, List, [], ◌∷◌, ◌++◌, length, slice_get, slice_index_or, slice_set, Option, Some, None, Result, Ok, Err}
+--     wants_memory sheet index event reply    whether memory may be wanted for what the event adds
+use Rattle.std.specs.Prelude.{ℕ, ◌+◌, ◌-◌, Bool, true, false, ◌||◌, is_some, nat_lt, max, if◌then◌else◌, List, [], ◌∷◌, ◌++◌, length, slice_get, slice_index_or, slice_set, Option, Some, None, Result, Ok, Err}
 use Rattle.cast_message.specs.StepCode.{step_code}
 use Rattle.cast_message.specs.declared.event.Event.{Event}
 use Rattle.cast_message.specs.declared.event.Event.TheVariants.{Order, Send, Ack, Arrive, Crash}
@@ -131,6 +132,29 @@ answered sheet index event answer = sheet
 abbrev pub drawn_after : Sheet → ℕ → Event → Result Answer StepFault → Sheet
 drawn_after sheet index event (Ok answer) = answered sheet index event answer
 drawn_after sheet index event (Err fault) = refused sheet index fault
+
+-- a message is held where it arrives
+abbrev pub is_message : Cargo → Bool
+is_message (Message pair) = true
+is_message cargos.Ack = false
+
+-- an arrival that is shown is drawn, and a message is held; where there is no such frame nothing is
+abbrev pub arrival_wants : Bool → Option MadeFrame → Bool
+arrival_wants is_shown None = false
+arrival_wants is_shown (Some frame) = is_shown || is_message frame.cargo
+
+-- what a node orders is held, and each frame that is made is kept; the rest is drawn
+abbrev pub answer_wants : Sheet → ℕ → Event → Answer → Bool
+answer_wants sheet index (Order node item) (Ordered number outcome) = true
+answer_wants sheet index (Send from to slot) (Sent seq) = is_some (slot_of (gifts_at sheet.gifts from) to slot)
+answer_wants sheet index (Ack from to slot) (Sent seq) = true
+answer_wants sheet index (Arrive from seq) (Arrived node outcome) = arrival_wants (shows sheet.window index) (slice_get (made_at sheet.made from) seq)
+answer_wants sheet index (Crash node) Down = shows sheet.window index
+answer_wants sheet index event answer = false
+
+abbrev pub wants_memory : Sheet → ℕ → Event → Result Answer StepFault → Bool
+wants_memory sheet index event (Ok answer) = answer_wants sheet index event answer
+wants_memory sheet index event (Err fault) = shows sheet.window index
 
 abbrev pub settle_begun : Sheet → Sheet
 settle_begun sheet = record sheet { settle = sheet.next }

@@ -13,7 +13,8 @@ use cast_message::{Answer, Config, Event, Item, NodeId, Outcome, Reply, StepFaul
 use std::alloc::{AllocError, Global};
 
 /// The picture of a run. It takes the events one after another, with the replies to them; those of its window are drawn. What
-/// it keeps of the others are the frames that they made, and what the nodes give one another.
+/// it keeps of the others are the frames that they made, which of them arrived, what the nodes give one another, and where a
+/// node's line ends.
 #[derive(Debug, Drop)]
 pub struct Picture {
     pub(crate) alloc: Global,
@@ -39,10 +40,10 @@ pub struct Picture {
 }
 
 impl Picture {
-    ghost use Rattle.std.specs.Prelude.{IfOk, OnOk, slice_get};
+    ghost use Rattle.std.specs.Prelude.{IfOk, OnOk, OnErr, is_some, slice_get, true};
     ghost use Rattle.cast_draw.specs.Gifts.{slot_of};
-    ghost use Rattle.cast_draw.specs.Sheet.{blank, bottom_of, sheet_of};
-    ghost use Rattle.cast_draw.specs.Drawn.{answered, arrived, crashed, drawn_after, gifts_at, made_at, ordered, refused, sent, sent_slot, settle_begun, settle_ended, with_outcome};
+    ghost use Rattle.cast_draw.specs.Sheet.{blank, bottom_of, sheet_of, shows};
+    ghost use Rattle.cast_draw.specs.Drawn.{answer_wants, answered, arrival_wants, arrived, crashed, drawn_after, gifts_at, made_at, ordered, refused, sent, sent_slot, settle_begun, settle_ended, wants_memory, with_outcome};
 
     /// The picture of a group in which nothing has happened.
     pub fn new(alloc: Global, config: &Config, window: Window) -> Result<Picture, AllocError>
@@ -65,11 +66,13 @@ impl Picture {
     }
 
     /// Takes an event, which has this place in its script, and the reply to it. A reply that is not one to the event leaves
-    /// nothing. A picture of more than 2^40 points in width finds no memory. After a refusal it may have a part of the event's
-    /// marks, and is not to be finished.
+    /// nothing. Memory is wanted for what is kept of an event, and, where it is shown, for what is drawn. A picture of more than
+    /// 2^40 points in width finds no memory. After a refusal it may have a part of the event's marks, and is not to be finished.
     pub fn take(&mut self, index: u64, event: &Event, reply: &Reply) -> Result<(), AllocError>
-        ensures { OnOk result (sheet_of self.new
+        ensures ok { OnOk result (sheet_of self.new
             ≡ drawn_after (sheet_of self.old) index event.now reply.now) }
+        ensures err { OnErr result
+            (wants_memory (sheet_of self.old) index event.now reply.now ≡ true) }
     {
         match reply {
             Ok(answer) => self.take_answer(index, event, answer)?,
@@ -85,11 +88,13 @@ impl Picture {
         self.settle = self.next;
     }
 
-    /// The settle that began last, which has this place in its script, is over. It is refused as `take` is, and then the picture
-    /// is not to be finished.
+    /// The settle that began last, which has this place in its script, is over. Where it is shown it may be refused as `take` is,
+    /// and then the picture is not to be finished.
     pub fn end_settle(&mut self, index: u64) -> Result<(), AllocError>
-        ensures { OnOk result (sheet_of self.new ≡ settle_ended (sheet_of self.old) index) }
+        ensures ok { OnOk result (sheet_of self.new ≡ settle_ended (sheet_of self.old) index) }
+        ensures err { OnErr result (shows self.old.window index ≡ true) }
     {
+        // (a settle that is not shown has no ground)
         if !self.window.shows(index) {
             return Ok(());
         }
@@ -103,8 +108,10 @@ impl Picture {
     }
 
     fn take_answer(&mut self, index: u64, event: &Event, answer: &Answer) -> Result<(), AllocError>
-        ensures { OnOk result (sheet_of self.new
+        ensures ok { OnOk result (sheet_of self.new
             ≡ answered (sheet_of self.old) index event.now answer.now) }
+        ensures err { OnErr result
+            (answer_wants (sheet_of self.old) index event.now answer.now ≡ true) }
     {
         match (event, answer) {
             (Event::Order { node, item }, Answer::Ordered { number, outcome }) => {
@@ -160,8 +167,11 @@ impl Picture {
         to: NodeId,
         slot: u64,
     ) -> Result<(), AllocError>
-        ensures { OnOk result (sheet_of self.new ≡ sent_slot (sheet_of self.old) index from to slot
+        ensures ok { OnOk result (sheet_of self.new
+            ≡ sent_slot (sheet_of self.old) index from to slot
             (slot_of (gifts_at self.old.links.items from) to slot)) }
+        ensures err { OnErr result
+            (is_some (slot_of (gifts_at self.old.links.items from) to slot) ≡ true) }
     {
         match given(self.links.as_slice(), from, to, slot) {
             Some(pair) => self.take_frame(index, from, to, slot, Cargo::Message(pair)),
@@ -207,9 +217,11 @@ impl Picture {
         node: NodeId,
         outcome: &Outcome,
     ) -> Result<(), AllocError>
-        ensures { OnOk result (sheet_of self.new
+        ensures ok { OnOk result (sheet_of self.new
             ≡ arrived (sheet_of self.old) index from seq node outcome.now
             (slice_get (made_at self.old.made.items from) seq)) }
+        ensures err { OnErr result (arrival_wants (shows self.old.window index)
+            (slice_get (made_at self.old.made.items from) seq) ≡ true) }
     {
         let is_shown = self.window.shows(index);
         let Some(frame) = arrive(&mut self.made, from, seq, is_shown) else {
@@ -226,7 +238,8 @@ impl Picture {
     }
 
     fn take_crash(&mut self, index: u64, node: NodeId) -> Result<(), AllocError>
-        ensures { OnOk result (sheet_of self.new ≡ crashed (sheet_of self.old) index node) }
+        ensures ok { OnOk result (sheet_of self.new ≡ crashed (sheet_of self.old) index node) }
+        ensures err { OnErr result (shows self.old.window index ≡ true) }
     {
         let x = self.next;
         end_line(&mut self.crashes, node, x);
@@ -238,7 +251,8 @@ impl Picture {
     }
 
     fn take_refusal(&mut self, index: u64, fault: StepFault) -> Result<(), AllocError>
-        ensures { OnOk result (sheet_of self.new ≡ refused (sheet_of self.old) index fault) }
+        ensures ok { OnOk result (sheet_of self.new ≡ refused (sheet_of self.old) index fault) }
+        ensures err { OnErr result (shows self.old.window index ≡ true) }
     {
         if !self.window.shows(index) {
             return Ok(());

@@ -1,9 +1,9 @@
 //! What a picture keeps by the node: what it holds and gives, the frames that it made, where its line ends.
-ghost use Rattle.std.specs.Prelude.{◌≡◌, ◌++◌, ◌∷◌, [], ◌≤◌, Some, None, IfOk, OnOk, length, map, replicate, slice_get, slice_index_or, slice_set};
+ghost use Rattle.std.specs.Prelude.{◌≡◌, ◌++◌, ◌∷◌, [], ◌≤◌, Some, None, IfOk, OnOk, OnErr, true, length, map, replicate, slice_get, slice_index_or, slice_set};
 ghost use Rattle.std.specs.List.{range_with_len};
 ghost use Rattle.cast_draw.specs.Gifts.{nothing_given, slot_of};
 ghost use Rattle.cast_draw.specs.MadeFrames.{with_arrival};
-ghost use Rattle.cast_draw.specs.Drawn.{gifts_at, held_of_cargo, made_at};
+ghost use Rattle.cast_draw.specs.Drawn.{gifts_at, held_of_cargo, is_message, made_at};
 
 use crate::frames::{Cargo, MadeFrame, MadeFrames};
 use crate::links::{Links, Pair};
@@ -34,14 +34,15 @@ pub fn new_made(alloc: Global, nodes: u64) -> Result<Vec<MadeFrames>, AllocError
     Ok(made)
 }
 
-/// A node holds what came from this one. What is no node holds nothing.
+/// A node holds what came from this one. What is no node holds nothing. Memory is wanted for a message alone.
 pub fn hold(
     links: &mut Vec<Links>,
     node: NodeId,
     cargo: Cargo,
     source: NodeId,
 ) -> Result<(), AllocError>
-    ensures { OnOk result (links.new.items ≡ held_of_cargo links.old.items node cargo source) }
+    ensures ok { OnOk result (links.new.items ≡ held_of_cargo links.old.items node cargo source) }
+    ensures err { OnErr result (is_message cargo ≡ true) }
 {
     let Cargo::Message(pair) = cargo else {
         return Ok(());

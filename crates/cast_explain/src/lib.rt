@@ -16,5 +16,6 @@ pub use record::{RULES, head_words, verdict_words};
 pub use script::script_words;
 use std::alloc::AllocError;
 
-/// Why an input is refused, in words, or nothing where it is not; or want of memory.
+/// Why an input is refused, in words; nothing where it is not, or not with the fault or the verdict that the call is to tell of;
+/// or want of memory.
 pub type Explanation = Result<Option<String>, AllocError>;

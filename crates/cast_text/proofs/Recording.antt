@@ -1,5 +1,5 @@
 -- What of the record is written, line by line.
-use Rattle.std.proofs.Common.{◌≡◌, ℕ, List, [], ◌∷◌, ◌++◌, Bool, Option, Result, Ok, false, refl, sym, ap, ◌∙◌, subst, append-nil}
+use Rattle.std.proofs.Common.{◌≡◌, ℕ, List, [], ◌∷◌, ◌++◌, Bool, Option, Result, Ok, Err, IfErr, false, refl, sym, ap, ◌∙◌, subst, append-nil}
 use Rattle.std.proofs.KnownBytes.{Appends-nil}
 use Rattle.cast_message.specs.declared.event.Event.{Event}
 use Rattle.cast_message.specs.declared.event.Event.TheVariants.{Order, Send, Ack, Arrive, Crash}
@@ -16,11 +16,26 @@ use Rattle.cast_text.specs.declared.fault.TextFault.{TextFault}
 use Rattle.cast_text.specs.declared.fault.TextFault.TheVariants as faults
 use Rattle.cast_text.specs.Played.{Played, Taken}
 use Rattle.cast_text.specs.Recorded.{lines_at, lines_of}
-use Rattle.cast_text.specs.Text.{BreaksOff, Writes}
+use Rattle.cast_text.specs.Text.{BreaksOff, Writes, WroteFront}
 
 -- the writer failed
 pub prefix_breaks : {old new : Option (List ℕ)} {failed : Bool} {text : List ℕ} → WrotePrefix old new failed text → BreaksOff faults.Write old new failed text
 prefix_breaks wrote = (wrote.broken, record { front = wrote.front; rest = wrote.rest; parts = wrote.parts; appends = wrote.appends })
+
+-- whichever it broke off for, a front was written
+pub front_of : (why : TextFault) (old new : Option (List ℕ)) (failed : Bool) (text : List ℕ) → BreaksOff why old new failed text → WroteFront old new text
+front_of faults.Write old new failed text breaks = breaks.1
+front_of faults.Memory old new failed text breaks = breaks.1
+front_of faults.Read old new failed text breaks = absurd breaks
+front_of faults.TooLong old new failed text breaks = absurd breaks
+front_of (faults.Script why) old new failed text breaks = absurd breaks
+front_of faults.NotV1 old new failed text breaks = absurd breaks
+front_of (faults.Live why) old new failed text breaks = absurd breaks
+
+-- a failed writer is no want of memory
+pub not_memory : (P : Type 0) (result : Result (Unit {0}) TextFault) → IfErr result (λ fault. fault ≡ faults.Write) → IfErr result (λ fault. fault ≡ faults.Memory → P)
+not_memory P (Ok done) is = tt
+not_memory P (Err why) is = λ memory. absurd (cc)
 
 -- an event at which nothing is ordered, delivered or decided leaves no line
 no_lines : (index : ℕ) (event : Event) (answer : Answer) → IsSilent (Ok answer) → lines_for index event (Ok answer) ≡ []

@@ -1,5 +1,5 @@
 -- From the bytes of a script to those of its record.
-use Rattle.std.proofs.Common.{◌≡◌, ◌≤◌, ℕ, List, length, Bool, Option, Some, None, Result, Ok, Err, IfSome, subst, inr}
+use Rattle.std.proofs.Common.{◌≡◌, ◌≤◌, ℕ, List, length, Bool, Option, Some, None, Result, Ok, Err, IfErr, IfSome, subst, inr}
 use Rattle.cast_record.specs.declared.verdict.Verdict.TheVariants.{Good}
 use Rattle.cast_record.specs.Text.{record_text}
 use Rattle.cast_record.specs.Verdicts.{verdict}
@@ -8,7 +8,7 @@ use Rattle.cast_script.specs.Script.{Reads}
 use Rattle.cast_text.specs.declared.fault.TextFault.{TextFault}
 use Rattle.cast_text.specs.declared.fault.TextFault.TheVariants as faults
 use Rattle.cast_text.specs.Recorded.{record_of}
-use Rattle.cast_text.specs.Text.{IsScriptIn, input_limit, Records, Writes}
+use Rattle.cast_text.specs.Text.{IsScriptIn, input_limit, Records, StopsBeforeEnd, Writes}
 
 -- the script that was read is the one in the input
 pub script_in : (input : Option (List ℕ)) (bytes : List ℕ) (script : Script) → IfSome input (λ whole. bytes ≡ whole) → length bytes ≤ input_limit → Reads (Ok script) bytes → IsScriptIn input script
@@ -16,12 +16,12 @@ script_in None bytes script same short read = tt
 script_in (Some whole) bytes script same short read = subst (λ b. (length b ≤ input_limit) × Reads (Ok script) b) same (short, read)
 
 pub text_recorded : (input old new : Option (List ℕ)) (read_failed failed : Bool) (script : Script) (result : Result (Unit {0}) TextFault) → IsScriptIn input script → verdict (record_text (record_of script)) ≡ Good → Writes old new failed result (record_text (record_of script))
-    → Records input read_failed old new failed result
-text_recorded input old new read_failed failed script (Ok done) read good wrote = record { script = script; read = read; good = good; appends = wrote.appends }
-text_recorded input old new read_failed failed script (Err faults.Write) read good breaks = record { script = script; read = read; breaks = breaks }
-text_recorded input old new read_failed failed script (Err faults.Memory) read good breaks = inr (record { script = script; read = read; breaks = breaks })
-text_recorded input old new read_failed failed script (Err faults.Read) read good breaks = absurd breaks
-text_recorded input old new read_failed failed script (Err faults.TooLong) read good breaks = absurd breaks
-text_recorded input old new read_failed failed script (Err (faults.Script why)) read good breaks = absurd breaks
-text_recorded input old new read_failed failed script (Err faults.NotV1) read good breaks = absurd breaks
-text_recorded input old new read_failed failed script (Err (faults.Live why)) read good breaks = absurd breaks
+    → IfErr result (λ fault. StopsBeforeEnd fault old new script) → Records input read_failed old new failed result
+text_recorded input old new read_failed failed script (Ok done) read good wrote before_end = record { script = script; read = read; good = good; appends = wrote.appends }
+text_recorded input old new read_failed failed script (Err faults.Write) read good breaks before_end = record { script = script; read = read; breaks = breaks; before_end = before_end }
+text_recorded input old new read_failed failed script (Err faults.Memory) read good breaks before_end = inr (record { script = script; read = read; breaks = breaks; before_end = before_end })
+text_recorded input old new read_failed failed script (Err faults.Read) read good breaks before_end = absurd breaks
+text_recorded input old new read_failed failed script (Err faults.TooLong) read good breaks before_end = absurd breaks
+text_recorded input old new read_failed failed script (Err (faults.Script why)) read good breaks before_end = absurd breaks
+text_recorded input old new read_failed failed script (Err faults.NotV1) read good breaks before_end = absurd breaks
+text_recorded input old new read_failed failed script (Err (faults.Live why)) read good breaks before_end = absurd breaks

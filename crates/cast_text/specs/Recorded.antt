@@ -15,5 +15,9 @@ unfoldable pub lines_of : List Played → List Line
 lines_of [] = []
 lines_of (one ∷ rest) = lines_at one ++ lines_of rest
 
+-- all lines but the last
+abbrev pub unended_of : Script → List Line
+unended_of script = head_of script.config ∷ lines_of (played script)
+
 abbrev pub record_of : Script → List Line
 record_of script = head_of script.config ∷ (lines_of (played script) ++ End ∷ [])

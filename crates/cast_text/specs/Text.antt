@@ -13,7 +13,7 @@ use Rattle.cast_words.specs.Written.{WroteAll}
 use Rattle.cast_words.specs.declared.meter.Meter.{Meter}
 use Rattle.cast_text.specs.declared.fault.TextFault.{TextFault}
 use Rattle.cast_text.specs.declared.fault.TextFault.TheVariants as faults
-use Rattle.cast_text.specs.Recorded.{record_of}
+use Rattle.cast_text.specs.Recorded.{record_of, unended_of}
 
 -- the most bytes of an input
 abbrev pub input_limit : ℕ
@@ -57,22 +57,28 @@ pub record WritesRecord (input old new : Option (List ℕ)) : Type 0 where
   pub good : verdict (record_text (record_of script)) ≡ Good
   pub appends : Appends old new (record_text (record_of script))
 
+-- where memory was wanted, the last line of the record was not begun
+abbrev pub StopsBeforeEnd : TextFault → Option (List ℕ) → Option (List ℕ) → Script → Type 0
+StopsBeforeEnd broken old new script = broken ≡ faults.Memory → WroteFront old new (record_text (unended_of script))
+
 -- the record of the script that was read broke off
 pub record RecordBreaksOff (broken : TextFault) (input old new : Option (List ℕ)) (failed : Bool) : Type 0 where
   pub script : Script
   pub read : IsScriptIn input script
   pub breaks : BreaksOff broken old new failed (record_text (record_of script))
+  pub before_end : StopsBeforeEnd broken old new script
 
--- the faults of reading an input, each with its cause
+-- the faults of reading an input, each with its cause; where it is empty memory is never wanted
 abbrev pub IsOfInput : Option (List ℕ) → Bool → TextFault → Type 0
 IsOfInput input read_failed faults.Read = read_failed ≡ true
 IsOfInput input read_failed faults.TooLong = IfSome input (λ bytes. input_limit < length bytes)
-IsOfInput input read_failed faults.Memory = Unit {0}
+IsOfInput input read_failed faults.Memory = IfSome input (λ bytes. 0 < length bytes)
 IsOfInput input read_failed fault = ⊥
 
--- the same of reading a script
+-- the same of reading a script, but that memory may be wanted of any bytes
 abbrev pub IsOfScript : Option (List ℕ) → Bool → TextFault → Type 0
 IsOfScript input read_failed (faults.Script fault) = IfSome input (λ bytes. (length bytes ≤ input_limit) × Reads (Err fault) bytes)
+IsOfScript input read_failed faults.Memory = Unit {0}
 IsOfScript input read_failed fault = IsOfInput input read_failed fault
 
 -- The record was written, or a fault has its cause, and nothing was written but where the record broke off.

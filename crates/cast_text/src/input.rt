@@ -13,7 +13,8 @@ pub const INPUT_LIMIT: usize = 67_108_864;
 /// How many bytes of an input are asked for at once.
 pub const PIECE: usize = 65_536;
 
-/// All that the reader has left. No byte is asked for past the one that tells that there are too many.
+/// All that the reader has left. No byte is asked for past the one that tells that there are too many, and memory is wanted
+/// only once a byte was read.
 pub fn read_input<R: Read>(alloc: Global, reader: &mut Meter<R>) -> Result<Vec<u8>, TextFault>
     requires { reader.old.failed ≡ false }
     ensures whole { IfOk result

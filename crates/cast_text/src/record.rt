@@ -3,7 +3,7 @@ ghost use Rattle.std.specs.Prelude.{◌≡◌, ◌++◌, ◌∷◌, [], false, I
 ghost use Rattle.cast_record.specs.Lines.{head_of};
 ghost use Rattle.cast_record.specs.Text.{record_text, line_text};
 ghost use Rattle.cast_text.specs.Recorded.{lines_of, record_of};
-ghost use Rattle.cast_text.specs.Text.{Puts};
+ghost use Rattle.cast_text.specs.Text.{Puts, StopsBeforeEnd};
 
 use crate::fault::TextFault;
 use crate::play::{Observer, play};
@@ -22,7 +22,11 @@ pub fn write_script_record<W: Write>(
     writer: &mut Meter<W>,
 ) -> Result<(), TextFault>
     requires { writer.old.failed ≡ false }
-    ensures { Puts W.contents writer.old writer.new result (record_text (record_of script.now)) }
+    ensures text { Puts W.contents writer.old writer.new result
+        (record_text (record_of script.now)) }
+    // Memory is wanted before the end is written, of which then nothing is.
+    ensures memory { IfErr result (λ fault. StopsBeforeEnd fault
+        (W.contents writer.old.inner) (W.contents writer.new.inner) script.now) }
 {
     let mut world = World::new(alloc, script.config)?;
     put_head(&script.config, writer)?;

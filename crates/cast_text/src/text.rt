@@ -12,7 +12,7 @@ use std::alloc::Global;
 use std::io::{Read, Write};
 
 /// Reads a script to its end, and writes the record of its events. After a fault of reading nothing was written, after
-/// `Write` or `Memory` a prefix of the record, or nothing.
+/// `Write` a prefix of the record, or nothing, and after `Memory` the same without the last line.
 pub fn run_text<R: Read, W: Write>(
     alloc: Global,
     reader: &mut Meter<R>,

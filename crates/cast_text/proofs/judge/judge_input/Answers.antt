@@ -11,6 +11,7 @@ loop-count-preserved g c =
     record {
       room = grind (arith, common_steps);
       short = omega arith;
+      sound = c.in_ok-feed.ensures.ok;
       judging = judging_more _ _ _ c.loop-count.reader.failed c.read.new.self.failed c.loop-count.length c.in-Ok.count piece c.loop-count.judging c.feed.new.self j c.in-Ok.ensures.bytes.0 c.in-Ok.ensures.ok size c.in_ok-feed.ensures.fed (c.in_ok-feed.ensures.stands j.text j.stands);
     }
 

@@ -13,4 +13,4 @@ returns c =
     ∙ (λ i. record (sheet_of c.show_outcome.new.self) { next = c.max-end.ensures i })
     ∙ (λ i. with_room (c.args.self.now.next + 56) (shown i))
     ∙ ordered_shown (sheet_of c.args.self.now) c.args.index c.args.node c.args.item.now c.args.number c.args.outcome.now _ c.put_broadcast.new.ink c.on_line-spot.result.x c.on_line-spot.result.y
-    (sym c.shows.ensures ∙ c.if-not-shows.false) c.in_ok-hold.ensures c.on_line-spot.ensures.0 c.on_line-spot.ensures.1 c.in_ok-put_broadcast.ensures)
+    (sym c.shows.ensures ∙ c.if-not-shows.false) c.in_ok-hold.ensures.ok c.on_line-spot.ensures.0 c.on_line-spot.ensures.1 c.in_ok-put_broadcast.ensures)
