@@ -1,5 +1,5 @@
 """What the scripts of this folder share: how they are called, how they find worked rows, how they run a program, how they refuse
-it memory and threads, and how they read the summary of a group in threads."""
+it memory and threads, how they read the summary of a group in threads, and how they tell their counts."""
 import json
 import os
 import re
@@ -138,3 +138,9 @@ def read_summary(out, nodes):
     if any(len(line) != nodes for line in counts):
         return None
     return [found[2] for found in read], counts, rest, verdict
+
+
+def told(passed, failed):
+    """Prints the last line of a script, its counts, and answers its status."""
+    print(f"{passed} passed, {failed} failed")
+    return 1 if failed else 0

@@ -8,9 +8,11 @@ use std::thread;
 use std::time::Instant;
 
 fn main() {
-    let mut arguments = std::env::args().skip(1).map(|text| text.parse::<u64>().ok());
-    let numbers = arguments.next().flatten().unwrap_or(1_000_000);
-    let places = arguments.next().flatten().unwrap_or(256);
+    let mut arguments = std::env::args()
+        .skip(1)
+        .map(|text| text.parse::<u64>().expect("an argument is no number"));
+    let numbers = arguments.next().unwrap_or(1_000_000);
+    let places = arguments.next().unwrap_or(256);
     for producers in [1, 2, 8, 64] {
         let start = Instant::now();
         let popped = pass_through(places as usize, producers, numbers / producers);

@@ -20,9 +20,11 @@ struct Message {
 }
 
 fn main() {
-    let mut arguments = std::env::args().skip(1).map(|text| text.parse::<u64>().ok());
-    let nodes = arguments.next().flatten().unwrap_or(2) as usize;
-    let items = arguments.next().flatten().unwrap_or(1_000);
+    let mut arguments = std::env::args()
+        .skip(1)
+        .map(|text| text.parse::<u64>().expect("an argument is no number"));
+    let nodes = arguments.next().unwrap_or(2) as usize;
+    let items = arguments.next().unwrap_or(1_000);
     let start = Instant::now();
     let deliveries = hand_all(nodes, items);
     let micros = start.elapsed().as_micros();

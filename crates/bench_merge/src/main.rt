@@ -5,7 +5,7 @@
 
 use anyhow::{Context, Result, bail, ensure};
 use cast_merge::assemble;
-use cast_message::{Config, FrameKind, Item, Mode, NodeId};
+use cast_message::{Config, FrameKind, Item, MOST_ENTRIES, MOST_ITEMS, Mode, NodeId};
 use cast_report::GroupReport;
 use cast_world::run_events;
 use std::alloc::Global;
@@ -85,7 +85,7 @@ fn measure(rt: &(impl Clock + Print), alloc: Global, logs: u64, entries: u64) ->
 // Each node orders an item; then all nodes make a frame for the next one and all of these arrive, again and again. The
 // nodes do so with equal stamps, so that a merge goes from log to log with each entry.
 fn write_logs(alloc: Global, logs: u64, entries: u64) -> Result<GroupReport> {
-    let config = Config::check(logs, 0, 1, 4096, 65_536, 16, 0, Mode::Basic)?;
+    let config = Config::check(logs, 0, 1, MOST_ITEMS, MOST_ENTRIES, 16, 0, Mode::Basic)?;
     let mut weave = Weave::new(alloc, config)?;
     for stamp in 0..entries {
         for place in 0..logs as u8 {

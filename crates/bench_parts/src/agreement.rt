@@ -1,4 +1,4 @@
-//! Set agreement.
+//! Times of set agreement: proposals delivered, decisions asked for.
 use crate::{report, report_sum};
 use anyhow::Result;
 use cast_agree::Agree;

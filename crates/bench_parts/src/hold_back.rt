@@ -1,4 +1,4 @@
-//! The hold-back.
+//! Times of the hold-back: messages offered in order, and the last first.
 ghost use Rattle.std.specs.Prelude.{◌≡◌, ◌+◌, ◌<◌, ◌^◌, length};
 
 use crate::report;

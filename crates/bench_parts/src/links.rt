@@ -1,4 +1,4 @@
-//! Both ends of a link.
+//! Times of both ends of a link: slots given, carried, acknowledged and taken, in order and behind a gap.
 use crate::{report, report_sum};
 use anyhow::Result;
 use cast_link::{LinkIn, LinkOut};

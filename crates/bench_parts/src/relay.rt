@@ -1,4 +1,4 @@
-//! The pairs that a node holds.
+//! Times of the relay: messages that arrive, new and known.
 ghost use Rattle.std.specs.Prelude.{◌≡◌};
 
 use crate::report;

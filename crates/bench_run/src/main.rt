@@ -26,7 +26,7 @@ struct Wanted {
     nodes: u64,
     /// How many items the job of each node submits.
     items: u64,
-    /// Every so many-th frame is lost, or none where it is 0.
+    /// Of so many frames of a kind one is lost on each link; none where it is 0.
     lost: u64,
 }
 

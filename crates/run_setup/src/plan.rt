@@ -66,6 +66,13 @@ pub fn no_faults(alloc: Global) -> FaultPlan {
     }
 }
 
+/// The plan in which this alone goes wrong.
+pub fn one_fault(alloc: Global, fault: Fault) -> Result<FaultPlan, AllocError> {
+    let mut plan = no_faults(alloc);
+    plan.faults.push(fault)?;
+    Ok(plan)
+}
+
 /// The plan in which every `step`th frame of either kind is lost on each way between these nodes, the first frame too.
 pub fn lose_every(alloc: Global, nodes: u8, step: u64) -> Result<FaultPlan, AllocError> {
     let mut faults = List::new(alloc);

@@ -1,5 +1,5 @@
 //! Configurations, of which a run names what is not as usual.
-use cast_message::{Config, ConfigFault, Mode};
+use cast_message::{Config, ConfigFault, MOST_ENTRIES, MOST_ITEMS, Mode};
 
 /// The values of a configuration in basic mode, before its check.
 #[derive(Clone, Copy, Debug)]
@@ -13,13 +13,14 @@ pub struct Shape {
 }
 
 impl Shape {
-    /// A group with so many nodes, faults and choices. A log has 65,536 entries, a box 64 places, and clocks begin at 0.
+    /// A group with so many nodes, faults and choices. A log takes as many entries as one can, a box has 64 places, and clocks
+    /// begin at 0.
     pub fn new(nodes: u64, faults: u64, choices: u64) -> Shape {
         Shape {
             nodes,
             faults,
             choices,
-            log_limit: 65_536,
+            log_limit: MOST_ENTRIES,
             box_size: 64,
             first_stamp: 0,
         }
@@ -31,7 +32,7 @@ impl Shape {
             self.nodes,
             self.faults,
             self.choices,
-            4096,
+            MOST_ITEMS,
             self.log_limit,
             self.box_size,
             self.first_stamp,

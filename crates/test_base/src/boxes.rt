@@ -30,7 +30,7 @@ const REFUSED: &[(u64, u64, BoxFault)] = &[
 fn box_limits(rt: HostRuntime) -> Result<(), Fail> {
     for (size, putters, fault) in REFUSED {
         let answer = make_box::<u64>(rt.alloc(), *size, *putters).map(|_| ());
-        assert!(&rt; answer == Err(*fault));
+        assert_eq!(&rt; answer, Err(*fault), "{size} places, {putters} putters");
     }
     let (ends, _taker) = make_box::<u64>(rt.alloc(), 4096, 64)?;
     assert!(&rt; ends.len() == 64);

@@ -42,6 +42,8 @@ fn drops_what_lies_below_the_least_slot_owed(rt: HostRuntime) -> Result<(), Fail
     assert!(rt; link.carry(1) == Err(LinkFault::Acked));
     assert!(rt; link.pair(2) == Some((NodeId(1), 2)));
     assert!(rt; link.pair(1) == None);
+    assert!(rt; link.get(2) == Some(&message(2)));
+    assert!(rt; link.get(1) == None);
     assert!(rt; link.owed() == 1);
     assert!(rt; link.given() == 3);
     Ok(())

@@ -1,10 +1,11 @@
 //! Copies, the check of a configuration, the numbers of the refusals, and the list.
 use bytes::Bytes;
 use cast_message::{
-    Config, ConfigFault, Decision, Frame, FrameBody, Item, List, Message, Mode, NodeId, Payload,
-    StepFault,
+    Config, ConfigFault, Decision, Frame, FrameBody, FrameKind, Item, List, Message, Mode, NodeId,
+    Payload, StepFault,
 };
 use std::alloc::{AllocError, Global};
+use std::process::Abort;
 use std::test::Fail;
 
 fn data(alloc: Global, bytes: &[u8]) -> Result<Item, AllocError> {
@@ -12,36 +13,35 @@ fn data(alloc: Global, bytes: &[u8]) -> Result<Item, AllocError> {
     Ok(Item::Data(Payload::new(bytes)))
 }
 
-// Whether the copies of an item, of its message and of the frame that carries it are equal to them.
-fn copies_alike(item: Item) -> Result<bool, AllocError> {
-    let copied = item.copy()? == item;
-    let carried = Message {
+// Copies of an item, of its message and of the frame that carries it are equal to them.
+fn expect_copies(rt: &impl Abort, item: Item) -> Result<(), Fail> {
+    assert_eq!(rt; item.copy()?, item);
+    let message = Message {
         sender: NodeId(0),
         number: 1,
         item,
     };
-    let carried_alike = carried.copy()? == carried;
+    assert_eq!(rt; message.copy()?, message);
     let frame = Frame {
         from: NodeId(0),
         seq: 3,
         to: NodeId(1),
-        body: FrameBody::Carry {
-            slot: 0,
-            message: carried,
-        },
+        body: FrameBody::Carry { slot: 0, message },
     };
-    Ok(copied && carried_alike && frame.copy()? == frame)
+    assert_eq!(rt; frame.copy()?, frame);
+    assert!(rt; frame.body.kind() == FrameKind::Carry);
+    Ok(())
 }
 
 #[test]
 fn copies_are_equal(rt: HostRuntime) -> Result<(), Fail> {
-    assert!(rt; copies_alike(data(rt.alloc(), b"a")?)?);
+    expect_copies(&rt, data(rt.alloc(), b"a")?)?;
     let proposal = Item::Propose {
         instance: 7,
         value: 4,
     };
-    assert!(rt; copies_alike(proposal)?);
-    assert!(rt; copies_alike(Item::Close)?);
+    expect_copies(&rt, proposal)?;
+    expect_copies(&rt, Item::Close)?;
     let took = Frame {
         from: NodeId(1),
         seq: 4,
@@ -49,6 +49,14 @@ fn copies_are_equal(rt: HostRuntime) -> Result<(), Fail> {
         body: FrameBody::Took { slot: 0 },
     };
     assert!(rt; took.copy()? == took);
+    assert!(rt; took.body.kind() == FrameKind::Took);
+    Ok(())
+}
+
+#[test]
+fn knows_a_close(rt: HostRuntime) -> Result<(), Fail> {
+    assert!(rt; Item::Close.is_close());
+    assert!(rt; !data(rt.alloc(), b"a")?.is_close());
     Ok(())
 }
 
@@ -95,7 +103,7 @@ const COUNTS: &[(u64, u64, u64, (u64, u64, u64), Mode, ConfigFault)] = &[
 fn refuses_counts_outside_the_limits(rt: HostRuntime) {
     for (nodes, faults, choices, limits, mode, fault) in COUNTS {
         let found = check(*nodes, *faults, *choices, *limits, *mode);
-        assert!(rt; found == Some(*fault));
+        assert_eq!(rt; found, Some(*fault), "{nodes} {faults} {choices}");
     }
 }
 
@@ -112,16 +120,23 @@ const SIZES: &[((u64, u64, u64), Mode, ConfigFault)] = &[
 #[test]
 fn refuses_sizes_outside_the_limits(rt: HostRuntime) {
     for (limits, mode, fault) in SIZES {
-        assert!(rt; check(3, 2, 3, *limits, *mode) == Some(*fault));
+        let found = check(3, 2, 3, *limits, *mode);
+        assert_eq!(rt; found, Some(*fault), "{limits:?}");
     }
 }
 
 #[test]
 fn reads_what_was_checked(rt: HostRuntime) -> Result<(), Fail> {
     let config = Config::check(5, 2, 3, 7, 11, 13, 17, Mode::Uniform)?;
-    assert!(rt; (config.nodes(), config.faults(), config.choices()) == (5, 2, 3));
-    assert!(rt; (config.item_limit(), config.log_limit(), config.box_size()) == (7, 11, 13));
-    assert!(rt; (config.first_stamp(), config.mode()) == (17, Mode::Uniform));
+    assert_eq!(rt;
+        (config.nodes(), config.faults(), config.choices()),
+        (5, 2, 3)
+    );
+    assert_eq!(rt;
+        (config.item_limit(), config.log_limit(), config.box_size()),
+        (7, 11, 13)
+    );
+    assert_eq!(rt; (config.first_stamp(), config.mode()), (17, Mode::Uniform));
     Ok(())
 }
 
@@ -156,10 +171,10 @@ const CONFIGS: &[ConfigFault] = &[
 #[test]
 fn numbers_its_refusals(rt: HostRuntime) {
     for (fault, code) in STEPS.iter().zip(1..14) {
-        assert!(rt; fault.code() == code);
+        assert_eq!(rt; fault.code(), code, "{fault:?}");
     }
     for (fault, code) in CONFIGS.iter().zip(1..8) {
-        assert!(rt; fault.code() == code);
+        assert_eq!(rt; fault.code(), code, "{fault:?}");
     }
     assert!(rt; StepFault::from(AllocError) == StepFault::Memory);
 }

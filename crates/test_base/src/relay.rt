@@ -25,7 +25,7 @@ fn holds_a_pair_once(rt: HostRuntime) -> Result<(), Fail> {
     assert!(rt; !relay.holds(NodeId(0), 1));
     assert!(rt; relay.relays_to(NodeId(0), NodeId(2), NodeId(3)));
     for to in 0..3 {
-        assert!(rt; !relay.relays_to(NodeId(0), NodeId(2), NodeId(to)));
+        assert!(rt; !relay.relays_to(NodeId(0), NodeId(2), NodeId(to)), "{to}");
     }
     Ok(())
 }

@@ -1,7 +1,8 @@
-//! The words that are written, read back; a reader that fails.
+//! The words that are written, read back; bytes as they are shown; a reader that fails.
 use cast_message::Mode;
 use cast_words::{
-    Failed, Meter, bytes_of, mode_name, number, write_bytes, write_hex, write_number,
+    Failed, Meter, bytes_of, escaped, hex_digit, mode_name, number, prefix, write_bytes, write_hex,
+    write_number,
 };
 use std::io::{self, Error, ErrorKind, Read};
 use std::test::Fail;
@@ -30,13 +31,23 @@ const NO_BYTES: &[&[u8]] = &[b"0", b"9F", b"0g", b"009"];
 fn reads_words(rt: HostRuntime) -> Result<(), Fail> {
     assert!(rt; number(b"18446744073709551615") == Some(u64::MAX));
     for word in NO_NUMBERS {
-        assert!(rt; number(word) == None);
+        assert_eq!(rt; number(word), None, "{word:?}");
     }
     let bytes = bytes_of(rt.alloc(), b"009fff")?;
     assert!(rt; matches!(&bytes, Some(bytes) if bytes.as_slice() == [0, 159, 255].as_slice()));
     for word in NO_BYTES {
-        assert!(rt; bytes_of(rt.alloc(), word)?.is_none());
+        assert!(rt; bytes_of(rt.alloc(), word)?.is_none(), "{word:?}");
     }
+    Ok(())
+}
+
+#[test]
+fn shows_bytes(rt: HostRuntime) -> Result<(), Fail> {
+    assert!(rt; escaped(rt.alloc(), b"a ~\n\x7f")?.as_str() == "a ~\\x0a\\x7f");
+    assert!(rt; prefix(b"abc", 2) == b"ab".as_slice());
+    assert!(rt; prefix(b"abc", 4) == b"abc".as_slice());
+    assert!(rt; hex_digit(9) == b'9');
+    assert!(rt; hex_digit(10) == b'a');
     Ok(())
 }
 

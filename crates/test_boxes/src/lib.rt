@@ -1,5 +1,5 @@
-//! Boxes whose ends live in threads of their own, for tests. `exchange` is how a caller proves what came of it: what each thread
-//! did with its end is the promise of that thread.
+//! Boxes whose ends live in threads of their own, for tests. What each thread did with its end is its promise; from these
+//! `exchange` proves what came through the box.
 #![tactic(auto)]
 
 ghost use Rattle.std.specs.Prelude.{◌≡◌, ◌+◌, ◌*◌, ◌<◌, ◌≤◌, ◌^◌, ◌++◌, [], ℕ, length, map, Some, IfOk};

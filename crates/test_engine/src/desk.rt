@@ -14,6 +14,17 @@ fn reply() -> Notice {
     }
 }
 
+// Whether it is the reply of row `desk-of-one`.
+fn is_reply(notice: &Notice) -> bool {
+    matches!(
+        notice,
+        Notice::Reply {
+            ticket: 0,
+            outcome: Ok(0)
+        }
+    )
+}
+
 #[test]
 fn desk_of_one(rt: HostRuntime) -> Result<(), Fail> {
     let (mut clients, mut desk) = make_desk(rt.alloc(), 1, 2, 0)?;
@@ -32,40 +43,19 @@ fn desk_of_one(rt: HostRuntime) -> Result<(), Fail> {
     );
     assert!(&rt; matches!(clients[1].submit(&rt, Item::Close), Ok(0)));
     assert!(&rt; desk.notify(&rt, 0, reply()).is_ok());
-    assert!(&rt;
-        matches!(
-            desk.notify(&rt, 0, reply()),
-            Err(Full {
-                item: Notice::Reply {
-                    ticket: 0,
-                    outcome: Ok(0)
-                }
-            })
-        )
-    );
-    assert!(&rt;
-        matches!(
-            clients[0].next(&rt),
-            Some(Notice::Reply {
-                ticket: 0,
-                outcome: Ok(0)
-            })
-        )
-    );
+    let full = desk.notify(&rt, 0, reply());
+    assert!(&rt; matches!(&full, Err(Full { item }) if is_reply(item)));
+    let told = clients[0].next(&rt);
+    assert!(&rt; matches!(&told, Some(notice) if is_reply(notice)));
     assert!(&rt; clients[0].next(&rt).is_none());
     Ok(())
 }
 
 #[test]
 fn last_ticket(rt: HostRuntime) -> Result<(), Fail> {
-    let last = 18446744073709551614;
+    let last = u64::MAX - 1;
     let (mut clients, _desk) = make_desk(rt.alloc(), 4, 1, last)?;
-    assert!(&rt;
-        matches!(
-            clients[0].submit(&rt, Item::Close),
-            Ok(18446744073709551614)
-        )
-    );
+    assert_eq!(&rt; clients[0].submit(&rt, Item::Close).ok(), Some(last));
     let refused = clients[0].submit(&rt, Item::Close);
     assert!(&rt; matches!(refused, Err(DeskFault::Tickets(Item::Close))));
     Ok(())
@@ -129,7 +119,7 @@ fn feed_of_one_order(rt: HostRuntime) -> Result<(), Fail> {
     assert!(&rt;
         matches!(
             own.as_slice(),
-            [Notice::Reply { ticket: 0, outcome: Ok(0) }, Notice::Delivered(message)] if is_first_close(message)
+            [own, Notice::Delivered(message)] if is_reply(own) && is_first_close(message)
         )
     );
     let others = feed(rt.alloc(), &log, 1)?;

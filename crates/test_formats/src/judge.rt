@@ -124,6 +124,15 @@ fn nothing_fed_is_no_record(rt: HostRuntime) -> Result<(), Fail> {
     Ok(())
 }
 
+#[test]
+fn room_is_what_may_still_be_fed(rt: HostRuntime) -> Result<(), Fail> {
+    let mut judging = Judging::new(rt.alloc());
+    assert_eq!(&rt; judging.room(), 1u64 << 63);
+    judging.feed(b"cast/1 1 0 1\n")?;
+    assert_eq!(&rt; judging.room(), (1u64 << 63) - 13);
+    Ok(())
+}
+
 fn record_with_long_line(alloc: Global) -> Result<Vec<u8>, AllocError> {
     let mut text = b"cast/1 1 0 1\n".to_vec(alloc)?;
     text.resize(5_013, b'a')?;

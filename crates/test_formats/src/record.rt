@@ -1,11 +1,13 @@
-//! The text of each line, the lines of an event, and a writer that fails.
+//! The text of each line, the lines of an event, a writer that fails, and a head that is migrated.
 use crate::{Failing, taken_by, writer_of};
 use bytes::Bytes;
 use cast_message::{
     Answer, Config, Decision, Event, Item, List, Message, Mode, NodeId, Outcome, Payload, Reply,
     StepFault,
 };
-use cast_record::{Line, lines_of, write_line, write_lines_of, write_record};
+use cast_record::{
+    Line, MigrateFault, lines_of, migrate, write_line, write_lines_of, write_record,
+};
 use cast_words::{Meter, WriteFault};
 use std::alloc::{AllocError, Global};
 use std::process::Abort;
@@ -274,8 +276,17 @@ fn expect_front(rt: &(impl Abort + AllocGlobal), calls: usize, failing: Failing)
 
 #[test]
 fn a_failed_write_leaves_a_front(rt: HostRuntime) {
-    for calls in 0..SHORT_RECORD.len() + 1 {
+    for calls in 0..=SHORT_RECORD.len() {
         expect_front(&rt, calls, Failing::Answers);
         expect_front(&rt, calls, Failing::TakesNone);
     }
+}
+
+#[test]
+fn migrates_the_head_alone(rt: HostRuntime) -> Result<(), Fail> {
+    let migrated = migrate(rt.alloc(), b"cast/1 1 0 1\nx 0\nend\n")?;
+    assert_eq!(rt; migrated.as_slice(), SHORT_RECORD);
+    let again = migrate(rt.alloc(), SHORT_RECORD);
+    assert_eq!(rt; again.err(), Some(MigrateFault::NotV1));
+    Ok(())
 }

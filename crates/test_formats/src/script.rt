@@ -1,8 +1,8 @@
-//! Texts that are scripts, and texts that are none.
+//! Texts that are scripts, and texts that are none; the numbers of what keeps a group from running.
 use bytes::Bytes;
 use cast_message::{Config, ConfigFault, Event, Item, Mode, NodeId, Payload};
 use cast_script::{
-    Fault, FrameKind, ScriptEvent, ScriptFault, is_read_back, read_script, write_script,
+    Fault, FrameKind, LiveFault, ScriptEvent, ScriptFault, is_read_back, read_script, write_script,
 };
 use cast_words::Meter;
 use std::alloc::{AllocError, Global};
@@ -383,4 +383,20 @@ fn writes_a_script_with_no_events(rt: HostRuntime) -> Result<(), Fail> {
             .is_empty()
     );
     Ok(())
+}
+
+/// Each cause for which a group is not run, in the order of their numbers.
+const NOT_RUN: &[LiveFault] = &[
+    LiveFault::Jobs,
+    LiveFault::Gates,
+    LiveFault::Plan,
+    LiveFault::Memory,
+    LiveFault::Threads,
+];
+
+#[test]
+fn numbers_the_causes_of_no_run(rt: HostRuntime) {
+    for (fault, code) in NOT_RUN.iter().zip(1..6) {
+        assert_eq!(rt; fault.code(), code, "{fault:?}");
+    }
 }

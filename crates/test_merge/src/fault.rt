@@ -10,7 +10,7 @@ pub enum WeaveFault {
     NoNode,
     #[error("no frame of that number was made with a smaller stamp")]
     NoFrame,
-    #[error("the last stamp of the log is as great")]
+    #[error("the stamp is not greater than the last of the log")]
     NotLater,
     #[error("the node refuses the step: {0}")]
     Refused(StepFault),

@@ -1,4 +1,4 @@
-//! Set agreement.
+//! The worked row of set agreement: three proposals, and what is decided.
 use crate::refused;
 use anyhow::Result;
 use cast_agree::Agree;
@@ -17,12 +17,12 @@ pub fn agreement(rt: &impl Print, alloc: Global) -> Result<()> {
 fn propose(rt: &impl Print, agree: &mut Agree, sender: u8, value: u64) -> Result<()> {
     let item = Item::Propose { instance: 7, value };
     let before = agree.decision(7);
-    if let Ok(decision) = agree.delivered(NodeId(sender), &item) {
-        println!(rt; "delivered({sender}, {value}): {decision:?}")?;
-        return Ok(());
+    let mut delivered = agree.delivered(NodeId(sender), &item);
+    if delivered.is_err() {
+        refused(rt, "delivered", agree.decision(7) == before)?;
+        delivered = agree.delivered(NodeId(sender), &item);
     }
-    refused(rt, "delivered", agree.decision(7) == before)?;
-    let decision = agree.delivered(NodeId(sender), &item)?;
+    let decision = delivered?;
     println!(rt; "delivered({sender}, {value}): {decision:?}")?;
     Ok(())
 }

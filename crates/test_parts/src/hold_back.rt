@@ -1,4 +1,4 @@
-//! The hold-back.
+//! The worked rows of the hold-back: messages out of order, and one kept until it is known.
 ghost use Rattle.std.specs.Prelude.{◌≡◌, ◌+◌, ◌<◌, ◌^◌, true, length, OnOk, IfOk, replicate};
 ghost use Rattle.cast_fifo.specs.Held.{nothing_held, held_of, came};
 

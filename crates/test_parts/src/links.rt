@@ -1,4 +1,4 @@
-//! The two ends of a link.
+//! The worked rows of a link: what is owed until it is acknowledged, and slots taken once.
 ghost use Rattle.std.specs.Prelude.{◌+◌, ◌<◌, ◌^◌};
 
 use crate::{data, refused};
@@ -22,13 +22,13 @@ pub fn link_out(rt: &impl Print, alloc: Global) -> Result<()> {
 fn give(rt: &impl Print, alloc: Global, link: &mut LinkOut<Message>) -> Result<()>
     requires { link.old.given + 1 < 2 ^ 64 }
 {
-    if let Ok(slot) = link.give(data(alloc, 0, 0)?) {
-        println!(rt; "give: {slot}")?;
-        return Ok(());
+    let mut given = link.give(data(alloc, 0, 0)?);
+    if given.is_err() {
+        let kept = link.given() == 0 && link.owed() == 0 && link.pair(0).is_none();
+        refused(rt, "give", kept)?;
+        given = link.give(data(alloc, 0, 0)?);
     }
-    let kept = link.given() == 0 && link.owed() == 0 && link.pair(0).is_none();
-    refused(rt, "give", kept)?;
-    let slot = link.give(data(alloc, 0, 0)?)?;
+    let slot = given?;
     println!(rt; "give: {slot}")?;
     Ok(())
 }
@@ -62,12 +62,12 @@ pub fn link_in(rt: &impl Print, alloc: Global) -> Result<()> {
 
 fn take(rt: &impl Print, link: &mut LinkIn, slot: u64) -> Result<()> {
     let before = link.may_ack(slot);
-    if let Ok(first) = link.take(slot) {
-        println!(rt; "take({slot}): {first}")?;
-        return Ok(());
+    let mut taken = link.take(slot);
+    if taken.is_err() {
+        refused(rt, "take", link.may_ack(slot) == before)?;
+        taken = link.take(slot);
     }
-    refused(rt, "take", link.may_ack(slot) == before)?;
-    let first = link.take(slot)?;
+    let first = taken?;
     println!(rt; "take({slot}): {first}")?;
     Ok(())
 }

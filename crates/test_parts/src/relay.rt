@@ -1,4 +1,4 @@
-//! The pairs that a node holds.
+//! The worked row of the relay: an own item, a message that arrives twice, and to whom it goes on.
 ghost use Rattle.std.specs.Prelude.{◌≡◌, ◌+◌, ◌<◌, ◌^◌, IfOk};
 
 use crate::refused;

@@ -20,7 +20,7 @@ const TRIES: u64 = 10_000_000;
 /// What the threads of a meeting tell one another.
 #[derive(Drop)]
 pub struct Meeting {
-    /// How many engines have come to gate 0.
+    /// 1 once the engine of node 0 has come to its gate, 0 before.
     arrived: AtomicU64,
     /// How many jobs of node 0 have their reply.
     host_replies: AtomicU64,

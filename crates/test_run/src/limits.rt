@@ -2,6 +2,7 @@
 use crate::runs::{TURNS, run_jobs};
 use crate::seen::see;
 use anyhow::Result;
+use cast_message::MOST_ENTRIES;
 use run_setup::{Shape, no_faults};
 use std::alloc::Global;
 use std::sync::Wait;
@@ -16,12 +17,12 @@ pub struct Limits {
     log_limit: u64,
 }
 
-/// A clock with one stamp left, and a log with one place.
+/// A clock with no stamp left, and a log with one place.
 pub const LIVE_LIMITS: [Limits; 2] = [
     Limits {
         items: 1,
         first_stamp: u64::MAX,
-        log_limit: 65_536,
+        log_limit: MOST_ENTRIES,
     },
     Limits {
         items: 2,
@@ -40,7 +41,7 @@ pub const FIVE_ITEMS: [Limits; 2] = [
     Limits {
         items: 5,
         first_stamp: u64::MAX - 2,
-        log_limit: 65_536,
+        log_limit: MOST_ENTRIES,
     },
 ];
 
@@ -63,7 +64,7 @@ pub fn print_full<R: Threads + Wait + Print + Copy + Send + 'static>(
             &[0],
             limit.items,
             TURNS,
-        )??;
+        )?;
         let seen = see(alloc, &run.report)?;
         println!(&rt; "{row}: {seen}")?;
     }

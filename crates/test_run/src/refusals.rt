@@ -1,14 +1,14 @@
 //! What `run_live` refuses before it starts a thread, in the order in which it asks.
 use anyhow::Result;
-use cast_message::{List, NodeId};
+use cast_message::NodeId;
 use cast_run::{LiveFault, OpenGate, run_live};
 use cast_script::{Fault, FaultPlan, FrameKind};
-use run_setup::{Link, Shape, no_faults, submit_each};
-use std::alloc::{AllocError, Global};
+use run_setup::{Link, Shape, no_faults, one_fault, submit_each};
+use std::alloc::Global;
 use std::sync::Wait;
 use std::thread::Threads;
 
-/// A job more, or at no node; gates for fewer nodes; a fault of a link to itself, or at no node.
+/// A job at no node, or a fifth at one; fewer gates than nodes; a fault of a link to itself, or at no node.
 pub fn live_refusals<R: Threads + Wait + Print + Copy + Send + 'static>(
     rt: R,
     alloc: Global,
@@ -22,11 +22,11 @@ pub fn live_refusals<R: Threads + Wait + Print + Copy + Send + 'static>(
     let answers = [
         refusal(rt, alloc, &[2], 2, no_faults(alloc))?,
         refusal(rt, alloc, &[0, 0, 0, 0, 0], 2, no_faults(alloc))?,
-        refusal(rt, alloc, &[2], 1, plan_of(alloc, itself)?)?,
+        refusal(rt, alloc, &[2], 1, one_fault(alloc, itself)?)?,
         refusal(rt, alloc, &[0], 1, no_faults(alloc))?,
-        refusal(rt, alloc, &[0], 1, plan_of(alloc, nobody)?)?,
-        refusal(rt, alloc, &[0], 2, plan_of(alloc, itself)?)?,
-        refusal(rt, alloc, &[0], 2, plan_of(alloc, nobody)?)?,
+        refusal(rt, alloc, &[0], 1, one_fault(alloc, nobody)?)?,
+        refusal(rt, alloc, &[0], 2, one_fault(alloc, itself)?)?,
+        refusal(rt, alloc, &[0], 2, one_fault(alloc, nobody)?)?,
     ];
     print!(&rt; "{row}:")?;
     for answer in answers {
@@ -34,12 +34,6 @@ pub fn live_refusals<R: Threads + Wait + Print + Copy + Send + 'static>(
     }
     println!(&rt)?;
     Ok(())
-}
-
-fn plan_of(alloc: Global, fault: Fault) -> Result<FaultPlan, AllocError> {
-    let mut faults = List::new(alloc);
-    faults.push(fault)?;
-    Ok(FaultPlan { faults })
 }
 
 // What two nodes answer, with an item at each of these nodes and so many gates.

@@ -1,6 +1,6 @@
 //! Runs with a job of some items at each node and open gates.
 use anyhow::Result;
-use cast_run::{LiveFault, LiveRun, OpenGate, SubmitAll, run_live};
+use cast_run::{LiveRun, OpenGate, SubmitAll, run_live};
 use cast_script::FaultPlan;
 use run_setup::{Shape, submit_each};
 use std::alloc::Global;
@@ -19,9 +19,9 @@ pub fn run_jobs<R: Threads + Wait + Copy + Send + 'static>(
     nodes: &[u8],
     items: u64,
     turns: u64,
-) -> Result<Result<LiveRun<SubmitAll>, LiveFault>> {
+) -> Result<LiveRun<SubmitAll>> {
     let config = shape.config()?;
     let jobs = submit_each(alloc, nodes, items)?;
     let gates = OpenGate::for_nodes(alloc, shape.nodes)?;
-    Ok(run_live(rt, alloc, config, plan, jobs, gates, turns))
+    Ok(run_live(rt, alloc, config, plan, jobs, gates, turns)?)
 }

@@ -200,11 +200,14 @@ fn migrates_what_has_its_head(rt: HostRuntime) {
         let (result, taken) = of_text(rt, rt.alloc(), call, (1_000, 100), Failing::Answers);
         if front.contains(&b'\n') {
             assert_eq!(rt; result, Ok(Answer::Done), "{end} bytes");
-            assert!(rt; MIGRATED_RECORD.starts_with(taken.as_slice()));
-            assert_eq!(rt; taken.len(), end.saturating_add(6));
+            assert!(rt;
+                MIGRATED_RECORD.starts_with(taken.as_slice()),
+                "{end} bytes"
+            );
+            assert_eq!(rt; taken.len(), end.saturating_add(6), "{end} bytes");
         } else {
             assert_eq!(rt; result, Err(TextFault::NotV1), "{end} bytes");
-            assert!(rt; taken.is_empty());
+            assert!(rt; taken.is_empty(), "{end} bytes");
         }
     }
 }

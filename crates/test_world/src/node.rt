@@ -358,6 +358,12 @@ const WORDS: Rows = &[
     (Ask::Took(2, 0), Err(StepFault::Crashed)),
 ];
 
+// A node alone decides by its own proposal.
+const ALONE: Rows = &[
+    (Ask::Propose, Ok(Answer::Ordered(0, 1))),
+    (Ask::See(Sight::Decision(7)), Ok(Answer::Number(4))),
+];
+
 // Nodes by their groups, modes and numbers, each with what it is asked.
 const NODES: &[((u64, u64, Mode, u8), &str, Rows)] = &[
     ((3, 1, Mode::Basic, 1), "proposal", PROPOSAL),
@@ -366,6 +372,7 @@ const NODES: &[((u64, u64, Mode, u8), &str, Rows)] = &[
     // In uniform mode a delivery here waits for no more than three holders.
     ((5, 2, Mode::Uniform, 0), "holders", HOLDERS),
     ((3, 1, Mode::Uniform, 0), "words", WORDS),
+    ((1, 0, Mode::Basic, 0), "alone", ALONE),
 ];
 
 #[test]
