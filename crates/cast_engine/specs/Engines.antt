@@ -52,11 +52,11 @@ pub record IsSameEngine (old new : EngineState) : Type 0 where
   pub inbox : IsSameTaker old.inbox new.inbox
   pub desk : IsSameDesk old.desk new.desk
 
--- nothing was put or taken
+-- no parcel was put or taken
 abbrev pub HasSameBoxes : EngineState → EngineState → Type 0
 HasSameBoxes old new = (new.outbox ≡ old.outbox) × (new.inbox ≡ old.inbox)
 
--- in an idle turn nothing was put or taken
+-- in an idle turn no parcel was put or taken
 abbrev pub IsIdleRightly : Turn → EngineState → EngineState → Type 0
 IsIdleRightly Idle old new = HasSameBoxes old new
 IsIdleRightly _ old new = ⊤

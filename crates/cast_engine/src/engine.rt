@@ -30,7 +30,7 @@ const PATIENCE: u64 = 2 * LAST_SENT as u64;
 pub enum Turn {
     /// Something was done.
     Moved,
-    /// There was nothing to do: nothing was put or taken, and no slot was due.
+    /// Nothing was done: no parcel was put or taken, no order taken, no slot sent, no notice put.
     Idle,
     /// The engine has ended.
     Ended,

@@ -12,9 +12,10 @@ use cast_message::Config;
 use serde_json::Value;
 use std::alloc::Global;
 
-/// The script that the bytes say, or why they say none. `NotJson` is for bytes that aren't JSON, or are nested more than 127
-/// levels deep, or have a number past the range of a float; `Shape` for a value that isn't a script's, by the first place that
-/// is wrong; `Config` for the limits of a configuration, tried once all else is of its form. `Memory` is answered where a growth is refused, before what would be found later.
+/// The script that the bytes say, or why they say none. `NotJson` is for bytes that aren't JSON, are nested more than 127 levels
+/// deep, or have a number past the range of a float; `Shape` for a value that isn't a script's, by the first place that is
+/// wrong; `Config` for the limits of a configuration, tried once all else is of its form. `Memory` is answered where a growth is
+/// refused, before what would be found later.
 pub fn read_script(alloc: Global, bytes: &[u8]) -> Result<Script, ScriptFault>
     ensures { Reads result bytes.now }
 {

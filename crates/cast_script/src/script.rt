@@ -52,8 +52,8 @@ pub enum Fault {
         first: u64,
         step: u64,
     },
-    /// These frames are kept until `count` more frames of either kind were taken for their target, if none loses them. Of several
-    /// delays of a frame the longest holds.
+    /// These frames are kept until `count` more frames of either kind were taken for their target, if no other fault loses
+    /// them. Of several delays of a frame the longest holds.
     Delay {
         kind: FrameKind,
         from: NodeId,

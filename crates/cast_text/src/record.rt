@@ -24,7 +24,7 @@ pub fn write_script_record<W: Write>(
     requires { writer.old.failed ≡ false }
     ensures text { Puts W.contents writer.old writer.new result
         (record_text (record_of script.now)) }
-    // Memory is wanted before the end is written, of which then nothing is.
+    // Where memory is wanted, nothing of the end was written.
     ensures memory { IfErr result (λ fault. StopsBeforeEnd fault
         (W.contents writer.old.inner) (W.contents writer.new.inner) script.now) }
 {

@@ -91,7 +91,7 @@ impl Book {
         }
     }
 
-    /// Makes room for one more message, or answers want of memory, where there is none.
+    /// Makes room for one more message. Memory is wanted only where there is no room left.
     pub fn reserve(&mut self) -> Result<(), AllocError>
         ensures journal { self.new.journal ≡ self.old.journal }
         ensures room { OnOk result (length self.new.journal < self.new.room) }

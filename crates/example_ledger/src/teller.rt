@@ -112,8 +112,8 @@ impl Teller {
         }
     }
 
-    /// Whether all was ordered and so many messages were applied. An order that its node refused is not made again, and its
-    /// message, which is never delivered, is not among them.
+    /// Whether all was ordered and as many messages were applied as it waits for. An order that its node refused is not made
+    /// again, and its message comes to nobody: a teller that waits for it is never done.
     pub fn is_done(&self) -> bool
         ensures { IsTrue result ↔ (length self.now.items ≤ self.now.next)
             × (self.now.expected ≤ length self.now.book.journal) }

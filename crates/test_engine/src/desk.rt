@@ -14,7 +14,7 @@ fn reply() -> Notice {
     }
 }
 
-// Whether it is the reply of row `desk-of-one`.
+// Whether it is that reply.
 fn is_reply(notice: &Notice) -> bool {
     matches!(
         notice,

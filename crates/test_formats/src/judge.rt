@@ -125,7 +125,7 @@ fn nothing_fed_is_no_record(rt: HostRuntime) -> Result<(), Fail> {
 }
 
 #[test]
-fn room_is_what_may_still_be_fed(rt: HostRuntime) -> Result<(), Fail> {
+fn room_is_one_more_than_may_be_fed(rt: HostRuntime) -> Result<(), Fail> {
     let mut judging = Judging::new(rt.alloc());
     assert_eq!(&rt; judging.room(), 1u64 << 63);
     judging.feed(b"cast/1 1 0 1\n")?;
