@@ -1,5 +1,5 @@
 -- The ends of a box, as contracts see them.
-use Rattle.std.specs.Prelude.{◌≡◌, ℕ, ◌<◌, ◌≤◌, List, [], ◌∷◌, length, slice_get, Some, Option, None}
+use Rattle.std.specs.Prelude.{◌≡◌, ℕ, ◌<◌, ◌≤◌, List, [], ◌∷◌, ◌++◌, length, slice_get, Some, Option, None, MatchOption}
 use Rattle.atomic_table.specs.Seated.{TableId}
 use Rattle.crossbeam_queue.specs.Fifo.{Held}
 use Rattle.cast_box.specs.Lists.{HasOwn}
@@ -44,6 +44,12 @@ module _ {T : Type 0} where
   -- the taker of the same box, with the same putters ended, whatever it has taken since
   abbrev pub IsSameTaker : TakerEnd T → TakerEnd T → Type 0
   IsSameTaker old new = (new.home ≡ old.home) × (new.size ≡ old.size) × (new.putters ≡ old.putters) × (new.ended ≡ old.ended)
+
+  -- this item was taken, which a putter had put, or none was
+  abbrev pub TakesItem : TakerEnd T → Option T → TakerEnd T → Type 0
+  TakesItem old item new =
+      MatchOption item (new.taken ≡ old.taken)
+      (λ item. (from : ℕ) × (from < old.putters) × (new.taken ≡ old.taken ++ (from, item) ∷ []))
 
   -- each putter is the one that stood in its place
   abbrev pub AreSamePutters : List (PutterEnd T) → List (PutterEnd T) → Type 0

@@ -1,7 +1,7 @@
 //! The ends of a box, which threads hold.
-ghost use Rattle.std.specs.Prelude.{◌≡◌, ◌++◌, ◌∷◌, [], ◌<◌, ◌≤◌, ℕ, length, IfNone, OnErr, MatchResult, MatchOption};
+ghost use Rattle.std.specs.Prelude.{◌≡◌, ◌++◌, ◌∷◌, [], ◌<◌, ◌≤◌, length, IsTrue, IfNone, OnErr, MatchResult};
 ghost use Rattle.cast_box.specs.Lists.{IsFair, HasTakenOfEnded};
-ghost use Rattle.cast_box.specs.Ends.{PutterEnd, TakerEnd, IsSamePutter, IsSameTaker, IsNextToEnd, HaveAllEnded, WasFull, FilledItAlone};
+ghost use Rattle.cast_box.specs.Ends.{PutterEnd, TakerEnd, IsSamePutter, IsSameTaker, IsNextToEnd, HaveAllEnded, TakesItem, WasFull, FilledItAlone};
 
 use crate::gathered::Gathered;
 use crate::rule::{BoxPass, BoxQueue, Close, EndPutter, Put, Take};
@@ -53,6 +53,9 @@ impl<T> Model for Putter<T> {
 pub struct Taker<T> {
     pub(crate) queue: Arc<BoxQueue<T>, Global>,
     pub(crate) pass: BoxPass<T>,
+    // The last take found nothing. The next one then looks first whether the box is empty still, which takes a quarter of the
+    // time of a take that finds nothing; while items come, looking would hold up who puts them.
+    pub(crate) found_nothing: bool,
 }
 
 impl<T> Model for Taker<T> {
@@ -103,15 +106,38 @@ impl<T> Taker<T> {
     /// that stalls in a put.
     pub fn take<R: Wait>(&mut self, rt: &R) -> Option<T>
         ensures same { IsSameTaker self.old self.new }
-        ensures taken { MatchOption result
-            (self.new.taken ≡ self.old.taken)
-            (λ item. (from : ℕ) × (from < self.old.putters)
-            × (self.new.taken ≡ self.old.taken ++ (from, item) ∷ [])) }
+        ensures taken { TakesItem self.old result self.new }
+        ensures empty { IfNone result (HasTakenOfEnded self.old.ended self.old.taken) }
+    {
+        if self.is_still_empty() {
+            return None;
+        }
+        self.pop(rt)
+    }
+
+    // Whether the last take found nothing, and nor would one now: the box was empty at one moment of the call.
+    fn is_still_empty(&mut self) -> bool
+        ensures same { self.new ≡ self.old }
+        ensures empty { IsTrue result → HasTakenOfEnded self.old.ended self.old.taken }
+    {
+        self.found_nothing && self.queue.is_empty_as::<Take>(&mut self.pass)
+    }
+
+    // Takes the item at the front, where there is one.
+    fn pop<R: Wait>(&mut self, rt: &R) -> Option<T>
+        ensures same { IsSameTaker self.old self.new }
+        ensures taken { TakesItem self.old result self.new }
         ensures empty { IfNone result (HasTakenOfEnded self.old.ended self.old.taken) }
     {
         match self.queue.pop_as::<Take, R>(rt, &mut self.pass) {
-            Some((_, item)) => Some(item),
-            None => None,
+            Some((_, item)) => {
+                self.found_nothing = false;
+                Some(item)
+            }
+            None => {
+                self.found_nothing = true;
+                None
+            }
         }
     }
 }
@@ -134,7 +160,11 @@ impl<T: Drop> Taker<T> {
         ensures fair { IsFair result.put result.taken result.left }
         ensures room { length result.left ≤ self.size }
     {
-        let Taker { queue, mut pass } = self;
+        let Taker {
+            queue,
+            mut pass,
+            ..
+        } = self;
         let next = queue.pop_as::<Close, R>(rt, &mut pass);
         Gathered { queue, pass, next }
     }

@@ -140,7 +140,11 @@ impl<T: Drop> Opening<T> {
         } }
     {
         let Opening { queue, pass } = self;
-        Taker { queue, pass }
+        Taker {
+            queue,
+            pass,
+            found_nothing: false,
+        }
     }
 }
 

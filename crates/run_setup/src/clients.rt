@@ -1,5 +1,5 @@
 //! Jobs that treat their notices otherwise than `SubmitAll`: one keeps each, one takes none.
-ghost use Rattle.std.specs.Prelude.{◌≡◌, ◌<◌, ◌+◌, ◌^◌, [], false, IfOk, length};
+ghost use Rattle.std.specs.Prelude.{◌≡◌, ◌<◌, ◌+◌, ◌^◌, [], false, cond, IsTrue, IfOk, length};
 ghost use Rattle.cast_desk.specs.Desk.{IsSameClient};
 ghost use Rattle.cast_run.specs.Jobs.{submitted, got};
 ghost use Rattle.run_setup.specs.Silence.{IsSilent};
@@ -28,7 +28,9 @@ impl ClientJob for Keeper {
     ghost fact = { λ given j sent got done. j.kept.items ≡ got };
 
     fn turn<R: Wait>(&mut self, rt: &R, client: &mut Client) -> bool {
-        self.next += submit_at(rt, client, self.items.as_slice(), self.next);
+        if submit_at(rt, client, self.items.as_slice(), self.next) {
+            self.next += 1;
+        }
         self.keep_next(rt, client);
         self.replies < self.items.as_slice().len()
     }
@@ -86,7 +88,9 @@ impl ClientJob for Silent {
     ghost fact = { λ given j sent got done. IsSilent j sent got done };
 
     fn turn<R: Wait>(&mut self, rt: &R, client: &mut Client) -> bool {
-        self.next += submit_at(rt, client, self.items.as_slice(), self.next);
+        if submit_at(rt, client, self.items.as_slice(), self.next) {
+            self.next += 1;
+        }
         self.next != self.items.as_slice().len()
     }
 }
@@ -103,18 +107,15 @@ impl Silent {
     }
 }
 
-// Submits the item of this number, where there is one and the desk has room. The answer is how many it submitted.
-fn submit_at<R: Wait>(rt: &R, client: &mut Client, items: &[Item], at: usize) -> usize
+// Submits the item of this number, where there is one and the desk has room. Answers whether it did.
+fn submit_at<R: Wait>(rt: &R, client: &mut Client, items: &[Item], at: usize) -> bool
     ensures same { IsSameClient client.old client.new }
     ensures tray { client.new.tray ≡ client.old.tray }
-    ensures sent { length (submitted client.new) ≡ length (submitted client.old) + result }
-    ensures within { at + result < 2 ^ 64 }
+    ensures sent { length (submitted client.new) ≡ length (submitted client.old) + cond result 1 0 }
+    ensures within { IsTrue result → at + 1 < 2 ^ 64 }
 {
     match items.get(at).map(Item::copy) {
-        Some(Ok(item)) => match client.submit(rt, item) {
-            Ok(_) => 1,
-            Err(_) => 0,
-        },
-        _ => 0,
+        Some(Ok(item)) => client.submit(rt, item).is_ok(),
+        _ => false,
     }
 }

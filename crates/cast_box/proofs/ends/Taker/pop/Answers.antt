@@ -4,18 +4,14 @@ use Rattle.cast_box.specs.Ends.{TakerEnd}
 use Rattle.cast_box.specs.Lists.{HasTakenOfEnded}
 use Rattle.cast_box.proofs.Closing.{taken_of_ended}
 use Rattle.cast_box.proofs.Moves.{takes, shows_ended}
-use Rattle.cast_box.proofs.ends.Taker.take.Goals as goal
-use Rattle.cast_box.proofs.ends.Taker.take.Goals.{in-Some, in-None}
+use Rattle.cast_box.proofs.ends.Taker.pop.Goals as goal
 
 pub pop_as-requires-clause-rule : goal.pop_as-requires-clause-rule
 pop_as-requires-clause-rule g c =
     let role = ap (λ v. v.role) c.self.invariant.1 in
     (takes _ _ role, shows_ended _ _ role)
 
-pub returns-clause-empty : goal.returns-clause-empty
-returns-clause-empty g c =
+pub returns-in-None-clause-empty : goal.returns-in-None-clause-empty
+returns-in-None-clause-empty g c =
     let P : TakerEnd g.row.T.Denot → Type 0 = λ t. HasTakenOfEnded t.ended t.taken in
-    elim c.match-pop_as.branch [
-      | in-Some w ↦ rw w.result-is tt
-      | in-None w ↦ rw w.result-is (subst P c.self.view_is (taken_of_ended (known c.self.inside.pass) w.in-None.ensures.rule.1))
-    ]
+    subst P c.self.view_is (taken_of_ended (known c.self.inside.pass) c.in-None.ensures.rule.1)
