@@ -1,5 +1,5 @@
 -- What is told of a log that has one entry more.
-use Rattle.std.proofs.Common.{◌≡◌, ℕ, zero, suc, ◌+◌, ◌^◌, ◌%◌, ◌<◌, ◌≤◌, List, [], ◌∷◌, ◌++◌, length, map, take, get_or, refl, sym, ap, ◌∙◌, arith}
+use Rattle.std.proofs.Common.{◌≡◌, ◌≢◌, ℕ, zero, suc, ◌+◌, ◌^◌, ◌%◌, ◌<◌, ◌≤◌, List, [], ◌∷◌, ◌++◌, length, map, take, get_or, refl, sym, ap, ◌∙◌, arith}
 use Rattle.std.proofs.lemmas.List.{append-nil, append_assoc, map-append, take_more}
 use Rattle.cast_message.specs.declared.event.Event.{Event}
 use Rattle.cast_message.specs.declared.event.Event.TheVariants.{Order, Send, Ack, Arrive, Crash}
@@ -46,6 +46,29 @@ one_or_none (Refused origin fault) = omega arith
 pub orders_within : (log : List Entry) → orders_of log ≤ length log
 orders_within [] = omega arith
 orders_within (x ∷ xs) = let one = one_or_none x.kind in let rest = orders_within xs in omega arith
+
+pub no_left : {A : Type 0} (xs ys : List A) → xs ++ ys ≡ [] → xs ≡ []
+no_left [] ys none = refl
+no_left (x ∷ xs) ys none = absurd cc
+
+pub no_right : {A : Type 0} (xs ys : List A) → xs ++ ys ≡ [] → ys ≡ []
+no_right [] ys none = none
+no_right (x ∷ xs) ys none = absurd cc
+
+-- where an entry tells something, the log does
+pub fed_at : (client number : ℕ) (log : List Entry) (i : ℕ) (e : Entry) → i < length log → e ≡ get_or log i e → told_by client (number + orders_of (take i log)) e.kind ≢ [] → feed_from client number log ≢ []
+fed_at client number [] i e lt is told none = absurd (omega arith)
+fed_at client number (x ∷ xs) zero e lt is told none =
+    let same : number + 0 ≡ number = omega arith in
+    told (ap (λ n. told_by client n e.kind) same ∙ ap (λ (y : Entry). told_by client number y.kind) is ∙ no_left (told_by client number x.kind) (feed_from client (number + orders_in x.kind) xs) none)
+fed_at client number (x ∷ xs) (suc i) e lt is told none =
+    let same : number + orders_of (x ∷ take i xs) ≡ number + orders_in x.kind + orders_of (take i xs) = omega arith in
+    fed_at client (number + orders_in x.kind) xs i e (omega arith) is (λ t. told (ap (λ n. told_by client n e.kind) same ∙ t)) (no_right (told_by client number x.kind) (feed_from client (number + orders_in x.kind) xs) none)
+
+-- something is mapped, where there is something
+pub mapped_some : {A B : Type 0} (f : A → B) (xs : List A) (i : ℕ) → i < length xs → map f xs ≢ []
+mapped_some f [] i lt none = absurd (omega arith)
+mapped_some f (x ∷ xs) i lt none = absurd cc
 
 module _ (client : ℕ) (log : List Entry) (i : ℕ) (e : Entry) (lt : i < length log) (is : e ≡ get_or log i e) where
   more : take (i + 1) log ≡ take i log ++ e ∷ []

@@ -1,5 +1,5 @@
 //! What a client is told of a log.
-ghost use Rattle.std.specs.Prelude.{◌≡◌, ◌++◌, IfOk, OnOk};
+ghost use Rattle.std.specs.Prelude.{◌≡◌, ◌≢◌, ◌++◌, [], IfOk, OnOk, OnErr};
 ghost use Rattle.std.specs.Option.{option_to_list};
 ghost use Rattle.cast_desk.specs.Feed.{feed as feed_of, told_by, reply_of, refusal_of, news_of, orders_in};
 
@@ -10,9 +10,10 @@ use std::alloc::{AllocError, Global};
 
 /// What the client of this number is told of a log, entry by entry: first the reply to its own order, with the number of
 /// orders before it in the log or with the fault for which it was refused; then each message that the step delivered; then
-/// each decision that it took.
+/// each decision that it took. Memory is wanted only where the client is told something.
 pub fn feed(alloc: Global, log: &[Entry], client: u64) -> Result<List<Notice>, AllocError>
-    ensures { IfOk result (λ notices. notices ≡ feed_of log.now client) }
+    ensures ok { IfOk result (λ notices. notices ≡ feed_of log.now client) }
+    ensures err { OnErr result (feed_of log.now client ≢ []) }
 {
     let mut notices = List::new(alloc);
     let mut orders = 0;
@@ -29,7 +30,8 @@ fn tell(
     number: u64,
     kind: &EntryKind,
 ) -> Result<(), AllocError>
-    ensures { OnOk result (notices.new ≡ notices.old ++ told_by client number kind.now) }
+    ensures ok { OnOk result (notices.new ≡ notices.old ++ told_by client number kind.now) }
+    ensures err { OnErr result (told_by client number kind.now ≢ []) }
 {
     match kind {
         EntryKind::Step {
@@ -51,8 +53,9 @@ fn tell_reply(
     origin: &Option<Origin>,
     number: u64,
 ) -> Result<(), AllocError>
-    ensures { OnOk result (notices.new ≡ notices.old
+    ensures ok { OnOk result (notices.new ≡ notices.old
         ++ reply_of client event.now origin.now number) }
+    ensures err { OnErr result (reply_of client event.now origin.now number ≢ []) }
 {
     match own_reply(client, event, origin, number) {
         Some(reply) => notices.push(reply),
@@ -81,7 +84,8 @@ fn tell_refusal(
     origin: Origin,
     fault: StepFault,
 ) -> Result<(), AllocError>
-    ensures { OnOk result (notices.new ≡ notices.old ++ refusal_of client origin fault) }
+    ensures ok { OnOk result (notices.new ≡ notices.old ++ refusal_of client origin fault) }
+    ensures err { OnErr result (refusal_of client origin fault ≢ []) }
 {
     if origin.client == client {
         let outcome = Err(fault);
@@ -92,7 +96,8 @@ fn tell_refusal(
 }
 
 fn tell_news(notices: &mut List<Notice>, outcome: &Outcome) -> Result<(), AllocError>
-    ensures { OnOk result (notices.new ≡ notices.old ++ news_of outcome.now) }
+    ensures ok { OnOk result (notices.new ≡ notices.old ++ news_of outcome.now) }
+    ensures err { OnErr result (news_of outcome.now ≢ []) }
 {
     for message in outcome.deliveries.as_slice() {
         notices.push(Notice::Delivered(message.copy()?))?;
