@@ -32,7 +32,9 @@ pub enum Turn {
     Moved,
     /// Nothing was done: no parcel was put or taken, no order taken, no slot sent, no notice put.
     Idle,
-    /// The engine has ended.
+    /// The engine has ended, as all engines are quiet.
+    Stopped,
+    /// The engine has ended otherwise.
     Ended,
 }
 
@@ -151,8 +153,8 @@ impl Engine {
     }
 
     /// Takes one turn: passes the gate, puts the parcel that waits, takes one and acknowledges it, takes an order, sends a slot
-    /// that is due, and puts notices. `Ended` is answered where the log or the clock is full, the node crashes, no turn is left,
-    /// or all engines are quiet; `Idle` only where no parcel was put or taken (`idle`).
+    /// that is due, and puts notices. `Ended` is answered where the log or the clock is full, the node crashes, or no turn is left,
+    /// `Stopped` where all engines are quiet; `Idle` only where no parcel was put or taken (`idle`).
     #[tactic(auto, using(crate::proofs::Again::desk_same))]
     pub fn turn<G: Gate, R: Wait>(
         &mut self,
@@ -179,7 +181,7 @@ impl Engine {
         }
         if quiet.may_stop(board) {
             self.end(EngineEnd::Stopped);
-            return Turn::Ended;
+            return Turn::Stopped;
         }
         if moved { Turn::Moved } else { Turn::Idle }
     }
@@ -232,7 +234,9 @@ impl Engine {
         if self.held.is_some() {
             return false;
         }
+        quiet.look(board);
         let Some(Received { owing }) = self.receive(rt) else {
+            quiet.found_nothing();
             return false;
         };
         if let Some(owing) = owing {
@@ -375,13 +379,14 @@ impl Engine {
         self.resend.next_turn(self.journal.node());
     }
 
-    // For each client, puts the next notice of its feed, where the tray has room. Answers whether one was put.
+    // For each client, puts the next notice of its feed, where the tray has room; none once the engine has ended. Answers whether
+    // one was put.
     #[tactic(auto, using(crate::proofs::Again::desk_same))]
     fn notify<R: Wait>(&mut self, rt: &R) -> bool
         ensures same { IsSameEngine self.old self.new }
         ensures boxes { HasSameBoxes self.old self.new }
     {
-        if self.trays_full {
+        if self.trays_full || self.journal.has_ended() {
             return false;
         }
         match &mut self.desk {
@@ -510,14 +515,18 @@ pub fn run_engine<G: Gate + Drop, R: Wait>(
     let mut waiting = Waiting::new(PATIENCE);
     for _ in rt.forever() {
         if board.is_stopped() {
-            quiet.end(board);
+            quiet.end(board, false);
             return engine;
         }
         match engine.turn(rt, &mut gate, board, &mut quiet) {
             Turn::Moved => waiting.found(),
             Turn::Idle => waiting.wait(rt),
+            Turn::Stopped => {
+                quiet.end(board, true);
+                return engine;
+            }
             Turn::Ended => {
-                quiet.end(board);
+                quiet.end(board, false);
                 return engine;
             }
         }

@@ -242,6 +242,11 @@ impl Journal {
         }
     }
 
+    /// Whether the engine has ended.
+    pub fn has_ended(&self) -> bool {
+        self.ended.is_some()
+    }
+
     /// The node.
     pub fn node(&self) -> &Node
         ensures { result.now ≡ self.now.node }

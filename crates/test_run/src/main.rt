@@ -13,6 +13,7 @@ mod refused;
 mod runs;
 mod seen;
 mod turns;
+mod under_way;
 
 use anyhow::{Result, bail};
 use std::alloc::Global;
@@ -20,7 +21,7 @@ use std::env;
 use std::sync::Wait;
 use std::thread::Threads;
 
-const ROWS: [&str; 16] = [
+const ROWS: [&str; 17] = [
     "gates",
     "gates-of-three",
     "live-refusals",
@@ -37,6 +38,7 @@ const ROWS: [&str; 16] = [
     "one-place",
     "every-fault-on-every-link",
     "crash-at-each-entry",
+    "crash-with-a-frame-under-way",
 ];
 
 fn main(rt: HostRuntime) -> Result<()> {
@@ -75,6 +77,7 @@ fn run_row<R: Threads + Wait + Print + Copy + Send + 'static>(
         "one-place" => losses::one_place(rt, alloc, name),
         "every-fault-on-every-link" => losses::every_fault(rt, alloc, name),
         "crash-at-each-entry" => crashes::at_each_entry(rt, alloc, name),
+        "crash-with-a-frame-under-way" => under_way::crash_with_a_frame_under_way(rt, alloc, name),
         other => bail!("{other}: no such row"),
     }
 }

@@ -4,6 +4,9 @@ use Rattle.cast_engine.proofs.engine.run_engine.Goals as goal
 pub loop-preserved : goal.loop-preserved
 loop-preserved g c = engine_again c.args.engine c.loop.engine c.turn.new.self c.loop.invariant c.turn.ensures.same
 
+pub returns-in-Stopped : goal.returns-in-Stopped
+returns-in-Stopped g c = engine_again c.args.engine c.loop.engine c.turn.new.self c.loop.invariant c.turn.ensures.same
+
 pub returns-in-Ended : goal.returns-in-Ended
 returns-in-Ended g c = engine_again c.args.engine c.loop.engine c.turn.new.self c.loop.invariant c.turn.ensures.same
 
