@@ -14,7 +14,8 @@ use Rattle.cast_model.specs.Delivery.{delivered}
 use Rattle.cast_model.specs.Headline.{DeliversPrefixes}
 use Rattle.cast_model.specs.Replies.{IsPrefixOf, answered, deliveries_for, is_from, after, history, replies, replies_from}
 use Rattle.cast_model.proofs.Answered.{answered-delivered}
-use Rattle.example_ledger.specs.Applied.{applied_at, of_sender, AreBooksOf}
+use Rattle.example_ledger.specs.Applied.{applied_at, AreBooksOf}
+use Rattle.cast_merge.specs.Told.{of_sender}
 use Rattle.example_ledger.specs.Sheets.{BookState, IsSheetOf}
 
 drop-next : {A : Type 0} (xs : List A) (i : ℕ) (x : A) → i < length xs → x ≡ get_or xs i x → drop i xs ≡ x ∷ drop (i + 1) xs

@@ -7,7 +7,7 @@ use Rattle.std.proofs.lemmas.List.Filters.{sum_by-filter_both, length-filter_bot
 use Rattle.cast_message.specs.declared.message.Message.{Message}
 use Rattle.cast_model.specs.Replies.{is_from}
 use Rattle.example_ledger.specs.declared.book.Sheet.{Sheet}
-use Rattle.example_ledger.specs.Applied.{of_sender}
+use Rattle.cast_merge.specs.Told.{of_sender}
 use Rattle.example_ledger.specs.Transfers.{transfer_in}
 use Rattle.example_ledger.specs.Sheets.{AreSums, IsSheetOf, received, sent, received_by, sent_by, capped}
 

@@ -12,9 +12,9 @@ use Rattle.cast_run.specs.Jobs.{told_job}
 use Rattle.cast_run.specs.Serves.{AreServed, IsServed}
 use Rattle.cast_world.specs.Group.{State, Stands, node_at}
 use Rattle.example_ledger.specs.declared.teller.Teller.{Teller}
-use Rattle.example_ledger.specs.Applied.{of_sender}
+use Rattle.cast_merge.specs.Told.{of_sender}
 use Rattle.example_ledger.specs.Tellers.{IsNewTeller, TellerFact, AreNewTellers, TellersApplyPrefixes, TellersKeepSheets}
-use Rattle.example_ledger.proofs.Logged.{told_begins_stream}
+use Rattle.cast_merge.proofs.Told.{tells_prefixes}
 
 -- one more teller that has done nothing
 pub tellers_with : (tellers : List (ℕ × Teller)) (node : ℕ) (teller : Teller) → AreNewTellers tellers → IsNewTeller teller → AreNewTellers (tellers ++ (node, teller) ∷ [])
@@ -51,5 +51,5 @@ module _ (config : Config) (handed : List (ℕ × Teller)) (reports : List NodeR
       let client = found.0 in
       let is = found.1 in
       subst (λ journal. IsPrefixOf (map item_of (of_sender s journal)) (stream past s)) (sym is.holds.book.applied)
-      (told_begins_stream config past world client.node s client.client is.trail is.report.log is.report.node is.got
+      (tells_prefixes config past world client.node s client.client is.report is.trail is.got
       stands (nodes client.node is.report is.report_at) is.tells is.notices sender)

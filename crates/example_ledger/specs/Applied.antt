@@ -1,12 +1,10 @@
 -- What the nodes of a group have applied.
---     of_sender s journal              the messages of s among these, in order
 --     applied_at p events results      what node p delivered by these events and replies, in order
 --     AppliesPrefixes past books       what a node applied of a sender is a prefix of what that sender ordered
 --     AppliesDelivered config past books   and it is what the node delivered
 --     KeepsSheets books                each sheet is the sheet of what was applied
 --     LiveSheetsAgree config past books    live nodes have the same sheet
 use Rattle.std.specs.Prelude.{◌≡◌, ℕ, List, [], ◌∷◌, ◌++◌, length, slice_get, Some, Result}
-use Rattle.std.specs.List.{filter}
 use Rattle.cast_message.specs.declared.config.Config.{Config}
 use Rattle.cast_message.specs.declared.event.Event.{Event}
 use Rattle.cast_message.specs.declared.event.Answer.{Answer}
@@ -14,12 +12,10 @@ use Rattle.cast_message.specs.declared.event.StepFault.{StepFault}
 use Rattle.cast_message.specs.declared.message.Message.{Message}
 use Rattle.cast_model.specs.History.{History, broadcast}
 use Rattle.cast_model.specs.Delivery.{delivered}
-use Rattle.cast_model.specs.Replies.{IsPrefixOf, is_from, deliveries_for}
+use Rattle.cast_model.specs.Replies.{IsPrefixOf, deliveries_for}
 use Rattle.cast_model.specs.Rounds.{Live}
+use Rattle.cast_merge.specs.Told.{of_sender}
 use Rattle.example_ledger.specs.Sheets.{BookState, IsSheetOf}
-
-abbrev pub of_sender : ℕ → List Message → List Message
-of_sender s journal = filter (is_from s) journal
 
 unfoldable pub applied_at : ℕ → List Event → List (Result Answer StepFault) → List Message
 applied_at p [] results = []

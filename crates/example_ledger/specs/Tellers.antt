@@ -1,5 +1,4 @@
 -- What a teller orders and applies.
---     told notices                what these notices say was delivered, in order
 --     KeepsBook book notices      the book is that of these notices
 --     HasOrdered teller sent      it has ordered the first of its items
 --     TellerFact                  what a teller keeps of itself
@@ -8,8 +7,8 @@
 --     OrdersAreGiven              each item that a node ordered was given to a teller there
 --     TellersApplyPrefixes        what a teller applied of a sender is a prefix of what that sender ordered
 --     TellersKeepSheets tellers   each sheet is the sheet of what was applied
-use Rattle.std.specs.Prelude.{◌≡◌, ℕ, ◌<◌, ◌≤◌, List, [], length, map, take, slice_get, Bool, true, false, Option, Some, None}
-use Rattle.std.specs.List.{All, Contains, filter_map}
+use Rattle.std.specs.Prelude.{◌≡◌, ℕ, ◌<◌, ◌≤◌, List, [], length, map, take, slice_get, Bool, true, Some}
+use Rattle.std.specs.List.{All, Contains}
 use Rattle.cast_message.specs.declared.config.Config.{Config}
 use Rattle.cast_message.specs.declared.message.Item.{Item}
 use Rattle.cast_message.specs.declared.message.Message.{Message}
@@ -17,20 +16,11 @@ use Rattle.cast_model.specs.History.{History, stream}
 use Rattle.cast_model.specs.Replies.{IsPrefixOf}
 use Rattle.cast_model.specs.Shown.{item_of}
 use Rattle.cast_desk.specs.declared.notice.Notice.{Notice}
-use Rattle.cast_desk.specs.declared.notice.Notice.TheVariants.{Reply, Delivered, Decided}
 use Rattle.cast_desk.specs.declared.desk.OrderIn.{OrderIn}
 use Rattle.cast_run.specs.Jobs.{told_job}
 use Rattle.example_ledger.specs.declared.teller.Teller.{Teller}
-use Rattle.example_ledger.specs.Applied.{of_sender}
+use Rattle.cast_merge.specs.Told.{told, of_sender}
 use Rattle.example_ledger.specs.Sheets.{BookState, IsSheetOf}
-
-abbrev pub message_told : Notice → Option Message
-message_told (Delivered message) = Some message
-message_told (Reply ticket outcome) = None
-message_told (Decided decision) = None
-
-abbrev pub told : List Notice → List Message
-told notices = filter_map message_told notices
 
 -- a book that holds what these notices say was delivered, and the sheet of it
 pub record KeepsBook (book : BookState) (notices : List Notice) : Type 0 where

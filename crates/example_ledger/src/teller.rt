@@ -2,7 +2,8 @@
 ghost use Rattle.std.specs.Prelude.{◌≡◌, ◌↔◌, ◌<◌, ◌≤◌, ◌++◌, ◌∷◌, [], length, IsTrue};
 ghost use Rattle.cast_desk.specs.Desk.{IsSameClient};
 ghost use Rattle.cast_run.specs.Jobs.{submitted, got};
-ghost use Rattle.example_ledger.specs.Tellers.{told, HasOrdered};
+ghost use Rattle.cast_merge.specs.Told.{told};
+ghost use Rattle.example_ledger.specs.Tellers.{HasOrdered};
 
 use crate::book::Book;
 use cast_desk::{Client, Notice};

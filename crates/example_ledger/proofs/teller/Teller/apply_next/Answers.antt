@@ -1,6 +1,6 @@
 use Rattle.std.proofs.Common.{◌++◌, ◌∷◌, [], sym, ap, ◌∙◌}
-use Rattle.example_ledger.specs.Tellers.{told}
-use Rattle.example_ledger.proofs.Logged.{told_next}
+use Rattle.cast_merge.specs.Told.{told}
+use Rattle.cast_merge.proofs.Told.{told_next}
 use Rattle.example_ledger.proofs.teller.Teller.apply_next.Goals as goal
 
 pub returns-in-Some-clause-book : goal.returns-in-Some-clause-book

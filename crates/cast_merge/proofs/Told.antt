@@ -29,9 +29,8 @@ use Rattle.cast_desk.specs.declared.notice.Notice.{Notice}
 use Rattle.cast_desk.specs.declared.notice.Notice.TheVariants.{Reply, Delivered, Decided}
 use Rattle.cast_desk.specs.Feed.{feed, feed_from, told_by, reply_of, orders_in}
 use Rattle.cast_report.specs.Linked.{Trail, Taken, taken, taken_of, taken_in, taken_by, steps_in, AreTaken, IsLogOf, outcome_in, outcome_in_answer}
-use Rattle.cast_world.specs.Group.{State, Stands, node_at}
-use Rattle.example_ledger.specs.Applied.{of_sender}
-use Rattle.example_ledger.specs.Tellers.{told}
+use Rattle.cast_world.specs.Group.{State, Stands}
+use Rattle.cast_merge.specs.Told.{told, of_sender, TellsPrefixes}
 
 -- what these steps delivered, in order
 unfoldable news : List Taken → List Message
@@ -164,16 +163,14 @@ front_of_stream config past world p s stands within =
 prefix_of_prefix : (xs ys zs : List Item) → IsPrefixOf xs ys → IsPrefixOf ys zs → IsPrefixOf xs zs
 prefix_of_prefix xs ys zs one more = (one.0 ++ more.0, sym (append_assoc xs one.0 more.0) ∙ ap (λ front. front ++ more.0) one.1 ∙ more.1)
 
--- What a client was told of a sender begins what that sender ordered: the log of its node tells what the node delivered, and the
+-- What a client was told of a sender begins what that sender broadcast: the log of its node tells what the node delivered, and the
 -- node is that of the world.
-pub told_begins_stream : (config : Config) (past : History) (world : State) (p s client : ℕ) (trail : Trail) (log : List Entry) (kept : Kept) (got : List Notice)
-    → Stands config past world → node_at world p ≡ kept → IsLogOf config p trail log kept → StartsWith (feed log client) got → s < config.nodes
-    → IsPrefixOf (map item_of (of_sender s (told got))) (stream past s)
-told_begins_stream config past world p s client trail log kept got stands same is begins sender =
+pub tells_prefixes : TellsPrefixes
+tells_prefixes config past world p s client report trail got stands same is begins sender =
     let steps = steps_in config p trail in
     let within = is.stands.place in
     let there = subst (NodeStands config p (steps_of past p)) same (stands.nodes p within) in
     let equal = sym (is.stands.delivers s sender) ∙ there.delivers s sender in
     prefix_of_prefix _ (map item_of (of_sender s (own_log config p steps))) (stream past s)
-    (front_of_sender s (told got) (own_log config p steps) (told_front config p client trail log kept got is begins))
+    (front_of_sender s (told got) (own_log config p steps) (told_front config p client trail report.log report.node got is begins))
     (subst (λ items. IsPrefixOf items (stream past s)) (sym equal) (front_of_stream config past world p s stands within))

@@ -1,0 +1,38 @@
+-- What clients are told of what a group broadcasts.
+--     told notices                what these notices say was delivered, in order
+--     of_sender s messages        the messages of s among these
+--     TellsPrefixes               what the client of a node got, which begins the feed of its log, tells of each sender a prefix of
+--                                 what that sender broadcast
+use Rattle.std.specs.Prelude.{◌≡◌, ℕ, ◌<◌, List, map, Option, Some, None}
+use Rattle.std.specs.List.{filter, filter_map}
+use Rattle.cast_message.specs.declared.config.Config.{Config}
+use Rattle.cast_message.specs.declared.message.Message.{Message}
+use Rattle.cast_model.specs.History.{History, stream}
+use Rattle.cast_model.specs.Replies.{IsPrefixOf, is_from}
+use Rattle.cast_model.specs.Shown.{item_of}
+use Rattle.cast_box.specs.Lists.{StartsWith}
+use Rattle.cast_desk.specs.declared.notice.Notice.{Notice}
+use Rattle.cast_desk.specs.declared.notice.Notice.TheVariants.{Reply, Delivered, Decided}
+use Rattle.cast_desk.specs.Feed.{feed}
+use Rattle.cast_report.specs.declared.report.NodeReport.{NodeReport}
+use Rattle.cast_report.specs.Linked.{Trail, IsLogOf}
+use Rattle.cast_world.specs.Group.{State, Stands, node_at}
+
+abbrev pub message_told : Notice → Option Message
+message_told (Delivered message) = Some message
+message_told (Reply ticket outcome) = None
+message_told (Decided decision) = None
+
+abbrev pub told : List Notice → List Message
+told notices = filter_map message_told notices
+
+abbrev pub of_sender : ℕ → List Message → List Message
+of_sender s messages = filter (is_from s) messages
+
+-- node p, whose log tells of these steps, is that of a world that stands for the history; client c got what begins its feed
+abbrev pub TellsPrefixes : Type 0
+TellsPrefixes =
+    (config : Config) (past : History) (world : State) (p s c : ℕ) (report : NodeReport) (trail : Trail) (got : List Notice)
+    → Stands config past world → node_at world p ≡ report.node → IsLogOf config p trail report.log report.node
+    → StartsWith (feed report.log c) got → s < config.nodes
+    → IsPrefixOf (map item_of (of_sender s (told got))) (stream past s)
