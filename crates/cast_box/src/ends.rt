@@ -53,8 +53,8 @@ impl<T> Model for Putter<T> {
 pub struct Taker<T> {
     pub(crate) queue: Arc<BoxQueue<T>, Global>,
     pub(crate) pass: BoxPass<T>,
-    // The last take found nothing. The next one then looks first whether the box is empty still, which takes a quarter of the
-    // time of a take that finds nothing; while items come, looking would hold up who puts them.
+    // The last take found nothing. The next one then looks first whether the box is empty still, which takes far less than a
+    // take that finds nothing; while items come, looking would hold up who puts them.
     pub(crate) found_nothing: bool,
 }
 

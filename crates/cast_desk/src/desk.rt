@@ -44,8 +44,8 @@ impl Desk {
         self.orders.take(rt)
     }
 
-    /// Puts the notice into the tray of the client of this number. Where that tray was full at one moment of the call, the
-    /// notice comes back and nothing was put. It may spin behind a client that stalls in `next`.
+    /// Puts the notice into the tray of this client, by its number among those of the desk. Where that tray was full at one
+    /// moment of the call, the notice comes back and nothing was put. It may spin behind a client that stalls in `next`.
     pub fn notify<R: Wait>(
         &mut self,
         rt: &R,

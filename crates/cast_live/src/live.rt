@@ -55,7 +55,8 @@ pub fn live_text<R: Read, W: Write, T: Threads + Wait + Copy + Send + 'static>(
 
 /// Runs the group of a script in threads, with its plan and a client for each of its jobs, and merges its logs. The events of
 /// the script are left aside. All threads have ended when it returns; until then `progress` tells another thread how far the
-/// run is, of as many nodes as it has room for.
+/// run is, of as many nodes as it has room for. Refused are a group that does not fit the script's jobs and plan, or of which a
+/// thread was not started, each as `Live`, and want of memory, which is `Memory` alone.
 pub fn run_script<T: Threads + Wait + Copy + Send + 'static>(
     rt: T,
     alloc: Global,

@@ -29,7 +29,7 @@ pub struct Summary {
     pub verdict: Verdict,
 }
 
-/// Judges the record of the merged events, and asks whether the group is at rest after them.
+/// Judges the record of the merged events, and asks whether the group is at rest after them; or want of memory.
 pub fn summarize(alloc: Global, run: &FinishedRun) -> Result<Summary, AllocError>
     requires { IsFinished run.now }
     ensures { IfOk result (IsSummaryOf run.now.report.config run.now.assembly.events) }

@@ -28,3 +28,6 @@ pub use reading::read_line;
 pub use verdict::{Verdict, write_verdict};
 pub use word_line::{WordLine, read_words};
 pub use writing::{write_line, write_record};
+
+// What the writers here take, and what they answer.
+pub use cast_words::{Failed, Meter, WriteFault, Written};

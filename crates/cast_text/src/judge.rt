@@ -12,8 +12,8 @@ use std::alloc::Global;
 use std::io::{Read, Write};
 
 /// Reads a text to its end, judges it as a record, and writes the verdict as a line. Of the text are kept the items that were
-/// broadcast, and an unfinished line. After a fault of reading, or want of memory, nothing was written, after `Write` a prefix
-/// of the line, or nothing.
+/// broadcast, and an unfinished line. After `Write` a prefix of the line was written, or nothing, and after any other fault
+/// nothing.
 pub fn judge_text<R: Read, W: Write>(
     alloc: Global,
     reader: &mut Meter<R>,

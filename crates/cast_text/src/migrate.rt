@@ -10,8 +10,8 @@ use cast_words::{Meter, write_bytes};
 use std::alloc::Global;
 use std::io::{Read, Write};
 
-/// Reads a record `cast/1` to its end, and writes it with the head of `cast/2`. After a fault of reading, want of memory or
-/// `NotV1` nothing was written, after `Write` a prefix of the text, or nothing.
+/// Reads a record `cast/1` to its end, and writes it with the head of `cast/2`. After `Write` a prefix of the text was written,
+/// or nothing, and after any other fault nothing.
 pub fn migrate_text<R: Read, W: Write>(
     alloc: Global,
     reader: &mut Meter<R>,

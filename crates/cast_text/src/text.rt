@@ -11,8 +11,8 @@ use cast_words::Meter;
 use std::alloc::Global;
 use std::io::{Read, Write};
 
-/// Reads a script to its end, and writes the record of its events. After a fault of reading nothing was written, after
-/// `Write` a prefix of the record, or nothing, and after `Memory` the same without the last line.
+/// Reads a script to its end, and writes the record of its events. After `Write` a prefix of the record was written, or
+/// nothing, after `Memory` the same without the last line, and after any other fault nothing.
 pub fn run_text<R: Read, W: Write>(
     alloc: Global,
     reader: &mut Meter<R>,
