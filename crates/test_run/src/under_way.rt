@@ -61,10 +61,10 @@ pub fn crash_with_a_frame_under_way<R: Threads + Wait + Print + Copy + Send + 's
     alloc: Global,
     row: &str,
 ) -> Result<()> {
-    let config = Shape::new(3, 1, 2).config()?;
-    let mut plan = no_faults(alloc);
     let node = NodeId(0);
+    let mut plan = no_faults(alloc);
     plan.faults.push(Fault::Crash { node, entries: 2 })?;
+    let config = Shape::new(3, 1, 2).config()?;
     let jobs = submit_each(alloc, &[0], 1)?;
     let run = run_live(rt, alloc, config, &plan, jobs, late_gates(alloc)?, TURNS)?;
     let seen = see(alloc, &run.report)?;
