@@ -9,7 +9,7 @@ use Rattle.cast_message.specs.declared.config.Config.{Config}
 use Rattle.cast_message.specs.declared.event.Event.TheVariants.{Order}
 use Rattle.cast_message.specs.declared.event.Outcome.{Outcome}
 use Rattle.cast_message.specs.declared.message.Item.{Item}
-use Rattle.cast_model.specs.History.{History, stream}
+use Rattle.cast_model.specs.History.{History}
 use Rattle.cast_model.specs.Steps.{Step, Ordered, Sent, Acknowledged, Arrived, Stopped, Steps, each, own_items, steps_of}
 use Rattle.cast_model.specs.OwnSteps.{own_fault, is_ignored, node_after}
 use Rattle.cast_model.proofs.Projected.{own_items-steps_of}

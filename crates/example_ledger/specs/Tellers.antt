@@ -7,11 +7,10 @@
 --     OrdersAreGiven              each item that a node ordered was given to a teller there
 --     TellersApplyPrefixes        what a teller applied of a sender is a prefix of what that sender ordered
 --     TellersKeepSheets tellers   each sheet is the sheet of what was applied
-use Rattle.std.specs.Prelude.{◌≡◌, ℕ, ◌<◌, ◌≤◌, List, [], length, map, take, slice_get, Bool, true, Some}
+use Rattle.std.specs.Prelude.{◌≡◌, ℕ, ◌<◌, ◌≤◌, List, [], length, map, take, slice_get, Bool, true, false, Some}
 use Rattle.std.specs.List.{All, Contains}
 use Rattle.cast_message.specs.declared.config.Config.{Config}
 use Rattle.cast_message.specs.declared.message.Item.{Item}
-use Rattle.cast_message.specs.declared.message.Message.{Message}
 use Rattle.cast_model.specs.History.{History, stream}
 use Rattle.cast_model.specs.Replies.{IsPrefixOf}
 use Rattle.cast_model.specs.Shown.{item_of}
