@@ -1,14 +1,15 @@
 -- What is counted at one go, and taken back.
-use Rattle.std.specs.Prelude.{◌≡◌, ◌≢◌, ℕ, suc, zero, ◌+◌, ◌<◌, Bool, true, false, cond, if◌then◌else◌, List, [], ◌∷◌, ◌++◌, length, drop, slice_index_or, Option, Some, None, is_some, refl}
+use Rattle.std.specs.Prelude.{◌≡◌, ℕ, suc, zero, ◌+◌, ◌<◌, Bool, true, false, cond, if◌then◌else◌, List, [], ◌∷◌, ◌++◌, length, drop, slice_index_or, Option, Some, None, is_some, refl}
 use Rattle.std.specs.Option.{option_to_list}
-use Rattle.std.specs.Ordering.{nat_cmp, eq_by_cmp}
+use Rattle.std.specs.Ordering.{nat_cmp}
 use Rattle.std.specs.Cmp.{nat_cmp_total}
 use Rattle.std.specs.Map.{lookup}
 use Rattle.std.specs.BTreeMap.{is_at}
 use Rattle.std.specs.FinMap as map
 use Rattle.std.specs.FinMap.{get-insert, get-remove, same_map, nat_cmp-IsAntisymmetric}
 use Rattle.std.proofs.Common.{sym, ap, ◌∙◌, arith, inl, inr, append-nil, append_assoc}
-use Rattle.std.proofs.lemmas.Bool.Decides.{nat_tests, eqb_tells}
+use Rattle.std.proofs.lemmas.Bool.Decides.{eqb_tells}
+use Rattle.cast_message.proofs.Tests.{cmp_other, cmp_same}
 use Rattle.cast_message.specs.declared.message.Item.{Item}
 use Rattle.cast_message.specs.declared.message.Item.TheVariants.{Data, Propose, Close}
 use Rattle.cast_message.specs.declared.message.Message.{Message}
@@ -35,26 +36,20 @@ with_before-is c k (Some t) = go (map.contains_key c.tallies k)
     go true = refl
     go false = refl
 
-here : (q k : ℕ) → q ≡ k → eq_by_cmp nat_cmp q k ≡ true
-here q k e = grind (arith, nat_tests)
-
-apart : (q k : ℕ) → q ≢ k → eq_by_cmp nat_cmp q k ≡ false
-apart q k e = grind (arith, nat_tests)
-
 there_now : (m : map.FinMap nat_cmp Tally) (k : ℕ) (t : Tally) → map.contains_key (map.insert m k t) k ≡ true
-there_now m k t = ap is_some (get-insert nat_cmp_total m k t k ∙ ap (λ b. cond b (Some t) (map.get m k)) (here k k refl))
+there_now m k t = ap is_some (get-insert nat_cmp_total m k t k ∙ ap (λ b. cond b (Some t) (map.get m k)) (cmp_same k k refl))
 
 -- a tally that is changed takes its value of before
 back_again : (m : map.FinMap nat_cmp Tally) (k : ℕ) (t : Tally) (o : Option Tally) → map.get m k ≡ o → with_tally (map.insert m k t) k o ≡ m
 back_again m k t None e = same_map nat_cmp_total nat_cmp-IsAntisymmetric _ _ (λ q. get-remove nat_cmp_total (map.insert m k t) k q ∙ elim (eqb_tells q k) [
-  | inl f ↦ ap (λ b. cond b None (map.get (map.insert m k t) q)) (here q k f.1) ∙ sym (ap (map.get m) f.1 ∙ e)
-  | inr f ↦ ap (λ b. cond b None (map.get (map.insert m k t) q)) (apart q k f.1) ∙ get-insert nat_cmp_total m k t q ∙ ap (λ b. cond b (Some t) (map.get m q)) (apart q k f.1)
+  | inl f ↦ ap (λ b. cond b None (map.get (map.insert m k t) q)) (cmp_same q k f.1) ∙ sym (ap (map.get m) f.1 ∙ e)
+  | inr f ↦ ap (λ b. cond b None (map.get (map.insert m k t) q)) (cmp_other q k f.1) ∙ get-insert nat_cmp_total m k t q ∙ ap (λ b. cond b (Some t) (map.get m q)) (cmp_other q k f.1)
 ])
 back_again m k t (Some u) e =
     ap (λ b. if b then map.insert (map.insert m k t) k u else map.insert m k t) (there_now m k t)
     ∙ same_map nat_cmp_total nat_cmp-IsAntisymmetric _ _ (λ q. get-insert nat_cmp_total (map.insert m k t) k u q ∙ elim (eqb_tells q k) [
-      | inl f ↦ ap (λ b. cond b (Some u) (map.get (map.insert m k t) q)) (here q k f.1) ∙ sym (ap (map.get m) f.1 ∙ e)
-      | inr f ↦ ap (λ b. cond b (Some u) (map.get (map.insert m k t) q)) (apart q k f.1) ∙ get-insert nat_cmp_total m k t q ∙ ap (λ b. cond b (Some t) (map.get m q)) (apart q k f.1)
+      | inl f ↦ ap (λ b. cond b (Some u) (map.get (map.insert m k t) q)) (cmp_same q k f.1) ∙ sym (ap (map.get m) f.1 ∙ e)
+      | inr f ↦ ap (λ b. cond b (Some u) (map.get (map.insert m k t) q)) (cmp_other q k f.1) ∙ get-insert nat_cmp_total m k t q ∙ ap (λ b. cond b (Some t) (map.get m q)) (cmp_other q k f.1)
     ])
 
 -- what an item changes is restored

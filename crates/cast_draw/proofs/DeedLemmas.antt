@@ -2,7 +2,7 @@
 use Rattle.std.specs.Prelude.{◌≡◌, ℕ, ◌+◌, ◌<◌, ◌≤◌, List, [], ◌∷◌, ◌++◌, length, map, take, drop, get_or, Result, Ok, Err, IfOk, refl}
 use Rattle.std.proofs.Common.{sym, ap, ◌∙◌, arith, append_assoc, append-nil}
 use Rattle.std.proofs.lemmas.List.{drop_more, drop_all}
-use Rattle.cast_words.proofs.WritingLemmas.{drop-next}
+use Rattle.cast_message.proofs.Lists.{drop-next}
 use Rattle.cast_message.specs.declared.message.Message.{Message}
 use Rattle.cast_message.specs.declared.message.Decision.{Decision}
 use Rattle.cast_draw.specs.Deeds.{Deed, Delivers, Decides, brought, deeds, deeds_text, deed_text}

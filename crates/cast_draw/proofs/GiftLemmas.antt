@@ -1,5 +1,5 @@
 -- A message is given to peers one by one.
-use Rattle.std.specs.Prelude.{◌≡◌, ℕ, ◌+◌, ◌≤◌, Bool, true, not, if◌then◌else◌, List, [], ◌∷◌, ◌++◌, length, Result, Ok, Err, OnOk, refl}
+use Rattle.std.specs.Prelude.{◌≡◌, ℕ, ◌+◌, ◌≤◌, Bool, true, not, if◌then◌else◌, List, [], ◌∷◌, ◌++◌, length, Ok, refl}
 use Rattle.std.proofs.Common.{sym, ap, ◌∙◌, arith}
 use Rattle.std.proofs.lemmas.List.{get_or_past}
 use Rattle.std.specs.Ordering.{nat_cmp}
@@ -26,6 +26,3 @@ pub not_held : (held : List (set.FinSet nat_cmp)) (pair : Pair) → length held 
 not_held held pair past = ap not (sym (ap (λ s. set.contains s pair.number) (get_or_past held pair.sender set.empty past) ∙ contains-empty nat_cmp pair.number))
 
 -- what holds of an Ok implies more of it
-pub ok_of : {X E P Q : Type 0} (r : Result X E) → OnOk r P → (P → Q) → OnOk r Q
-ok_of (Ok x) p f = f p
-ok_of (Err e) p f = p

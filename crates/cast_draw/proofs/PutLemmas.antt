@@ -7,6 +7,7 @@ use Rattle.std.specs.List.{flat_map}
 use Rattle.std.proofs.lemmas.Grind.{flat_map-append}
 use Rattle.std.proofs.lemmas.List.{take_more}
 use Rattle.cast_words.specs.Hex.{hex, hex_digit}
+use Rattle.cast_words.proofs.HexLemmas.{hex-append}
 
 -- one more of the pieces
 pub flat_map-more : {X : Type 0} (f : X → List ℕ) (xs : List X) (i : ℕ) (x d : X) (old now new : List ℕ) → i < length xs → x ≡ get_or xs i d
@@ -17,10 +18,6 @@ flat_map-more f xs i x d old now new within is before put =
     ∙ append_assoc old (flat_map f (take i xs)) (f x)
     ∙ ap (λ t. old ++ t) (ap (λ t. flat_map f (take i xs) ++ t) (sym (append-nil (f x))) ∙ sym (flat_map-append f (take i xs) (x ∷ [])))
     ∙ ap (λ t. old ++ flat_map f t) (ap (λ y. take i xs ++ y ∷ []) is ∙ sym (take_more xs i d within))
-
-hex-append : (xs ys : List ℕ) → hex (xs ++ ys) ≡ hex xs ++ hex ys
-hex-append [] ys = refl
-hex-append (x ∷ xs) ys = ap (λ digits. hex_digit (x / 16) ∷ hex_digit (x % 16) ∷ digits) (hex-append xs ys)
 
 -- the digits of one more byte
 pub hex-more : (bytes : List ℕ) (i high low : ℕ) (old now new : List ℕ) → i < length bytes → high ≡ hex_digit (get_or bytes i 0 / 16) → low ≡ hex_digit (get_or bytes i 0 % 16)

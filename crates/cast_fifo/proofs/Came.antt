@@ -8,12 +8,13 @@ use Rattle.std.proofs.Common.{sym, ap, ◌∙◌, arith, inl, inr, true≢false}
 use Rattle.std.proofs.lemmas.Bool.Decides.{nat_tests}
 use Rattle.std.proofs.lemmas.List.Elements.{All-tail, All-same}
 use Rattle.std.proofs.lemmas.Map.Views.{All-keys-insert_entry, All-map-remove_entry}
+use Rattle.std.proofs.lemmas.Bool.{lt-ltb}
 use Rattle.cast_message.specs.declared.message.Item.{Item}
 use Rattle.cast_fifo.specs.declared.waiting.Waiting.{Waiting}
 use Rattle.cast_fifo.specs.Held.{Held, held_of, waiting_at, came, marked, with_item, without_item, with_mark, run_from, rest_from, known_after}
 use Rattle.cast_fifo.proofs.Entries.{Entries, keys_of-marked}
 use Rattle.cast_fifo.proofs.Turns.{found_inserted}
-use Rattle.cast_fifo.proofs.Stands.{look_changed, or_true, lt_true}
+use Rattle.cast_fifo.proofs.Stands.{look_changed, or_true}
 
 pub held_of-set : (all : List Held) (s : ℕ) (v : Held) → s < length all → held_of (slice_set all s v) s ≡ v
 held_of-set [] s v l = absurd (omega (arith, l))
@@ -69,7 +70,7 @@ came-known_after held k i h = go (nat_lt i held.next) refl h
     next = held.next + length (run_from held.next es)
 
     passed : i < next → (nat_lt i next || is_some (waiting_at (rest_from held.next es) i)) ≡ true
-    passed l = ap (λ b. b || is_some (waiting_at (rest_from held.next es) i)) (lt_true i next l)
+    passed l = ap (λ b. b || is_some (waiting_at (rest_from held.next es) i)) (lt-ltb i next l)
 
     lt_tells : (n : ℕ) → nat_lt i n ≡ true → i < n
     lt_tells n e = grind (arith, nat_tests)

@@ -6,6 +6,8 @@ use Rattle.std.specs.Ordering.{nat_cmp}
 use Rattle.std.proofs.Common.{sym, ap, ◌∙◌, subst, arith, inl, inr, true≢false}
 use Rattle.std.proofs.Math.ListN.{length-set}
 use Rattle.std.proofs.lemmas.Bool.Decides.{nat_tests, eqb_tells}
+use Rattle.cast_message.proofs.Tests.{turned_about}
+use Rattle.cast_message.proofs.Booleans.{or_false}
 use Rattle.cast_message.specs.declared.message.Item.{Item}
 use Rattle.cast_message.specs.declared.message.Item.TheVariants.{Close}
 use Rattle.cast_message.specs.declared.message.Message.{Message}
@@ -14,7 +16,6 @@ use Rattle.cast_fifo.specs.Held.{Held, nothing_held, held_of, came, with_item, k
 use Rattle.cast_fifo.specs.HoldsBack.{HoldsBack}
 use Rattle.cast_fifo.specs.Calls.{Call, Hold, Known, Offer, is_pair, is_offer_of, is_hold_of, is_mark_of, is_ready, first_of, item_of, message_of, between, sender_of, held_after, held_by, answer, MayCall, MayBeCalled, GivesInOrder}
 use Rattle.cast_fifo.proofs.Stands.{same_stands, came_is, holds, knows, with_one, numbered-map, first_none, or_true}
-use Rattle.cast_fifo.proofs.Turns.{or_false}
 use Rattle.cast_fifo.proofs.Came.{held_of-set}
 
 some_first : (a b : Option Item) → is_some (first_of a b) ≡ (is_some a || is_some b)
@@ -79,9 +80,6 @@ pair_of_own s k i b = grind (arith, nat_tests)
 
 pair_of_other : (t s k i : ℕ) → t ≢ s → (t == s && k == i) ≡ false
 pair_of_other t s k i e = grind (arith, nat_tests)
-
-turned_about : (k i : ℕ) → (k == i) ≡ (i == k)
-turned_about k i = grind (arith, nat_tests)
 
 by_hold : (o h m p : Bool) → (m ≡ true → (o || h) ≡ true) → (o || ((p || h) && m)) ≡ (o || (h && m))
 by_hold true h m p f = refl

@@ -9,6 +9,7 @@ use Rattle.std.specs.declared.cmp.Ordering.TheVariants.{Less}
 use Rattle.std.specs.BTreeMap.{is_at}
 use Rattle.std.proofs.Common.{sym, ap, ◌∙◌, subst, arith, inl, inr, Bor, append_assoc, true≢false}
 use Rattle.std.proofs.lemmas.Bool.Decides.{nat_tests, eqb_tells}
+use Rattle.std.proofs.lemmas.Bool.{cases_Bool}
 use Rattle.std.proofs.lemmas.List.Elements.{All-head, All-tail, All-weaker}
 use Rattle.std.proofs.lemmas.Map.Keys.{sorted_tail}
 use Rattle.std.proofs.lemmas.Map.Views.{All-after_first}
@@ -16,11 +17,11 @@ use Rattle.cast_message.specs.declared.message.Item.{Item}
 use Rattle.cast_message.specs.declared.message.Message.{Message}
 use Rattle.cast_model.specs.History.{numbered}
 use Rattle.cast_fifo.specs.declared.waiting.Waiting.{Waiting}
-use Rattle.cast_fifo.specs.Held.{Held, waiting_at, marked, with_mark, item_due, run_from, advanced, known_items, known_after}
+use Rattle.cast_fifo.specs.Held.{Held, came, waiting_at, marked, with_mark, item_due, run_from, advanced, known_items, known_after}
 use Rattle.cast_fifo.specs.HoldsBack.{Ascends}
 use Rattle.cast_fifo.specs.Windows.{entries_of, due_front, IsWindow}
 use Rattle.cast_fifo.proofs.Entries.{Places, Entries, seen, with_known, seen_marked_near, within_ring, no_run, past_ring, look_up, or_else}
-use Rattle.cast_fifo.proofs.Turns.{same_test, tells, marked_elsewhere, marked_before, none_ready, advanced_none}
+use Rattle.cast_fifo.proofs.Turns.{same_test, tells, marked_elsewhere, marked_before, marked_new, none_ready, advanced_none}
 use Rattle.cast_fifo.proofs.Stands.{Ascends-set, lower, less_tells, look_changed, item_in, known_in, Released, released, numbered-map}
 
 some_none : (x : Item) → ◌≡◌ {A = Option Item} (Some x) None → ⊥
@@ -247,6 +248,13 @@ module _ (next : ℕ) (closed : Bool) (ring : Places) (far : Entries) (held : He
         | inl f ↦ absurd (true≢false (sym found.0 ∙ ap (λ q. known_in (waiting_at es q)) f.1 ∙ r.stops))
         | inr f ↦ omega (arith, f.1, upto)
       ]
+
+  -- where anything has its turn, the pair came
+  pub turn_came : (turn : ℕ) (x : Item) → held.next ≤ turn → turn ≤ turns_end held number → item_due (waiting_at held.waiting turn) (nat_eq turn number) ≡ Some x → came held number ≡ true
+  turn_came turn x from upto e = elim (cases_Bool (came held number)) [
+    | inl old ↦ old
+    | inr new ↦ absurd (omega (arith, from, (turn_more 0 turn x [] _ from upto e refl).0, ap length (marked_new next closed ring far held number h is new)))
+  ]
 
   -- a number whose turn has not come is the end
   pub turn_none : (turn : ℕ) → held.next ≤ turn → turn ≤ turns_end held number → item_due (waiting_at held.waiting turn) (nat_eq turn number) ≡ None → turn ≡ turns_end held number

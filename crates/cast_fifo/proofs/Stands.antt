@@ -1,5 +1,5 @@
 -- What is held of a sender, said by the item of each number and whether it is ready.
-use Rattle.std.specs.Prelude.{◌≡◌, ◌≢◌, ℕ, zero, suc, ◌+◌, ◌-◌, ◌≤◌, ◌<◌, ◌==◌, nat_lt, Bool, true, false, ◌&&◌, ◌||◌, cond, if◌then◌else◌, List, [], ◌∷◌, map, length, Option, Some, None, is_some, unwrap_or, refl}
+use Rattle.std.specs.Prelude.{◌≡◌, ◌≢◌, ℕ, zero, suc, ◌+◌, ◌-◌, ◌≤◌, ◌<◌, ◌==◌, Bool, true, false, ◌&&◌, ◌||◌, cond, if◌then◌else◌, List, [], ◌∷◌, map, length, Option, Some, None, is_some, unwrap_or, refl}
 use Rattle.std.specs.List.{list_any, range_with_len}
 use Rattle.std.specs.Map.{set_value}
 use Rattle.std.specs.Ordering.{nat_cmp, match_ordering}
@@ -8,6 +8,8 @@ use Rattle.std.specs.declared.cmp.Ordering.TheVariants.{Less, Equal, Greater}
 use Rattle.std.specs.BTreeMap.{insert_entry, is_at}
 use Rattle.std.proofs.Common.{sym, ap, ◌∙◌, subst, arith, inl, inr, true≢false}
 use Rattle.std.proofs.lemmas.Bool.Decides.{nat_tests, leb_tells, eqb_tells}
+use Rattle.std.proofs.lemmas.Bool.{eq-eqb, le-ltb, lt-ltb, ne_eqb}
+use Rattle.cast_message.proofs.Booleans.{or_assoc, or_false}
 use Rattle.cast_message.specs.declared.message.Item.{Item}
 use Rattle.cast_message.specs.declared.message.Item.TheVariants.{Close}
 use Rattle.cast_message.specs.declared.message.Message.{Message}
@@ -18,7 +20,7 @@ use Rattle.cast_message.specs.Items.{is_close}
 use Rattle.cast_fifo.specs.Calls.{first_of}
 use Rattle.cast_fifo.specs.HoldsBack.{Ascends, waiting_of, close_at, HoldsBack}
 use Rattle.cast_fifo.proofs.Entries.{Entries, at_true, at_false}
-use Rattle.cast_fifo.proofs.Turns.{numbered-cons, numbered-none, or_false, or_or}
+use Rattle.cast_fifo.proofs.Turns.{numbered-cons, numbered-none}
 
 pub lower : (n m : ℕ) (es : Entries) → m ≤ n → Ascends n es → Ascends m es
 lower n m [] l h = tt
@@ -215,25 +217,13 @@ is_some-waiting_of : (o : Option Item) (b : Bool) → is_some (waiting_of o b) �
 is_some-waiting_of None b = refl
 is_some-waiting_of (Some x) b = refl
 
-pub lt_true : (i n : ℕ) → i < n → nat_lt i n ≡ true
-lt_true i n l = grind (arith, nat_tests)
-
-ge_false : (i n : ℕ) → n ≤ i → nat_lt i n ≡ false
-ge_false i n l = grind (arith, nat_tests)
-
 module _ (items : ℕ → Option Item) (ready : ℕ → Bool) (held : Held) (h : HoldsBack items ready held) (some : (i : ℕ) → ready i ≡ true → is_some (items i) ≡ true) where
   -- what came is what had its turn or waits
   pub came_is : (i : ℕ) → came held i ≡ is_some (items i)
   came_is i = elim (leb_tells held.next i) [
-    | inl l ↦ (λ k. ge_false i held.next l.1 k || is_some (h.waits i l.1 k)) ∙ is_some-waiting_of (items i) (ready i)
-    | inr l ↦ ap (λ b. b || is_some (waiting_at held.waiting i)) (lt_true i held.next l.1) ∙ sym (some i (h.below i l.1))
+    | inl l ↦ (λ k. le-ltb i held.next l.1 k || is_some (h.waits i l.1 k)) ∙ is_some-waiting_of (items i) (ready i)
+    | inr l ↦ ap (λ b. b || is_some (waiting_at held.waiting i)) (lt-ltb i held.next l.1) ∙ sym (some i (h.below i l.1))
   ]
-
-same_number : (i k : ℕ) → i ≡ k → (i == k) ≡ true
-same_number i k e = grind (arith, nat_tests)
-
-other_number : (i k : ℕ) → i ≢ k → (i == k) ≡ false
-other_number i k e = grind (arith, nat_tests)
 
 pub first_none : (o : Option Item) → first_of o None ≡ o
 first_none None = refl
@@ -269,7 +259,7 @@ holds items ready held k item h some = go (came held k) refl
     old_item i e = first_some (items i) (if k == i then Some item else None) e
 
     other_item : (i : ℕ) → i ≢ k → with_one items k item i ≡ items i
-    other_item i e = ap (λ b. first_of (items i) (if b then Some item else None)) (other_number k i (λ f. e (sym f))) ∙ first_none (items i)
+    other_item i e = ap (λ b. first_of (items i) (if b then Some item else None)) (ne_eqb k i (λ f. e (sym f))) ∙ first_none (items i)
 
     unchanged : is_some (items k) ≡ true → (i : ℕ) → with_one items k item i ≡ items i
     unchanged e i = elim (eqb_tells i k) [ inl f ↦ old_item i (ap (λ m. is_some (items m)) f.1 ∙ e) | inr f ↦ other_item i f.1 ]
@@ -281,13 +271,13 @@ holds items ready held k item h some = go (came held k) refl
       stops = h.stops;
       waits = λ i l. look_inserted k i (record { item = item; known = false }) held.waiting ∙ elim (eqb_tells i k) [
         | inl f ↦
-            ap (λ b. cond b (Some (record { item = item; known = false })) (waiting_at held.waiting i)) (same_number i k f.1)
+            ap (λ b. cond b (Some (record { item = item; known = false })) (waiting_at held.waiting i)) (eq-eqb i k f.1)
             ∙ sym ((λ j. waiting_of (new_item i f.1 j) (idle i f.1 j)))
         | inr f ↦
-            ap (λ b. cond b (Some (record { item = item; known = false })) (waiting_at held.waiting i)) (other_number i k f.1)
+            ap (λ b. cond b (Some (record { item = item; known = false })) (waiting_at held.waiting i)) (ne_eqb i k f.1)
             ∙ h.waits i l ∙ sym (ap (λ o. waiting_of o (ready i)) (other_item i f.1))
       ];
-      ascends = Ascends-insert held.next k (record { item = item; known = false }) held.waiting h.ascends (elim (leb_tells held.next k) [ inl l ↦ l.1 | inr l ↦ absurd (true≢false (sym (ap (λ b. b || is_some (waiting_at held.waiting k)) (lt_true k held.next l.1)) ∙ e)) ]);
+      ascends = Ascends-insert held.next k (record { item = item; known = false }) held.waiting h.ascends (elim (leb_tells held.next k) [ inl l ↦ l.1 | inr l ↦ absurd (true≢false (sym (ap (λ b. b || is_some (waiting_at held.waiting k)) (lt-ltb k held.next l.1)) ∙ e)) ]);
       closed = h.closed ∙ sym (same_any (close_at (with_one items k item)) (close_at items) 0 held.next (λ i l m. ap (λ o. is_close (unwrap_or o Close)) (old_item i (some i (h.below i (omega (arith, m)))))));
     }
       where
@@ -295,7 +285,7 @@ holds items ready held k item h some = go (came held k) refl
         absent i f = none_of (items i) (ap (λ m. is_some (items m)) f ∙ sym (came_is items ready held h some k) ∙ e)
 
         new_item : (i : ℕ) → i ≡ k → with_one items k item i ≡ Some item
-        new_item i f = (λ j. first_of (absent i f j) (if same_number k i (sym f) j then Some item else None))
+        new_item i f = (λ j. first_of (absent i f j) (if eq-eqb k i (sym f) j then Some item else None))
 
         idle : (i : ℕ) → i ≡ k → ready i ≡ false
         idle i f = not_ready (items i) (ready i) (absent i f) (some i)
@@ -323,7 +313,7 @@ marks items ready ready' held k h e is = elim (leb_tells held.next k) [ inl l �
     before l =
         let none : marked held.waiting k (waiting_at held.waiting k) ≡ held.waiting = ap (marked held.waiting k) (none_below n k held.waiting h.ascends l) in
         record {
-          waits = λ i m. ap (λ es. waiting_at es i) none ∙ h.waits i m ∙ ap (waiting_of (items i)) (sym (is i ∙ ap (λ b. ready i || b) (other_number i k (λ f. absurd (omega (arith, f, l, m)))) ∙ or_false (ready i)));
+          waits = λ i m. ap (λ es. waiting_at es i) none ∙ h.waits i m ∙ ap (waiting_of (items i)) (sym (is i ∙ ap (λ b. ready i || b) (ne_eqb i k (λ f. absurd (omega (arith, f, l, m)))) ∙ or_false (ready i)));
           ascends = subst (Ascends n) (sym none) h.ascends;
         }
 
@@ -337,11 +327,11 @@ marks items ready ready' held k h e is = elim (leb_tells held.next k) [ inl l �
             record {
               waits = λ i m. ap (λ es. waiting_at es i) put ∙ look_changed k i (record { item = w.item; known = true }) w held.waiting found.1 ∙ elim (eqb_tells i k) [
                 | inl f ↦
-                    ap (λ b. cond b (Some (record { item = w.item; known = true })) (waiting_at held.waiting i)) (same_number i k f.1)
-                    ∙ sym (λ j. waiting_of ((ap items f.1 ∙ found.2) j) ((is i ∙ ap (λ b. ready i || b) (same_number i k f.1) ∙ or_true (ready i)) j))
+                    ap (λ b. cond b (Some (record { item = w.item; known = true })) (waiting_at held.waiting i)) (eq-eqb i k f.1)
+                    ∙ sym (λ j. waiting_of ((ap items f.1 ∙ found.2) j) ((is i ∙ ap (λ b. ready i || b) (eq-eqb i k f.1) ∙ or_true (ready i)) j))
                 | inr f ↦
-                    ap (λ b. cond b (Some (record { item = w.item; known = true })) (waiting_at held.waiting i)) (other_number i k f.1)
-                    ∙ h.waits i m ∙ ap (waiting_of (items i)) (sym (is i ∙ ap (λ b. ready i || b) (other_number i k f.1) ∙ or_false (ready i)))
+                    ap (λ b. cond b (Some (record { item = w.item; known = true })) (waiting_at held.waiting i)) (ne_eqb i k f.1)
+                    ∙ h.waits i m ∙ ap (waiting_of (items i)) (sym (is i ∙ ap (λ b. ready i || b) (ne_eqb i k f.1) ∙ or_false (ready i)))
               ];
               ascends = subst (Ascends n) (sym put) (Ascends-set n (is_at (nat_cmp k)) (record { item = w.item; known = true }) held.waiting h.ascends);
             }
@@ -351,7 +341,7 @@ split_range a zero k f = ap (λ n. list_any f (range_with_len a n)) (let e : 0 +
 split_range a (suc m) k f =
     ap (λ n. list_any f (range_with_len a n)) (let e : suc m + k ≡ suc (m + k) = omega arith in e)
     ∙ ap (λ b. f a || b) (split_range (a + 1) m k f ∙ ap (λ b. list_any f (range_with_len (a + 1) m) || list_any f (range_with_len b k)) (let e : a + 1 + m ≡ a + suc m = omega arith in e))
-    ∙ or_or (f a) (list_any f (range_with_len (a + 1) m)) (list_any f (range_with_len (a + suc m) k))
+    ∙ or_assoc (f a) (list_any f (range_with_len (a + 1) m)) (list_any f (range_with_len (a + suc m) k))
 
 any_map : (f : ℕ → Item) (ns : List ℕ) → list_any is_close (map f ns) ≡ list_any (λ i. is_close (f i)) ns
 any_map f [] = refl

@@ -9,6 +9,7 @@ use Rattle.std.specs.BTreeMap.{insert_entry, is_at}
 use Rattle.std.proofs.Common.{sym, ap, ◌∙◌, subst, arith, inl, inr, add-one, true≢false, append_assoc}
 use Rattle.std.proofs.lemmas.Bool.Decides.{nat_tests}
 use Rattle.std.proofs.lemmas.List.Elements.{All-head, All-tail, All-weaker}
+use Rattle.cast_message.proofs.Booleans.{or_assoc, or_false}
 use Rattle.cast_message.specs.declared.message.Item.{Item}
 use Rattle.cast_message.specs.declared.message.Message.{Message}
 use Rattle.cast_model.specs.History.{numbered}
@@ -39,23 +40,15 @@ run_first n x es = ap (λ b. if b then x ∷ run_from (n + 1) es else []) (same_
 rest_first : (n : ℕ) (x : Item) (es : Entries) → rest_from n ((n, marked_item x) ∷ es) ≡ rest_from (n + 1) es
 rest_first n x es = ap (λ b. if b then rest_from (n + 1) es else (n, marked_item x) ∷ es) (same_test n true)
 
-pub or_or : (a b c : Bool) → (a || (b || c)) ≡ ((a || b) || c)
-or_or true b c = refl
-or_or false b c = refl
-
 pub advanced_first : (n : ℕ) (closed : Bool) (x : Item) (es : Entries) → advanced (record { next = n; closed = closed; waiting = (n, marked_item x) ∷ es }) ≡ advanced (record { next = n + 1; closed = closed || is_close x; waiting = es })
 advanced_first n closed x es =
     let run = run_from (n + 1) es in
     let count : n + length (run_from n ((n, marked_item x) ∷ es)) ≡ n + 1 + length run = ap (λ (xs : List Item). n + length xs) (run_first n x es) ∙ (let e : n + suc (length run) ≡ n + 1 + length run = omega arith in e) in
     λ i. record {
       next = count i;
-      closed = (ap (λ xs. closed || list_any is_close xs) (run_first n x es) ∙ or_or closed (is_close x) (list_any is_close run)) i;
+      closed = (ap (λ xs. closed || list_any is_close xs) (run_first n x es) ∙ or_assoc closed (is_close x) (list_any is_close run)) i;
       waiting = rest_first n x es i;
     }
-
-pub or_false : (b : Bool) → (b || false) ≡ b
-or_false true = refl
-or_false false = refl
 
 -- none has its turn
 pub advanced_none : (n : ℕ) (closed : Bool) (es : Entries) → run_from n es ≡ [] → advanced (record { next = n; closed = closed; waiting = es }) ≡ record { next = n; closed = closed; waiting = es }

@@ -128,7 +128,7 @@ impl HoldBack {
     }
 
     /// Copies of the messages that `known` of a pair would answer, in order: none where the pair was not held or offered. The
-    /// sender is below the number of nodes. It takes memory only where it is this pair's turn.
+    /// sender is below the number of nodes. It takes memory only where the pair was held and it is its turn.
     pub fn ready(&self, sender: NodeId, number: u64) -> Result<Vec<Message>, AllocError>
         requires { sender < length self.now }
         ensures messages { IfOk result (λ messages.
@@ -136,6 +136,7 @@ impl HoldBack {
         ensures none { came (held_of self.now sender) number ≡ false →
             IfOk result (λ messages. messages.items ≡ []) }
         ensures turn { OnErr result (number ≡ (held_of self.now sender).next) }
+        ensures came { OnErr result (came (held_of self.now sender) number ≡ true) }
     {
         self.senders[usize::from(sender.0)].ready(self.alloc, sender, number)
     }

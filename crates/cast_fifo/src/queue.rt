@@ -175,6 +175,7 @@ impl Queue {
         ensures none { came self.now number ≡ false →
             IfOk result (λ messages. messages.items ≡ []) }
         ensures turn { OnErr result (number ≡ self.now.next) }
+        ensures came { OnErr result (came self.now number ≡ true) }
     {
         let mut messages = Vec::new(alloc);
         if number != self.next {

@@ -1,7 +1,8 @@
 -- A delivery that is due breaks no rule.
-use Rattle.std.proofs.Common.{◌≡◌, ℕ, suc, add-one, ◌<◌, ◌||◌, not, Bool, true, false, cond, nat_eq, nat_lt, List, [], ◌∷◌, ◌++◌, length, drop, slice_index, Some, None, refl, sym, ap, ◌∙◌, arith, get_or}
+use Rattle.std.proofs.Common.{◌≡◌, ℕ, suc, add-one, ◌<◌, ◌||◌, not, Bool, true, false, cond, nat_eq, List, [], ◌∷◌, ◌++◌, length, drop, slice_index, Some, None, refl, sym, ap, ◌∙◌, arith, get_or}
 use Rattle.std.proofs.lemmas.Bool.Decides.{nat_tests}
 use Rattle.std.proofs.lemmas.Option.{slice_get-get_or}
+use Rattle.std.proofs.lemmas.Bool.{lt-ltb}
 use Rattle.cast_message.specs.declared.message.Item.{Item}
 use Rattle.cast_message.specs.declared.message.Item.TheVariants.{Close}
 use Rattle.cast_record.specs.declared.front.Delivery.{Delivery}
@@ -14,11 +15,8 @@ use Rattle.cast_judge.specs.Judges.{IsTakenOff}
 use Rattle.cast_judge.specs.ItemList.{BeginsWithWord}
 use Rattle.cast_judge.proofs.ItemLemmas.{item_itself}
 
-within : (p n : ℕ) → p < n → nat_lt p n ≡ true
-within p n l = grind (arith, nat_tests)
-
 in_body : (place : Place) (n : ℕ) (d : Delivery) (item : Item) → place ≡ Body → d.node < n → d.sender < n → is_out_at place n (delivered_as d item) ≡ false
-in_body place n d item a b c = rw (a, within d.node n b, within d.sender n c) refl
+in_body place n d item a b c = rw (a, lt-ltb d.node n b, lt-ltb d.sender n c) refl
 
 prefix_kept : (number count : ℕ) (b : Bool) → number ≡ count → b ≡ true → (not (nat_eq number count) || not b) ≡ false
 prefix_kept number count b e f = let same : nat_eq number count ≡ true = grind (arith, nat_tests) in rw (same, f) refl

@@ -5,6 +5,7 @@ use Rattle.std.proofs.lemmas.List.{take-append-drop}
 use Rattle.std.proofs.lemmas.Option.{slice_get_past, slice_get-get_or}
 use Rattle.std.proofs.lemmas.Grind.{common_steps}
 use Rattle.std.proofs.lemmas.Slice.Eq.{bytes_eq-Decides}
+use Rattle.cast_message.proofs.Tests.{eq_same}
 use Rattle.cast_message.specs.declared.message.Item.{Item}
 use Rattle.cast_message.specs.declared.message.Item.TheVariants.{Data, Propose, Close}
 use Rattle.cast_record.specs.Reading.{item_of}
@@ -14,7 +15,7 @@ use Rattle.cast_record.specs.ItemWords.{item_in}
 use Rattle.cast_record.proofs.ReadLemmas.{text_same, item_takes}
 use Rattle.cast_judge.specs.Kept.{is_same, has_item}
 use Rattle.cast_judge.specs.ItemList.{word_between, items_from, IsItemAt, AreItems, IsWordAt}
-use Rattle.cast_judge.proofs.TestLemmas.{same_number, test_same, and_true}
+use Rattle.cast_judge.proofs.TestLemmas.{same_number, and_true}
 
 -- ---- the items of a list
 
@@ -99,7 +100,7 @@ item_same a b e = absurd (cc)
 
 pub item_itself : (i : Item) → is_item i i ≡ true
 item_itself (Data xs) = bytes_itself xs
-item_itself (Propose j v) = rw (test_same j, test_same v) refl
+item_itself (Propose j v) = rw (eq_same j, eq_same v) refl
 item_itself Close = refl
 
 words_same : (v w : List ℕ) (i j : Item) → item_of v ≡ Some i → item_of w ≡ Some j → i ≡ j → v ≡ w

@@ -1,14 +1,12 @@
 -- What is kept of a node, at its place and past the last one.
-use Rattle.std.proofs.Common.{◌≡◌, ℕ, ◌≤◌, List, length, replicate, slice_index, sym, ap, ◌∙◌, arith}
+use Rattle.std.proofs.Common.{◌≡◌, ℕ, ◌≤◌, List, length, slice_index, sym, ap, ◌∙◌, arith}
 use Rattle.std.proofs.lemmas.Grind.{common_steps}
+use Rattle.cast_message.proofs.Lists.{none_counted}
 use Rattle.cast_judge.specs.declared.sender.Sender.{Sender}
 use Rattle.cast_judge.specs.Kept.{nobody, node_at}
 
 pub past_all : (nodes : List Sender) (p : ℕ) → length nodes ≤ p → node_at nodes p ≡ nobody
 past_all nodes p past = grind (arith, common_steps)
-
-pub none_counted : (n s : ℕ) → slice_index (replicate n 0) s ≡ 0
-none_counted n s = grind (arith, common_steps)
 
 pub none_delivered : (nodes : List Sender) (p s : ℕ) → length nodes ≤ p → 0 ≡ slice_index (node_at nodes p).delivered s
 none_delivered nodes p s past = sym (ap (λ (node : Sender). slice_index node.delivered s) (past_all nodes p past) ∙ none_counted 64 s)

@@ -1,5 +1,5 @@
 -- What is kept after a line stands for the lines with that line.
-use Rattle.std.proofs.Common.{◌≡◌, ◌≢◌, ℕ, ◌+◌, ◌^◌, ◌<◌, ◌≤◌, ◌&&◌, ◌||◌, not, Bool, true, false, cond, nat_eq, List, [], ◌∷◌, ◌++◌, length, slice_set, slice_get, slice_index, replicate, Option, Some, None, refl, sym, ap, subst, ◌∙◌, arith, append-nil, length-append, length-set, get_or-set_other, inl, inr}
+use Rattle.std.proofs.Common.{◌≡◌, ◌≢◌, ℕ, ◌+◌, ◌^◌, ◌<◌, ◌≤◌, ◌&&◌, ◌||◌, not, Bool, true, false, cond, nat_eq, List, [], ◌∷◌, ◌++◌, length, slice_set, slice_get, slice_index, replicate, Some, None, refl, sym, ap, subst, ◌∙◌, arith, append-nil, length-append, length-set, get_or-set_other, inl, inr}
 use Rattle.std.specs.List.{list_any, filter}
 use Rattle.std.proofs.lemmas.List.Sums.{length-filter, count_by-le-length}
 use Rattle.std.proofs.lemmas.Bool.Decides.{nat_tests, leb_tells}
@@ -7,6 +7,8 @@ use Rattle.std.proofs.lemmas.Option.{slice_get_past, slice_get-get_or}
 use Rattle.std.proofs.Math.Seq.{get_or-append_seam}
 use Rattle.std.proofs.lemmas.List.{get_or_append_left, length-replicate}
 use Rattle.std.proofs.lemmas.Grind.{common_steps}
+use Rattle.cast_message.proofs.Lists.{none_counted}
+use Rattle.cast_message.proofs.Booleans.{and_false, chosen, or_false}
 use Rattle.cast_message.specs.declared.message.Item.{Item}
 use Rattle.cast_message.specs.declared.message.Item.TheVariants.{Propose}
 use Rattle.cast_message.specs.declared.message.Message.{Message}
@@ -23,9 +25,8 @@ use Rattle.cast_judge.specs.declared.sender.Sender.{Sender}
 use Rattle.cast_judge.specs.declared.kept.Kept.{Kept}
 use Rattle.cast_judge.specs.Kept as kept
 use Rattle.cast_judge.specs.Stands.{items_in, items_of, StandsFor, StandsForNode, StandsForInstance}
-use Rattle.cast_judge.proofs.TestLemmas.{same_number, other_number, test_swaps, and_false, not_false}
+use Rattle.cast_judge.proofs.TestLemmas.{same_number, other_number, test_swaps, not_false}
 use Rattle.cast_judge.proofs.CandidateLemmas.{list_any-push, proposed_has, proposed_decided, proposed_count, decision_has, decision_decided, decision_count}
-use Rattle.cast_judge.proofs.NodeLemmas.{none_counted}
 use Rattle.cast_judge.proofs.RuleLemmas.{items_counted, head_first, value_count}
 
 -- ---- what a line adds to a node
@@ -240,10 +241,6 @@ got_there items item i other = elim (leb_tells (length items) i) [ inl l ↦ pas
 got_none : (items : List Item) → slice_get items (length items) ≡ None
 got_none items = slice_get_past items (length items) (omega arith)
 
-or_false : (b : Bool) → (b || false) ≡ b
-or_false true = refl
-or_false false = refl
-
 broadcast_numbered : (past : List Line) (b m : Message) → b.number ≡ length (items_of past b.sender) → said.has_broadcast past m ≡ kept.has_item (items_of past m.sender) m.number m.item
     → (said.is_message b m || said.has_broadcast past m) ≡ kept.has_item (items_of past m.sender ++ items_in (Broadcast b) m.sender) m.number m.item
 broadcast_numbered past b m number h = go (nat_eq b.sender m.sender) refl (nat_eq b.number m.number) refl
@@ -377,10 +374,6 @@ head_on (Head2 n f k mode) old new e h s w = opened (Head2 n f k mode) n f k old
 head_on line old new e h s w = absurd (cc)
 
 -- ---- a line that breaks no rule
-
-chosen : (b : Bool) (n : ℕ) (o : Option ℕ) → cond b (Some n) o ≡ None → (b ≡ false) × (o ≡ None)
-chosen true n o e = absurd (cc)
-chosen false n o e = (refl, e)
 
 -- rules 0, 1 and 3
 record IsSound (past : List Line) (line : Line) : Type 0 where

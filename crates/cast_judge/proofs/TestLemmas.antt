@@ -1,6 +1,7 @@
 -- What a test tells of what it tests.
 use Rattle.std.proofs.Common.{◌≡◌, ◌≢◌, ℕ, ◌&&◌, Bool, true, false, not, nat_eq, refl, arith}
 use Rattle.std.proofs.lemmas.Bool.Decides.{nat_tests}
+use Rattle.cast_message.proofs.Tests.{eq_same}
 
 -- ---- numbers
 
@@ -13,9 +14,6 @@ other_number m n e = grind (arith, nat_tests)
 pub test_swaps : (m n : ℕ) → nat_eq m n ≡ nat_eq n m
 test_swaps m n = grind (arith, nat_tests)
 
-pub test_same : (n : ℕ) → nat_eq n n ≡ true
-test_same n = grind (arith, nat_tests)
-
 -- ---- tests of tests
 
 pub not_false : (b : Bool) → not b ≡ false → b ≡ true
@@ -25,7 +23,3 @@ not_false false e = absurd (cc)
 pub and_true : (a b : Bool) → (a && b) ≡ true → (a ≡ true) × (b ≡ true)
 and_true true b e = (refl, e)
 and_true false b e = absurd (cc)
-
-pub and_false : (b : Bool) → (b && false) ≡ false
-and_false true = refl
-and_false false = refl

@@ -5,6 +5,7 @@ use Rattle.std.proofs.lemmas.Fmt.{length-decimal-le}
 use Rattle.std.proofs.lemmas.List.Elements.{All-head, All-tail, All-append}
 use Rattle.std.proofs.lemmas.List.Splits.{slice_split_at, slice_split_none, slice_split-cons_no}
 use Rattle.std.proofs.lemmas.Bool.Decides.{nat_tests}
+use Rattle.cast_message.proofs.Booleans.{and_false}
 use Rattle.cast_message.specs.declared.message.Item.{Item}
 use Rattle.cast_message.specs.declared.message.Item.TheVariants.{Data, Propose, Close}
 use Rattle.cast_message.specs.declared.message.Message.{Message}
@@ -22,7 +23,6 @@ use Rattle.cast_record.proofs.VerdictLemmas.{goes_by, offends_by}
 use Rattle.cast_words.proofs.UnhexLemmas.{length-hex}
 use Rattle.cast_record.proofs.ReadLemmas.{line_takes_text}
 use Rattle.cast_judge.specs.Judged.{HasNone, verdict_of}
-use Rattle.cast_judge.proofs.TestLemmas.{and_false}
 
 abbrev feeds : List ℕ → List (List ℕ)
 feeds bytes = slice_split (λ b. nat_eq b 10) bytes

@@ -10,18 +10,15 @@ use Rattle.std.proofs.Math.ListN.{length-set}
 use Rattle.std.proofs.lemmas.Bool.Decides.{nat_tests, eqb_tells, leb_tells}
 use Rattle.std.proofs.lemmas.List.{get_or-take, length-take}
 use Rattle.std.proofs.lemmas.Nat.Bits.{bit_at_ones, same_from_bits_below}
+use Rattle.std.proofs.lemmas.Bool.{le-ltb, lt-ltb}
+use Rattle.cast_message.proofs.Tests.{cmp_other, cmp_same}
+use Rattle.cast_message.proofs.Booleans.{and_false}
 use Rattle.cast_sets.specs.Bits.{is_set}
 use Rattle.cast_sets.proofs.Numbers.{no_bit}
 use Rattle.cast_link.specs.Taken.{bit_of, SetsBit, IsFullWord}
 use Rattle.cast_link.specs.Links.{Link, with_given, with_acknowledged, owed_map, link_of, is_acknowledged, StartsOwed, KeepsOwed}
 use Rattle.cast_link.proofs.Slots.{is_set-drop}
 use Rattle.cast_link.proofs.Windows.{get-owed_map, none_past, owed_map-push, owed_map-acked, owed_map-none, len-put_new, StartsOwed-push, StartsOwed-front}
-
-lt_true : (a b : ℕ) → a < b → nat_lt a b ≡ true
-lt_true a b l = grind (arith, nat_tests)
-
-lt_false : (a b : ℕ) → b ≤ a → nat_lt a b ≡ false
-lt_false a b l = grind (arith, nat_tests)
 
 module _ {X : Type 0} where
   not_some : (b : Bool) (o : Option X) → (b && not (is_some o)) ≡ true → o ≡ None
@@ -31,26 +28,16 @@ module _ {X : Type 0} where
 
 -- ---- which slots were acknowledged
 
-here : (a b : ℕ) → a ≡ b → eq_by_cmp nat_cmp a b ≡ true
-here a b e = grind (arith, nat_tests)
-
-apart : (a b : ℕ) → a ≢ b → eq_by_cmp nat_cmp a b ≡ false
-apart a b e = grind (arith, nat_tests)
-
-and_false : (b : Bool) → (b && false) ≡ false
-and_false true = refl
-and_false false = refl
-
 module _ {X : Type 0} where
   -- a slot that was not given before is not
   none_new : (link : Link X) (message : X) (slot : ℕ) → is_acknowledged (with_given link message) slot ≡ is_acknowledged link slot
   none_new link message slot = elim (eqb_tells slot link.given) [
     | inl e ↦
-        ap (λ o. nat_lt slot (link.given + 1) && not (is_some o)) (at ∙ ap (λ b. cond b (Some message) (map.get link.owed slot)) (here slot link.given e.1))
+        ap (λ o. nat_lt slot (link.given + 1) && not (is_some o)) (at ∙ ap (λ b. cond b (Some message) (map.get link.owed slot)) (cmp_same slot link.given e.1))
         ∙ and_false (nat_lt slot (link.given + 1))
-        ∙ sym (ap (λ b. b && not (map.contains_key link.owed slot)) (lt_false slot link.given (omega (arith, e.1))))
+        ∙ sym (ap (λ b. b && not (map.contains_key link.owed slot)) (le-ltb slot link.given (omega (arith, e.1))))
     | inr e ↦
-        ap (λ o. nat_lt slot (link.given + 1) && not (is_some o)) (at ∙ ap (λ b. cond b (Some message) (map.get link.owed slot)) (apart slot link.given e.1))
+        ap (λ o. nat_lt slot (link.given + 1) && not (is_some o)) (at ∙ ap (λ b. cond b (Some message) (map.get link.owed slot)) (cmp_other slot link.given e.1))
         ∙ ap (λ b. b && not (map.contains_key link.owed slot)) (same_side e.1)
   ]
     where
@@ -64,11 +51,11 @@ module _ {X : Type 0} where
   one_more : (link : Link X) (slot q : ℕ) → slot < link.given → is_acknowledged (with_acknowledged link slot) q ≡ (nat_eq q slot || is_acknowledged link q)
   one_more link slot q l = elim (eqb_tells q slot) [
     | inl e ↦
-        ap (λ o. nat_lt q link.given && not (is_some o)) (at ∙ ap (λ b. cond b None (map.get link.owed q)) (here q slot e.1))
-        ∙ ap (λ b. b && true) (lt_true q link.given (omega (arith, e.1, l)))
+        ap (λ o. nat_lt q link.given && not (is_some o)) (at ∙ ap (λ b. cond b None (map.get link.owed q)) (cmp_same q slot e.1))
+        ∙ ap (λ b. b && true) (lt-ltb q link.given (omega (arith, e.1, l)))
         ∙ sym (ap (λ b. b || is_acknowledged link q) (same q slot e.1))
     | inr e ↦
-        ap (λ o. nat_lt q link.given && not (is_some o)) (at ∙ ap (λ b. cond b None (map.get link.owed q)) (apart q slot e.1))
+        ap (λ o. nat_lt q link.given && not (is_some o)) (at ∙ ap (λ b. cond b None (map.get link.owed q)) (cmp_other q slot e.1))
         ∙ sym (ap (λ b. b || is_acknowledged link q) (other q slot e.1))
   ]
     where
@@ -192,7 +179,7 @@ module _ {X : Type 0} where
       kept bit = elim (leb_tells words (bit / 64)) [
         | inl l ↦
             no_bit (take words marks) bit (omega (arith, short, l.1))
-            ∙ sym (h.exact bit ∙ same bit ∙ ap (λ b. b && not (map.contains_key (owed_map base after) (64 * (base / 64) + bit))) (lt_false (64 * (base / 64) + bit) (base + length after) (omega (arith, l.1))))
+            ∙ sym (h.exact bit ∙ same bit ∙ ap (λ b. b && not (map.contains_key (owed_map base after) (64 * (base / 64) + bit))) (le-ltb (64 * (base / 64) + bit) (base + length after) (omega (arith, l.1))))
         | inr l ↦ bits_in_front marks words bit l.1
       ]
 
@@ -236,7 +223,7 @@ module _ {X : Type 0} where
     fits = omega arith;
     starts = tt;
     count = sym (ap map.len (owed_map-none 0) ∙ map.len-empty nat_cmp X);
-    exact = λ bit. no_bit [] bit (omega arith) ∙ sym (ap (λ b. b && not (map.contains_key (owed_map {X = X} 0 []) (64 * (0 / 64) + bit))) (lt_false (64 * (0 / 64) + bit) 0 (omega arith)));
+    exact = λ bit. no_bit [] bit (omega arith) ∙ sym (ap (λ b. b && not (map.contains_key (owed_map {X = X} 0 []) (64 * (0 / 64) + bit))) (le-ltb (64 * (0 / 64) + bit) 0 (omega arith)));
     room = omega arith;
     few = omega arith;
   }

@@ -9,31 +9,21 @@ use Rattle.std.proofs.Common.{sym, ap, ◌∙◌, subst, arith, inl, inr, true�
 use Rattle.std.specs.BTreeSet.{insert_key}
 use Rattle.std.proofs.lemmas.Map.Views.{All-insert_key}
 use Rattle.std.proofs.lemmas.Bool.Decides.{nat_tests, leb_tells}
+use Rattle.std.proofs.lemmas.Bool.{le-ltb, lt-ltb}
+use Rattle.cast_message.proofs.Tests.{tie}
+use Rattle.cast_message.proofs.Booleans.{or_false}
 use Rattle.cast_sets.specs.Bits.{is_set}
 use Rattle.cast_sets.specs.Members.{contains-members_below, members_below-insert, members_below-same}
 use Rattle.cast_sets.proofs.Numbers.{no_bit}
 use Rattle.cast_link.specs.Taken.{bit_of, is_taken, is_marked, taken_set, IsWindow}
 
-lt_true : (q n : ℕ) → q < n → nat_lt q n ≡ true
-lt_true q n l = grind (arith, nat_tests)
-
-ge_false : (q n : ℕ) → n ≤ q → nat_lt q n ≡ false
-ge_false q n l = grind (arith, nat_tests)
-
-or_false : (b : Bool) → (b || false) ≡ b
-or_false true = refl
-or_false false = refl
-
 pub taken_in : (base : ℕ) (words far : List ℕ) (s : set.FinSet nat_cmp) → taken_set base words far ≡ s → (q : ℕ) → q < 2 ^ 64 → is_taken base words far q ≡ set.contains s q
-taken_in base words far s e q l = sym (contains-members_below (2 ^ 64) (is_taken base words far) q ∙ ap (λ b. b && is_taken base words far q) (lt_true q (2 ^ 64) l)) ∙ ap (λ s. set.contains s q) e
+taken_in base words far s e q l = sym (contains-members_below (2 ^ 64) (is_taken base words far) q ∙ ap (λ b. b && is_taken base words far q) (lt-ltb q (2 ^ 64) l)) ∙ ap (λ s. set.contains s q) e
 
 pub none_taken : (words : List ℕ) → words ≡ [] → (q : ℕ) → is_taken 0 words [] q ≡ false
 none_taken words e q =
     let no : nat_lt q 0 ≡ false = grind (arith, nat_tests) in
     ap (λ b. b || (is_set words (bit_of 0 q) || false)) no ∙ or_false (is_set words (bit_of 0 q)) ∙ no_bit words (bit_of 0 q) (omega (arith, ap length e))
-
-tie : (q k : ℕ) → is_at (nat_cmp k) q ≡ nat_eq q k
-tie q k = grind (arith, nat_tests)
 
 far_or : (a b t c : Bool) → (a || (b || cond t true c)) ≡ (t || (a || (b || c)))
 far_or true b true c = refl
@@ -137,7 +127,7 @@ moved_set base words far next words' far' h l = members_below-insert (2 ^ 64) (i
 
     passed : (q : ℕ) → q < next → (nat_eq q base || (nat_lt q base || is_marked base words far q)) ≡ true
     passed q m = elim (leb_tells (suc q) base) [
-      | inl a ↦ ap (λ b. nat_eq q base || (b || is_marked base words far q)) (lt_true q base a.1) ∙ or_true (nat_eq q base)
+      | inl a ↦ ap (λ b. nat_eq q base || (b || is_marked base words far q)) (lt-ltb q base a.1) ∙ or_true (nat_eq q base)
       | inr a ↦ elim (leb_tells (suc base) q) [
         | inl b ↦ ap (λ c. nat_eq q base || (nat_lt q base || c)) (h.taken q (omega (arith, b.1)) m) ∙ ap (λ c. nat_eq q base || c) (or_true (nat_lt q base)) ∙ or_true (nat_eq q base)
         | inr b ↦ ap (λ c. c || (nat_lt q base || is_marked base words far q)) (eq_true q (omega (arith, a.1, b.1)))
@@ -146,11 +136,11 @@ moved_set base words far next words' far' h l = members_below-insert (2 ^ 64) (i
 
     at : (q : ℕ) → q < 2 ^ 64 → is_taken next words' far' q ≡ (nat_eq q base || is_taken base words far q)
     at q _ = elim (leb_tells (suc q) next) [
-      | inl m ↦ ap (λ b. b || is_marked next words' far' q) (lt_true q next m.1) ∙ sym (passed q m.1)
+      | inl m ↦ ap (λ b. b || is_marked next words' far' q) (lt-ltb q next m.1) ∙ sym (passed q m.1)
       | inr m ↦
-          ap (λ b. b || is_marked next words' far' q) (ge_false q next (omega (arith, m.1)))
+          ap (λ b. b || is_marked next words' far' q) (le-ltb q next (omega (arith, m.1)))
           ∙ marked_stays base words far next words' far' h q (omega (arith, m.1))
-          ∙ sym ((λ i. eq_false q (omega (arith, m.1, h.later)) i || (ge_false q base (omega (arith, m.1, h.later)) i || is_marked base words far q)))
+          ∙ sym ((λ i. eq_false q (omega (arith, m.1, h.later)) i || (le-ltb q base (omega (arith, m.1, h.later)) i || is_marked base words far q)))
     ]
 
 -- ---- one slot more
@@ -159,7 +149,7 @@ moved_set base words far next words' far' h l = members_below-insert (2 ^ 64) (i
 pub not_below : (base : ℕ) (words far : List ℕ) (s : set.FinSet nat_cmp) (q : ℕ) → taken_set base words far ≡ s → q < 2 ^ 64 → set.contains s q ≡ false → base ≤ q
 not_below base words far s q e l f = elim (leb_tells base q) [
   | inl m ↦ m.1
-  | inr m ↦ absurd (true≢false (sym (ap (λ b. b || is_marked base words far q) (lt_true q base m.1)) ∙ taken_in base words far s e q l ∙ f))
+  | inr m ↦ absurd (true≢false (sym (ap (λ b. b || is_marked base words far q) (lt-ltb q base m.1)) ∙ taken_in base words far s e q l ∙ f))
 ]
 
 -- words with the same bits

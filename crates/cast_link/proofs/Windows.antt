@@ -6,6 +6,7 @@ use Rattle.std.specs.FinMap as map
 use Rattle.std.specs.FinMap.{find, get-from_entries, get-insert, get-remove, get-empty, len-insert, len-remove, same_map, nat_cmp-IsAntisymmetric}
 use Rattle.std.proofs.Common.{inl, inr, sym, ap, ◌∙◌, arith, true≢false, drop}
 use Rattle.std.proofs.lemmas.Bool.Decides.{nat_tests, eqb_tells, leb_tells}
+use Rattle.cast_message.proofs.Tests.{cmp_other, cmp_same}
 use Rattle.cast_link.specs.Links.{Link, owed_from, owed_map, StartsOwed}
 
 module _ {X : Type 0} where
@@ -48,12 +49,6 @@ module _ {X : Type 0} where
       let yes : nat_lt q base ≡ true = grind (arith, nat_tests) in
       ap (λ b. cond b None (slice_index_or places (q - base) None)) yes
 
-find_apart : (q base : ℕ) → q ≢ base → eq_by_cmp nat_cmp q base ≡ false
-find_apart q base e = grind (arith, nat_tests)
-
-find_here : (q base : ℕ) → q ≡ base → eq_by_cmp nat_cmp q base ≡ true
-find_here q base e = grind (arith, nat_tests)
-
 module _ {X : Type 0} where
   find-owed_from : (base : ℕ) (places : List (Option X)) (q : ℕ) → find nat_cmp q (owed_from base places) ≡ owed_at base places q
   find-owed_from base [] q = empty (nat_lt q base)
@@ -66,8 +61,8 @@ module _ {X : Type 0} where
     | inr e ↦ sym (first_apart base None places q e.1)
   ]
   find-owed_from base (Some message ∷ places) q = elim (eqb_tells q base) [
-    | inl e ↦ ap (λ b. cond b (Some message) (find nat_cmp q (owed_from (base + 1) places))) (find_here q base e.1) ∙ sym (ap (owed_at base (Some message ∷ places)) e.1 ∙ first_here base (Some message) places)
-    | inr e ↦ ap (λ b. cond b (Some message) (find nat_cmp q (owed_from (base + 1) places))) (find_apart q base e.1) ∙ find-owed_from (base + 1) places q ∙ sym (first_apart base (Some message) places q e.1)
+    | inl e ↦ ap (λ b. cond b (Some message) (find nat_cmp q (owed_from (base + 1) places))) (cmp_same q base e.1) ∙ sym (ap (owed_at base (Some message ∷ places)) e.1 ∙ first_here base (Some message) places)
+    | inr e ↦ ap (λ b. cond b (Some message) (find nat_cmp q (owed_from (base + 1) places))) (cmp_other q base e.1) ∙ find-owed_from (base + 1) places q ∙ sym (first_apart base (Some message) places q e.1)
   ]
 
   pub get-owed_map : (base : ℕ) (places : List (Option X)) (q : ℕ) → map.get (owed_map base places) q ≡ owed_at base places q
@@ -156,7 +151,7 @@ module _ {X : Type 0} where
 
   -- a slot that isn't owed is taken out in vain
   pub remove-absent : (m : map.FinMap nat_cmp X) (k : ℕ) → map.get m k ≡ None → map.remove m k ≡ m
-  remove-absent m k h = same_map nat_cmp_total nat_cmp-IsAntisymmetric _ _ (λ q. get-remove nat_cmp_total m k q ∙ elim (eqb_tells q k) [ inl e ↦ ap (λ b. cond b None (map.get m q)) (find_here q k e.1) ∙ sym (ap (map.get m) e.1 ∙ h) | inr e ↦ ap (λ b. cond b None (map.get m q)) (find_apart q k e.1) ])
+  remove-absent m k h = same_map nat_cmp_total nat_cmp-IsAntisymmetric _ _ (λ q. get-remove nat_cmp_total m k q ∙ elim (eqb_tells q k) [ inl e ↦ ap (λ b. cond b None (map.get m q)) (cmp_same q k e.1) ∙ sym (ap (map.get m) e.1 ∙ h) | inr e ↦ ap (λ b. cond b None (map.get m q)) (cmp_other q k e.1) ])
 
   pub len-put_new : (m : map.FinMap nat_cmp X) (k : ℕ) (v : X) → map.get m k ≡ None → map.len (map.insert m k v) ≡ map.len m + 1
   len-put_new m k v h = len-insert nat_cmp_total m k v ∙ ap (λ o. cond (is_some o) (map.len m) (map.len m + 1)) h
@@ -164,8 +159,8 @@ module _ {X : Type 0} where
   -- a slot that is new, put in and taken out again
   pub remove-inserted : (m : map.FinMap nat_cmp X) (k : ℕ) (v : X) → map.get m k ≡ None → map.remove (map.insert m k v) k ≡ m
   remove-inserted m k v h = same_map nat_cmp_total nat_cmp-IsAntisymmetric _ _ (λ q. get-remove nat_cmp_total (map.insert m k v) k q ∙ elim (eqb_tells q k) [
-    | inl e ↦ ap (λ b. cond b None (map.get (map.insert m k v) q)) (find_here q k e.1) ∙ sym (ap (map.get m) e.1 ∙ h)
-    | inr e ↦ ap (λ b. cond b None (map.get (map.insert m k v) q)) (find_apart q k e.1) ∙ get-insert nat_cmp_total m k v q ∙ ap (λ b. cond b (Some v) (map.get m q)) (find_apart q k e.1)
+    | inl e ↦ ap (λ b. cond b None (map.get (map.insert m k v) q)) (cmp_same q k e.1) ∙ sym (ap (map.get m) e.1 ∙ h)
+    | inr e ↦ ap (λ b. cond b None (map.get (map.insert m k v) q)) (cmp_other q k e.1) ∙ get-insert nat_cmp_total m k v q ∙ ap (λ b. cond b (Some v) (map.get m q)) (cmp_other q k e.1)
   ])
 
   pub len-taken : (m : map.FinMap nat_cmp X) (k : ℕ) → map.contains_key m k ≡ true → map.len (map.remove m k) ≡ map.len m - 1

@@ -5,6 +5,7 @@ use Rattle.std.specs.Io.KnownBytes.{Appends}
 use Rattle.std.proofs.Math.Bridge.{le_prop}
 use Rattle.std.proofs.lemmas.List.{length-reverse, drop_all}
 use Rattle.std.proofs.lemmas.List.Elements.{recursion_from_All, All-from_recursion}
+use Rattle.cast_message.proofs.Lists.{drop-next}
 use Rattle.cast_message.specs.Limits.{fault_factor}
 use Rattle.cast_message.specs.declared.config.Config.{Config}
 use Rattle.cast_message.specs.declared.config.Mode.{Mode}
@@ -37,7 +38,7 @@ use Rattle.cast_live.specs.Replayed.{lines_told, is_refusal, record_of_accepted,
 use Rattle.cast_text.specs.Text.{WritesRecord, Writes}
 use Rattle.cast_text.specs.declared.fault.TextFault.{TextFault}
 use Rattle.cast_text.specs.RecordLaws.{writes_then}
-use Rattle.cast_words.proofs.WritingLemmas.{IsGoing, drop-next}
+use Rattle.cast_words.proofs.WritingLemmas.{IsGoing}
 use Rattle.cast_text.proofs.GoodRecords.{record_is_good}
 use Rattle.cast_record.proofs.WritingLemmas.{record_text-append}
 

@@ -2,6 +2,7 @@
 use Rattle.std.proofs.Common.{◌≡◌, ℕ, suc, ◌+◌, ◌-◌, ◌<◌, ◌≤◌, List, [], ◌∷◌, ◌++◌, length, codes, decimal, get_or, drop, append_assoc, sym, ap, subst, ◌∙◌, arith}
 use Rattle.std.specs.List.{range_with_len}
 use Rattle.std.proofs.lemmas.List.{drop_all}
+use Rattle.cast_message.proofs.Lists.{drop-next}
 use Rattle.cast_message.specs.declared.config.Config.{Config}
 use Rattle.cast_model.specs.History.{History}
 use Rattle.cast_model.specs.Delivery.{delivered}
@@ -9,7 +10,6 @@ use Rattle.cast_report.specs.declared.report.NodeReport.{NodeReport}
 use Rattle.cast_model.specs.Replies.{history}
 use Rattle.cast_world.specs.Group.{Stands}
 use Rattle.cast_record.specs.VerdictText.{verdict_text}
-use Rattle.cast_words.proofs.WritingLemmas.{drop-next}
 use Rattle.cast_live.specs.declared.live.FinishedRun.{FinishedRun}
 use Rattle.cast_live.specs.declared.summary.Summary.{Summary}
 use Rattle.cast_live.specs.Live.{IsFinished, counts_text, node_text, nodes_text, rest_text, summary_text, ends_of}

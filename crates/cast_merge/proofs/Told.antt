@@ -1,5 +1,5 @@
 -- What a log tells a client of deliveries is what its node delivered.
-use Rattle.std.proofs.Common.{◌≡◌, ◌<◌, ◌+◌, ℕ, suc, Bool, true, false, cond, List, [], ◌∷◌, ◌++◌, map, reverse, Option, Some, None, Result, Ok, Err, refl, sym, ap, ◌∙◌, subst, append_assoc}
+use Rattle.std.proofs.Common.{◌≡◌, ◌<◌, ◌+◌, ℕ, Bool, true, false, cond, List, [], ◌∷◌, ◌++◌, map, reverse, Option, Some, None, Result, Ok, Err, refl, sym, ap, ◌∙◌, subst, append_assoc}
 use Rattle.std.specs.Prelude.{◌==◌, is_some, ◌||◌, if◌then◌else◌}
 use Rattle.std.proofs.lemmas.List.{append-nil, map-append, reverse-append}
 use Rattle.std.proofs.lemmas.List.Elements.{filter-append}
@@ -11,7 +11,7 @@ use Rattle.cast_message.specs.declared.event.Answer.TheVariants.{Arrived as Answ
 use Rattle.cast_message.specs.declared.message.Item.{Item}
 use Rattle.cast_message.specs.declared.message.Message.{Message}
 use Rattle.cast_message.specs.declared.message.Decision.{Decision}
-use Rattle.cast_model.specs.History.{History, stream, broadcast, numbered}
+use Rattle.cast_model.specs.History.{History, stream, broadcast}
 use Rattle.cast_model.specs.Replies.{IsPrefixOf, is_from, reply_by}
 use Rattle.cast_model.specs.Shown.{item_of}
 use Rattle.cast_model.specs.Steps.{Step, Ordered, Sent, Acknowledged, Arrived, Stopped, Steps, steps_of}
@@ -31,6 +31,7 @@ use Rattle.cast_desk.specs.Feed.{feed, feed_from, told_by, reply_of, orders_in}
 use Rattle.cast_report.specs.Linked.{Trail, Taken, taken, taken_of, taken_in, taken_by, steps_in, AreTaken, IsLogOf, outcome_in, outcome_in_answer}
 use Rattle.cast_world.specs.Group.{State, Stands}
 use Rattle.cast_merge.specs.Told.{told, of_sender, TellsPrefixes}
+use Rattle.cast_model.proofs.Fronts.{items_numbered}
 
 -- what these steps delivered, in order
 unfoldable news : List Taken → List Message
@@ -143,11 +144,6 @@ front_of_sender s xs ys front = (
       ∙ ap (map item_of) (sym (filter-append (is_from s) xs front.0))
       ∙ ap (λ all. map item_of (of_sender s all)) front.1,
 )
-
-items_numbered : (s i : ℕ) (items : List Item) → map item_of (numbered s i items) ≡ items
-unfolding numbered
-items_numbered s i [] = refl
-items_numbered s i (item ∷ items) = ap (λ rest. item ∷ rest) (items_numbered s (suc i) items)
 
 items_broadcast : (past : History) (s : ℕ) → map item_of (broadcast past s) ≡ stream past s
 unfolding broadcast

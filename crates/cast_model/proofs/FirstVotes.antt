@@ -1,5 +1,5 @@
 -- Where no sender proposes twice in an instance, all its votes are counted.
-use Rattle.std.proofs.Common.{◌≡◌, ℕ, ◌<◌, ◌≤◌, refl, sym, ◌∙◌, ap, subst, Bool, true, false, ◌&&◌, cond, List, [], ◌∷◌, ◌++◌, length, Option, Some, None, arith, length-append, append_assoc}
+use Rattle.std.proofs.Common.{◌≡◌, ℕ, ◌≤◌, refl, sym, ◌∙◌, ap, subst, Bool, true, false, ◌&&◌, cond, List, [], ◌∷◌, ◌++◌, length, Option, Some, None, arith, length-append, append_assoc}
 use Rattle.std.specs.Prelude.{◌==◌, is_some}
 use Rattle.std.specs.List.{filter, cons_option}
 use Rattle.std.proofs.lemmas.List.{append-nil}
@@ -13,7 +13,7 @@ use Rattle.cast_model.specs.History.{History}
 use Rattle.cast_model.specs.Delivery.{value_in, votes, decision_by, decision_on, decisions_of, delivery_log}
 use Rattle.cast_model.specs.Replies.{IsAccepted, is_from}
 use Rattle.cast_model.specs.OwnSteps.{is_first_vote, first_votes, own_decision_on, own_decisions_of}
-use Rattle.cast_model.proofs.Members.{Member, Member-list_any, filter-Member}
+use Rattle.cast_model.proofs.Members.{some-Member, Member-list_any, filter-Member}
 use Rattle.cast_model.proofs.Votes.{votes_from, votes-append, proposes_once}
 use Rattle.cast_model.proofs.Agreement.{filter_map-Member}
 
@@ -31,10 +31,6 @@ some_value : (o : Option ℕ) → is_some o ≡ true → (v : ℕ) × (o ≡ Som
 some_value None e = absurd (cc)
 some_value (Some v) e = (v, refl)
 
-some_length : (v : ℕ) (xs : List ℕ) → Member v xs → 0 < length xs
-some_length v [] m = elim m [ ]
-some_length v (x ∷ xs) m = omega arith
-
 first_from_once : (j : ℕ) (seen : List Message) (message : Message) (v : ℕ) → VotesOnce j (seen ++ message ∷ []) → value_in j message.item ≡ Some v → is_first_vote j seen message.sender ≡ true
 unfolding votes
 first_from_once j seen message v once e = not_from_false _ (false_from_ne_true _ (λ again.
@@ -42,7 +38,7 @@ first_from_once j seen message v once e = not_from_false _ (false_from_ne_true _
     let found = Member-list_any (λ (x : Message). x.sender == s && is_some (value_in j x.item)) seen again in
     let parts = and_parts (found.0.sender == s) _ found.2 in
     let w = some_value (value_in j found.0.item) parts.1 in
-    let old = some_length w.0 (votes j (filter (is_from s) seen)) (filter_map-Member (λ (x : Message). value_in j x.item) found.0 w.0 (filter (is_from s) seen) (filter-Member (is_from s) found.0 seen found.1 parts.0) w.1) in
+    let old = some-Member w.0 (votes j (filter (is_from s) seen)) (filter_map-Member (λ (x : Message). value_in j x.item) found.0 w.0 (filter (is_from s) seen) (filter-Member (is_from s) found.0 seen found.1 parts.0) w.1) in
     let last : votes j (filter (is_from s) (message ∷ [])) ≡ v ∷ [] = ap (votes j) (cond-true (message.sender == s) (message ∷ []) [] (eq-eqb s s refl)) ∙ ap (λ o. cons_option o []) e in
     let total = ap length (ap (votes j) (filter-append (is_from s) seen (message ∷ [])) ∙ votes-append j (filter (is_from s) seen) (filter (is_from s) (message ∷ []))) ∙ length-append (votes j (filter (is_from s) seen)) (votes j (filter (is_from s) (message ∷ []))) in
     let one : length (votes j (filter (is_from s) (message ∷ []))) ≡ 1 = ap length last in

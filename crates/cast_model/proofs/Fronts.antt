@@ -1,5 +1,5 @@
 -- The longest front of a list that passes a test, as the test and the list grow; and the messages of a stream.
-use Rattle.std.proofs.Common.{◌≡◌, ℕ, zero, suc, ◌+◌, ◌-◌, ◌≤◌, refl, sym, ◌∙◌, ap, Bool, true, false, cond, List, [], ◌∷◌, ◌++◌, length, take, drop, arith}
+use Rattle.std.proofs.Common.{◌≡◌, ℕ, zero, suc, ◌+◌, ◌-◌, ◌≤◌, refl, sym, ◌∙◌, ap, Bool, true, false, cond, List, [], ◌∷◌, ◌++◌, length, map, take, drop, arith}
 use Rattle.std.specs.Prelude.{slice_range}
 use Rattle.std.specs.List.{filter, prefix_len, take_while}
 use Rattle.std.proofs.lemmas.List.{take-append-le}
@@ -8,6 +8,7 @@ use Rattle.std.proofs.lemmas.Bool.{cond-true, cond-false}
 use Rattle.cast_message.specs.declared.message.Item.{Item}
 use Rattle.cast_message.specs.declared.message.Message.{Message}
 use Rattle.cast_model.specs.History.{numbered}
+use Rattle.cast_model.specs.Shown.{item_of}
 use Rattle.cast_model.proofs.Members.{Member, here, there}
 
 module _ {A : Type 0} where
@@ -99,3 +100,8 @@ pub length-numbered : (s i : ℕ) (items : List Item) → length (numbered s i i
 unfolding numbered
 length-numbered s i [] = refl
 length-numbered s i (item ∷ items) = ap suc (length-numbered s (suc i) items)
+
+pub items_numbered : (s i : ℕ) (items : List Item) → map item_of (numbered s i items) ≡ items
+unfolding numbered
+items_numbered s i [] = refl
+items_numbered s i (item ∷ items) = ap (λ rest. item ∷ rest) (items_numbered s (suc i) items)

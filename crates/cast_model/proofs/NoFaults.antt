@@ -21,12 +21,11 @@ use Rattle.cast_model.specs.Delivery.{nodes_of, knows, known_by, is_known_enough
 use Rattle.cast_model.specs.Refusals.{no_node, first_fault}
 use Rattle.cast_model.specs.Replies.{causes, causes_of_arrival, fault, answer, target_of, reply, reply_by, after, after_by, history_from, IsAccepted, replies_from, replies}
 use Rattle.cast_model.specs.RunLaws.{in_mode}
-use Rattle.cast_model.proofs.Members.{filter-Member, Member-slice_get}
+use Rattle.cast_model.proofs.Members.{filter-Member, Member-slice_get, some-Member}
 use Rattle.cast_model.proofs.Accepted.{Order-node}
 use Rattle.cast_model.proofs.Answered.{IsAccepted-history_from}
 use Rattle.cast_model.proofs.AtRest.{Member-range_with_len}
 use Rattle.cast_model.proofs.Uniform.{self_known}
-use Rattle.cast_model.proofs.UniformRest.{some-Member}
 use Rattle.cast_model.proofs.OwnReplies.{frame_ends}
 
 -- a node that holds a pair is known to itself, which is more than none

@@ -1,12 +1,13 @@
 -- In a group a node is given no more than there can be, and no frame that nobody could have made.
 use Rattle.std.proofs.Common.{◌≡◌, ℕ, suc, ◌+◌, ◌-◌, ◌*◌, ◌<◌, ◌≤◌, refl, sym, ◌∙◌, ap, subst, Bool, true, false, not, ◌&&◌, ◌||◌, cond, List, [], ◌∷◌, ◌++◌, length, map, Option, Some, None, inl, inr, arith, length-append}
 use Rattle.std.specs.Prelude.{◌==◌, slice_get, nat_le, is_some}
-use Rattle.std.specs.List.{filter, list_any, range_with_len}
+use Rattle.std.specs.List.{list_any, range_with_len}
 use Rattle.std.proofs.lemmas.List.{append-nil, map-append}
 use Rattle.std.proofs.Math.Nat.{mul-le-mul_right}
 use Rattle.std.proofs.lemmas.List.Folds.{list_any-append}
 use Rattle.std.proofs.lemmas.Bool.{and_from, and_parts, or_left, or_right, eqb-true, ne_eqb, leb-false, cases_lt, cond-false, lt-ltb, not_from_false, false≢true, false_from_ne_true}
 use Rattle.std.proofs.lemmas.List.FromFn.{length-range_with_len}
+use Rattle.cast_message.proofs.Lists.{length-filter_le}
 use Rattle.cast_message.specs.declared.config.Config.{Config}
 use Rattle.cast_message.specs.declared.event.Event.{Event}
 use Rattle.cast_message.specs.declared.event.Event.TheVariants.{Order, Send, Ack, Arrive, Crash}
@@ -197,14 +198,6 @@ held_bounded config past accepted q =
       (λ m. let r = Member-map_in f (f x) xs m in once.0 (subst (λ y. Member y xs) (sym (same x r.0 here (there r.1) r.2)) r.1)),
       Once-map_on f xs (λ y z m n e. same y z (there m) (there n) e) once.1,
     )
-
-length-filter_le : {A : Type 0} (p : A → Bool) (xs : List A) → length (filter p xs) ≤ length xs
-length-filter_le p [] = omega arith
-length-filter_le p (x ∷ xs) = by_test (p x) (length-filter_le p xs)
-  where
-    by_test : (b : Bool) → length (filter p xs) ≤ length xs → length (cond b (x ∷ filter p xs) (filter p xs)) ≤ suc (length xs)
-    by_test true h = omega arith
-    by_test false h = omega arith
 
 module _ (config : Config) (past : History) (accepted : IsAccepted config past) (me : ℕ) where
   -- each frame that arrives could have been made

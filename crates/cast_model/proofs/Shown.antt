@@ -4,8 +4,7 @@ use Rattle.std.specs.Prelude.{◌==◌, nat_le, if◌then◌else◌, slice_get}
 use Rattle.std.specs.List.{filter_map, cons_option}
 use Rattle.std.proofs.lemmas.List.{append-nil, take_all, take-append-le}
 use Rattle.std.proofs.lemmas.List.Elements.{filter_map-append}
-use Rattle.std.proofs.lemmas.Bool.{eq-eqb, eqb-true, ne_eqb, cases_eq, cases_lt, cond-true, le-leb}
-use Rattle.std.proofs.lemmas.Bool.Decides.{nat_tests}
+use Rattle.std.proofs.lemmas.Bool.{eq-eqb, eqb-true, ne_eqb, cases_eq, cases_lt, cond-true, le-leb, lt-leb}
 use Rattle.cast_message.specs.declared.config.Config.{Config}
 use Rattle.cast_message.specs.declared.event.Event.{Event}
 use Rattle.cast_message.specs.declared.event.Event.TheVariants.{Order, Send, Ack, Arrive, Crash}
@@ -28,9 +27,6 @@ settled k votes = if nat_le k (length votes) then Some (least (take k votes)) el
 abbrev values : ℕ → List Decision → List ℕ
 values j decisions = filter_map (value_for j) decisions
 
-le_false : (a b : ℕ) → b < a → nat_le a b ≡ false
-le_false a b l = grind (arith, nat_tests)
-
 -- a vote more settles the instance where it is the k-th, and else changes nothing
 vote_more : (k : ℕ) (old : List ℕ) (v : ℕ) →
     cons_option (settled k (old ++ v ∷ [])) [] ≡ cons_option (settled k old) [] ++ (if length (old ++ v ∷ []) == k then least (old ++ v ∷ []) ∷ [] else [])
@@ -38,11 +34,11 @@ vote_more k old v = elim (cases_lt (length old) k) [
   | inl below ↦ elim (cases_lt (length old + 1) k) [
     | inl still ↦
         both (nat_le k (length new)) false (nat_le k (length old)) false (length new == k) false
-        (le_false k (length new) (omega (arith, still, long))) (le_false k (length old) below)
+        (lt-leb k (length new) (omega (arith, still, long))) (lt-leb k (length old) below)
         (ne_eqb (length new) k (λ e. omega (arith, e, still, long))) refl
     | inr done ↦
         both (nat_le k (length new)) true (nat_le k (length old)) false (length new == k) true
-        (le-leb k (length new) (omega (arith, done, long))) (le_false k (length old) below)
+        (le-leb k (length new) (omega (arith, done, long))) (lt-leb k (length old) below)
         (eq-eqb (length new) k (omega (arith, below, done, long))) (ap (λ l. least l ∷ []) (take_all k new (omega (arith, below, long))))
   ]
   | inr above ↦
@@ -192,5 +188,5 @@ pub answered-decided : (config : Config) (events : List Event) (q j : ℕ) → d
 unfolding decision delivery_log votes
 answered-decided config events q j =
     let few : 0 < config.nodes - config.faults = (let f = config.faults_in_range in omega (arith, f)) in
-    let none : cons_option (decision config [] q j) [] ≡ [] = ap (λ b. cons_option (cond b (Some (least (take (config.nodes - config.faults) []))) None) []) (le_false (config.nodes - config.faults) 0 few) in
+    let none : cons_option (decision config [] q j) [] ≡ [] = ap (λ b. cons_option (cond b (Some (least (take (config.nodes - config.faults) []))) None) []) (lt-leb (config.nodes - config.faults) 0 few) in
     sym (decided_since config [] events q j ∙ ap (λ front. front ++ decided_at events (replies config events) q j) none)

@@ -14,7 +14,7 @@ use Rattle.cast_model.specs.History.{History, is_live, has_pair, first, broadcas
 use Rattle.cast_model.specs.Delivery.{nodes_of, knows, known_by, is_known_enough, is_ready, next, delivered}
 use Rattle.cast_model.specs.Replies.{IsAccepted, IsPrefixOf}
 use Rattle.cast_model.specs.Rounds.{Rest, HaveFewCrashed}
-use Rattle.cast_model.proofs.Members.{Member, there, here, Member-uncons, Member-list_any, list_any-Member, filter-Member}
+use Rattle.cast_model.proofs.Members.{Member, some-Member, there, here, Member-uncons, Member-list_any, list_any-Member, filter-Member}
 use Rattle.cast_model.proofs.Fronts.{prefix_len-mono}
 use Rattle.cast_model.proofs.AtRest.{same_pairs, Member-range_with_len}
 use Rattle.cast_model.proofs.Uniform.{knows_held, knows_all, self_known}
@@ -47,10 +47,6 @@ none_both p q xs none x m e = by_test (q x) refl
 range-below : (n a x : ℕ) → Member x (range_with_len a n) → x < a + n
 range-below zero a x m = elim m [ ]
 range-below (suc n) a x m = elim (Member-uncons x a (range_with_len (a + 1) n) m) [ inl same ↦ omega arith | inr later ↦ (let h = range-below n (a + 1) x later in omega (arith, h)) ]
-
-pub some-Member : (x : ℕ) (xs : List ℕ) → Member x xs → 0 < length xs
-some-Member x [] m = elim m [ ]
-some-Member x (y ∷ ys) m = omega arith
 
 -- where no fault is tolerated, one node that knows is enough
 enough_know : (faults crashed live known nodes : ℕ) → (0 < faults → crashed ≤ faults) → 2 * faults < nodes → live + crashed ≡ nodes → 0 < live → live ≤ known → faults < known

@@ -2,7 +2,8 @@
 use Rattle.std.proofs.Common.{◌≡◌, ◌≢◌, ℕ, ◌-◌, ◌<◌, refl, sym, ◌∙◌, ap, Bool, true, false, ◌&&◌, ◌||◌, cond, List, [], ◌∷◌, ◌++◌, map, Option, Some, None, inl, inr, arith}
 use Rattle.std.specs.Prelude.{◌==◌, is_some, unwrap_or, option_map, if◌then◌else◌}
 use Rattle.std.specs.List.{filter_map, cons_option, list_any, range_with_len}
-use Rattle.std.proofs.lemmas.Bool.{cases_lt, cases_eq, false≢true, and_parts, eqb-true, false_from_ne_true}
+use Rattle.std.proofs.lemmas.Bool.{cases_lt, cases_eq, false≢true, and_parts, eqb-true, false_from_ne_true, eq-eqb, ne_eqb}
+use Rattle.cast_message.proofs.Booleans.{or_comm, or_false}
 use Rattle.cast_message.specs.declared.config.Config.{Config}
 use Rattle.cast_message.specs.declared.message.Item.{Item}
 use Rattle.cast_message.specs.declared.message.Item.TheVariants.{Close}
@@ -21,8 +22,6 @@ use Rattle.cast_fifo.proofs.Stands.{same_stands, with_one, holds, Turned, knows,
 use Rattle.cast_model.proofs.OwnGrowth.{own_ready_kept}
 use Rattle.cast_model.specs.Shown.{item_of}
 use Rattle.cast_node.specs.Stands.{item_at}
-use Rattle.cast_node.proofs.Places.{same_number, other_number}
-use Rattle.cast_node.proofs.Booleans.{or_false, or_comm}
 
 -- the message of a pair once one more is held
 message_at-more : (hs : List Held) (h : Held) (s i : ℕ) → item_at (hs ++ h ∷ []) s i ≡ first_of (item_at hs s i) (if is_pair (copy_of h) s i then Some h.message.item else None)
@@ -113,8 +112,8 @@ module _ (config : Config) (me : ℕ) (step : Step) (steps : Steps) (accepted : 
 
         ready_is : (k : ℕ) → own_is_ready config me (step ∷ steps) s k ≡ (own_is_ready config me steps s k || (k == i))
         ready_is k = elim (cases_eq k i) [
-          | inl e ↦ ap (own_is_ready config me (step ∷ steps) s) e ∙ here_ready ∙ or_comm true (own_is_ready config me steps s k) ∙ ap (λ b. own_is_ready config me steps s k || b) (sym (same_number k i e))
-          | inr e ↦ others k e ∙ sym (or_false (own_is_ready config me steps s k)) ∙ ap (λ b. own_is_ready config me steps s k || b) (sym (other_number k i e))
+          | inl e ↦ ap (own_is_ready config me (step ∷ steps) s) e ∙ here_ready ∙ or_comm true (own_is_ready config me steps s k) ∙ ap (λ b. own_is_ready config me steps s k || b) (sym (eq-eqb k i e))
+          | inr e ↦ others k e ∙ sym (or_false (own_is_ready config me steps s k)) ∙ ap (λ b. own_is_ready config me steps s k || b) (sym (ne_eqb k i e))
         ]
 
     -- not enough is known of it
@@ -143,7 +142,7 @@ pub back_more : (config : Config) (me : ℕ) (steps : Steps) (h : Held) (back : 
     HoldsBack (item_at (held me steps ++ h ∷ []) h.message.sender) (own_is_ready config me steps h.message.sender) (with_item back h.message.number h.message.item)
 back_more config me steps h back stands =
     same_stands (with_one (item_at (held me steps) h.message.sender) h.message.number h.message.item) (item_at (held me steps ++ h ∷ []) h.message.sender) (own_is_ready config me steps h.message.sender) (own_is_ready config me steps h.message.sender) (with_item back h.message.number h.message.item)
-    (λ k. message_at-more (held me steps) h h.message.sender k ∙ ap (λ b. first_of (item_at (held me steps) h.message.sender k) (if b && h.message.number == k then Some h.message.item else None)) (same_number h.message.sender h.message.sender refl))
+    (λ k. message_at-more (held me steps) h h.message.sender k ∙ ap (λ b. first_of (item_at (held me steps) h.message.sender k) (if b && h.message.number == k then Some h.message.item else None)) (eq-eqb h.message.sender h.message.sender refl))
     (λ k. refl)
     (holds (item_at (held me steps) h.message.sender) (own_is_ready config me steps h.message.sender) back h.message.number h.message.item stands (λ k e. item_there (held me steps) h.message.sender k (own_held_below config me steps h.message.sender k e)))
 
@@ -151,7 +150,7 @@ back_more config me steps h back stands =
 pub item_other : (hs : List Held) (h : Held) (s k : ℕ) → s ≢ h.message.sender → item_at (hs ++ h ∷ []) s k ≡ item_at hs s k
 item_other hs h s k e =
     message_at-more hs h s k
-    ∙ ap (λ b. first_of (item_at hs s k) (if b && h.message.number == k then Some h.message.item else None)) (other_number h.message.sender s (λ z. e (sym z)))
+    ∙ ap (λ b. first_of (item_at hs s k) (if b && h.message.number == k then Some h.message.item else None)) (ne_eqb h.message.sender s (λ z. e (sym z)))
     ∙ first_none (item_at hs s k)
   where
     first_none : (o : Option Item) → first_of o None ≡ o

@@ -5,6 +5,7 @@ use Rattle.std.specs.List.{list_any, cons_option}
 use Rattle.std.proofs.lemmas.Bool.Decides.{nat_tests, eqb_tells}
 use Rattle.std.proofs.lemmas.List.{append-nil}
 use Rattle.std.proofs.lemmas.List.Folds.{list_any-append}
+use Rattle.cast_message.proofs.Booleans.{and_false, and_true, or_comm, or_false}
 use Rattle.cast_message.specs.declared.config.Config.{Config}
 use Rattle.cast_message.specs.declared.message.Item.{Item}
 use Rattle.cast_message.specs.declared.message.Item.TheVariants.{Data, Propose, Close}
@@ -17,7 +18,6 @@ use Rattle.cast_agree.specs.Proposals.{has_proposed, with_item, proposals, count
 use Rattle.cast_agree.proofs.Law.{decides_least, values-push, length-values, proposed-push}
 use Rattle.cast_agree.specs.Journal.{counted_all, decisions_all}
 use Rattle.cast_node.specs.Stands.{newest_first}
-use Rattle.cast_node.proofs.Booleans.{or_false, and_false, and_true, or_comm}
 
 pub newest_first-append : (before : List (ℕ × Item)) (xs ys : List Message) → newest_first before (xs ++ ys) ≡ newest_first (newest_first before xs) ys
 unfolding newest_first

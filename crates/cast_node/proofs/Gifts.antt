@@ -1,14 +1,10 @@
 -- A message is given to peers one by one, and taken back.
-use Rattle.std.specs.Prelude.{◌≡◌, ℕ, suc, ◌+◌, Bool, true, if◌then◌else◌, List, [], ◌∷◌, ◌++◌, take, length, Result, Ok, Err, OnOk, refl}
+use Rattle.std.specs.Prelude.{◌≡◌, ℕ, suc, ◌+◌, Bool, true, if◌then◌else◌, List, [], ◌∷◌, ◌++◌, take, length, refl}
 use Rattle.std.proofs.Common.{sym, ap, ◌∙◌, arith, drop}
 use Rattle.cast_link.specs.Links.{Link, with_given, without_last}
 use Rattle.cast_relay.specs.Held.{Held, relays_to}
 use Rattle.cast_node.proofs.Parts.{slice_back}
 use Rattle.cast_node.specs.Giving.{given_on, taken_back_from}
-
-pub ok_of : {X E P Q : Type 0} (r : Result X E) → OnOk r P → (P → Q) → OnOk r Q
-ok_of (Ok x) p f = f p
-ok_of (Err e) p f = p
 
 module _ {X : Type 0} where
   none : (links : List (Link X)) → length links ≡ 0 → links ≡ []

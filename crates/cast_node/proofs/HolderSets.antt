@@ -7,10 +7,11 @@ use Rattle.std.specs.Cmp.{nat_cmp_total}
 use Rattle.std.specs.FinSet as set
 use Rattle.std.specs.FinSet.{contains-insert, contains-empty, len-empty, same_set, nat_cmp-IsAntisymmetric}
 use Rattle.std.proofs.lemmas.Bool.Decides.{nat_tests, eqb_tells}
-use Rattle.std.proofs.lemmas.Bool.{and_parts, cases_eq, eqb-true}
+use Rattle.std.proofs.lemmas.Bool.{and_parts, cases_eq, eqb-true, eq-eqb, ne_eqb}
 use Rattle.std.proofs.lemmas.List.Sums.{length-filter}
 use Rattle.std.proofs.lemmas.List.Elements.{filter-append}
 use Rattle.std.proofs.lemmas.List.Folds.{list_any-append}
+use Rattle.cast_message.proofs.Booleans.{or_false}
 use Rattle.cast_sets.specs.Members.{members_below, contains-members_below, len-new_member}
 use Rattle.cast_message.specs.declared.config.Config.{Config}
 use Rattle.cast_message.specs.declared.config.Mode.{Mode}
@@ -23,8 +24,7 @@ use Rattle.cast_model.proofs.OwnGrowth.{brought, own_copies-more}
 use Rattle.cast_node.specs.Kept.{knowers_in, is_enough_in}
 use Rattle.cast_node.specs.Turns.{known_row}
 use Rattle.cast_node.proofs.Links.{range-more}
-use Rattle.cast_node.proofs.Places.{same_number, other_number, at_set, at_padded, length-replicated}
-use Rattle.cast_node.proofs.Booleans.{or_false}
+use Rattle.cast_node.proofs.Places.{at_set, at_padded, length-replicated}
 
 -- the members known of one pair are others
 pub knowers_in-set : (all : List (List (set.FinSet nat_cmp))) (s i : ℕ) (members : set.FinSet nat_cmp) → s < length all → (x k : ℕ) →
@@ -42,13 +42,13 @@ knowers_in-set all s i members h x k = ap (λ row. slice_index_or row k set.empt
 
     by_sender : (x ≡ s) ⊎ (x ≢ s) → slice_index_or (cond (x == s) (known_row row i members) (slice_index_or all x [])) k set.empty ≡ cond (x == s && k == i) members (knowers_in all x k)
     by_sender (inl e) =
-        ap (λ b. slice_index_or (cond b (known_row row i members) (slice_index_or all x [])) k set.empty) (same_number x s e)
+        ap (λ b. slice_index_or (cond b (known_row row i members) (slice_index_or all x [])) k set.empty) (eq-eqb x s e)
         ∙ in_row
         ∙ ap (λ y. cond (k == i) members (knowers_in all y k)) (sym e)
-        ∙ sym (ap (λ b. cond (b && k == i) members (knowers_in all x k)) (same_number x s e))
+        ∙ sym (ap (λ b. cond (b && k == i) members (knowers_in all x k)) (eq-eqb x s e))
     by_sender (inr e) =
-        ap (λ b. slice_index_or (cond b (known_row row i members) (slice_index_or all x [])) k set.empty) (other_number x s e)
-        ∙ sym (ap (λ b. cond (b && k == i) members (knowers_in all x k)) (other_number x s e))
+        ap (λ b. slice_index_or (cond b (known_row row i members) (slice_index_or all x [])) k set.empty) (ne_eqb x s e)
+        ∙ sym (ap (λ b. cond (b && k == i) members (knowers_in all x k)) (ne_eqb x s e))
 
 -- as many numbers below n pass a test as the set of them has members
 len-members : (f : ℕ → Bool) (n : ℕ) → set.len (members_below n f) ≡ count_by f (range_with_len 0 n)

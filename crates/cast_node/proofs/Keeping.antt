@@ -8,6 +8,7 @@ use Rattle.std.specs.FinSet.{contains-insert}
 use Rattle.std.proofs.Common.{sym, ap, ◌∙◌, subst, arith, length-append}
 use Rattle.std.proofs.lemmas.Bool.{false≢true}
 use Rattle.std.proofs.lemmas.Bool.Decides.{nat_tests}
+use Rattle.cast_message.proofs.Booleans.{or_assoc, or_comm, or_false}
 use Rattle.cast_message.specs.declared.config.Config.{Config}
 use Rattle.cast_message.specs.declared.message.Item.{Item}
 use Rattle.cast_message.specs.declared.message.Item.TheVariants.{Data, Propose, Close}
@@ -21,7 +22,6 @@ use Rattle.cast_node.specs.Delivering.{Delivering}
 use Rattle.cast_node.specs.Taking.{with_proposal, without_proposal}
 use Rattle.cast_node.specs.Sound.{IsNode, Owes}
 use Rattle.cast_node.specs.Giving.{OwesNothing}
-use Rattle.cast_node.proofs.Booleans.{or_false, or_comm, or_assoc}
 
 any_end : (f : Item → Bool) (items : List Item) (item : Item) → list_any f (items ++ item ∷ []) ≡ (list_any f items || f item)
 any_end f [] item = or_false (f item)

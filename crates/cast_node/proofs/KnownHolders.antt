@@ -2,8 +2,9 @@
 use Rattle.std.proofs.Common.{◌≡◌, ℕ, ◌<◌, refl, sym, ◌∙◌, ap, subst, Bool, true, false, ◌&&◌, ◌||◌, cond, List, [], ◌∷◌, ◌++◌, length, map, inl, inr, arith, true≢false}
 use Rattle.std.specs.Prelude.{◌==◌}
 use Rattle.std.specs.List.{list_any}
-use Rattle.std.proofs.lemmas.Bool.{eqb-true, and_parts, false_from_ne_true, or_left, or_right}
+use Rattle.std.proofs.lemmas.Bool.{eqb-true, and_parts, false_from_ne_true, or_left, or_right, eq-eqb}
 use Rattle.std.proofs.lemmas.List.Folds.{list_any-append}
+use Rattle.cast_message.proofs.Booleans.{and_alike, or_assoc}
 use Rattle.cast_message.specs.declared.config.Config.{Config}
 use Rattle.cast_message.specs.declared.message.Message.{Message}
 use Rattle.cast_message.specs.declared.message.Frame.{Frame}
@@ -19,8 +20,6 @@ use Rattle.cast_model.proofs.RoundSpreads.{Member-map}
 use Rattle.cast_model.proofs.Dues.{Member-map_in}
 use Rattle.cast_model.proofs.OwnGrowth.{own_copies-more, own_pair_kept, frames_in-more, frames_given, possible_given, GivenTo, tells_same}
 use Rattle.cast_model.proofs.OwnTurns.{length-map}
-use Rattle.cast_node.proofs.Places.{same_number}
-use Rattle.cast_node.proofs.Booleans.{or_assoc, and_alike}
 
 module _ {A : Type 0} where
   pub any_alike : (f g : A → Bool) (xs : List A) → ((x : A) → Member x xs → f x ≡ g x) → list_any f xs ≡ list_any g xs
@@ -69,7 +68,7 @@ module _ (config : Config) (me : ℕ) where
     where
       by_pair : (b : Bool) (r : ℕ) → has_pair (map copy_of (held me steps)) message.sender message.number ≡ b → has_pair (own_copies me steps ++ map copy_of (cond b [] (record { message = message; source = r } ∷ []))) message.sender message.number ≡ true
       by_pair true r h = list_any-append _ (own_copies me steps) [] ∙ or_left _ _ h
-      by_pair false r h = list_any-append _ (own_copies me steps) _ ∙ or_right _ _ (λ k. (same_number message.sender message.sender refl k && same_number message.number message.number refl k) || false)
+      by_pair false r h = list_any-append _ (own_copies me steps) _ ∙ or_right _ _ (λ k. (eq-eqb message.sender message.sender refl k && eq-eqb message.number message.number refl k) || false)
 
       by_step : (x : Step) → Member frame (frame_of x) → has_pair (own_copies me (x ∷ steps)) message.sender message.number ≡ true
       by_step (Arrived f) n =

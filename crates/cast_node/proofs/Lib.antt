@@ -1,4 +1,3 @@
-pub mod Booleans
 pub mod Places
 pub mod Links
 pub mod KnownHolders

@@ -7,9 +7,11 @@ use Rattle.std.specs.Cmp.{nat_cmp_total}
 use Rattle.std.specs.FinMap as finite
 use Rattle.std.specs.FinMap.{get-insert, get-remove, len-insert, len-remove}
 use Rattle.std.proofs.lemmas.Bool.Decides.{nat_tests}
-use Rattle.std.proofs.lemmas.Bool.{cases_eq, cases_lt, false_from_ne_true}
+use Rattle.std.proofs.lemmas.Bool.{cases_eq, cases_lt, false_from_ne_true, eq-eqb, ne_eqb}
 use Rattle.std.proofs.lemmas.List.{get_or_append_left}
 use Rattle.std.proofs.lemmas.List.Elements.{filter-append}
+use Rattle.cast_message.proofs.Tests.{cmp_eq}
+use Rattle.cast_message.proofs.Booleans.{and_false, and_true, or_false}
 use Rattle.cast_message.specs.declared.config.Config.{Config}
 use Rattle.cast_message.specs.declared.message.Message.{Message}
 use Rattle.cast_message.specs.declared.message.Frame.{Frame}
@@ -25,8 +27,6 @@ use Rattle.cast_node.specs.Giving.{given_on}
 use Rattle.cast_relay.specs.Held.{Held as HeldPairs, relays_to}
 use Rattle.cast_node.specs.Turns.{given_from}
 use Rattle.cast_node.specs.Stands.{owed_in, StandsOut}
-use Rattle.cast_node.proofs.Places.{same_number, other_number}
-use Rattle.cast_node.proofs.Booleans.{or_false, and_false, and_true}
 
 pub length-given_from : (q : ℕ) (relay : HeldPairs) (source : ℕ) (message : Message) (links : List (Link Message)) → length (given_from q relay source message links) ≡ length links
 unfolding given_on
@@ -43,9 +43,6 @@ given_from-at q relay source message (link ∷ links) zero d h = ap (λ k. goes 
 given_from-at q relay source message (link ∷ links) (suc i) d h =
     given_from-at (q + 1) relay source message links i d (omega (arith, h))
     ∙ ap (λ k. goes relay source message k (slice_index_or links i d)) (let z : (q + 1) + i ≡ q + suc i = omega arith in z)
-
-cmp_eq : (q k : ℕ) → eq_by_cmp nat_cmp q k ≡ (q == k)
-cmp_eq q k = grind (arith, nat_tests)
 
 -- a slot that isn't given is not acknowledged
 pub acked_given : (config : Config) (me : ℕ) (steps : Steps) → IsOwnAccepted config me steps → (q slot : ℕ) → own_acked steps q slot ≡ true → slot < length (own_given me steps q)
@@ -137,9 +134,9 @@ module _ (me : ℕ) (steps : Steps) (step : Step) (q : ℕ) where
           ∙ ap (cond (slot == size) (Some h.message)) (stands.owed slot)
           ∙ elim (cases_eq slot size) [
             | inl e ↦
-                (ap (λ b. cond b (Some h.message) (owed_in me steps q slot)) (same_number slot size e)
+                (ap (λ b. cond b (Some h.message) (owed_in me steps q slot)) (eq-eqb slot size e)
                 ∙ sym (ap after e ∙ (λ i. if is_slot (size + 1) size (omega arith) i && not (fresh i) then Some (last_message (own_given me steps q) h i) else None)))
-            | inr e ↦ ap (λ b. cond b (Some h.message) (owed_in me steps q slot)) (other_number slot size e) ∙ beside slot e
+            | inr e ↦ ap (λ b. cond b (Some h.message) (owed_in me steps q slot)) (ne_eqb slot size e) ∙ beside slot e
           ]
           ∙ sym (is_after slot)
         where
@@ -160,19 +157,19 @@ module _ (me : ℕ) (steps : Steps) (step : Step) (q : ℕ) where
     fewer p t a zero low high e is = absurd (omega (arith, low, high))
     fewer p t a (suc n) low high e is = elim (cases_eq slot a) [
       | inl here ↦
-          (ap (λ b. length (cond b (a ∷ filter t (range_with_len (a + 1) n)) (filter t (range_with_len (a + 1) n))) + 1) (is a ∙ ap (λ b. p a && not b) (same_number slot a here) ∙ and_false (p a))
+          (ap (λ b. length (cond b (a ∷ filter t (range_with_len (a + 1) n)) (filter t (range_with_len (a + 1) n))) + 1) (is a ∙ ap (λ b. p a && not b) (eq-eqb slot a here) ∙ and_false (p a))
           ∙ ap (λ xs. length xs + 1) (alike n (a + 1) (omega (arith, here)))
           ∙ (let z : length (filter p (range_with_len (a + 1) n)) + 1 ≡ suc (length (filter p (range_with_len (a + 1) n))) = omega arith in z)
           ∙ sym (ap (λ b. length (cond b (a ∷ filter p (range_with_len (a + 1) n)) (filter p (range_with_len (a + 1) n)))) (ap p (sym here) ∙ e)))
       | inr apart ↦
           (let rest = fewer p t (a + 1) n (omega (arith, low, apart)) (omega (arith, high)) e is in
-          ap (λ b. length (cond b (a ∷ filter t (range_with_len (a + 1) n)) (filter t (range_with_len (a + 1) n))) + 1) (is a ∙ ap (λ b. p a && not b) (other_number slot a apart) ∙ and_true (p a))
+          ap (λ b. length (cond b (a ∷ filter t (range_with_len (a + 1) n)) (filter t (range_with_len (a + 1) n))) + 1) (is a ∙ ap (λ b. p a && not b) (ne_eqb slot a apart) ∙ and_true (p a))
           ∙ by_test (p a) rest)
     ]
       where
         alike : (m b : ℕ) → slot < b → filter t (range_with_len b m) ≡ filter p (range_with_len b m)
         alike zero b l = refl
-        alike (suc m) b l = λ i. cond ((is b ∙ ap (λ c. p b && not c) (other_number slot b (omega (arith, l))) ∙ and_true (p b)) i) (b ∷ alike m (b + 1) (omega (arith, l)) i) (alike m (b + 1) (omega (arith, l)) i)
+        alike (suc m) b l = λ i. cond ((is b ∙ ap (λ c. p b && not c) (ne_eqb slot b (omega (arith, l))) ∙ and_true (p b)) i) (b ∷ alike m (b + 1) (omega (arith, l)) i) (alike m (b + 1) (omega (arith, l)) i)
 
         by_test : (b : Bool) → length (filter t (range_with_len (a + 1) n)) + 1 ≡ length (filter p (range_with_len (a + 1) n)) →
             length (cond b (a ∷ filter t (range_with_len (a + 1) n)) (filter t (range_with_len (a + 1) n))) + 1 ≡ length (cond b (a ∷ filter p (range_with_len (a + 1) n)) (filter p (range_with_len (a + 1) n)))
@@ -220,9 +217,9 @@ module _ (me : ℕ) (steps : Steps) (step : Step) (q : ℕ) where
         at : (k : ℕ) → cond (k == slot) None (finite.get link.owed k) ≡ owed_in me (step ∷ steps) q k
         at k = elim (cases_eq k slot) [
           | inl e ↦
-              (ap (λ b. cond b None (finite.get link.owed k)) (same_number k slot e)
-              ∙ sym (is_after k ∙ ap (λ b. if nat_lt k (length (own_given me steps q)) && not (own_acked steps q k || b) then Some (message_in (own_given me steps q) k) else None) (same_number slot k (sym e)) ∙ gone (nat_lt k (length (own_given me steps q))) (own_acked steps q k) (Some (message_in (own_given me steps q) k))))
+              (ap (λ b. cond b None (finite.get link.owed k)) (eq-eqb k slot e)
+              ∙ sym (is_after k ∙ ap (λ b. if nat_lt k (length (own_given me steps q)) && not (own_acked steps q k || b) then Some (message_in (own_given me steps q) k) else None) (eq-eqb slot k (sym e)) ∙ gone (nat_lt k (length (own_given me steps q))) (own_acked steps q k) (Some (message_in (own_given me steps q) k))))
           | inr e ↦
-              (ap (λ b. cond b None (finite.get link.owed k)) (other_number k slot e) ∙ stands.owed k
-              ∙ sym (is_after k ∙ ap (λ b. if nat_lt k (length (own_given me steps q)) && not b then Some (message_in (own_given me steps q) k) else None) (ap (λ b. own_acked steps q k || b) (other_number slot k (λ z. e (sym z))) ∙ or_false (own_acked steps q k))))
+              (ap (λ b. cond b None (finite.get link.owed k)) (ne_eqb k slot e) ∙ stands.owed k
+              ∙ sym (is_after k ∙ ap (λ b. if nat_lt k (length (own_given me steps q)) && not b then Some (message_in (own_given me steps q) k) else None) (ap (λ b. own_acked steps q k || b) (ne_eqb slot k (λ z. e (sym z))) ∙ or_false (own_acked steps q k))))
         ]

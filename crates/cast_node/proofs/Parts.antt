@@ -2,22 +2,11 @@
 use Rattle.std.specs.Prelude.{◌≡◌, ℕ, zero, suc, ◌+◌, ◌<◌, true, List, [], ◌∷◌, ◌++◌, length, take, map, replicate, slice_set, slice_index_or, Result, Ok, Err, OnErr, refl}
 use Rattle.std.specs.Result.{is_err}
 use Rattle.std.proofs.Common.{sym, ap, ◌∙◌, arith, drop, true≢false}
-use Rattle.cast_message.specs.declared.message.Item.{Item}
-use Rattle.cast_model.specs.History.{numbered}
-use Rattle.cast_fifo.specs.Held.{Held as HeldBack, nothing_held, held_of}
-use Rattle.cast_fifo.proofs.Turns.{numbered-cons, numbered-none}
-
-pub length-numbered : (s n : ℕ) (xs : List Item) → length (numbered s n xs) ≡ length xs
-length-numbered s n [] = ap length (numbered-none s n)
-length-numbered s n (x ∷ xs) = ap length (numbered-cons s n x xs) ∙ ap suc (length-numbered s (n + 1) xs)
+use Rattle.cast_fifo.specs.Held.{Held as HeldBack, held_of}
 
 pub err_of : {X E P Q : Type 0} (r : Result X E) → OnErr r P → (P → Q) → OnErr r Q
 err_of (Ok x) p f = p
 err_of (Err e) p f = f p
-
-pub on_err : {X E P : Type 0} (r : Result X E) → P → OnErr r P
-on_err (Ok x) p = tt
-on_err (Err e) p = p
 
 pub is_err_of : {X E P : Type 0} (r : Result X E) → is_err r ≡ true → OnErr r P → P
 is_err_of (Ok x) e p = absurd (true≢false (sym e))
@@ -64,11 +53,6 @@ near_set P (x ∷ all) zero v h p zero = p
 near_set P (x ∷ all) zero v h p (suc s) = h (suc s)
 near_set P (x ∷ all) (suc k) v h p zero = h zero
 near_set P (x ∷ all) (suc k) v h p (suc s) = near_set P all k v (λ s. h (suc s)) p s
-
-nothing_of : (n s : ℕ) → held_of (replicate n nothing_held) s ≡ nothing_held
-nothing_of zero s = refl
-nothing_of (suc n) zero = refl
-nothing_of (suc n) (suc s) = nothing_of n s
 
 pub length-replicate : {Y : Type 0} (n : ℕ) (y : Y) → length (replicate n y) ≡ n
 length-replicate zero y = refl

@@ -1,14 +1,8 @@
 -- Places of lists.
-use Rattle.std.proofs.Common.{◌≡◌, ◌≢◌, ℕ, zero, suc, ◌<◌, refl, sym, ◌∙◌, ap, true, false, cond, List, [], ◌∷◌, ◌++◌, length, inl, inr}
+use Rattle.std.proofs.Common.{◌≡◌, ℕ, zero, suc, ◌<◌, refl, sym, ◌∙◌, ap, cond, List, [], ◌∷◌, ◌++◌, length, inl, inr}
 use Rattle.std.specs.Prelude.{◌==◌, replicate, slice_index_or, slice_set}
 use Rattle.std.proofs.lemmas.List.{get_or-set_same, get_or-set_other}
 use Rattle.std.proofs.lemmas.Bool.{eq-eqb, ne_eqb, cases_eq}
-
-pub same_number : (i k : ℕ) → i ≡ k → (i == k) ≡ true
-same_number i k e = eq-eqb i k e
-
-pub other_number : (i k : ℕ) → i ≢ k → (i == k) ≡ false
-other_number i k e = ne_eqb i k e
 
 module _ {A : Type 0} where
   pub length-slice_set : (xs : List A) (i : ℕ) (x : A) → length (slice_set xs i x) ≡ length xs
@@ -19,8 +13,8 @@ module _ {A : Type 0} where
 
   pub at_set : (xs : List A) (i j : ℕ) (x d : A) → i < length xs → slice_index_or (slice_set xs i x) j d ≡ cond (j == i) x (slice_index_or xs j d)
   at_set xs i j x d h = elim (cases_eq j i) [
-    | inl e ↦ ap (λ k. slice_index_or (slice_set xs i x) k d) e ∙ get_or-set_same xs i x d h ∙ sym (ap (λ b. cond b x (slice_index_or xs j d)) (same_number j i e))
-    | inr e ↦ get_or-set_other xs i j x d e ∙ sym (ap (λ b. cond b x (slice_index_or xs j d)) (other_number j i e))
+    | inl e ↦ ap (λ k. slice_index_or (slice_set xs i x) k d) e ∙ get_or-set_same xs i x d h ∙ sym (ap (λ b. cond b x (slice_index_or xs j d)) (eq-eqb j i e))
+    | inr e ↦ get_or-set_other xs i j x d e ∙ sym (ap (λ b. cond b x (slice_index_or xs j d)) (ne_eqb j i e))
   ]
 
   pub at_replicate : (n i : ℕ) (d : A) → slice_index_or (replicate n d) i d ≡ d

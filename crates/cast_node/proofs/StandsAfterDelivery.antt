@@ -1,5 +1,5 @@
 -- Once something was heard of a pair: what is delivered and decided, and that the node stands for one step more.
-use Rattle.std.proofs.Common.{◌≡◌, ℕ, suc, ◌-◌, ◌<◌, refl, sym, ◌∙◌, ap, subst, Bool, true, false, cond, List, [], ◌∷◌, ◌++◌, length, map, inl, inr}
+use Rattle.std.proofs.Common.{◌≡◌, ℕ, ◌-◌, ◌<◌, refl, sym, ◌∙◌, ap, subst, Bool, true, false, cond, List, [], ◌∷◌, ◌++◌, length, map, inl, inr}
 use Rattle.std.specs.Prelude.{◌==◌, slice_index_or, slice_set}
 use Rattle.std.specs.List.{filter}
 use Rattle.std.proofs.lemmas.Bool.{cases_eq, eq-eqb, ne_eqb}
@@ -8,12 +8,11 @@ use Rattle.std.proofs.lemmas.List.Elements.{filter-append}
 use Rattle.cast_message.specs.declared.config.Config.{Config}
 use Rattle.cast_message.specs.declared.message.Item.{Item}
 use Rattle.cast_message.specs.declared.message.Message.{Message}
-use Rattle.cast_model.specs.History.{numbered}
 use Rattle.cast_model.specs.Replies.{is_from}
 use Rattle.cast_model.specs.Steps.{Step, Steps, held}
 use Rattle.cast_model.specs.OwnSteps.{own_known_enough, own_is_ready, own_next, own_turns, own_deliveries, own_log, own_outcome, own_decisions_of, messages_from}
 use Rattle.cast_model.proofs.Members.{Member}
-use Rattle.cast_model.proofs.Fronts.{filter_all, filter_none}
+use Rattle.cast_model.proofs.Fronts.{items_numbered, filter_all, filter_none}
 use Rattle.cast_model.proofs.OwnFronts.{messages_sender, no_messages}
 use Rattle.cast_fifo.specs.Held.{Held as HeldBack, held_of, nothing_held, known_items, known_after}
 use Rattle.cast_fifo.specs.HoldsBack.{HoldsBack}
@@ -25,16 +24,11 @@ use Rattle.cast_node.specs.Kept.{Kept, knowers_of, is_enough_in, is_enough}
 use Rattle.cast_node.specs.Turns.{Told, told, released, unmoved, news_of}
 use Rattle.cast_model.specs.Shown.{item_of}
 use Rattle.cast_node.specs.Stands.{item_at, newest_first, Stands}
-use Rattle.cast_node.proofs.Places.{length-slice_set, at_set, same_number, other_number}
+use Rattle.cast_node.proofs.Places.{length-slice_set, at_set}
 use Rattle.cast_node.proofs.HolderSets.{enough-is}
 use Rattle.cast_node.proofs.Back.{next_is, turns_are, told_turn, told_still}
 use Rattle.cast_node.proofs.StandsBeforeDelivery.{Heard}
 use Rattle.cast_node.proofs.Counting.{newest_first-append, counted_newest, decisions_are}
-
-items_numbered : (s n : ℕ) (items : List Item) → map item_of (numbered s n items) ≡ items
-unfolding numbered
-items_numbered s n [] = refl
-items_numbered s n (x ∷ xs) = ap (λ ys. x ∷ ys) (items_numbered s (suc n) xs)
 
 module _ (config : Config) (me : ℕ) (step : Step) (steps : Steps) where
   -- what the log gains of each sender
@@ -47,8 +41,8 @@ module _ (config : Config) (me : ℕ) (step : Step) (steps : Steps) where
     where
       by_sender : cond (x == s) (row ++ map item_of news) row ≡ row ++ map item_of (filter (is_from x) news)
       by_sender = elim (cases_eq x s) [
-        | inl e ↦ ap (λ b. cond b (row ++ map item_of news) row) (same_number x s e) ∙ ap (λ ms. row ++ map item_of ms) (sym (filter_all (is_from x) news (λ m n. eq-eqb m.sender x (from m n ∙ sym e))))
-        | inr e ↦ ap (λ b. cond b (row ++ map item_of news) row) (other_number x s e) ∙ sym (append-nil row) ∙ ap (λ ms. row ++ map item_of ms) (sym (filter_none (is_from x) news (λ m n. ne_eqb m.sender x (λ z. e (sym z ∙ from m n)))))
+        | inl e ↦ ap (λ b. cond b (row ++ map item_of news) row) (eq-eqb x s e) ∙ ap (λ ms. row ++ map item_of ms) (sym (filter_all (is_from x) news (λ m n. eq-eqb m.sender x (from m n ∙ sym e))))
+        | inr e ↦ ap (λ b. cond b (row ++ map item_of news) row) (ne_eqb x s e) ∙ sym (append-nil row) ∙ ap (λ ms. row ++ map item_of ms) (sym (filter_none (is_from x) news (λ m n. ne_eqb m.sender x (λ z. e (sym z ∙ from m n)))))
       ]
 
   pub record ToldRight (t : Told) : Type 0 where
@@ -125,15 +119,15 @@ module _ (config : Config) (me : ℕ) (step : Step) (steps : Steps) where
 
         back : (x : ℕ) → x < config.nodes → HoldsBack (item_at (held me (step ∷ steps)) x) (own_is_ready config me (step ∷ steps) x) (cond (x == s) (known_after (held_of kept.hold_back s) i) (held_of kept.hold_back x))
         back x l = elim (cases_eq x s) [
-          | inl e ↦ subst (λ b. HoldsBack (item_at (held me (step ∷ steps)) x) (own_is_ready config me (step ∷ steps) x) (cond b (known_after (held_of kept.hold_back s) i) (held_of kept.hold_back x))) (sym (same_number x s e)) (subst (λ y. HoldsBack (item_at (held me (step ∷ steps)) y) (own_is_ready config me (step ∷ steps) y) (known_after (held_of kept.hold_back s) i)) (sym e) t.stands)
-          | inr e ↦ subst (λ b. HoldsBack (item_at (held me (step ∷ steps)) x) (own_is_ready config me (step ∷ steps) x) (cond b (known_after (held_of kept.hold_back s) i) (held_of kept.hold_back x))) (sym (other_number x s e)) (h.back_other x l e)
+          | inl e ↦ subst (λ b. HoldsBack (item_at (held me (step ∷ steps)) x) (own_is_ready config me (step ∷ steps) x) (cond b (known_after (held_of kept.hold_back s) i) (held_of kept.hold_back x))) (sym (eq-eqb x s e)) (subst (λ y. HoldsBack (item_at (held me (step ∷ steps)) y) (own_is_ready config me (step ∷ steps) y) (known_after (held_of kept.hold_back s) i)) (sym e) t.stands)
+          | inr e ↦ subst (λ b. HoldsBack (item_at (held me (step ∷ steps)) x) (own_is_ready config me (step ∷ steps) x) (cond b (known_after (held_of kept.hold_back s) i) (held_of kept.hold_back x))) (sym (ne_eqb x s e)) (h.back_other x l e)
         ]
 
         row : (x : ℕ) → cond (x == s) (slice_index_or kept.delivered s [] ++ known_items (held_of kept.hold_back s) i) (slice_index_or kept.delivered x [])
             ≡ cond (x == s) (slice_index_or kept.delivered x [] ++ map item_of (news_of kept s i)) (slice_index_or kept.delivered x [])
         row x = elim (cases_eq x s) [
           | inl e ↦ (λ k. cond (x == s) (slice_index_or kept.delivered (sym e k) [] ++ sym (items_numbered s (held_of kept.hold_back s).next (known_items (held_of kept.hold_back s) i)) k) (slice_index_or kept.delivered x []))
-          | inr e ↦ ap (λ b. cond b (slice_index_or kept.delivered s [] ++ known_items (held_of kept.hold_back s) i) (slice_index_or kept.delivered x [])) (other_number x s e) ∙ sym (ap (λ b. cond b (slice_index_or kept.delivered x [] ++ map item_of (news_of kept s i)) (slice_index_or kept.delivered x [])) (other_number x s e))
+          | inr e ↦ ap (λ b. cond b (slice_index_or kept.delivered s [] ++ known_items (held_of kept.hold_back s) i) (slice_index_or kept.delivered x [])) (ne_eqb x s e) ∙ sym (ap (λ b. cond b (slice_index_or kept.delivered x [] ++ map item_of (news_of kept s i)) (slice_index_or kept.delivered x [])) (ne_eqb x s e))
         ]
 
     still : own_known_enough config.mode config me (step ∷ steps) s i ≡ false → ToldRight (unmoved kept)

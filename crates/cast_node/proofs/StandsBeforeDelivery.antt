@@ -9,6 +9,8 @@ use Rattle.std.specs.FinSet.{contains-insert, contains-empty}
 use Rattle.std.specs.FinMap as finite
 use Rattle.std.proofs.lemmas.Bool.Decides.{nat_tests, eqb_tells}
 use Rattle.std.proofs.lemmas.List.{append-nil}
+use Rattle.std.proofs.lemmas.Bool.{eq-eqb, ne_eqb}
+use Rattle.cast_message.proofs.Booleans.{and_false, or_false}
 use Rattle.cast_message.specs.declared.config.Config.{Config}
 use Rattle.cast_message.specs.declared.message.Item.{Item}
 use Rattle.cast_message.specs.declared.message.Message.{Message}
@@ -26,11 +28,10 @@ use Rattle.cast_node.specs.Kept.{Kept, link_to, knowers_of}
 use Rattle.cast_node.specs.Turns.{with_knower, spread, given_from}
 use Rattle.cast_model.specs.Shown.{item_of}
 use Rattle.cast_node.specs.Stands.{item_at, newest_first, StandsOut, Stands}
-use Rattle.cast_node.proofs.Places.{length-slice_set, at_set, same_number, other_number}
+use Rattle.cast_node.proofs.Places.{length-slice_set, at_set}
 use Rattle.cast_node.proofs.Links.{length-given_from, given_from-at, goes, out_same, out_given}
 use Rattle.cast_node.proofs.HolderSets.{KnowsAll, ready_alike, same_pair, pair_more, pair_none, knows_pair}
 use Rattle.cast_node.proofs.Back.{back_same, back_more, item_other}
-use Rattle.cast_node.proofs.Booleans.{or_false, and_false}
 
 -- The node's own numbers, its relay and what it took stand for the steps.
 pub record OwnStands (config : Config) (me : ℕ) (steps : Steps) (seen : Config) (number : ℕ) (is_live : Bool) (made : ℕ) (items : List Item) (relay : HeldPairs) (incoming : List (set.FinSet nat_cmp)) : Type 0 where
@@ -115,10 +116,10 @@ pub record Heard (config : Config) (me : ℕ) (step : Step) (steps : Steps) (kep
   pub concerned : own_concerned me steps step ≡ Some s
 
 other_pair : (a b s i : ℕ) → s ≢ a → same_pair a b s i ≡ false
-other_pair a b s i e = ap (λ c. c && i == b) (other_number s a e)
+other_pair a b s i e = ap (λ c. c && i == b) (ne_eqb s a e)
 
 other_item : (a b i : ℕ) → i ≢ b → same_pair a b a i ≡ false
-other_item a b i e = ap (λ c. a == a && c) (other_number i b e) ∙ and_false (a == a)
+other_item a b i e = ap (λ c. a == a && c) (ne_eqb i b e) ∙ and_false (a == a)
 
 module _ (config : Config) (me : ℕ) (step : Step) (steps : Steps) (kept : Kept) (b : Base config me step steps kept) where
   -- more is heard of a pair that is held
@@ -185,7 +186,7 @@ module _ (config : Config) (me : ℕ) (step : Step) (steps : Steps) (kept : Kept
     pair_other x k e = pair_more me step steps h new x k ∙ ap (λ c. has_pair (own_copies me steps) x k || c) e ∙ or_false (has_pair (own_copies me steps) x k)
 
     pair_here : has_pair (own_copies me (step ∷ steps)) h.message.sender h.message.number ≡ true
-    pair_here = pair_more me step steps h new h.message.sender h.message.number ∙ (λ k. fresh k || (same_number h.message.sender h.message.sender refl k && same_number h.message.number h.message.number refl k))
+    pair_here = pair_more me step steps h new h.message.sender h.message.number ∙ (λ k. fresh k || (eq-eqb h.message.sender h.message.sender refl k && eq-eqb h.message.number h.message.number refl k))
 
     ready_other : (x k : ℕ) → same_pair h.message.sender h.message.number x k ≡ false → own_is_ready config me (step ∷ steps) x k ≡ own_is_ready config me steps x k
     ready_other x k e = ready_alike config me step steps x k (pair_other x k e) (other x k e)
@@ -238,9 +239,9 @@ module _ (config : Config) (me : ℕ) (step : Step) (steps : Steps) (kept : Kept
       peers_out = length-given_from 0 kept.relay h.source h.message kept.outgoing ∙ b.peers_out;
       out = out_after;
       senders_back = length-slice_set kept.hold_back h.message.sender _ ∙ b.senders_back;
-      back_here = subst (HoldsBack (item_at (held me (step ∷ steps)) h.message.sender) (own_is_ready config me steps h.message.sender)) (sym (back_at h.message.sender ∙ ap (λ c. cond c (with_item (held_of kept.hold_back h.message.sender) h.message.number h.message.item) (held_of kept.hold_back h.message.sender)) (same_number h.message.sender h.message.sender refl)))
+      back_here = subst (HoldsBack (item_at (held me (step ∷ steps)) h.message.sender) (own_is_ready config me steps h.message.sender)) (sym (back_at h.message.sender ∙ ap (λ c. cond c (with_item (held_of kept.hold_back h.message.sender) h.message.number h.message.item) (held_of kept.hold_back h.message.sender)) (eq-eqb h.message.sender h.message.sender refl)))
           (subst (λ hs. HoldsBack (item_at hs h.message.sender) (own_is_ready config me steps h.message.sender) (with_item (held_of kept.hold_back h.message.sender) h.message.number h.message.item)) (sym held_is) (back_more config me steps h (held_of kept.hold_back h.message.sender) (b.holds_back h.message.sender sender)));
-      back_other = λ x l e. subst (HoldsBack (item_at (held me (step ∷ steps)) x) (own_is_ready config me (step ∷ steps) x)) (sym (back_at x ∙ ap (λ c. cond c (with_item (held_of kept.hold_back h.message.sender) h.message.number h.message.item) (held_of kept.hold_back x)) (other_number x h.message.sender e)))
+      back_other = λ x l e. subst (HoldsBack (item_at (held me (step ∷ steps)) x) (own_is_ready config me (step ∷ steps) x)) (sym (back_at x ∙ ap (λ c. cond c (with_item (held_of kept.hold_back h.message.sender) h.message.number h.message.item) (held_of kept.hold_back x)) (ne_eqb x h.message.sender e)))
           (back_same config me step steps x (held_of kept.hold_back x) (λ k. ap (λ hs. item_at hs x k) held_is ∙ item_other (held me steps) h x k e) (λ k. ready_other x k (other_pair h.message.sender h.message.number x k e)) (b.holds_back x l));
       senders_known = length-slice_set kept.knowers h.message.sender _ ∙ b.senders_known;
       knows = knows_pair config me step steps kept.knowers b.knows h.message.sender h.message.number members (subst (λ n. h.message.sender < n) (sym b.senders_known) sender) b.senders_known

@@ -2,15 +2,17 @@
 use Rattle.std.proofs.Common.{◌≡◌, ◌≢◌, ℕ, zero, suc, ◌+◌, ◌-◌, ◌<◌, refl, sym, ◌∙◌, ap, subst, Bool, true, false, not, ◌&&◌, ◌||◌, cond, List, [], ◌∷◌, ◌++◌, length, map, Option, Some, None, inl, inr, arith, length-append}
 use Rattle.std.specs.Prelude.{◌*◌, ◌==◌, nat_lt, slice_index_or, if◌then◌else◌}
 use Rattle.std.specs.List.{filter, list_any, prefix_len, range_with_len}
-use Rattle.std.specs.Ordering.{nat_cmp, eq_by_cmp}
+use Rattle.std.specs.Ordering.{nat_cmp}
 use Rattle.std.specs.Cmp.{nat_cmp_total}
 use Rattle.std.specs.FinSet as set
 use Rattle.std.specs.FinSet.{contains-insert}
 use Rattle.std.specs.FinMap as finite
-use Rattle.std.proofs.lemmas.Bool.{cases_eq, or_cases, or_right, and_from, and_parts, lt-ltb, eqb-true, ltb-true, not-false, false≢true, false_from_ne_true}
+use Rattle.std.proofs.lemmas.Bool.{cases_eq, or_cases, or_right, and_from, and_parts, lt-ltb, eqb-true, ltb-true, not-false, false≢true, false_from_ne_true, eq-eqb, ne_eqb}
 use Rattle.std.proofs.lemmas.Bool.Decides.{nat_tests}
 use Rattle.std.proofs.lemmas.List.{append-nil}
 use Rattle.std.proofs.lemmas.List.Folds.{list_any-append}
+use Rattle.cast_message.proofs.Tests.{cmp_eq}
+use Rattle.cast_message.proofs.Booleans.{and_alike, and_false, and_true, or_comm, or_false, or_implied}
 use Rattle.cast_message.specs.declared.config.Config.{Config}
 use Rattle.cast_message.specs.declared.message.Item.{Item}
 use Rattle.cast_message.specs.declared.message.Item.TheVariants.{Close}
@@ -33,14 +35,13 @@ use Rattle.cast_node.specs.Kept.{Kept, link_to, taken_from}
 use Rattle.cast_node.specs.Turns.{told, ordered, unmoved, with_taken, with_acked, with_knower, own_taken_up, taken_up, carried, acknowledged}
 use Rattle.cast_model.specs.Shown.{item_of}
 use Rattle.cast_node.specs.Stands.{item_at, newest_first, StandsOut, Stands}
-use Rattle.cast_node.proofs.Places.{length-slice_set, at_set, same_number, other_number}
+use Rattle.cast_node.proofs.Places.{length-slice_set, at_set}
 use Rattle.cast_node.proofs.Links.{out_same, out_acked}
 use Rattle.cast_node.proofs.KnownHolders.{knows_more, told_by, untold, given_held}
 use Rattle.cast_node.proofs.HolderSets.{knows_same, ready_alike, same_pair, pair_more, pair_none}
 use Rattle.cast_node.proofs.Back.{back_same}
 use Rattle.cast_node.proofs.StandsAfterDelivery.{ToldRight, told_right}
 use Rattle.cast_node.proofs.StandsBeforeDelivery.{Base, base_of, known_heard, new_heard}
-use Rattle.cast_node.proofs.Booleans.{or_false, and_false, and_true, or_comm, and_alike, or_implied}
 
 -- a pair that a node holds: of a sender in the group, and of its own numbers only those it ordered
 record InRange (config : Config) (me : ℕ) (steps : Steps) (s i : ℕ) : Type 0 where
@@ -69,7 +70,7 @@ module _ (config : Config) (me : ℕ) (place : me < config.nodes) where
           let same : message.sender ≡ s = eqb-true message.sender s p.0 in
           record {
             sender = subst (λ y. y < config.nodes) same (ltb-true message.sender config.nodes q.0);
-            number = λ z. absurd (false≢true (sym (not-true (message.sender == me) q.1) ∙ same_number message.sender me (same ∙ z)));
+            number = λ z. absurd (false≢true (sym (not-true (message.sender == me) q.1) ∙ eq-eqb message.sender me (same ∙ z)));
           }
         where
           not-true : (b : Bool) → not b ≡ true → b ≡ false
@@ -177,22 +178,19 @@ module _ (config : Config) (me : ℕ) (steps : Steps) (kept : Kept) (st : Stands
   unfolding own_live frame_count each
   stopped_stands accepted = quiet_stands Stopped accepted refl (append-nil (own_items steps)) refl false kept.frames refl (st.frames ∙ (let z : frame_count steps ≡ frame_count steps + 0 = omega arith in z))
 
-cmp_eq : (q k : ℕ) → eq_by_cmp nat_cmp q k ≡ (q == k)
-cmp_eq q k = grind (arith, nat_tests)
-
 -- one pair more is held
 relay_more : (relay : HeldPairs) (a b : ℕ) → a < length relay.numbers → (x k : ℕ) → holds (with_pair relay a b) x k ≡ (holds relay x k || same_pair a b x k)
 relay_more relay a b l x k = ap (λ numbers. set.contains numbers k) (at_set relay.numbers a x (set.insert (numbers_of relay.numbers a) b) set.empty l) ∙ elim (cases_eq x a) [
   | inl e ↦
-      (ap (λ c. set.contains (cond c (set.insert (numbers_of relay.numbers a) b) (numbers_of relay.numbers x)) k) (same_number x a e)
+      (ap (λ c. set.contains (cond c (set.insert (numbers_of relay.numbers a) b) (numbers_of relay.numbers x)) k) (eq-eqb x a e)
       ∙ contains-insert nat_cmp_total (numbers_of relay.numbers a) b k
       ∙ (λ i. cmp_eq k b i || set.contains (numbers_of relay.numbers (sym e i)) k)
       ∙ or_comm (k == b) (holds relay x k)
-      ∙ ap (λ c. holds relay x k || (c && k == b)) (sym (same_number x a e)))
+      ∙ ap (λ c. holds relay x k || (c && k == b)) (sym (eq-eqb x a e)))
   | inr e ↦
-      (ap (λ c. set.contains (cond c (set.insert (numbers_of relay.numbers a) b) (numbers_of relay.numbers x)) k) (other_number x a e)
+      (ap (λ c. set.contains (cond c (set.insert (numbers_of relay.numbers a) b) (numbers_of relay.numbers x)) k) (ne_eqb x a e)
       ∙ sym (or_false (holds relay x k))
-      ∙ ap (λ c. holds relay x k || (c && k == b)) (sym (other_number x a e)))
+      ∙ ap (λ c. holds relay x k || (c && k == b)) (sym (ne_eqb x a e)))
 ]
 
 -- a slot that was acknowledged was told of
@@ -203,7 +201,7 @@ told_before me steps from slot before s i x e =
     let found = Member-list_any (λ (frame : Frame). frame.from == from && is_took_of slot frame.body) (frames_in steps) before in
     let q = and_parts (found.0.from == from) _ found.2 in
     or_right (x == me || x == s) _ (list_any-Member (λ (frame : Frame). frame.from == x && tells_of (own_given_copies me steps x) s i frame.body) found.0 (frames_in steps) found.1
-    (and_from _ _ (same_number found.0.from x (eqb-true found.0.from from q.0 ∙ eqb-true from x p.0)) (by_body found.0.body q.1 p.1)))
+    (and_from _ _ (eq-eqb found.0.from x (eqb-true found.0.from from q.0 ∙ eqb-true from x p.0)) (by_body found.0.body q.1 p.1)))
   where
     by_body : (body : FrameBody) → is_took_of slot body ≡ true → is_pair (copy_at (own_given_copies me steps x) slot) s i ≡ true → tells_of (own_given_copies me steps x) s i body ≡ true
     by_body (Carry place message) t u = absurd (false≢true t)
@@ -279,18 +277,18 @@ module _ (config : Config) (me : ℕ) (steps : Steps) (kept : Kept) (st : Stands
         ap (λ s. set.contains s k) (at_set kept.incoming from r (set.insert (taken_from kept from) slot) set.empty (subst (λ n. from < n) (sym st.peers_in) from_in))
         ∙ elim (cases_eq r from) [
           | inl e ↦
-              (ap (λ c. set.contains (cond c (set.insert (taken_from kept from) slot) (taken_from kept r)) k) (same_number r from e)
+              (ap (λ c. set.contains (cond c (set.insert (taken_from kept from) slot) (taken_from kept r)) k) (eq-eqb r from e)
               ∙ contains-insert nat_cmp_total (taken_from kept from) slot k
               ∙ (λ i. cmp_eq k slot i || set.contains (taken_from kept (sym e i)) k)
               ∙ ap (λ c. (k == slot) || c) (st.taken r k l)
               ∙ or_comm (k == slot) (own_taken steps r k)
               ∙ ap (λ c. own_taken steps r k || c) (sym (or_false (k == slot)))
-              ∙ (λ i. own_taken steps r k || ((sym (same_number from r (sym e)) i && flip k slot i) || false)))
+              ∙ (λ i. own_taken steps r k || ((sym (eq-eqb from r (sym e)) i && flip k slot i) || false)))
           | inr e ↦
-              (ap (λ c. set.contains (cond c (set.insert (taken_from kept from) slot) (taken_from kept r)) k) (other_number r from e)
+              (ap (λ c. set.contains (cond c (set.insert (taken_from kept from) slot) (taken_from kept r)) k) (ne_eqb r from e)
               ∙ st.taken r k l
               ∙ sym (or_false (own_taken steps r k))
-              ∙ (λ i. own_taken steps r k || ((sym (other_number from r (λ z. e (sym z))) i && (slot == k)) || false)))
+              ∙ (λ i. own_taken steps r k || ((sym (ne_eqb from r (λ z. e (sym z))) i && (slot == k)) || false)))
         ]
         ∙ sym (own_taken-more me carry steps r k)
       where
@@ -310,7 +308,7 @@ module _ (config : Config) (me : ℕ) (steps : Steps) (kept : Kept) (st : Stands
         turn a b c d = grind (arith, nat_tests)
 
     itself : (message.sender == message.sender && message.number == message.number) ≡ true
-    itself = λ k. same_number message.sender message.sender refl k && same_number message.number message.number refl k
+    itself = λ k. eq-eqb message.sender message.sender refl k && eq-eqb message.number message.number refl k
 
     carry_base : (relay : HeldPairs) → relay.me ≡ me → length relay.numbers ≡ 256 → ((x k : ℕ) → x < config.nodes → holds relay x k ≡ has_pair (own_copies me (carry ∷ steps)) x k) → Base config me carry steps (record (with_taken kept from slot) { relay = relay })
     unfolding own_live frame_count each
@@ -430,7 +428,7 @@ module _ (config : Config) (me : ℕ) (steps : Steps) (kept : Kept) (st : Stands
         (known_heard config me took steps (with_acked kept from slot) base message.sender message.number from refl sender_in from_in held_pair here other (ap (λ x. Some x) copy_is.0) out)
       where
         here : (x : ℕ) → own_knows me (took ∷ steps) message.sender message.number x ≡ (own_knows me steps message.sender message.number x || (from == x))
-        here x = took_knows message.sender message.number x ∙ ap (λ c. own_knows me steps message.sender message.number x || (c || false)) (tells message.sender message.number x ∙ (λ k. from == x && (same_number message.sender message.sender refl k && same_number message.number message.number refl k)))
+        here x = took_knows message.sender message.number x ∙ ap (λ c. own_knows me steps message.sender message.number x || (c || false)) (tells message.sender message.number x ∙ (λ k. from == x && (eq-eqb message.sender message.sender refl k && eq-eqb message.number message.number refl k)))
             ∙ ap (λ c. own_knows me steps message.sender message.number x || c) (or_false (from == x && true) ∙ and_true (from == x))
 
         other : (s i : ℕ) → same_pair message.sender message.number s i ≡ false → (x : ℕ) → own_knows me (took ∷ steps) s i x ≡ own_knows me steps s i x
@@ -442,11 +440,11 @@ module _ (config : Config) (me : ℕ) (steps : Steps) (kept : Kept) (st : Stands
         out : (q : ℕ) → q < config.nodes → q ≢ me → StandsOut me (took ∷ steps) q (link_to (with_acked kept from slot) q)
         out q l e = subst (StandsOut me (took ∷ steps) q) (sym (at_set kept.outgoing from q (record { given = (link_to kept from).given; owed = finite.remove (link_to kept from).owed slot }) (record { given = 0; owed = finite.empty }) (subst (λ n. from < n) (sym st.peers_out) from_in)))
             (elim (cases_eq q from) [
-              | inl same ↦ subst (λ c. StandsOut me (took ∷ steps) q (cond c (record { given = (link_to kept from).given; owed = finite.remove (link_to kept from).owed slot }) (link_to kept q))) (sym (same_number q from same))
+              | inl same ↦ subst (λ c. StandsOut me (took ∷ steps) q (cond c (record { given = (link_to kept from).given; owed = finite.remove (link_to kept from).owed slot }) (link_to kept q))) (sym (eq-eqb q from same))
                   (subst (λ y. StandsOut me (took ∷ steps) y (record { given = (link_to kept from).given; owed = finite.remove (link_to kept from).owed slot })) (sym same)
-                  (out_acked me steps took from slot (given_same from) (λ k. took_acks from k ∙ (λ j. own_acked steps from k || ((same_number from from refl j && (slot == k)) || false)) ∙ ap (λ c. own_acked steps from k || c) (or_false (slot == k))) (link_to kept from) inside waiting (st.out from from_in other_node)))
-              | inr differs ↦ subst (λ c. StandsOut me (took ∷ steps) q (cond c (record { given = (link_to kept from).given; owed = finite.remove (link_to kept from).owed slot }) (link_to kept q))) (sym (other_number q from differs))
-                  (out_same me steps took q (link_to kept q) (given_same q) (λ k. took_acks q k ∙ ap (λ c. own_acked steps q k || ((c && (slot == k)) || false)) (other_number from q (λ z. differs (sym z))) ∙ or_false (own_acked steps q k)) (st.out q l e))
+                  (out_acked me steps took from slot (given_same from) (λ k. took_acks from k ∙ (λ j. own_acked steps from k || ((eq-eqb from from refl j && (slot == k)) || false)) ∙ ap (λ c. own_acked steps from k || c) (or_false (slot == k))) (link_to kept from) inside waiting (st.out from from_in other_node)))
+              | inr differs ↦ subst (λ c. StandsOut me (took ∷ steps) q (cond c (record { given = (link_to kept from).given; owed = finite.remove (link_to kept from).owed slot }) (link_to kept q))) (sym (ne_eqb q from differs))
+                  (out_same me steps took q (link_to kept q) (given_same q) (λ k. took_acks q k ∙ ap (λ c. own_acked steps q k || ((c && (slot == k)) || false)) (ne_eqb from q (λ z. differs (sym z))) ∙ or_false (own_acked steps q k)) (st.out q l e))
             ])
 
     pub acknowledged_right : ToldRight config me took steps (acknowledged kept from slot (finite.get (link_to kept from).owed slot))

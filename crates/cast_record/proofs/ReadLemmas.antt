@@ -1,6 +1,5 @@
 -- What is written is read again, and what is read was written so.
 use Rattle.std.proofs.Common.{◌≡◌, ℕ, ◌*◌, ◌^◌, ◌<◌, ◌≤◌, ◌||◌, Bool, true, false, List, [], ◌∷◌, ◌++◌, length, take, drop, decimal, codes, refl, sym, ap, subst, ◌∙◌, arith, nat_eq, nat_lt, cond, Option, Some, None, option_map, option_and_then, append_assoc}
-use Rattle.std.specs.Prelude.{Result, Ok, Err, OnErr}
 use Rattle.std.specs.List.{join_with_byte, slice_split}
 use Rattle.std.specs.Str.{bytes_eq}
 use Rattle.std.proofs.lemmas.List.{take-append-drop}
@@ -31,10 +30,6 @@ use Rattle.cast_record.proofs.PartLemmas.{has_first}
 use Rattle.cast_record.proofs.WordLemmas.{split_join, decimal_without_colon, split_line}
 
 -- what holds anyway holds where a call failed
-pub on_err : {T E P : Type 0} (r : Result T E) → P → OnErr r P
-on_err (Ok x) p = tt
-on_err (Err e) p = p
-
 -- ---- what came of two in turn
 
 pub record Both {A B : Type 0} (o : Option A) (f : A → Option B) (y : B) : Type 0 where

@@ -6,9 +6,10 @@ use Rattle.std.specs.FinSet as set
 use Rattle.std.specs.FinSet.{contains-empty, contains-insert, contains-remove}
 use Rattle.std.proofs.Common.{sym, ap, ◌∙◌, arith, inl, inr, append_assoc, length-append}
 use Rattle.std.proofs.Math.ListN.{length-set}
-use Rattle.std.proofs.lemmas.Bool.Decides.{nat_tests, eqb_tells}
+use Rattle.std.proofs.lemmas.Bool.Decides.{eqb_tells}
 use Rattle.std.proofs.lemmas.Grind.{get_or-set_at}
 use Rattle.std.proofs.lemmas.List.{get_or_past, get_or-set_other}
+use Rattle.cast_message.proofs.Tests.{cmp_other, cmp_same}
 use Rattle.cast_sets.specs.Members.{remove-absent}
 use Rattle.cast_relay.specs.Held.{Held, by_sender, numbers_of, with_pair, without_pair, holds, HoldsOwnBelow}
 
@@ -114,12 +115,6 @@ took_out_own sets held me own place numbers is at l e =
 
 -- ---- the numbers of the node itself
 
-apart : (i k : ℕ) → i ≢ k → eq_by_cmp nat_cmp i k ≡ false
-apart i k e = grind (arith, nat_tests)
-
-same_number : (i k : ℕ) → i ≡ k → eq_by_cmp nat_cmp i k ≡ true
-same_number i k e = grind (arith, nat_tests)
-
 pub own_none : (sets : List Numbers) (me n : ℕ) → sets ≡ replicate n set.empty → HoldsOwnBelow me 0 sets
 own_none sets me n e i l = ap (λ xs. set.contains (numbers_of xs me) i) e ∙ ap (λ s. set.contains s i) (none_of n me) ∙ contains-empty nat_cmp i
 
@@ -133,7 +128,7 @@ pub own_more : (sets : List Numbers) (me own place : ℕ) (v : Numbers) → plac
 own_more sets me own place v at within e h i l =
     ap (λ s. set.contains s i) (get_or-set_at sets place me v set.empty (sym at) within ∙ e)
     ∙ contains-insert nat_cmp_total (numbers_of sets place) own i
-    ∙ (λ k. apart i own (omega (arith, l)) k || set.contains (numbers_of sets (at k)) i)
+    ∙ (λ k. cmp_other i own (omega (arith, l)) k || set.contains (numbers_of sets (at k)) i)
     ∙ h i (omega (arith, l))
 
 pub own_fewer : (sets : List Numbers) (me own place : ℕ) (v : Numbers) → place ≡ me → place < length sets → v ≡ set.remove (numbers_of sets place) (own - 1) → HoldsOwnBelow me own sets → HoldsOwnBelow me (own - 1) (slice_set sets place v)
@@ -141,7 +136,7 @@ own_fewer sets me own place v at within e h i l =
     ap (λ s. set.contains s i) (get_or-set_at sets place me v set.empty (sym at) within ∙ e)
     ∙ contains-remove nat_cmp_total (numbers_of sets place) (own - 1) i
     ∙ elim (eqb_tells i (own - 1)) [
-      | inl f ↦ ap (λ b. not b && set.contains (numbers_of sets place) i) (same_number i (own - 1) f.1)
+      | inl f ↦ ap (λ b. not b && set.contains (numbers_of sets place) i) (cmp_same i (own - 1) f.1)
       | inr f ↦ ap (λ b. not (eq_by_cmp nat_cmp i (own - 1)) && b) (ap (λ p. set.contains (numbers_of sets p) i) at ∙ h i (omega (arith, l, f.1))) ∙ and_false (not (eq_by_cmp nat_cmp i (own - 1)))
     ]
   where

@@ -68,8 +68,8 @@ impl Relay {
         })
     }
 
-    /// Holds an item of the node's own under its next number, from 0 on, and answers it as a message. The node gave
-    /// fewer than `u64::MAX` messages before.
+    /// Holds an item of the node's own under its next number, from 0 on, and answers it as a message. Fewer than `u64::MAX`
+    /// items of its own are held before.
     pub fn own(&mut self, item: Item) -> Result<Message, AllocError>
         requires { self.old.own + 1 < 2 ^ 64 }
         ensures message { IfOk result

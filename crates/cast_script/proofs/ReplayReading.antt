@@ -1,9 +1,10 @@
 -- The text of a replay is read as the replay.
-use Rattle.std.proofs.Common.{◌≡◌, ℕ, ◌+◌, ◌*◌, ◌/◌, ◌%◌, ◌<◌, ◌≤◌, ◌^◌, List, [], ◌∷◌, ◌++◌, true, false, nat_lt, nat_le, map, codes, decimal, Option, Some, Ok, Err, option_map, option_and_then, append-nil, ap, refl, sym, ◌∙◌, arith, IsUtf8, subst}
+use Rattle.std.proofs.Common.{◌≡◌, ℕ, ◌+◌, ◌*◌, ◌/◌, ◌%◌, ◌<◌, ◌≤◌, ◌^◌, List, [], ◌∷◌, ◌++◌, true, false, nat_lt, map, codes, decimal, Option, Some, Ok, Err, option_map, option_and_then, append-nil, ap, refl, sym, ◌∙◌, arith, IsUtf8, subst}
 use Rattle.std.specs.List.{AllByRecursion, join_with_byte}
 use Rattle.std.proofs.lemmas.Bool.Decides.{nat_tests}
 use Rattle.std.proofs.lemmas.Str.{IsUtf8-append, IsUtf8-nil, IsUtf8-from_ascii}
 use Rattle.std.proofs.lemmas.Fmt.{IsAscii-decimal}
+use Rattle.std.proofs.lemmas.Bool.{lt-leb}
 use Rattle.json.specs.Json as json
 use Rattle.json.specs.Token.{Token}
 use Rattle.json.specs.Tree as tree
@@ -202,20 +203,17 @@ events_again (e ∷ es) index within = rw (event_again e within.0, events_again 
 inside : (low high n : ℕ) → low ≤ n → n ≤ high → is_outside low high n ≡ false
 inside low high n a b = grind (arith, nat_tests)
 
-above : (n m : ℕ) → m < n → nat_le n m ≡ false
-above n m h = grind (arith, nat_tests)
-
 config_again : (c : Checked) → checked (settings_in c 4000000) ≡ Ok (settings_in c 4000000)
 unfolding first_config_fault config_causes
 config_again c =
     rw (
       inside 1 64 c.nodes c.some_node c.nodes_in_range,
-      above c.nodes c.faults c.faults_in_range,
+      lt-leb c.nodes c.faults c.faults_in_range,
       inside 1 c.nodes c.choices c.some_choice c.choices_in_range,
       inside 1 4096 c.item_limit c.some_item c.items_in_range,
       inside 1 65536 c.log_limit c.some_entry c.log_in_range,
       inside 1 4096 c.box_size c.some_place c.box_in_range,
-      above c.nodes (fault_factor c.mode * c.faults) c.mode_in_range,
+      lt-leb c.nodes (fault_factor c.mode * c.faults) c.mode_in_range,
     ) refl
 
 mode_again : (mode : Mode) → mode_named (mode_word mode) ≡ Some mode

@@ -3,7 +3,7 @@ use Rattle.std.proofs.Common.{◌≡◌, codes, ℕ, List, [], ◌++◌, ◌∷�
 use Rattle.std.specs.List.{join_with_byte}
 use Rattle.std.proofs.lemmas.Grind.{common_steps}
 use Rattle.std.proofs.lemmas.List.{drop_more}
-use Rattle.cast_words.proofs.WritingLemmas.{drop-next}
+use Rattle.cast_message.proofs.Lists.{drop-next}
 use Rattle.cast_message.specs.declared.event.Event.{Event}
 use Rattle.cast_script.specs.declared.replay.Cell.{Cell}
 use Rattle.cast_script.specs.declared.replay.Cell.TheVariants.{Word}

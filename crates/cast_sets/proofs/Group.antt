@@ -1,22 +1,17 @@
 -- A set of nodes of a group, as the bits of one word.
-use Rattle.std.specs.Prelude.{◌≡◌, ◌≢◌, ℕ, zero, suc, ◌+◌, ◌-◌, ◌*◌, ◌/◌, ◌%◌, ◌^◌, ◌<◌, ◌≤◌, nat_eq, Bool, true, false, cond, ◌||◌, bit_or, count_ones, refl}
+use Rattle.std.specs.Prelude.{◌≡◌, ℕ, zero, suc, ◌+◌, ◌-◌, ◌*◌, ◌/◌, ◌%◌, ◌^◌, ◌<◌, ◌≤◌, nat_eq, Bool, true, false, cond, ◌||◌, bit_or, count_ones, refl}
 use Rattle.std.specs.Ordering.{nat_cmp}
 use Rattle.std.specs.FinSet as set
 use Rattle.std.specs.Int.{bit_at, w64}
 use Rattle.std.proofs.Common.{inl, inr, sym, ap, ◌∙◌, arith, mod-lt}
-use Rattle.std.proofs.lemmas.Bool.Decides.{nat_tests, eqb_tells}
+use Rattle.std.proofs.lemmas.Bool.Decides.{eqb_tells}
 use Rattle.std.proofs.lemmas.Nat.{field_of, ones-le, ones_cat, zero_from_ones, shr_split, pow_pos}
 use Rattle.std.proofs.Math.Nat.{div-lt_iff_lt-mul, pow-suc}
 use Rattle.std.proofs.Math.Pow.{mod-mod-pow}
 use Rattle.std.proofs.lemmas.Nat.Bits.{bit_at_set_same, bit_at_set_other}
+use Rattle.std.proofs.lemmas.Bool.{eq-eqb, ne_eqb}
 use Rattle.cast_sets.specs.Bits.{is_set_in}
 use Rattle.cast_sets.specs.Members.{members_below, members_below-insert, members_below-len, members_below-more, members_below-same}
-
-eq_true : (q k : ℕ) → q ≡ k → nat_eq q k ≡ true
-eq_true q k e = grind (arith, nat_tests)
-
-eq_false : (q k : ℕ) → q ≢ k → nat_eq q k ≡ false
-eq_false q k e = grind (arith, nat_tests)
 
 -- the word with the bit of a place set
 abbrev pub with_bit : ℕ → ℕ → ℕ

@@ -1,5 +1,5 @@
 -- A set of numbers, as bits and an ordered set.
-use Rattle.std.specs.Prelude.{◌≡◌, ℕ, zero, suc, ◌*◌, ◌/◌, ◌%◌, ◌^◌, ◌≤◌, ◌<◌, nat_eq, nat_lt, Bool, true, false, cond, not, ◌&&◌, ◌||◌, List, [], ◌∷◌, ◌++◌, length, slice_index, slice_index_or, slice_set, bit_or, replicate, refl}
+use Rattle.std.specs.Prelude.{◌≡◌, ℕ, zero, suc, ◌*◌, ◌/◌, ◌%◌, ◌^◌, ◌≤◌, ◌<◌, nat_eq, Bool, true, false, cond, not, ◌&&◌, ◌||◌, List, [], ◌∷◌, ◌++◌, length, slice_index, slice_index_or, slice_set, bit_or, replicate, refl}
 use Rattle.std.specs.List.{All, list_any}
 use Rattle.std.specs.Int.{bit_at}
 use Rattle.std.specs.Ordering.{nat_cmp}
@@ -10,18 +10,17 @@ use Rattle.std.proofs.lemmas.Bool.Decides.{nat_tests, leb_tells}
 use Rattle.std.proofs.lemmas.List.{get_or_past}
 use Rattle.std.proofs.lemmas.List.Folds.{list_any_none}
 use Rattle.std.proofs.lemmas.Nat.Bits.{bit_at-zero}
+use Rattle.std.proofs.lemmas.Bool.{lt-ltb}
+use Rattle.cast_message.proofs.Tests.{tie}
+use Rattle.cast_message.proofs.Lists.{none_counted}
+use Rattle.cast_message.proofs.Booleans.{or_false}
 use Rattle.cast_sets.specs.Bits.{is_set}
 use Rattle.cast_sets.specs.Numbers.{is_number, number_set}
 use Rattle.cast_sets.specs.Members.{contains-members_below, members_below-insert, members_below-remove}
 use Rattle.cast_sets.proofs.Places.{is_set-with_place, with_place, is_set-without_place, without_place}
 
-no_bits : (k i : ℕ) → slice_index (replicate k 0) i ≡ 0
-no_bits zero i = refl
-no_bits (suc k) zero = refl
-no_bits (suc k) (suc i) = no_bits k i
-
 pub padded : (words : List ℕ) (k i : ℕ) → slice_index (words ++ replicate k 0) i ≡ slice_index words i
-padded [] k i = no_bits k i
+padded [] k i = none_counted k i
 padded (w ∷ words) k zero = refl
 padded (w ∷ words) k (suc i) = padded words k i
 
@@ -29,15 +28,8 @@ padded (w ∷ words) k (suc i) = padded words k i
 pub no_bit : (words : List ℕ) (q : ℕ) → length words ≤ q / 64 → is_set words q ≡ false
 no_bit words q l = ap (λ w. nat_eq (bit_at w (q % 64)) 1) (get_or_past words (q / 64) 0 l) ∙ ap (λ b. nat_eq b 1) (bit_at-zero (q % 64))
 
-lt_true : (q n : ℕ) → q < n → nat_lt q n ≡ true
-lt_true q n l = grind (arith, nat_tests)
-
 pub is_number-in : (words far : List ℕ) (s : set.FinSet nat_cmp) → number_set words far ≡ s → (q : ℕ) → q < 2 ^ 64 → is_number words far q ≡ set.contains s q
-is_number-in words far s e q l = sym (contains-members_below (2 ^ 64) (is_number words far) q ∙ ap (λ b. b && is_number words far q) (lt_true q (2 ^ 64) l)) ∙ ap (λ s. set.contains s q) e
-
-or_false : (b : Bool) → (b || false) ≡ b
-or_false true = refl
-or_false false = refl
+is_number-in words far s e q l = sym (contains-members_below (2 ^ 64) (is_number words far) q ∙ ap (λ b. b && is_number words far q) (lt-ltb q (2 ^ 64) l)) ∙ ap (λ s. set.contains s q) e
 
 pub far_number : (words far : List ℕ) (q : ℕ) → length words ≤ 64 → 4096 ≤ q → is_number words far q ≡ list_any (is_at (nat_cmp q)) far
 far_number words far q l m = ap (λ b. b || list_any (is_at (nat_cmp q)) far) (no_bit words q (omega arith))
@@ -50,9 +42,6 @@ All-apart far q l h = λ i d within. apart q (slice_index_or far i d) l (h i d w
 
 pub near_number : (words far : List ℕ) (q : ℕ) → q < 4096 → All (λ k. 4096 ≤ k) far → is_number words far q ≡ is_set words q
 near_number words far q l h = ap (λ b. is_set words q || b) (list_any_none (is_at (nat_cmp q)) far (All-apart far q l h)) ∙ or_false (is_set words q)
-
-tie : (q k : ℕ) → is_at (nat_cmp k) q ≡ nat_eq q k
-tie q k = grind (arith, nat_tests)
 
 or_cond : (a b c : Bool) → (a || cond b true c) ≡ (b || (a || c))
 or_cond true true c = refl

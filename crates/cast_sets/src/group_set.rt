@@ -50,7 +50,7 @@ impl GroupSet {
         u64::from(self.word.count_ones())
     }
 
-    /// Adds a node of the group.
+    /// Adds a node of the group, one below 64.
     pub fn insert(&mut self, node: NodeId)
         requires { node < 64 }
         ensures { self.new ≡ set.insert self.old node }

@@ -2,10 +2,10 @@
 use Rattle.std.proofs.Common.{◌≡◌, ℕ, zero, suc, ◌+◌, ◌-◌, ◌<◌, ◌&&◌, Bool, true, false, cond, nat_eq, List, [], ◌∷◌, ◌++◌, append_assoc, append-nil, length, length-append, map, take, drop, Some, None, Result, refl, sym, ap, subst, ◌∙◌, arith}
 use Rattle.std.specs.Prelude.{slice_range}
 use Rattle.std.specs.List.{filter, filter_map}
-use Rattle.std.proofs.lemmas.Bool.Decides.{nat_tests}
 use Rattle.std.proofs.lemmas.List.{length-take-le}
 use Rattle.std.proofs.lemmas.List.Elements.{filter-append}
 use Rattle.std.proofs.lemmas.List.Sums.{prefix_len-le-length}
+use Rattle.cast_message.proofs.Tests.{eq_same}
 use Rattle.cast_message.specs.declared.config.Config.{Config}
 use Rattle.cast_message.specs.declared.event.Event.{Event}
 use Rattle.cast_message.specs.declared.event.StepFault.{StepFault}
@@ -67,14 +67,11 @@ decided_kept config events past event is j w m =
     subst (Member w) (sym (ap (λ rs. decided rs j) (replies_on config events past event is) ∙ decided_on (replies config events) (reply config past event) j))
     (Member-append_left w (decided (replies config events) j) (filter_map (value_for j) (decisions_in (reply config past event))) m)
 
-same_test : (n : ℕ) → nat_eq n n ≡ true
-same_test n = grind (arith, nat_tests)
-
 pub decided_new : (config : Config) (events : List Event) (past : History) (event : Event) → history config events ≡ past → (d : Decision) → Member d (decisions_in (reply config past event)) → Member d.value (decided (replies config (events ++ event ∷ [])) d.instance)
 decided_new config events past event is d m =
     subst (Member d.value) (sym (ap (λ rs. decided rs d.instance) (replies_on config events past event is) ∙ decided_on (replies config events) (reply config past event) d.instance))
     (Member-append_right d.value (decided (replies config events) d.instance) (filter_map (value_for d.instance) (decisions_in (reply config past event)))
-    (filter_map-Member (value_for d.instance) d d.value (decisions_in (reply config past event)) m (ap (λ b. cond b (Some d.value) None) (same_test d.instance))))
+    (filter_map-Member (value_for d.instance) d d.value (decisions_in (reply config past event)) m (ap (λ b. cond b (Some d.value) None) (eq_same d.instance))))
 
 -- ---- what an accepted event delivers
 

@@ -1,6 +1,7 @@
 -- A script is played event by event, and what an observer has seen grows with it.
 use Rattle.std.proofs.Common.{◌≡◌, ℕ, ◌+◌, ◌<◌, List, [], ◌∷◌, ◌++◌, length, drop, get_or, Bool, true, false, Option, Some, None, Result, Ok, Err, refl, sym, ap, ◌∙◌, subst, append_assoc, append-nil, inl, inr}
 use Rattle.std.specs.Prelude.{not, is_some, is_ok}
+use Rattle.cast_message.proofs.Lists.{drop-next}
 use Rattle.cast_message.specs.declared.config.Config.{Config}
 use Rattle.cast_message.specs.declared.event.Event.{Event}
 use Rattle.cast_message.specs.declared.event.Event.TheVariants.{Send, Ack, Arrive}
@@ -13,7 +14,6 @@ use Rattle.cast_model.proofs.Round.{with_all, Counted}
 use Rattle.cast_model.proofs.RoundFaults.{Going, Going-next, Going-start}
 use Rattle.cast_script.specs.declared.script.ScriptEvent.{ScriptEvent}
 use Rattle.cast_script.specs.declared.script.ScriptEvent.TheVariants.{Settle}
-use Rattle.cast_words.proofs.WritingLemmas.{drop-next}
 use Rattle.cast_world.specs.Group.{State, Stands, Continues}
 use Rattle.cast_world.specs.Moves.{IsSilent}
 use Rattle.cast_world.specs.Plans.{events_from}

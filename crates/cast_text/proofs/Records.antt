@@ -4,6 +4,7 @@ use Rattle.std.specs.Prelude.{slice_get}
 use Rattle.std.specs.List.{filter}
 use Rattle.std.proofs.lemmas.Bool.{not-false}
 use Rattle.std.proofs.lemmas.Bool.Decides.{nat_tests}
+use Rattle.cast_message.proofs.Tests.{is_below}
 use Rattle.cast_message.specs.declared.config.Config.{Config}
 use Rattle.cast_message.specs.declared.event.Event.{Event}
 use Rattle.cast_message.specs.declared.event.Event.TheVariants.{Order, Send, Ack, Arrive, Crash}
@@ -116,13 +117,10 @@ ack_leaves config events past xs index p q slot e on t = leaves_nothing config e
 below_from_test : (config : Config) (p : ℕ) → p < config.nodes → p < 256
 below_from_test config p l = omega (arith, config.nodes_in_range)
 
-in_group : (p n : ℕ) → not (nat_lt p n) ≡ false → p < n
-in_group p n e = grind (arith, nat_tests)
-
 crash_leaves : (config : Config) (events : List Event) (past : History) (xs : List Line) (index p : ℕ) → Leaves config events past xs index (Crash p)
 unfolding answer is_live concerned fault causes
 crash_leaves config events past xs index p e on t =
-    let node = in_group p config.nodes (no_cause _ (causes config past (Crash p)) e here) in
+    let node = is_below p config.nodes (no_cause _ (causes config past (Crash p)) e here) in
     let up = not-false (is_live past p) (no_cause _ (causes config past (Crash p)) e (there here)) in
     let sound = crash_sound config (stream past) (counts config past) (is_live past) (decided (replies config events)) xs t.says p node up in
     record {

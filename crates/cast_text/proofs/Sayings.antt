@@ -5,6 +5,8 @@ use Rattle.std.specs.List.{list_any, IsDistinct, AllByRecursion, Contains}
 use Rattle.std.proofs.lemmas.Slice.Eq.{bytes_eq-Decides}
 use Rattle.std.proofs.lemmas.Bool.Decides.{nat_tests}
 use Rattle.std.proofs.lemmas.List.Elements.{All-from_recursion}
+use Rattle.std.proofs.lemmas.Bool.{lt-ltb}
+use Rattle.cast_message.proofs.Booleans.{or_comm}
 use Rattle.cast_message.specs.declared.config.Config.{Config}
 use Rattle.cast_message.specs.declared.message.Item.{Item}
 use Rattle.cast_message.specs.declared.message.Item.TheVariants.{Data, Propose, Close}
@@ -31,12 +33,6 @@ any-append f (x ∷ xs) ys = ap (λ b. f x || b) (any-append f xs ys) ∙ togeth
     together true b c = refl
     together false b c = refl
 
-or_swaps : (a b : Bool) → (a || b) ≡ (b || a)
-or_swaps true true = refl
-or_swaps true false = refl
-or_swaps false true = refl
-or_swaps false false = refl
-
 one_any : (f : Item → Bool) (b : Bool) (item : Item) → (b && f item) ≡ list_any f (cond b (item ∷ []) [])
 one_any f true item = sym (or_none (f item))
   where
@@ -60,7 +56,7 @@ items_any : (f : Item → Bool) (xs : List Line) (p : ℕ) → list_any (said.is
 unfolding items_of
 items_any f [] p = refl
 items_any f (line ∷ xs) p =
-    (λ i. line_any f p line i || items_any f xs p i) ∙ or_swaps (list_any f (items_in line p)) (list_any f (items_of xs p)) ∙ sym (any-append f (items_of xs p) (items_in line p))
+    (λ i. line_any f p line i || items_any f xs p i) ∙ or_comm (list_any f (items_in line p)) (list_any f (items_of xs p)) ∙ sym (any-append f (items_of xs p) (items_in line p))
 
 weaker : (f : Item → Bool) (p : ℕ) (line : Line) → said.is_broadcast (λ m. nat_eq m.sender p && f m.item) line ≡ true → said.is_broadcast (λ m. f m.item) line ≡ true
 weaker f p (Head n k c) e = e
@@ -140,9 +136,6 @@ none_broken xs line a b c d e f g = λ i. least_of (a i) (b i) (c i) (d i) (e i)
 equal_numbers : (m n : ℕ) → m ≡ n → not (nat_eq m n) ≡ false
 equal_numbers m n e = grind (arith, nat_tests)
 
-below_test : (m n : ℕ) → m < n → nat_lt m n ≡ true
-below_test m n l = grind (arith, nat_tests)
-
 same_item : (item : Item) → said.is_item item item ≡ true
 same_item (Data payload) = (bytes_eq-Decides payload payload).1 refl
 same_item (Propose j w) = same_numbers j w
@@ -162,7 +155,7 @@ module _ (config : Config) (streams : ℕ → List Item) (counts : ℕ → ℕ �
       → said.broken xs (Broadcast (record { sender = p; number = length (streams p); item = item })) ≡ None
   broadcast_sound p item node up closed once =
       let line = Broadcast (record { sender = p; number = length (streams p); item = item }) in
-      none_broken xs line (placed config streams counts live values xs h line refl (below_test p config.nodes node))
+      none_broken xs line (placed config streams counts live values xs h line refl (lt-ltb p config.nodes node))
       (equal_numbers (length (streams p)) (said.broadcasts_of xs p) (ap length (sym (h.items p)) ∙ items_counted xs p))
       (closed_by xs p ∙ ap (list_any is_close) (h.items p) ∙ closed)
       refl refl (alive config streams counts live values xs h p up) (second_same p item ∙ once)
@@ -174,13 +167,13 @@ module _ (config : Config) (streams : ℕ → List Item) (counts : ℕ → ℕ �
       let m : Message = record { sender = s; number = i; item = item } in
       let line = Delivered q m in
       let found : said.has_broadcast xs m ≡ true = h.numbered m ∙ ap (λ items. has_item items i item) (h.items s) ∙ ap (λ o. is_same o item) at ∙ same_item item in
-      none_broken xs line (placed config streams counts live values xs h line refl (λ j. below_test q config.nodes node j && below_test s config.nodes sender j))
+      none_broken xs line (placed config streams counts live values xs h line refl (λ j. lt-ltb q config.nodes node j && lt-ltb s config.nodes sender j))
       (λ j. equal_numbers i (said.deliveries_of xs q s) (count ∙ sym (h.delivered q s)) j || not (found j))
       refl refl refl (alive config streams counts live values xs h q up) refl
 
   -- a crash
   pub crash_sound : (p : ℕ) → p < config.nodes → live p ≡ true → said.broken xs (Crashed p) ≡ None
-  crash_sound p node up = none_broken xs (Crashed p) (placed config streams counts live values xs h (Crashed p) refl (below_test p config.nodes node)) refl refl refl refl (alive config streams counts live values xs h p up) refl
+  crash_sound p node up = none_broken xs (Crashed p) (placed config streams counts live values xs h (Crashed p) refl (lt-ltb p config.nodes node)) refl refl refl refl (alive config streams counts live values xs h p up) refl
 
   -- a refusal, and the end
   pub refusal_sound : (i c : ℕ) → said.broken xs (Refused i c) ≡ None
@@ -252,7 +245,7 @@ module _ (config : Config) (streams : ℕ → List Item) (counts : ℕ → ℕ �
       let line = Decided q d in
       let bound : (w : ℕ) → Member w (d.value ∷ said.values_in xs d.instance) → Member w (values d.instance) =
       (λ w m. elim (Member-uncons w d.value (said.values_in xs d.instance) m) [ inl same ↦ subst (λ y. Member y (values d.instance)) (sym same) decided | inr later ↦ h.decided d.instance w later ]) in
-      none_broken xs line (placed config streams counts live values xs h line refl (below_test q config.nodes node)) refl refl
+      none_broken xs line (placed config streams counts live values xs h line refl (lt-ltb q config.nodes node)) refl refl
       (ap not (proposed_by xs s d.instance d.value (subst (Member (Propose d.instance d.value)) (sym (h.items s)) proposed)))
       (ap (λ (g : said.Group). nat_lt g.faults g.choices && nat_lt g.choices (length (said.different (d.value ∷ said.values_in xs d.instance)))) h.group
       ∙ not_many config.faults config.choices (length (said.different (d.value ∷ said.values_in xs d.instance))) (λ l. few_different config.choices (values d.instance) (d.value ∷ said.values_in xs d.instance) (few l) bound))

@@ -1,9 +1,10 @@
 -- How lines that break no rule follow one another, and what they say then.
-use Rattle.std.proofs.Common.{◌≡◌, ℕ, zero, suc, ◌+◌, ◌-◌, ◌^◌, ◌<◌, ◌≤◌, ◌&&◌, ◌||◌, not, Bool, true, false, cond, nat_eq, List, [], ◌∷◌, ◌++◌, append_assoc, append-nil, length, map, take, drop, Option, Some, None, refl, sym, ap, subst, ◌∙◌, arith, inl, inr}
+use Rattle.std.proofs.Common.{◌≡◌, ℕ, zero, suc, ◌+◌, ◌-◌, ◌^◌, ◌<◌, ◌≤◌, ◌&&◌, ◌||◌, not, Bool, true, false, cond, nat_eq, List, [], ◌∷◌, ◌++◌, append_assoc, append-nil, length, map, take, drop, Some, None, refl, sym, ap, subst, ◌∙◌, arith, inl, inr}
 use Rattle.std.specs.Prelude.{slice_get, slice_range}
 use Rattle.std.specs.List.{filter, cons_option}
-use Rattle.std.proofs.lemmas.Bool.Decides.{nat_tests}
 use Rattle.std.proofs.lemmas.Option.{slice_get_within}
+use Rattle.cast_message.proofs.Tests.{eq_same}
+use Rattle.cast_message.proofs.Booleans.{chosen}
 use Rattle.cast_message.specs.declared.config.Config.{Config}
 use Rattle.cast_message.specs.declared.message.Item.{Item}
 use Rattle.cast_message.specs.declared.message.Item.TheVariants.{Propose}
@@ -51,10 +52,6 @@ goes_then xs ls ys ms zs g h = record {
 }
 
 -- ---- what the lines say with one more
-
-chosen : (b : Bool) (n : ℕ) (o : Option ℕ) → cond b (Some n) o ≡ None → (b ≡ false) × (o ≡ None)
-chosen true n o e = absurd (cc)
-chosen false n o e = (refl, e)
 
 prefix_kept : (xs : List Line) (line : Line) → said.broken xs line ≡ None → said.breaks_prefix xs line ≡ false
 unfolding said.broken
@@ -173,9 +170,6 @@ no_counts : (b : Bool) (c : ℕ) → c ≡ c + one_if b 0
 no_counts true c = omega arith
 no_counts false c = omega arith
 
-same_test : (n : ℕ) → nat_eq n n ≡ true
-same_test n = grind (arith, nat_tests)
-
 pub deliver_all : (config : Config) (st : ℕ → List Item) (c : ℕ → ℕ → ℕ) (l : ℕ → Bool) (v : ℕ → List ℕ) (xs : List Line) (q s a : ℕ) (news : List Message) → AreWithin st → q < config.nodes → s < config.nodes → l q ≡ true → a ≡ c q s → AreNext (st s) s a news
     → Says config st c l v xs → Follows config st (λ q' s'. c q' s' + one_if (nat_eq q q' && nat_eq s s') (length news)) l v xs (map (Delivered q) news)
 deliver_all config st c l v xs q s a [] w node sender up count next h = record {
@@ -190,7 +184,7 @@ deliver_all config st c l v xs q s a (m ∷ ms) w node sender up count next h =
     let within : IsWithin (Delivered q m) = (small_node config q node, (subst (λ n. n < 256) (sym next.0) (small_node config s sender), number, w.items s m.item (Member-slice_get (st s) a m.item next.2))) in
     let c1 = λ (q' s' : ℕ). c q' s' + one_if (nat_eq q q' && nat_eq s s') 1 in
     let says = subst (λ t. Says config st (λ q' s'. c q' s' + one_if (nat_eq q q' && nat_eq t s') 1) l v (Delivered q m ∷ xs)) next.0 (says_delivery config st c l v xs q m sound h) in
-    let here_now : suc a ≡ c q s + one_if (nat_eq q q && nat_eq s s) 1 = one_on a (c q s) (nat_eq q q && nat_eq s s) count (λ i. same_test q i && same_test s i) in
+    let here_now : suc a ≡ c q s + one_if (nat_eq q q && nat_eq s s) 1 = one_on a (c q s) (nat_eq q q && nat_eq s s) count (λ i. eq_same q i && eq_same s i) in
     let rest = deliver_all config st c1 l v (Delivered q m ∷ xs) q s (suc a) ms w node sender up here_now next.3 says in
     record {
       lines = rest.lines;

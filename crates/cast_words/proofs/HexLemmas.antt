@@ -4,7 +4,7 @@ use Rattle.std.proofs.lemmas.List.{take-append-drop, take_all, take_more, take_m
 use Rattle.cast_words.specs.Hex.{hex, hex_digit}
 use Rattle.cast_words.proofs.UnhexLemmas.{length-hex}
 
-hex-append : (xs ys : List ℕ) → hex (xs ++ ys) ≡ hex xs ++ hex ys
+pub hex-append : (xs ys : List ℕ) → hex (xs ++ ys) ≡ hex xs ++ hex ys
 hex-append [] ys = refl
 hex-append (x ∷ xs) ys = ap (λ digits. hex_digit (x / 16) ∷ hex_digit (x % 16) ∷ digits) (hex-append xs ys)
 

@@ -1,5 +1,5 @@
 -- How a text that is written in parts comes together.
-use Rattle.std.proofs.Common.{◌≡◌, ℕ, List, [], ◌∷◌, ◌++◌, append-nil, suc, ◌+◌, ◌<◌, length, get_or, add-one, drop-cons, subst, Ok, Err, append_assoc, ap, sym, ◌∙◌, refl, Bool, false, Option, Result, IsErrAnd, take, drop}
+use Rattle.std.proofs.Common.{◌≡◌, ℕ, List, [], ◌++◌, append-nil, ◌+◌, subst, Ok, Err, append_assoc, ap, sym, ◌∙◌, refl, Bool, false, Option, Result, IsErrAnd, take, drop}
 use Rattle.std.specs.Io.KnownBytes.{Appends}
 use Rattle.std.proofs.KnownBytes.{Appends-nil, Appends-trans}
 use Rattle.std.proofs.lemmas.List.{take-append-drop}
@@ -65,6 +65,3 @@ going_last new g (Ok done) going wrote = going_done (going_more (going_again goi
 going_last new g (Err fault) going wrote = going_fails [] (going_again going (sym (append-nil _))) wrote
 
 -- ---- the next piece of a loop
-
-pub drop-next : {A : Type 0} (xs : List A) (i : ℕ) (x : A) → i < length xs → x ≡ get_or xs i x → drop i xs ≡ x ∷ drop (i + 1) xs
-drop-next xs i x within is = rw add-one (drop-cons xs i x within ∙ ap (λ y. y ∷ drop (suc i) xs) (sym is))

@@ -3,8 +3,8 @@ ghost use Rattle.std.specs.Prelude.{◌≡◌, ◌+◌, ◌*◌, ◌^◌, ◌<�
 ghost use Rattle.std.specs.Option.{SomeIff};
 ghost use Rattle.cast_words.specs.Numbers.{number_of, value_of, IsWordOf};
 
-/// The number that a word spells: decimal, with no zero in front. So the digits of a number are read back as that number, and
-/// nothing else is read as one.
+/// The number below 2^64 that a word spells: decimal, with no zero in front. So the digits of a number are read back as that
+/// number, and nothing else is read as one.
 #[tactic(auto, using(crate::proofs::NumberLemmas::is_word))]
 pub fn number(word: &[u8]) -> Option<u64>
     ensures exact { result ≡ number_of word.now }

@@ -4,7 +4,7 @@ ghost use Rattle.cast_words.specs.Shown.{shown, shown_byte, by_number, is_printi
 
 use std::alloc::{AllocError, Global};
 
-/// All bytes as they are shown. No bytes take no memory.
+/// All bytes as they are shown. Where there are no bytes, it takes no memory.
 pub fn escaped(alloc: Global, bytes: &[u8]) -> Result<String, AllocError>
     ensures exact { IfOk result (λ text. string_bytes text ≡ shown bytes.now) }
     ensures err { OnErr result (0 < length bytes.now) }

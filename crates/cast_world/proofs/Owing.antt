@@ -8,6 +8,7 @@ use Rattle.std.proofs.lemmas.Bool.Decides.{nat_tests}
 use Rattle.std.proofs.Math.Nat.{mul-le-mul_left, mul-le-mul_right}
 use Rattle.std.proofs.lemmas.List.{append-nil, append_assoc, map-append}
 use Rattle.std.proofs.lemmas.List.Elements.{filter-append}
+use Rattle.cast_message.proofs.Lists.{length-filter_le}
 use Rattle.cast_message.specs.declared.config.Config.{Config}
 use Rattle.cast_message.specs.declared.message.Message.{Message}
 use Rattle.cast_model.specs.History.{History, is_live, first, given, given_of}
@@ -81,14 +82,6 @@ filter_alike p t (x ∷ xs) h = λ i. cond (h x here i) (x ∷ filter_alike p t 
 flat_alike : (f g : ℕ → List Due) (xs : List ℕ) → ((x : ℕ) → Member x xs → f x ≡ g x) → flat_map f xs ≡ flat_map g xs
 flat_alike f g [] h = refl
 flat_alike f g (x ∷ xs) h = λ i. h x here i ++ flat_alike f g xs (λ y m. h y (there m)) i
-
-length-filter_le : {A : Type 0} (p : A → Bool) (xs : List A) → length (filter p xs) ≤ length xs
-length-filter_le p [] = omega arith
-length-filter_le p (x ∷ xs) = by_test (p x) (length-filter_le p xs)
-  where
-    by_test : (b : Bool) → length (filter p xs) ≤ length xs → length (cond b (x ∷ filter p xs) (filter p xs)) ≤ suc (length xs)
-    by_test true h = omega (arith, h)
-    by_test false h = omega (arith, h)
 
 -- of each of at most 64 nodes at most 4096 items are given
 pub gives_few : (config : Config) (past : History) → IsAccepted config past → (p q : ℕ) → length (given past p q) < 2 ^ 32

@@ -1,5 +1,6 @@
 -- A round comes together slot by slot: its events are those of the plan.
-use Rattle.std.proofs.Common.{◌≡◌, ℕ, suc, ◌+◌, ◌*◌, ◌<◌, refl, sym, ◌∙◌, ap, subst, List, [], ◌∷◌, ◌++◌, length, drop, drop-cons, get_or, Some, None, Result, Ok, Err, IfOk, inl, inr, ◌⊎◌, arith, append_assoc, append-nil}
+use Rattle.std.proofs.Common.{◌≡◌, ℕ, ◌+◌, ◌*◌, ◌<◌, refl, sym, ◌∙◌, ap, subst, List, [], ◌∷◌, ◌++◌, length, drop, get_or, Some, None, Result, Ok, Err, IfOk, inl, inr, ◌⊎◌, append_assoc, append-nil}
+use Rattle.cast_message.proofs.Lists.{drop-next}
 use Rattle.cast_message.specs.declared.config.Config.{Config}
 use Rattle.cast_message.specs.declared.event.Event.{Event}
 use Rattle.cast_message.specs.declared.event.Event.TheVariants.{Send, Ack, Arrive}
@@ -18,9 +19,6 @@ use Rattle.cast_world.specs.Rounds.{Stops, TakesAll, StopsFor, StopsRound, EndsR
 use Rattle.cast_world.proofs.Stepping.{made_count}
 
 -- the rest of a list begins with the element whose turn it is
-pub drop-next : {A : Type 0} (xs : List A) (i : ℕ) (x : A) → i < length xs → x ≡ get_or xs i x → drop i xs ≡ x ∷ drop (i + 1) xs
-drop-next xs i x within is = (let e : i + 1 ≡ suc i = omega arith in rw e (drop-cons xs i x within ∙ ap (λ y. y ∷ drop (suc i) xs) (sym is)))
-
 module _ (config : Config) (past : History) where
   -- the events in front were taken, and these are left
   pub record IsTaking (events left : List Event) (world : State) : Type 0 where

@@ -1,7 +1,7 @@
 -- A world in which one node moves stays sound, and how the code's lists say that it moved.
 use Rattle.std.proofs.Common.{◌≡◌, ◌≢◌, ◌⊎◌, ℕ, zero, suc, ◌<◌, refl, sym, ◌∙◌, ap, subst, Bool, true, false, cond, List, [], ◌∷◌, ◌++◌, length, map, get_or, Option, Some, None, inl, inr, arith, Result, Ok, Err}
 use Rattle.std.specs.Prelude.{OnOk, OnErr, ◌==◌, nat_lt, not, slice_get, slice_index_or, slice_set}
-use Rattle.std.proofs.lemmas.Bool.{cases_eq, ltb-true}
+use Rattle.std.proofs.lemmas.Bool.{cases_eq, ltb-true, eq-eqb, ne_eqb}
 use Rattle.std.proofs.lemmas.List.{set-get_or, get_or-set_same, map-set, get_or-map}
 use Rattle.std.proofs.Math.Seq.{map-set_same}
 use Rattle.cast_message.specs.declared.config.Config.{Config}
@@ -21,7 +21,7 @@ use Rattle.cast_relay.specs.Held.{holds}
 use Rattle.cast_node.specs.Kept.{Kept, nothing_kept, link_to, is_enough}
 use Rattle.cast_node.specs.Calls.{number_reply}
 use Rattle.cast_node.specs.Turns.{told, released, unmoved, own_taken_up, acknowledged, arrived_body, may_arrive, taken_up, with_taken, with_acked, with_knower, kept_fault, kept_after, frame_made, Gives}
-use Rattle.cast_node.proofs.Places.{length-slice_set, at_set, same_number, other_number}
+use Rattle.cast_node.proofs.Places.{length-slice_set, at_set}
 use Rattle.cast_world.specs.declared.frames.Mark.{Mark}
 use Rattle.cast_world.specs.Group.{State, node_at, marks_at, frame_by, mark_of}
 use Rattle.cast_world.specs.Moves.{marks_after, Takes, TakesStep, ArrivesBy, IsSound}
@@ -97,14 +97,14 @@ module _ (world : State) (sound : IsSound world) (p : ℕ) (within : p < length 
     where
       me_at : (q : ℕ) → q < world.config.nodes → (cond (q == p) kept (node_at world q)).me ≡ q
       me_at q l = elim (cases_eq q p) [
-        | inl e ↦ ap (λ b. (cond b kept (node_at world q)).me) (same_number q p e) ∙ (gives_place (node_at world p) step reply kept gives).me ∙ sound.places p p_in ∙ sym e
-        | inr e ↦ ap (λ b. (cond b kept (node_at world q)).me) (other_number q p e) ∙ sound.places q l
+        | inl e ↦ ap (λ b. (cond b kept (node_at world q)).me) (eq-eqb q p e) ∙ (gives_place (node_at world p) step reply kept gives).me ∙ sound.places p p_in ∙ sym e
+        | inr e ↦ ap (λ b. (cond b kept (node_at world q)).me) (ne_eqb q p e) ∙ sound.places q l
       ]
 
       config_at : (q : ℕ) → q < world.config.nodes → (cond (q == p) kept (node_at world q)).config ≡ world.config
       config_at q l = elim (cases_eq q p) [
-        | inl e ↦ ap (λ b. (cond b kept (node_at world q)).config) (same_number q p e) ∙ (gives_place (node_at world p) step reply kept gives).config ∙ sound.configs p p_in
-        | inr e ↦ ap (λ b. (cond b kept (node_at world q)).config) (other_number q p e) ∙ sound.configs q l
+        | inl e ↦ ap (λ b. (cond b kept (node_at world q)).config) (eq-eqb q p e) ∙ (gives_place (node_at world p) step reply kept gives).config ∙ sound.configs p p_in
+        | inr e ↦ ap (λ b. (cond b kept (node_at world q)).config) (ne_eqb q p e) ∙ sound.configs q l
       ]
 
   -- one frame is
@@ -118,11 +118,11 @@ module _ (world : State) (sound : IsSound world) (p : ℕ) (within : p < length 
   }
     where
       by_place : (q seq : ℕ) (found : Mark) → (q ≡ p) ⊎ (q ≢ p) → slice_get (cond (q == p) (marks_at world p ++ frame ∷ []) (marks_at world q)) seq ≡ Some found → found.to < world.config.nodes
-      by_place q seq found (inl e) f = elim (last_frame (marks_at world p) frame seq found (sym (ap (λ b. slice_get (cond b (marks_at world p ++ frame ∷ []) (marks_at world q)) seq) (same_number q p e)) ∙ f)) [
+      by_place q seq found (inl e) f = elim (last_frame (marks_at world p) frame seq found (sym (ap (λ b. slice_get (cond b (marks_at world p ++ frame ∷ []) (marks_at world q)) seq) (eq-eqb q p e)) ∙ f)) [
         | inl old ↦ sound.targets p seq found old
         | inr new ↦ subst (λ x. x.to < world.config.nodes) (sym new) goes
       ]
-      by_place q seq found (inr e) f = sound.targets q seq found (sym (ap (λ b. slice_get (cond b (marks_at world p ++ frame ∷ []) (marks_at world q)) seq) (other_number q p e)) ∙ f)
+      by_place q seq found (inr e) f = sound.targets q seq found (sym (ap (λ b. slice_get (cond b (marks_at world p ++ frame ∷ []) (marks_at world q)) seq) (ne_eqb q p e)) ∙ f)
 
 -- the code's lists, where the node took the step
 pub takes_by : (world : State) (p : ℕ) (step : Step) (made : List Mark) (answer : Answer) (kept : Kept) (marks : List (List Mark)) → p < length world.nodes → marks ≡ marks_after world.marks p made → Gives (node_at world p) step (Ok answer) kept →

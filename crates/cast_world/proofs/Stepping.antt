@@ -1,7 +1,7 @@
 -- A world in which one node takes a step goes on as the definitions say.
 use Rattle.std.proofs.Common.{◌≡◌, ◌≢◌, ◌⊎◌, ℕ, zero, suc, ◌<◌, ◌≤◌, refl, sym, ◌∙◌, ap, subst, Bool, true, false, not, cond, List, [], ◌∷◌, ◌++◌, length, map, Option, Some, None, inl, inr, arith, Result, Ok, Err}
 use Rattle.std.specs.Prelude.{◌==◌, nat_lt, slice_get, slice_index_or, option_map, if◌then◌else◌}
-use Rattle.std.proofs.lemmas.Bool.{cases_eq, cases_lt, ne_eqb, false≢true}
+use Rattle.std.proofs.lemmas.Bool.{cases_eq, cases_lt, ne_eqb, false≢true, eq-eqb}
 use Rattle.std.proofs.lemmas.Bool.Decides.{nat_tests}
 use Rattle.std.proofs.lemmas.List.{append-nil, map-append}
 use Rattle.cast_message.specs.declared.config.Config.{Config}
@@ -31,7 +31,7 @@ use Rattle.cast_model.proofs.Possible.{node_reply-steps_of, node_after-steps_of}
 use Rattle.cast_node.specs.Kept.{Kept, nothing_kept}
 use Rattle.cast_node.specs.Turns.{kept_after, kept_fault}
 use Rattle.cast_node.specs.Stands.{Stands as NodeStands}
-use Rattle.cast_node.proofs.Places.{length-slice_set, at_set, same_number, other_number}
+use Rattle.cast_node.proofs.Places.{length-slice_set, at_set}
 use Rattle.cast_node.proofs.Refusals.{faults_are}
 use Rattle.cast_node.proofs.Continuing.{continues}
 use Rattle.cast_node.proofs.Showing.{carries, tells_taken}
@@ -48,11 +48,11 @@ other_steps past p event step is q e = ap (λ more. more ++ steps_of past q) (no
     skip x b f = ap (λ c. cond c (x ∷ []) []) f
 
     none : (event : Event) (step : Step) → IsStep past p event step → step_of (frames past) event q ≡ []
-    none event step (orders item) = skip (Ordered item) (p == q) (other_number p q (λ z. e (sym z)))
-    none event step (sends to slot) = skip (Sent to slot) (p == q) (other_number p q (λ z. e (sym z)))
-    none event step (acknowledges to slot) = skip (Acknowledged to slot) (p == q) (other_number p q (λ z. e (sym z)))
-    none event step (takes from seq frame at to) = ap (λ o. step_by o q) at ∙ skip (Arrived frame) (frame.to == q) (other_number frame.to q (λ z. e (sym z ∙ to)))
-    none event step stops = skip Stopped (p == q) (other_number p q (λ z. e (sym z)))
+    none event step (orders item) = skip (Ordered item) (p == q) (ne_eqb p q (λ z. e (sym z)))
+    none event step (sends to slot) = skip (Sent to slot) (p == q) (ne_eqb p q (λ z. e (sym z)))
+    none event step (acknowledges to slot) = skip (Acknowledged to slot) (p == q) (ne_eqb p q (λ z. e (sym z)))
+    none event step (takes from seq frame at to) = ap (λ o. step_by o q) at ∙ skip (Arrived frame) (frame.to == q) (ne_eqb frame.to q (λ z. e (sym z ∙ to)))
+    none event step stops = skip Stopped (p == q) (ne_eqb p q (λ z. e (sym z)))
 
 pub no_fault : (o : Option StepFault) (a b : Answer) → reply_by o a ≡ Ok b → o ≡ None
 no_fault None a b e = refl
@@ -105,7 +105,7 @@ module _ (config : Config) (past : History) (world : State) (st : Stands config 
         node_other q e =
             ap (λ w. node_at w q) t.moves
             ∙ at_set world.nodes p q (node_at new p) (nothing_kept world.config 0) t.within
-            ∙ ap (λ b. cond b (node_at new p) (node_at world q)) (other_number q p e)
+            ∙ ap (λ b. cond b (node_at new p) (node_at world q)) (ne_eqb q p e)
 
         rows_after : (made : List Mark) → length (marks_after world.marks p made) ≡ length world.marks
         rows_after [] = refl
@@ -113,8 +113,8 @@ module _ (config : Config) (past : History) (world : State) (st : Stands config 
 
         row_at : (made : List Mark) (q : ℕ) → slice_index_or (marks_after world.marks p made) q [] ≡ cond (q == p) (marks_at world p ++ made) (marks_at world q)
         row_at [] q = elim (cases_eq q p) [
-          | inl e ↦ ap (marks_at world) e ∙ sym (append-nil (marks_at world p)) ∙ sym (ap (λ b. cond b (marks_at world p ++ []) (marks_at world q)) (same_number q p e))
-          | inr e ↦ sym (ap (λ b. cond b (marks_at world p ++ []) (marks_at world q)) (other_number q p e))
+          | inl e ↦ ap (marks_at world) e ∙ sym (append-nil (marks_at world p)) ∙ sym (ap (λ b. cond b (marks_at world p ++ []) (marks_at world q)) (eq-eqb q p e))
+          | inr e ↦ sym (ap (λ b. cond b (marks_at world p ++ []) (marks_at world q)) (ne_eqb q p e))
         ]
         row_at (mark ∷ more) q = at_set world.marks p q (marks_at world p ++ mark ∷ more) [] (subst (λ n. p < n) (sym st.rows) p_in)
 
@@ -124,14 +124,14 @@ module _ (config : Config) (past : History) (world : State) (st : Stands config 
         row : (q : ℕ) → q < config.nodes → (q ≡ p) ⊎ (q ≢ p) → slice_index_or (marks_after world.marks p made) q [] ≡ map mark_of (own_frames q (steps_of (event ∷ past) q))
         row q l (inl e) =
             row_at made q
-            ∙ ap (λ b. cond b (marks_at world p ++ made) (marks_at world q)) (same_number q p e)
+            ∙ ap (λ b. cond b (marks_at world p ++ made) (marks_at world q)) (eq-eqb q p e)
             ∙ (λ k. (st.made p p_in ∙ ap (map mark_of) (sym (own_frames-steps_of config past st.accepted p))) k ++ sym (made_is p_in no_refusal) k)
             ∙ sym (map-append mark_of (own_frames p (steps_of past p)) (own_made p (steps_of past p) step))
             ∙ sym (ap (λ steps. map mark_of (own_frames p steps)) (steps_after past p event step is))
             ∙ ap (λ x. map mark_of (own_frames x (steps_of (event ∷ past) x))) (sym e)
         row q l (inr e) =
             row_at made q
-            ∙ ap (λ b. cond b (marks_at world p ++ made) (marks_at world q)) (other_number q p e)
+            ∙ ap (λ b. cond b (marks_at world p ++ made) (marks_at world q)) (ne_eqb q p e)
             ∙ st.made q l ∙ ap (map mark_of) (sym (own_frames-steps_of config past st.accepted q))
             ∙ ap (λ steps. map mark_of (own_frames q steps)) (sym (other_steps past p event step is q e))
 

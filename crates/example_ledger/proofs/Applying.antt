@@ -1,9 +1,9 @@
 -- What a node applies, step by step and of each sender.
 use Rattle.std.proofs.Common.{◌≡◌, ◌<◌, ◌≤◌, ◌+◌, ℕ, zero, suc, List, [], ◌∷◌, ◌++◌, length, length-append, drop, get_or, Some, Result, refl, sym, ap, ◌∙◌, subst, arith}
 use Rattle.std.specs.Prelude.{slice_get}
-use Rattle.std.proofs.Math.Seq.{drop-cons}
 use Rattle.std.proofs.lemmas.List.{drop_all}
 use Rattle.std.proofs.lemmas.List.Elements.{filter-append}
+use Rattle.cast_message.proofs.Lists.{drop-next}
 use Rattle.cast_message.specs.declared.config.Config.{Config}
 use Rattle.cast_message.specs.declared.event.Event.{Event}
 use Rattle.cast_message.specs.declared.event.Answer.{Answer}
@@ -17,9 +17,6 @@ use Rattle.cast_model.proofs.Answered.{answered-delivered}
 use Rattle.example_ledger.specs.Applied.{applied_at, AreBooksOf}
 use Rattle.cast_merge.specs.Told.{of_sender}
 use Rattle.example_ledger.specs.Sheets.{BookState, IsSheetOf}
-
-drop-next : {A : Type 0} (xs : List A) (i : ℕ) (x : A) → i < length xs → x ≡ get_or xs i x → drop i xs ≡ x ∷ drop (i + 1) xs
-drop-next xs i x within is = let e : i + 1 ≡ suc i = omega arith in rw e (drop-cons xs i x within ∙ ap (λ y. y ∷ drop (suc i) xs) (sym is))
 
 -- the deliveries of the next event, and then the rest
 pub applied-next : (p i : ℕ) (events : List Event) (results : List (Result Answer StepFault)) (event : Event) (result : Result Answer StepFault)

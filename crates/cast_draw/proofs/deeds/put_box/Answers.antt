@@ -1,7 +1,7 @@
 use Rattle.std.proofs.Common.{◌∙◌, ◌++◌}
+use Rattle.cast_message.proofs.Results.{ok_of}
 use Rattle.cast_draw.specs.Places.{top_of}
 use Rattle.cast_draw.specs.Marks.{delivery_text}
-use Rattle.cast_draw.proofs.GiftLemmas.{ok_of}
 use Rattle.cast_draw.proofs.deeds.put_box.Goals as goal
 
 pub returns-clause-text : goal.returns-clause-text

@@ -1,8 +1,8 @@
 use Rattle.std.proofs.Common.{◌∙◌, ◌+◌, ap, arith, drop, map, sym}
 use Rattle.std.proofs.lemmas.List.{take_rest}
 use Rattle.std.specs.Prelude.{if◌then◌else◌}
+use Rattle.cast_message.proofs.Results.{ok_of}
 use Rattle.cast_draw.specs.Deeds.{Decides}
-use Rattle.cast_draw.proofs.GiftLemmas.{ok_of}
 use Rattle.cast_draw.proofs.DeedLemmas.{going_count, going_same, going_delivery, going_alone, going_brought, going_last, going_rest, ok_if}
 use Rattle.cast_draw.proofs.deeds.put_deeds.Goals as goal
 use Rattle.cast_draw.proofs.deeds.put_deeds.Goals.{then-is_brought+in_ok-put_diamond, else-is_brought}

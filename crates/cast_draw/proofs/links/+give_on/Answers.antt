@@ -1,4 +1,5 @@
-use Rattle.cast_draw.proofs.GiftLemmas.{ok_of, given_none, given_next}
+use Rattle.cast_message.proofs.Results.{ok_of}
+use Rattle.cast_draw.proofs.GiftLemmas.{given_none, given_next}
 use Rattle.cast_draw.proofs.links.+give_on.Goals as goal
 
 pub returns-in_default : goal.returns-in_default

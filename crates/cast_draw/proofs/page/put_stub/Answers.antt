@@ -1,5 +1,5 @@
 use Rattle.std.proofs.Common.{◌∙◌, ◌++◌, ap}
-use Rattle.cast_draw.proofs.GiftLemmas.{ok_of}
+use Rattle.cast_message.proofs.Results.{ok_of}
 use Rattle.cast_draw.proofs.SheetLemmas.{lost_stub, leaving_stub, no_stub}
 use Rattle.cast_draw.proofs.page.put_stub.Goals as goal
 

@@ -1,6 +1,6 @@
 use Rattle.std.proofs.Common.{length, ap, ◌∙◌, arith}
 use Rattle.cast_fifo.specs.Held.{held_of, known_items}
-use Rattle.cast_node.proofs.Parts.{length-numbered}
+use Rattle.cast_model.proofs.Fronts.{length-numbered}
 use Rattle.cast_node.proofs.deliveries.prepare.Goals as goal
 
 pub returns-clause-room : goal.returns-clause-room

@@ -1,5 +1,6 @@
 use Rattle.std.proofs.Common.{sym}
-use Rattle.cast_node.proofs.Gifts.{ok_of, given_none, taken_back_none, given_next, back_next}
+use Rattle.cast_message.proofs.Results.{ok_of}
+use Rattle.cast_node.proofs.Gifts.{given_none, taken_back_none, given_next, back_next}
 use Rattle.cast_node.proofs.giving.+give_all.Goals as goal
 
 pub returns-in_default-clause-ok : goal.returns-in_default-clause-ok

@@ -1,5 +1,5 @@
 use Rattle.std.proofs.Common.{◌∙◌}
-use Rattle.cast_node.proofs.Parts.{on_err}
+use Rattle.cast_message.proofs.Results.{on_err}
 use Rattle.cast_node.proofs.taking.take_up_carried.Goals as goal
 
 pub returns-then-is_err-clause-err : goal.returns-then-is_err-clause-err

@@ -1,8 +1,8 @@
 use Rattle.std.proofs.Common.{◌≡◌, ◌∙◌, sym, nat_lt, length, false, arith}
 use Rattle.std.proofs.lemmas.Bool.Decides.{nat_tests}
 use Rattle.std.proofs.lemmas.Grind.{common_steps}
+use Rattle.cast_message.proofs.Results.{on_err}
 use Rattle.cast_record.proofs.ItemWordLemmas.{no_data, some_data}
-use Rattle.cast_record.proofs.ReadLemmas.{on_err}
 use Rattle.cast_record.proofs.reading.data.Goals as goal
 
 pub returns-then-not-is_hex-clause-value : goal.returns-then-not-is_hex-clause-value

@@ -1,8 +1,8 @@
 use Rattle.std.proofs.Common.{◌≡◌, ◌∙◌, sym, ℕ, Option, Some, None, option_and_then}
+use Rattle.cast_message.proofs.Results.{on_err}
 use Rattle.cast_message.specs.declared.message.Item.{Item}
 use Rattle.cast_message.specs.declared.message.Message.{Message}
 use Rattle.cast_record.specs.Reading.{pair_of, item_of, HasData, MessageHasData}
-use Rattle.cast_record.proofs.ReadLemmas.{on_err}
 use Rattle.cast_record.proofs.reading.message.Goals as goal
 
 -- of a sender, a number and an item of data there is a message with data

@@ -1,7 +1,7 @@
 use Rattle.std.proofs.Common.{◌∙◌, ◌+◌, sym}
+use Rattle.cast_message.proofs.Results.{ok_of}
 use Rattle.cast_draw.specs.Sheet.{sheet_of}
 use Rattle.cast_draw.specs.Drawn.{with_room}
-use Rattle.cast_draw.proofs.GiftLemmas.{ok_of}
 use Rattle.cast_draw.proofs.SheetLemmas.{ordered_shown}
 use Rattle.cast_draw.proofs.picture.Picture.take_order.Goals as goal
 

@@ -1,6 +1,6 @@
 use Rattle.std.proofs.Common.{◌∙◌, sym}
+use Rattle.cast_message.proofs.Results.{ok_of}
 use Rattle.cast_draw.specs.Sheet.{sheet_of}
-use Rattle.cast_draw.proofs.GiftLemmas.{ok_of}
 use Rattle.cast_draw.proofs.SheetLemmas.{refused_shown}
 use Rattle.cast_draw.proofs.picture.Picture.take_refusal.Goals as goal
 

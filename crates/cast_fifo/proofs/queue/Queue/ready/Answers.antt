@@ -1,9 +1,9 @@
-use Rattle.std.proofs.Common.{◌≡◌, ◌-◌, ◌++◌, ◌∷◌, [], sym, ap, ◌∙◌, arith}
+use Rattle.std.proofs.Common.{◌≡◌, ◌-◌, ◌++◌, ◌∷◌, [], sym, ap, ◌∙◌, arith, rules}
 use Rattle.std.specs.Option.{option_copied}
 use Rattle.cast_model.specs.History.{numbered}
 use Rattle.cast_fifo.specs.Held.{with_mark}
 use Rattle.cast_fifo.proofs.Turns.{marked_elsewhere, marked_new, numbered-none, append_none}
-use Rattle.cast_fifo.proofs.Releases.{messages_at, turns_end, turn_more, turn_none, turn_last, all_turns}
+use Rattle.cast_fifo.proofs.Releases.{messages_at, turns_end, turn_more, turn_came, turn_none, turn_last, all_turns}
 use Rattle.cast_fifo.proofs.queue.Queue.ready.Goals as goal
 use Rattle.cast_fifo.proofs.queue.Queue.ready.Goals.{else-loop-turn-test, then-loop-turn-test+in_default}
 
@@ -18,6 +18,18 @@ loop-turn-preserved c =
     let pushed = c.in_ok-push.ensures.items ∙ ap (λ item. c.loop-turn.messages.items ++ record { sender = c.args.sender; number = c.loop-turn.turn; item = item } ∷ []) c.in_ok-copy.ensures.ok in
     let more = turn_more _ _ _ _ c.args.self.now c.self.invariant c.self.view_is c.len-most.ensures.ordered c.args.number c.args.sender c.loop-turn.turn c.in-Some.item.now c.loop-turn.messages.items c.push.new.self.items i.from i.upto (sym c.in-Some.ensures) pushed in
     record { from = omega (arith, i.from); upto = more.0; messages = more.1 ∙ i.messages }
+
+pub returns-in_err-copy-clause-came : goal.returns-in_err-copy-clause-came
+returns-in_err-copy-clause-came c =
+    let i = c.loop-turn.invariant in
+    let came = turn_came _ _ _ _ c.args.self.now c.self.invariant c.self.view_is c.len-most.ensures.ordered c.args.number c.loop-turn.turn c.in-Some.item.now i.from i.upto (sym c.in-Some.ensures) in
+    search (rules, came)
+
+pub returns-in_err-push-clause-came : goal.returns-in_err-push-clause-came
+returns-in_err-push-clause-came c =
+    let i = c.loop-turn.invariant in
+    let came = turn_came _ _ _ _ c.args.self.now c.self.invariant c.self.view_is c.len-most.ensures.ordered c.args.number c.loop-turn.turn c.in-Some.item.now i.from i.upto (sym c.in-Some.ensures) in
+    search (rules, came)
 
 pub returns-clause-messages : goal.returns-clause-messages
 returns-clause-messages c =

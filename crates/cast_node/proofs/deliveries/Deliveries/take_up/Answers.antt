@@ -1,6 +1,7 @@
 use Rattle.std.proofs.Common.{◌∙◌, sym}
+use Rattle.cast_message.proofs.Results.{on_err}
 use Rattle.cast_node.proofs.DeliveryTables.{forgot}
-use Rattle.cast_node.proofs.Parts.{is_err_of, on_err}
+use Rattle.cast_node.proofs.Parts.{is_err_of}
 use Rattle.cast_node.proofs.deliveries.Deliveries.take_up.Goals as goal
 
 pub returns-then-not-came-clause-err : goal.returns-then-not-came-clause-err

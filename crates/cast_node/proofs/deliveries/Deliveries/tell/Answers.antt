@@ -1,5 +1,5 @@
 use Rattle.std.proofs.Common.{◌∙◌}
-use Rattle.cast_node.proofs.Parts.{on_err}
+use Rattle.cast_message.proofs.Results.{on_err}
 use Rattle.cast_node.proofs.DeliveryTables.{row_same, both_same, told_is, told_sound}
 use Rattle.cast_node.proofs.deliveries.Deliveries.tell.Goals as goal
 

@@ -1,6 +1,6 @@
 use Rattle.std.proofs.Common.{◌∙◌, refl, ap, sym}
+use Rattle.cast_message.proofs.Results.{on_err}
 use Rattle.cast_node.specs.Turns.{known_row}
-use Rattle.cast_node.proofs.Parts.{on_err}
 use Rattle.cast_node.proofs.DeliveryTables.{row_same, noted_is, outcome_none}
 use Rattle.cast_node.proofs.deliveries.Deliveries.tell_silently.Goals as goal
 

@@ -1,11 +1,10 @@
-use Rattle.std.proofs.Common.{◌≡◌, Some, None, not, true≢false, unwrap_or, sym, ap, ◌∙◌, arith}
-use Rattle.std.specs.Prelude.{is_some}
+use Rattle.std.proofs.Common.{◌≡◌, Some, None, unwrap_or, sym, ap, ◌∙◌, arith}
 use Rattle.std.specs.FinMap as finite
 use Rattle.std.specs.Option.{option_copied}
 use Rattle.cast_message.specs.declared.message.Item.TheVariants.{Close}
 use Rattle.cast_message.specs.declared.message.Message.{Message}
 use Rattle.cast_node.specs.Kept.{Kept, link_to}
-use Rattle.cast_node.proofs.Wholes.{send_fine, send_owed}
+use Rattle.cast_node.proofs.Wholes.{send_fine, owed_found}
 use Rattle.cast_node.proofs.node.Node.send_numbers.Goals as goal
 
 pub message-requires : goal.message-requires
@@ -26,9 +25,7 @@ returns-clause-small c =
     let owed = c.self.invariant.owes c.args.to c.args.slot c.in-Some-message.message.now (sym c.message.ensures ∙ ap option_copied c.in-Some-message.is) in
     omega (arith, owed.1, c.self.inside.config.items_in_range)
 
--- a slot that may be sent is owed, so its message is found
 pub returns-in_default-message-clause-refused : goal.returns-in_default-message-clause-refused
 returns-in_default-message-clause-refused c =
-    let owed = send_owed c.args.self.now c.args.to c.args.slot (sym c.send_fault.ensures ∙ c.in_default.is) in
     let none : finite.get (link_to c.args.self.now c.args.to).owed c.args.slot ≡ None = sym (ap (λ k. finite.get (link_to k c.args.to).owed c.args.slot) c.self.view_is) ∙ sym c.message.ensures ∙ ap option_copied c.in_default-message.is in
-    absurd (true≢false (sym (ap (λ o. not (is_some o)) none) ∙ owed))
+    absurd (owed_found c.args.self.now c.args.to c.args.slot (sym c.send_fault.ensures ∙ c.in_default.is) none)

@@ -1,5 +1,5 @@
--- Laws of `and` and `or`.
-use Rattle.std.proofs.Common.{◌≡◌, refl, sym, Bool, true, false, ◌&&◌, ◌||◌}
+-- Laws of `and`, `or` and choices by a truth value.
+use Rattle.std.proofs.Common.{◌≡◌, ℕ, refl, sym, Bool, true, false, cond, ◌&&◌, ◌||◌, Option, Some, None}
 
 pub or_false : (b : Bool) → (b || false) ≡ b
 or_false true = refl
@@ -33,3 +33,8 @@ pub or_implied : (b c : Bool) → (c ≡ true → b ≡ true) → (b || c) ≡ b
 or_implied true c h = refl
 or_implied false true h = sym (h refl)
 or_implied false false h = refl
+
+-- nothing is chosen: neither the first, nor is there a second
+pub chosen : (b : Bool) (n : ℕ) (o : Option ℕ) → cond b (Some n) o ≡ None → (b ≡ false) × (o ≡ None)
+chosen true n o e = absurd (cc)
+chosen false n o e = (refl, e)
