@@ -3,8 +3,9 @@ use Rattle.std.proofs.Common.{◌≡◌, ℕ, zero, suc, ◌<◌, Bool, true, fa
 use Rattle.std.specs.Prelude.{if◌then◌else◌, nat_lt, ◌==◌}
 use Rattle.std.specs.List.{filter}
 use Rattle.std.proofs.lemmas.List.{append-nil}
-use Rattle.std.proofs.lemmas.Bool.{false≢true, ltb-true, eqb-true, eq-eqb}
+use Rattle.std.proofs.lemmas.Bool.{false≢true, ltb-true}
 use Rattle.std.proofs.lemmas.Bool.Decides.{nat_tests}
+use Rattle.cast_message.proofs.Tests.{turned_about}
 use Rattle.cast_message.specs.declared.config.Config.{Config}
 use Rattle.cast_message.specs.declared.event.Event.TheVariants.{Order, Send, Ack, Arrive, Crash}
 use Rattle.cast_message.specs.declared.event.Outcome.{Outcome}
@@ -65,8 +66,8 @@ rises_front (x ∷ xs) first clock e r = let it = rises_front xs x.stamp clock e
 
 rises_over : (log : List Entry) (first clock : ℕ) (e : Entry) → Rises first (log ++ e ∷ []) clock → first < e.stamp
 unfolding Rises
-rises_over [] first clock e r = r.0
-rises_over (x ∷ xs) first clock e r = let a = r.0 in let b = rises_over xs x.stamp clock e r.1 in omega arith
+rises_over [] first clock e r = r.0.0
+rises_over (x ∷ xs) first clock e r = let a = r.0.0 in let b = rises_over xs x.stamp clock e r.1 in omega arith
 
 rises_last : (log : List Entry) (first clock : ℕ) (e x : Entry) → Rises first (log ++ e ∷ []) clock → Has log x → x.stamp < e.stamp
 unfolding Rises
@@ -192,19 +193,11 @@ run_origins config p (r ∷ rs) is e h =
     last (Served stamp order) read = (origin_of order, refl, (order, has_last (orders_of rs) order, refl))
     last (Denied stamp order fault) read = (order, has_last (orders_of rs) order, refl)
 
-same_test : (a b : ℕ) → (a == b) ≡ (b == a)
-same_test a b = by_test (a == b) (b == a) (λ e. eq-eqb b a (sym (eqb-true a b e))) (λ e. eq-eqb a b (sym (eqb-true b a e)))
-  where
-    by_test : (x y : Bool) → (x ≡ true → y ≡ true) → (y ≡ true → x ≡ true) → x ≡ y
-    by_test true y f g = sym (f refl)
-    by_test false true f g = g refl
-    by_test false false f g = refl
-
 -- where each order carries the number of the putter that put it, those of a client are those that its putter put
 pub of_client : (taken : List (ℕ × OrderIn)) (c : ℕ) → ((m : ℕ × OrderIn) → Has taken m → m.1.client ≡ m.0) → orders_by c (map (λ m. m.1) taken) ≡ of c taken
 unfolding orders_by
 of_client [] c all = refl
 of_client (m ∷ ms) c all =
     let rest = of_client ms c (λ n h. all n (suc h.0, h.1)) in
-    let same : (m.1.client == c) ≡ (c == m.0) = ap (λ n. n == c) (all m (zero, refl)) ∙ same_test m.0 c in
+    let same : (m.1.client == c) ≡ (c == m.0) = ap (λ n. n == c) (all m (zero, refl)) ∙ turned_about m.0 c in
     (λ i. if same i then m.1 ∷ rest i else rest i)

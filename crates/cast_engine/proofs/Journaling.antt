@@ -23,15 +23,15 @@ use Rattle.cast_report.specs.declared.report.EngineEnd.TheVariants.{Crashed}
 use Rattle.cast_report.specs.Linked.{event_of}
 use Rattle.cast_message.specs.declared.message.FrameKind.{FrameKind}
 use Rattle.cast_message.specs.declared.message.FrameKind.TheVariants as kinds
-use Rattle.cast_engine.specs.Journals.{Rises, is_crash, is_crash_event, EndsAs, JournalKeeps, JournalState, MayLog}
+use Rattle.cast_engine.specs.Journals.{Rises, IsStampedAfter, is_crash, is_crash_event, EndsAs, JournalKeeps, JournalState, MayLog}
 
 abbrev pub entry : ℕ → EntryKind → Entry
 entry stamp kind = record { stamp = stamp; kind = kind }
 
-pub rises_more : (log : List Entry) (first clock : ℕ) (e : Entry) → Rises first log clock → clock < e.stamp → Rises first (log ++ e ∷ []) e.stamp
+pub rises_more : (log : List Entry) (first clock : ℕ) (e : Entry) → Rises first log clock → IsStampedAfter clock e → Rises first (log ++ e ∷ []) e.stamp
 unfolding Rises
-rises_more [] first clock e r lt = (omega (arith, r, lt), refl)
-rises_more (x ∷ xs) first clock e r lt = (r.0, rises_more xs x.stamp clock e r.1 lt)
+rises_more [] first clock e r next = ((omega (arith, r, next.0), λ other. omega (arith, r, next.1 other)), refl)
+rises_more (x ∷ xs) first clock e r next = (r.0, rises_more xs x.stamp clock e r.1 next)
 
 module _ (limit : ℕ) (crash : Option ℕ) (log : List Entry) (ends : EndsAs limit crash None log) (room : length log < limit) where
   longer : (e : Entry) → length (log ++ e ∷ []) ≡ length log + 1
@@ -86,7 +86,7 @@ live_after kept (Arrived frame) h = either_live (may_arrive kept frame) (arrived
 live_after kept Stopped h = absurd (false≢true (sym h))
 
 module _ (config : Config) (room room' : ℕ) (node node' : Kept) (log log' : List Entry) (clock stamp : ℕ) (crash : Option ℕ) (ended : Option EngineEnd) (kind : EntryKind)
-    (k : JournalKeeps config room node log clock crash ended) (running : ended ≡ None) (fits : length log < config.log_limit) (later : clock < stamp)
+    (k : JournalKeeps config room node log clock crash ended) (running : ended ≡ None) (fits : length log < config.log_limit) (later : IsStampedAfter clock (entry stamp kind))
     (is : log' ≡ log ++ entry stamp kind ∷ []) (same : room' ≡ room) where
   rest : EndsAs config.log_limit crash None log
   rest = let P : Option EngineEnd → Type 0 = λ o. EndsAs config.log_limit crash o log in subst P running k.ends
@@ -121,14 +121,14 @@ making_goes_on p kinds.Took to slot = (refl, refl)
 
 -- the same, as the functions need it
 pub logged : (config : Config) (room room' : ℕ) (node node' : Kept) (log log' : List Entry) (clock stamp : ℕ) (crash : Option ℕ) (ended : Option EngineEnd) (kind : EntryKind) (j : JournalState)
-    → state config node log clock crash ended ≡ j → MayLog j → JournalKeeps config room node log clock crash ended → clock < stamp → log' ≡ log ++ entry stamp kind ∷ [] → room' ≡ room
+    → state config node log clock crash ended ≡ j → MayLog j → JournalKeeps config room node log clock crash ended → IsStampedAfter clock (entry stamp kind) → log' ≡ log ++ entry stamp kind ∷ [] → room' ≡ room
     → is_crash kind ≡ false → node'.live ≡ node.live → JournalKeeps config room' node' log' stamp crash ended
 logged config room room' node node' log log' clock stamp crash ended kind j is may k later e r quiet live =
     let m : MayLog (state config node log clock crash ended) = subst MayLog (sym is) may in
     keeps_logged config room room' node node' log log' clock stamp crash ended kind k m.running m.room later e r quiet m.safe live
 
 pub crashed : (config : Config) (room room' : ℕ) (node node' : Kept) (log log' : List Entry) (clock stamp : ℕ) (crash : Option ℕ) (ended : Option EngineEnd) (kind : EntryKind) (j : JournalState)
-    → state config node log clock crash ended ≡ j → j.ended ≡ None → length j.log < j.config.log_limit → j.crash ≡ Some (length j.log) → JournalKeeps config room node log clock crash ended → clock < stamp
+    → state config node log clock crash ended ≡ j → j.ended ≡ None → length j.log < j.config.log_limit → j.crash ≡ Some (length j.log) → JournalKeeps config room node log clock crash ended → IsStampedAfter clock (entry stamp kind)
     → log' ≡ log ++ entry stamp kind ∷ [] → room' ≡ room → is_crash kind ≡ true → JournalKeeps config room' node' log' stamp crash (Some Crashed)
 crashed config room room' node node' log log' clock stamp crash ended kind j is running fits due k later e r loud =
     let P : JournalState → Type 0 = λ j. (j.ended ≡ None) × (length j.log < j.config.log_limit) × (j.crash ≡ Some (length j.log)) in

@@ -9,3 +9,4 @@ pub mod Telling
 pub mod Answering
 pub mod Again
 pub mod Suffering
+pub mod Few

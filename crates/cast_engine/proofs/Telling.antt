@@ -32,8 +32,8 @@ use Rattle.cast_desk.specs.declared.desk.OrderIn.{OrderIn}
 rises_each : (log : List Entry) (first clock : ℕ) → Rises first log clock → (j : ℕ) (d : Entry) → j < length log → first < (slice_index_or log j d).stamp
 unfolding Rises
 rises_each [] first clock r j d lt = absurd (omega arith)
-rises_each (x ∷ xs) first clock r zero d lt = r.0
-rises_each (x ∷ xs) first clock r (suc j) d lt = let a = r.0 in let b = rises_each xs x.stamp clock r.1 j d (omega arith) in omega arith
+rises_each (x ∷ xs) first clock r zero d lt = r.0.0
+rises_each (x ∷ xs) first clock r (suc j) d lt = let a = r.0.0 in let b = rises_each xs x.stamp clock r.1 j d (omega arith) in omega arith
 
 pub rises_pairs : (log : List Entry) (first clock : ℕ) → Rises first log clock → IsRising log
 unfolding Rises

@@ -1,5 +1,5 @@
 -- An engine, as contracts see it, and what it keeps.
-use Rattle.std.specs.Prelude.{◌≡◌, ℕ, ◌<◌, List, [], ◌∷◌, ◌++◌, map, slice_get, Option, Some, None, ◌⊎◌, ⊤}
+use Rattle.std.specs.Prelude.{◌≡◌, ℕ, ◌+◌, ◌<◌, ◌≤◌, length, List, [], ◌∷◌, ◌++◌, map, slice_get, Option, Some, None, ◌⊎◌, ⊤}
 use Rattle.cast_message.specs.declared.config.Config.{Config}
 use Rattle.cast_box.specs.Ends.{PutterEnd, TakerEnd, IsSamePutter, IsSameTaker, AreSamePutters}
 use Rattle.cast_node.specs.declared.entry.Entry.{Entry}
@@ -19,7 +19,7 @@ use Rattle.cast_engine.specs.Journals.{JournalState, LogsStep, OnlyEnds, Rises, 
 use Rattle.cast_report.specs.declared.report.EngineEnd.{EngineEnd}
 use Rattle.cast_node.specs.Kept.{Kept}
 use Rattle.cast_model.specs.Steps.{Arrived}
-use Rattle.cast_engine.specs.Feeding.{AreFed}
+use Rattle.cast_engine.specs.Feeding.{AreFed, TellEach}
 
 pub record EngineState : Type 0 where
   pub config : Config
@@ -52,11 +52,20 @@ pub record IsSameEngine (old new : EngineState) : Type 0 where
   pub inbox : IsSameTaker old.inbox new.inbox
   pub desk : IsSameDesk old.desk new.desk
 
--- no parcel was put or taken
+-- no parcel was put or taken, no order taken, and no notice put
 abbrev pub HasSameBoxes : EngineState → EngineState → Type 0
-HasSameBoxes old new = (new.outbox ≡ old.outbox) × (new.inbox ≡ old.inbox)
+HasSameBoxes old new =
+    (new.outbox ≡ old.outbox) × (new.inbox ≡ old.inbox)
+    × (taken_at new.desk ≡ taken_at old.desk) × (trays_at new.desk ≡ trays_at old.desk)
 
--- in an idle turn no parcel was put or taken
+-- so many parcels were taken, orders taken, parcels put, and notices put for each client, at most
+pub record DoesFew (takes orders puts tells : ℕ) (old new : EngineState) : Type 0 where
+  pub taken : length new.inbox.taken ≤ length old.inbox.taken + takes
+  pub ordered : length (taken_at new.desk) ≤ length (taken_at old.desk) + orders
+  pub put : length new.outbox.put ≤ length old.outbox.put + puts
+  pub told : TellEach tells (trays_at old.desk) (trays_at new.desk)
+
+-- in an idle turn nothing of that was done
 abbrev pub IsIdleRightly : Turn → EngineState → EngineState → Type 0
 IsIdleRightly Idle old new = HasSameBoxes old new
 IsIdleRightly _ old new = ⊤

@@ -1,7 +1,7 @@
 -- How far a client was told of a log.
 --     IsFed client log place put       what was put into the tray is what the feed has up to the place
 --     AreFed log trays places          so it is for each client
-use Rattle.std.specs.Prelude.{◌≡◌, ℕ, ◌≤◌, List, [], ◌++◌, length, take, slice_get, slice_set, Option, Some, None}
+use Rattle.std.specs.Prelude.{◌≡◌, ℕ, ◌+◌, ◌≤◌, List, [], ◌++◌, length, take, slice_get, slice_set, Option, Some, None}
 use Rattle.cast_box.specs.Ends.{PutterEnd, IsSamePutter}
 use Rattle.cast_node.specs.declared.entry.Entry.{Entry}
 use Rattle.cast_desk.specs.declared.notice.Notice.{Notice}
@@ -52,3 +52,12 @@ FedAt client log old new place =
 -- where a client was told nothing
 abbrev pub first_place : Place
 first_place = record { entry = 0; orders = 0; told = 0; waiting = None }
+
+-- what was put into a tray, if there is one
+abbrev pub put_into : Option (PutterEnd Notice) → List Notice
+put_into None = []
+put_into (Some tray) = tray.put
+
+-- into each tray so many notices more were put at most
+abbrev pub TellEach : ℕ → List (PutterEnd Notice) → List (PutterEnd Notice) → Type 0
+TellEach count old new = (c : ℕ) → length (put_into (slice_get new c)) ≤ length (put_into (slice_get old c)) + count

@@ -3,7 +3,7 @@ use Rattle.std.specs.Prelude.{◌≡◌, ◌≢◌, ℕ, suc, ◌+◌, ◌<◌, 
 use Rattle.std.specs.Coded.{Coded, code_by, coded×, coded_ℕ, coded_list, coded_option}
 use Rattle.cast_message.specs.declared.config.Config.{Config}
 use Rattle.cast_message.specs.declared.event.Event.{Event}
-use Rattle.cast_message.specs.declared.event.Event.TheVariants.{Crash}
+use Rattle.cast_message.specs.declared.event.Event.TheVariants.{Arrive, Crash}
 use Rattle.cast_message.specs.declared.event.Answer.{Answer}
 use Rattle.cast_message.specs.declared.event.Answer.TheVariants.{Ordered as AnswerOrdered}
 use Rattle.cast_message.specs.declared.event.Outcome.{Outcome}
@@ -89,10 +89,22 @@ HaltsBy j (Some ClockFull) = j.clock + 1 ≡ 2 ^ 64
 HaltsBy j (Some Crashed) = j.crash ≡ Some (length j.log)
 HaltsBy j _ = ⊥
 
+abbrev pub is_arrival_event : Event → Bool
+is_arrival_event (Arrive from seq) = true
+is_arrival_event _ = false
+
+abbrev pub is_arrival : EntryKind → Bool
+is_arrival (StepEntry event origin outcome) = is_arrival_event event
+is_arrival (Refused origin fault) = false
+
+-- the entry's stamp is one above the clock; that of an arrival may be greater, as the parcel's may
+abbrev pub IsStampedAfter : ℕ → Entry → Type 0
+IsStampedAfter clock e = (clock < e.stamp) × (is_arrival e.kind ≡ false → e.stamp ≡ clock + 1)
+
 -- the stamps rise from `first` on and end at the clock
 unfoldable pub Rises : ℕ → List Entry → ℕ → Type 0
 Rises first [] clock = clock ≡ first
-Rises first (e ∷ es) clock = (first < e.stamp) × Rises e.stamp es clock
+Rises first (e ∷ es) clock = IsStampedAfter first e × Rises e.stamp es clock
 
 abbrev pub is_crash_event : Event → Bool
 is_crash_event (Crash node) = true

@@ -2,7 +2,7 @@
 ghost use Rattle.std.specs.Prelude.{◌≡◌, ◌<◌, [], length, IfOk, IfNone, IsFalse};
 ghost use Rattle.cast_box.specs.Ends.{IsSamePutter, IsNextToEnd};
 ghost use Rattle.cast_engine.specs.Group.{with_ended};
-ghost use Rattle.cast_engine.specs.Engines.{EngineState, IsSameEngine, HasSameBoxes, IsIdleRightly, IsSameDesk, TakesOrder, TakesIn, Handed, Leaves, Tells, WereTold, IsUnused, trays_at};
+ghost use Rattle.cast_engine.specs.Engines.{EngineState, IsSameEngine, HasSameBoxes, DoesFew, IsIdleRightly, IsSameDesk, TakesOrder, TakesIn, Handed, Leaves, Tells, WereTold, IsUnused, trays_at};
 ghost use Rattle.cast_engine.specs.Journals.{MayLog, IsQuietEnd};
 
 use crate::board::{Board, Quiet};
@@ -14,7 +14,7 @@ use crate::resend::{LAST_SENT, Resend};
 use crate::waiting::Waiting;
 use cast_box::{Full, Putter, Taker};
 use cast_desk::{Desk, OrderIn};
-use cast_message::{Config, FrameBody, FrameKind, NodeId};
+use cast_message::{Config, Frame, FrameBody, FrameKind, NodeId};
 use cast_node::{Entry, EntryKind, Node};
 use cast_report::EngineEnd;
 use std::alloc::{AllocError, Global};
@@ -77,17 +77,15 @@ impl Model for Engine {
         (e.desk) e.places.items };
 }
 
-/// A frame that arrived and is to be acknowledged.
+/// What a parcel that was taken has brought from a peer.
 #[derive(Clone, Copy)]
-pub struct Owing {
-    pub to: NodeId,
-    pub slot: u64,
-}
-
-/// A parcel was taken, and this is to be acknowledged of it, where it carried a message.
-#[derive(Clone, Copy)]
-pub struct Received {
-    pub owing: Option<Owing>,
+pub enum Received {
+    /// The message in this slot, which is to be acknowledged.
+    Carried { from: NodeId, slot: u64 },
+    /// Word that the peer took this slot.
+    Acknowledged { from: NodeId, slot: u64 },
+    /// Nothing: the parcel was dropped.
+    Nothing,
 }
 
 /// What an engine that ended leaves: the log and the node, the end, and the ends of its boxes.
@@ -153,8 +151,9 @@ impl Engine {
     }
 
     /// Takes one turn: passes the gate, puts the parcel that waits, takes one and acknowledges it, takes an order, sends a slot
-    /// that is due, and puts notices. `Ended` is answered where the log or the clock is full, the node crashes, or no turn is left,
-    /// `Stopped` where all engines are quiet; `Idle` only where no parcel was put or taken (`idle`).
+    /// that is due, and puts notices: of each no more than one, and of parcels no more than three (`few`). `Ended` is answered where
+    /// the log or the clock is full, the node crashes, or no turn is left, `Stopped` where all engines are quiet; `Idle` only where
+    /// nothing of that was done (`idle`).
     #[tactic(auto, using(crate::proofs::Again::desk_same))]
     pub fn turn<G: Gate, R: Wait>(
         &mut self,
@@ -164,6 +163,7 @@ impl Engine {
         quiet: &mut Quiet,
     ) -> Turn
         ensures same { IsSameEngine self.old self.new }
+        ensures few { DoesFew 1 1 3 1 self.old self.new }
         ensures idle { IsIdleRightly result self.old self.new }
     {
         if !self.may_go_on() {
@@ -192,6 +192,7 @@ impl Engine {
     #[tactic(auto, using(crate::proofs::Again::desk_same))]
     fn work<R: Wait>(&mut self, rt: &R, board: &Board, quiet: &mut Quiet) -> bool
         ensures same { IsSameEngine self.old self.new }
+        ensures few { DoesFew 1 1 3 1 self.old self.new }
         ensures idle { IsFalse result → HasSameBoxes self.old self.new }
     {
         let exchanged = self.exchange(rt, board, quiet);
@@ -218,6 +219,7 @@ impl Engine {
     #[tactic(auto, using(crate::proofs::Again::desk_same))]
     fn exchange<R: Wait>(&mut self, rt: &R, board: &Board, quiet: &mut Quiet) -> bool
         ensures same { IsSameEngine self.old self.new }
+        ensures few { DoesFew 1 0 2 0 self.old self.new }
         ensures idle { IsFalse result → HasSameBoxes self.old self.new }
     {
         let put = self.flush(rt);
@@ -229,21 +231,34 @@ impl Engine {
     #[tactic(auto, using(crate::proofs::Again::desk_same))]
     fn receive_and_acknowledge<R: Wait>(&mut self, rt: &R, board: &Board, quiet: &mut Quiet) -> bool
         ensures same { IsSameEngine self.old self.new }
+        ensures few { DoesFew 1 0 1 0 self.old self.new }
         ensures idle { IsFalse result → HasSameBoxes self.old self.new }
     {
         if self.held.is_some() {
             return false;
         }
         quiet.look(board);
-        let Some(Received { owing }) = self.receive(rt) else {
+        let Some(received) = self.receive(rt) else {
             quiet.found_nothing();
             return false;
         };
-        if let Some(owing) = owing {
-            quiet.write(board, false);
-            self.make(rt, FrameKind::Took, owing.to, owing.slot);
+        match received {
+            Received::Carried { from, slot } => {
+                quiet.write(board, false);
+                self.make(rt, FrameKind::Took, from, slot);
+            }
+            Received::Acknowledged { from, slot } => self.hear(from, slot),
+            Received::Nothing => {}
         }
         true
+    }
+
+    // A peer took a slot, so there is room for others on the way to it.
+    #[tactic(auto, using(crate::proofs::Again::desk_same))]
+    fn hear(&mut self, from: NodeId, slot: u64)
+        ensures { self.new ≡ self.old }
+    {
+        self.resend.hear(from, slot);
     }
 
     // Whether no parcel waits and nothing is owed to an engine that has not ended.
@@ -298,6 +313,7 @@ impl Engine {
     #[tactic(auto, using(crate::proofs::Again::desk_same))]
     fn flush<R: Wait>(&mut self, rt: &R) -> bool
         ensures same { IsSameEngine self.old self.new }
+        ensures few { DoesFew 0 0 1 0 self.old self.new }
         ensures idle { IsFalse result → HasSameBoxes self.old self.new }
     {
         let Some(parcel) = self.held.take() else {
@@ -310,6 +326,7 @@ impl Engine {
     #[tactic(auto, using(crate::proofs::Again::desk_same))]
     fn receive<R: Wait>(&mut self, rt: &R) -> Option<Received>
         ensures same { IsSameEngine self.old self.new }
+        ensures few { DoesFew 1 0 0 0 self.old self.new }
         ensures none { IfNone result (HasSameBoxes self.old self.new) }
     {
         if !self.journal.may_log() {
@@ -317,9 +334,9 @@ impl Engine {
         }
         match self.inbox.take(rt) {
             Some(parcel) => {
-                self.resend.hear(self.journal.node(), &parcel.frame);
-                let owing = take_in(&mut self.journal, parcel);
-                Some(Received { owing })
+                self.resend.meet(self.journal.node(), &parcel.frame);
+                let received = take_in(&mut self.journal, parcel);
+                Some(received)
             }
             None => None,
         }
@@ -330,6 +347,7 @@ impl Engine {
     #[tactic(auto, using(crate::proofs::Again::desk_same))]
     fn make<R: Wait>(&mut self, rt: &R, kind: FrameKind, to: NodeId, slot: u64) -> bool
         ensures same { IsSameEngine self.old self.new }
+        ensures few { DoesFew 0 0 1 0 self.old self.new }
         ensures idle { IsFalse result → HasSameBoxes self.old self.new }
     {
         if self.held.is_some() || !self.journal.may_log() {
@@ -346,6 +364,7 @@ impl Engine {
     #[tactic(auto, using(crate::proofs::Again::desk_same))]
     fn resend<R: Wait>(&mut self, rt: &R) -> bool
         ensures same { IsSameEngine self.old self.new }
+        ensures few { DoesFew 0 0 1 0 self.old self.new }
         ensures idle { IsFalse result → HasSameBoxes self.old self.new }
     {
         self.next_turn();
@@ -356,6 +375,7 @@ impl Engine {
     #[tactic(auto, using(crate::proofs::Again::desk_same))]
     fn send_due<R: Wait>(&mut self, rt: &R) -> bool
         ensures same { IsSameEngine self.old self.new }
+        ensures few { DoesFew 0 0 1 0 self.old self.new }
         ensures idle { IsFalse result → HasSameBoxes self.old self.new }
     {
         if self.held.is_some() {
@@ -384,7 +404,8 @@ impl Engine {
     #[tactic(auto, using(crate::proofs::Again::desk_same))]
     fn notify<R: Wait>(&mut self, rt: &R) -> bool
         ensures same { IsSameEngine self.old self.new }
-        ensures boxes { HasSameBoxes self.old self.new }
+        ensures few { DoesFew 0 0 0 1 self.old self.new }
+        ensures idle { IsFalse result → HasSameBoxes self.old self.new }
     {
         if self.trays_full || self.journal.has_ended() {
             return false;
@@ -431,7 +452,8 @@ impl Engine {
     #[tactic(auto, using(crate::proofs::Again::desk_same))]
     fn take_order<R: Wait>(&mut self, rt: &R) -> bool
         ensures same { IsSameEngine self.old self.new }
-        ensures boxes { HasSameBoxes self.old self.new }
+        ensures few { DoesFew 0 1 0 0 self.old self.new }
+        ensures idle { IsFalse result → HasSameBoxes self.old self.new }
     {
         if self.no_orders || !self.journal.may_log() {
             return false;
@@ -476,29 +498,29 @@ fn clients_of(desk: &Option<Desk>) -> usize
 }
 
 // Logs the arrival of a parcel, and lets it go.
-fn take_in(journal: &mut Journal, parcel: Parcel) -> Option<Owing>
+fn take_in(journal: &mut Journal, parcel: Parcel) -> Received
     requires { MayLog journal.old }
     ensures { TakesIn journal.old journal.new parcel }
 {
     log_arrival(journal, &parcel)
 }
 
-// Logs the arrival of a parcel, and answers what is to be acknowledged. A parcel for another node, and one that finds no
-// memory, is dropped, and one with the last stamp ends the engine.
-fn log_arrival(journal: &mut Journal, parcel: &Parcel) -> Option<Owing>
+// Logs the arrival of a parcel, and answers what it has brought. A parcel for another node, and one that finds no memory, is
+// dropped, and one with the last stamp ends the engine.
+fn log_arrival(journal: &mut Journal, parcel: &Parcel) -> Received
     requires { MayLog journal.old }
     ensures { TakesIn journal.old journal.new parcel.now }
 {
     if parcel.stamp == u64::MAX {
         journal.end(EngineEnd::ClockFull);
-        return None;
+        return Received::Nothing;
     }
     if parcel.frame.to != journal.id() {
-        return None;
+        return Received::Nothing;
     }
     match journal.arrive(parcel) {
-        Ok(()) => owing_by(parcel),
-        Err(_) => None,
+        Ok(()) => brought_by(&parcel.frame),
+        Err(_) => Received::Nothing,
     }
 }
 
@@ -534,14 +556,12 @@ pub fn run_engine<G: Gate + Drop, R: Wait>(
     unreachable!()
 }
 
-// What is to be acknowledged of a frame that arrived.
-fn owing_by(parcel: &Parcel) -> Option<Owing> {
-    match &parcel.frame.body {
-        FrameBody::Carry { slot, .. } => Some(Owing {
-            to: parcel.frame.from,
-            slot: *slot,
-        }),
-        FrameBody::Took { .. } => None,
+// What a frame that arrived has brought.
+fn brought_by(frame: &Frame) -> Received {
+    let from = frame.from;
+    match &frame.body {
+        FrameBody::Carry { slot, .. } => Received::Carried { from, slot: *slot },
+        FrameBody::Took { slot } => Received::Acknowledged { from, slot: *slot },
     }
 }
 

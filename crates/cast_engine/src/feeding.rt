@@ -1,8 +1,8 @@
 //! What the clients of a node are told of its log, notice by notice.
-ghost use Rattle.std.specs.Prelude.{◌≡◌, ◌∷◌, replicate, slice_get, None, IfOk, IfSome};
+ghost use Rattle.std.specs.Prelude.{◌≡◌, ◌∷◌, replicate, slice_get, None, IfOk, IfSome, IsFalse};
 ghost use Rattle.cast_box.specs.Ends.{AreSamePutters};
 ghost use Rattle.cast_desk.specs.Feed.{told_by, news_of};
-ghost use Rattle.cast_engine.specs.Feeding.{IsNext, AreFed, FedIn, FedAt, IsPlaced, told_to, first_place};
+ghost use Rattle.cast_engine.specs.Feeding.{IsNext, AreFed, FedIn, FedAt, IsPlaced, TellEach, told_to, first_place};
 
 use cast_box::Full;
 use cast_desk::{Desk, Notice, orders_in, own_reply};
@@ -45,6 +45,8 @@ pub fn notify_all<R: Wait>(rt: &R, desk: &mut Desk, places: &mut Vec<Place>, log
     ensures fed { AreFed log.now desk.new.trays.items places.new.items }
     ensures orders { desk.new.orders ≡ desk.old.orders }
     ensures trays { AreSamePutters desk.old.trays.items desk.new.trays.items }
+    ensures few { TellEach 1 desk.old.trays.items desk.new.trays.items }
+    ensures idle { IsFalse result → desk.new.trays.items ≡ desk.old.trays.items }
 {
     let mut moved = false;
     for client in 0..places.len() {
@@ -58,6 +60,8 @@ fn notify<R: Wait>(rt: &R, desk: &mut Desk, client: usize, place: &mut Place, lo
     requires { FedIn client log.now desk.old.trays.items place.old }
     ensures orders { desk.new.orders ≡ desk.old.orders }
     ensures fed { FedAt client log.now desk.old.trays.items desk.new.trays.items place.new }
+    ensures few { TellEach 1 desk.old.trays.items desk.new.trays.items }
+    ensures idle { IsFalse result → desk.new.trays.items ≡ desk.old.trays.items }
 {
     let Ok(Some(notice)) = next_notice(client as u64, place, log) else {
         return false;

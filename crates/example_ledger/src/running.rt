@@ -1,11 +1,12 @@
 //! The ledger of a group that runs in threads: each node has a teller, and the tellers' books come out.
-ghost use Rattle.std.specs.Prelude.{◌≡◌, ℕ, IfOk, None, Some, map, slice_get};
+ghost use Rattle.std.specs.Prelude.{◌≡◌, ℕ, IfOk, IfErr, None, Some, map, slice_get};
 ghost use Rattle.cast_model.specs.Replies.{history, replies};
 ghost use Rattle.cast_world.specs.Group.{Stands};
 ghost use Rattle.cast_merge.specs.Merge.{TellsMerge};
 ghost use Rattle.cast_engine.specs.Journals.{EndsAs};
 ghost use Rattle.cast_engine.specs.Plans.{crash_from};
 ghost use Rattle.cast_report.specs.declared.report.NodeReport.{NodeReport};
+ghost use Rattle.cast_run.specs.Faults.{IsFaultOf};
 ghost use Rattle.cast_run.specs.Planned.{faults_of, KeepsTo};
 ghost use Rattle.cast_run.specs.Serves.{AreServed};
 ghost use Rattle.example_ledger.specs.Tellers.{AreNewTellers, TellerFact, OrdersAreGiven, TellersApplyPrefixes, TellersKeepSheets};
@@ -14,7 +15,7 @@ use crate::teller::Teller;
 use cast_merge::{Assembly, assemble};
 use cast_message::{Config, NodeId};
 use cast_report::GroupReport;
-use cast_run::{ClientReport, LiveFault, OpenGate, run_live};
+use cast_run::{ClientReport, LiveFault, OpenGate, find_misfit, run_live};
 use cast_script::FaultPlan;
 use std::alloc::Global;
 use std::sync::Wait;
@@ -78,7 +79,15 @@ pub fn run_tellers<R: Threads + Wait + Copy + Send + 'static>(
         ledger.assembly.replies ≡ replies config ledger.assembly.events) }
     ensures world { IfOk result (λ ledger.
         Stands config (history config ledger.assembly.events) ledger.assembly.world) }
+
+    // The fault is the first cause that holds.
+    ensures fault { IfErr result
+        (IsFaultOf config.nodes tellers.items config.nodes plan.now.faults) }
 {
+    // What does not fit is told before any memory is asked for.
+    if let Some(misfit) = find_misfit(&config, plan, tellers.as_slice(), config.nodes() as usize) {
+        return Err(misfit);
+    }
     let gates = OpenGate::for_nodes(alloc, config.nodes())?;
     let live = run_live(rt, alloc, config, plan, tellers, gates, TURNS)?;
     let assembly = assemble(alloc, &live.report)?;

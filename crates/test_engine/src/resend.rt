@@ -57,11 +57,11 @@ fn take(node: &mut Node, resend: &mut Resend, news: News) -> Result<(), StepFaul
             resend.given();
         }
         News::Acknowledged(from, slot) => {
-            resend.hear(node, &frame_of(from, FrameBody::Took { slot }));
+            resend.hear(NodeId(from), slot);
         }
         News::Carried => {
             let frame = frame_of(1, first_message());
-            resend.hear(node, &frame);
+            resend.meet(node, &frame);
             bring(node, &frame)?;
         }
     }

@@ -2,7 +2,6 @@
 ghost use Rattle.std.specs.Prelude.{IfOk, OnOk};
 ghost use Rattle.test_run.specs.NewJobs.{AreNewSignals, IsNewSignal};
 
-use crate::runs::TURNS;
 use anyhow::Result;
 use cast_desk::Client;
 use cast_message::NodeId;
@@ -16,6 +15,9 @@ use std::thread::Threads;
 
 // How often a gate looks before it gives up.
 const TRIES: u64 = 10_000_000;
+
+// How often a job is called at most: more often than a gate looks, as jobs wait for what is behind one.
+const TURNS: u64 = 4 * TRIES;
 
 /// What the threads of a meeting tell one another.
 #[derive(Drop)]

@@ -5,6 +5,7 @@ use Rattle.cast_desk.specs.declared.notice.Notice.{Notice}
 use Rattle.cast_engine.specs.declared.feeding.Place.{Place}
 use Rattle.cast_engine.specs.Feeding.{FedAt, IsNext}
 use Rattle.cast_engine.proofs.Fed.{fed_still, fed_put}
+use Rattle.cast_engine.proofs.Few.{tells_nothing}
 use Rattle.cast_engine.proofs.feeding.notify.Goals as goal
 
 pub next_notice-requires : goal.next_notice-requires
@@ -33,3 +34,8 @@ returns-in-Ok-clause-fed g c =
     subst (λ t. P (as_place t place.waiting)) (sym c.in-Some.ensures.1)
     (subst (λ w. P (as_place (place.told + 1) w)) (sym next.1)
     (fed_put c.args.client c.args.log.now c.args.desk.now.trays.items c.args.place.now place c.requires c.next_notice.ensures.placed c.next_notice.ensures.fed notice next.0 put.0 put.1 c.notify.new.self.trays.items put.2 put.3 put.4 put.5))
+
+pub returns-in-Err-clause-idle : goal.returns-in-Err-clause-idle
+returns-in-Err-clause-idle g c quiet =
+    let tray = c.in-Err.ensures.tray in
+    tells_nothing c.args.desk.now.trays.items _ c.args.client tray.0 tray.1 tray.2 tray.3 tray.4 tray.5.1

@@ -11,7 +11,7 @@ returns-in_err-due-clause-plays g c config past st =
 pub slots-init : goal.slots-init
 slots-init g c = record {
   ready = c.requires;
-  round = λ config past st. round_none g.met.O.Observer.laws config c.args.index past c.args.world.now _ c.args.observer.now st (g.met.O.Observer.laws.none c.args.observer.now c.requires) (c.in_ok-due.ensures config past st);
+  round = λ config past st. round_none g.met.O.Observer.laws config c.args.index past c.args.world.now _ c.args.observer.now st (g.met.O.Observer.laws.none c.args.observer.now c.requires) (c.in_ok-due.ensures.found config past st);
 }
 
 pub returns-in_err-play_events-clause-plays : goal.returns-in_err-play_events-clause-plays

@@ -14,16 +14,16 @@ pub invariant_of-self-in-Some : goal.invariant_of-self-in-Some
 invariant_of-self-in-Some g c =
     let i = c.self.inside in
     let j = c.may_log.new.self in
-    stays_taken j c.take_in-owing.new.journal i.outbox.put i.held i.inbox.taken _ i.places.items (stays_same i.journal j i.outbox.put i.held i.inbox.taken _ i.places.items c.self.invariant (c.if-not-may_log.ensures.may refl).0)
-    _ c.in-Some.ensures.taken.0 c.in-Some.parcel c.in-Some.ensures.taken.2 c.take_in-owing.ensures
+    stays_taken j c.take_in-received.new.journal i.outbox.put i.held i.inbox.taken _ i.places.items (stays_same i.journal j i.outbox.put i.held i.inbox.taken _ i.places.items c.self.invariant (c.if-not-may_log.ensures.may refl).0)
+    _ c.in-Some.ensures.taken.0 c.in-Some.parcel c.in-Some.ensures.taken.2 c.take_in-received.ensures
 
 pub returns-in-Some-clause-same : goal.returns-in-Some-clause-same
 returns-in-Some-clause-same g c =
     let i = c.self.inside in
     let j = c.may_log.new.self in
-    let k = c.take_in-owing.new.journal in
+    let k = c.take_in-received.new.journal in
     let same = (c.if-not-may_log.ensures.may refl).0 in
-    let s = same_taken j k i.outbox.put i.held i.inbox.taken i.desk i.places.items (stays_same i.journal j i.outbox.put i.held i.inbox.taken i.desk i.places.items c.self.invariant same) c.in-Some.parcel c.take_in-owing.ensures in
+    let s = same_taken j k i.outbox.put i.held i.inbox.taken i.desk i.places.items (stays_same i.journal j i.outbox.put i.held i.inbox.taken i.desk i.places.items c.self.invariant same) c.in-Some.parcel c.take_in-received.ensures in
     let new : EngineState = record { config = k.config; me = k.node.me; crash = k.crash; outbox = i.outbox; inbox = c.take.new.self; desk = i.desk } in
     let P : EngineState → Type 0 = λ e. IsSameEngine e new in
     subst P c.self.view_is (record {

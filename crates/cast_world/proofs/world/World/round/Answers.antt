@@ -8,7 +8,7 @@ use Rattle.cast_world.proofs.Rounding.{IsLeft, left_first, slot_settled, slot_st
 use Rattle.cast_world.proofs.world.World.round.Goals as goal
 
 pub slots-init : goal.slots-init
-slots-init c config past st = left_first config past _ c.args.self.now (c.in-Ok.ensures config past st) st
+slots-init c config past st = left_first config past _ c.args.self.now (c.in-Ok.ensures.found config past st) st
 
 pub returns-in_err-take_all-clause-takes : goal.returns-in_err-take_all-clause-takes
 returns-in_err-take_all-clause-takes c config past st =
@@ -27,7 +27,7 @@ slots-preserved c config past st =
 pub returns-clause-takes : goal.returns-clause-takes
 returns-clause-takes c config past st =
     let left = c.slots.invariant config past st in
-    round_ends config past _ left.before _ c.slots.self _ (c.in-Ok.ensures config past st) (ap (λ n. 2 * n) c.len-frames.ensures.len) c.in_default-pop_front.ensures.none left.round
+    round_ends config past _ left.before _ c.slots.self _ (c.in-Ok.ensures.found config past st) (ap (λ n. 2 * n) c.len-frames.ensures.len) c.in_default-pop_front.ensures.none left.round
 
 pub returns-clause-spreads : goal.returns-clause-spreads
 returns-clause-spreads c config past st = round_spreads config past st.accepted (returns-clause-takes c config past st).accepted

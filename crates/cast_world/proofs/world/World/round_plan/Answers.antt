@@ -9,7 +9,7 @@ slots-init c = record {
   before = [];
   counted = counted_none c.in_ok-made.made.items (c.in_ok-made.ensures.items_if_clones_equal (λ y h. h));
   few = omega (arith, c.len.ensures.len, c.len.ensures.few);
-  plan = λ config past st. (c.in_ok-due.ensures config past st, plan_none past c.in_ok-events.events.items c.in_ok-events.ensures.items);
+  plan = λ config past st. (c.in_ok-due.ensures.found config past st, plan_none past c.in_ok-events.events.items c.in_ok-events.ensures.items);
 }
 
 pub add_events-requires : goal.add_events-requires
