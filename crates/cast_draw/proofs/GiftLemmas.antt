@@ -1,5 +1,5 @@
 -- A message is given to peers one by one.
-use Rattle.std.specs.Prelude.{◌≡◌, ℕ, ◌+◌, ◌≤◌, Bool, true, not, if◌then◌else◌, List, [], ◌∷◌, ◌++◌, length, Ok, refl}
+use Rattle.std.specs.Prelude.{◌≡◌, ℕ, ◌+◌, ◌≤◌, Bool, true, not, if◌then◌else◌, List, [], ◌∷◌, ◌++◌, length, refl}
 use Rattle.std.proofs.Common.{sym, ap, ◌∙◌, arith}
 use Rattle.std.proofs.lemmas.List.{get_or_past}
 use Rattle.std.specs.Ordering.{nat_cmp}
@@ -24,5 +24,3 @@ given_next me pair source peer rows rest more row given goes e g t m =
 -- a sender that has no set
 pub not_held : (held : List (set.FinSet nat_cmp)) (pair : Pair) → length held ≤ pair.sender → true ≡ not (is_held held pair)
 not_held held pair past = ap not (sym (ap (λ s. set.contains s pair.number) (get_or_past held pair.sender set.empty past) ∙ contains-empty nat_cmp pair.number))
-
--- what holds of an Ok implies more of it

@@ -1,7 +1,6 @@
 -- What a test tells of what it tests.
 use Rattle.std.proofs.Common.{◌≡◌, ◌≢◌, ℕ, ◌&&◌, Bool, true, false, not, nat_eq, refl, arith}
 use Rattle.std.proofs.lemmas.Bool.Decides.{nat_tests}
-use Rattle.cast_message.proofs.Tests.{eq_same}
 
 -- ---- numbers
 

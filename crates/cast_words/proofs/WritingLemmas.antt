@@ -63,5 +63,3 @@ going_done {old = old} {new = new} going = record {
 pub going_last : {E : Type 0} {old mid : Option (List ℕ)} {f : Bool} {text rest : List ℕ} (new : Option (List ℕ)) (g : Bool) (r : Result (Unit {0}) E) → IsGoing old mid f text rest → Writes mid new g r rest → Writes old new g r text
 going_last new g (Ok done) going wrote = going_done (going_more (going_again going (sym (append-nil _))) wrote)
 going_last new g (Err fault) going wrote = going_fails [] (going_again going (sym (append-nil _))) wrote
-
--- ---- the next piece of a loop
