@@ -452,8 +452,8 @@ impl Engine {
     #[tactic(auto, using(crate::proofs::Again::desk_same))]
     fn take_order<R: Wait>(&mut self, rt: &R) -> bool
         ensures same { IsSameEngine self.old self.new }
-        ensures few { DoesFew 0 1 0 0 self.old self.new }
         ensures idle { IsFalse result → HasSameBoxes self.old self.new }
+        ensures few { DoesFew 0 1 0 0 self.old self.new }
     {
         if self.no_orders || !self.journal.may_log() {
             return false;
