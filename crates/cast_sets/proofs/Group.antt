@@ -9,7 +9,6 @@ use Rattle.std.proofs.lemmas.Nat.{field_of, ones-le, ones_cat, zero_from_ones, s
 use Rattle.std.proofs.Math.Nat.{div-lt_iff_lt-mul, pow-suc}
 use Rattle.std.proofs.Math.Pow.{mod-mod-pow}
 use Rattle.std.proofs.lemmas.Nat.Bits.{bit_at_set_same, bit_at_set_other}
-use Rattle.std.proofs.lemmas.Bool.{eq-eqb, ne_eqb}
 use Rattle.cast_sets.specs.Bits.{is_set_in}
 use Rattle.cast_sets.specs.Members.{members_below, members_below-insert, members_below-len, members_below-more, members_below-same}
 
