@@ -3,7 +3,7 @@
 //! first and marked later, so that it goes only once its node knows enough of it.
 #![tactic(auto)]
 
-ghost use Rattle.std.specs.Prelude.{[], nat_lt, IsTrue, ◌≡◌, ◌+◌, ◌<◌, ◌≤◌, ◌^◌, ◌++◌, true, false, length, replicate, vec_len, vec_capacity, IfOk, OnOk, OnErr};
+ghost use Rattle.std.specs.Prelude.{[], nat_lt, IsTrue, ◌≡◌, ◌≢◌, ◌+◌, ◌<◌, ◌≤◌, ◌^◌, ◌++◌, true, false, length, replicate, vec_len, vec_capacity, IfOk, OnOk, OnErr};
 ghost use Rattle.cast_fifo.specs.Held.{nothing_held, held_of, came, without_message, known_items, known_after, IsNear};
 ghost use Rattle.cast_fifo.specs.Calls.{Hold, Known, Offer, held_after, answer, GivesInOrder};
 
@@ -127,13 +127,16 @@ impl HoldBack {
         self.senders[usize::from(sender.0)].take_back(number);
     }
 
-    /// Copies of the messages that `known` of a pair would answer, in order: none where the pair was not held or offered. The
-    /// sender is below the number of nodes. It takes memory only where the pair was held and it is its turn.
+    /// Copies of the messages that `known` of a pair would answer, in order: none where the pair was not held or offered, and none
+    /// where it is not its turn. The sender is below the number of nodes. It takes memory only where the pair was held and it is
+    /// its turn.
     pub fn ready(&self, sender: NodeId, number: u64) -> Result<Vec<Message>, AllocError>
         requires { sender < length self.now }
         ensures messages { IfOk result (λ messages.
             messages.items ≡ answer self.now (Known sender number)) }
         ensures none { came (held_of self.now sender) number ≡ false →
+            IfOk result (λ messages. messages.items ≡ []) }
+        ensures other { number ≢ (held_of self.now sender).next →
             IfOk result (λ messages. messages.items ≡ []) }
         ensures turn { OnErr result (number ≡ (held_of self.now sender).next) }
         ensures came { OnErr result (came (held_of self.now sender) number ≡ true) }

@@ -1,6 +1,6 @@
 //! What is held back of one sender: a ring of places for the numbers from the next on (`ring`), and an ordered map for those
 //! farther away (`far`).
-ghost use Rattle.std.specs.Prelude.{◌≡◌, ℕ, ◌+◌, ◌-◌, ◌*◌, ◌<◌, ◌≤◌, ◌^◌, ◌∷◌, ◌++◌, ◌||◌, length, [], drop, true, false, None, Some, is_some, IsSome, IfOk, OnOk, OnErr, vec_len, vec_capacity, ◌⊎◌, nat_eq, nat_lt, IsTrue};
+ghost use Rattle.std.specs.Prelude.{◌≡◌, ◌≢◌, ℕ, ◌+◌, ◌-◌, ◌*◌, ◌<◌, ◌≤◌, ◌^◌, ◌∷◌, ◌++◌, ◌||◌, length, [], drop, true, false, None, Some, is_some, IsSome, IfOk, OnOk, OnErr, vec_len, vec_capacity, ◌⊎◌, nat_eq, nat_lt, IsTrue};
 ghost use Rattle.std.specs.Option.{option_copied};
 ghost use Rattle.std.specs.List.{All};
 ghost use Rattle.std.specs.Map.{keys_of};
@@ -174,6 +174,7 @@ impl Queue {
             messages.items ≡ numbered sender self.now.next (known_items self.now number)) }
         ensures none { came self.now number ≡ false →
             IfOk result (λ messages. messages.items ≡ []) }
+        ensures other { number ≢ self.now.next → IfOk result (λ messages. messages.items ≡ []) }
         ensures turn { OnErr result (number ≡ self.now.next) }
         ensures came { OnErr result (came self.now number ≡ true) }
     {
