@@ -2,6 +2,7 @@ pub mod Places
 pub mod Links
 pub mod KnownHolders
 pub mod HolderSets
+pub mod Again
 pub mod Back
 pub mod Counting
 pub mod StandsBeforeDelivery

@@ -3,12 +3,14 @@
 --     noted ds s i members           these are known to hold the pair
 --     let_go ds s i                  the messages whose turn has come by it are delivered
 --     BringsNothing mode faults held i members       no message has its turn by it
+--     row_of knowers s, HasPlace knowers s i         the pairs of s with a place for those known to hold them
+--     IsTurn ds s i members          these nodes are enough, and the pair is the next of s
 --     told_in ds s i members         both: the second where they are enough
 --     outcome_in ds s i members      what is delivered and decided then
 --     waiting_in ds message          a message is kept back
 --     told_with, outcome_with ds message members     the message is kept back, and these are known to hold it
 --     forgotten_in ds s i            what waits at a pair is taken back
-use Rattle.std.specs.Prelude.{◌≡◌, ℕ, true, ◌-◌, List, [], replicate, slice_index_or, slice_set, ◌++◌, if◌then◌else◌}
+use Rattle.std.specs.Prelude.{◌≡◌, ℕ, true, ◌-◌, ◌<◌, List, [], length, replicate, slice_index_or, slice_set, ◌++◌, if◌then◌else◌}
 use Rattle.std.specs.Ordering.{nat_cmp}
 use Rattle.std.specs.FinSet as set
 use Rattle.std.specs.FinMap as map
@@ -65,6 +67,16 @@ abbrev pub BringsNothing : Mode → ℕ → HeldBack → ℕ → set.FinSet nat_
 BringsNothing mode faults held i members =
     is_enough_in mode faults members ≡ true →
     (known_items held i ≡ []) × (known_after held i ≡ held)
+
+abbrev pub row_of : List (List (set.FinSet nat_cmp)) → ℕ → List (set.FinSet nat_cmp)
+row_of knowers s = slice_index_or knowers s []
+
+abbrev pub HasPlace : List (List (set.FinSet nat_cmp)) → ℕ → ℕ → Type 0
+HasPlace knowers s i = i < length (row_of knowers s)
+
+abbrev pub IsTurn : Delivering → ℕ → ℕ → set.FinSet nat_cmp → Type 0
+IsTurn ds s i members =
+    (is_enough_in ds.mode ds.faults members ≡ true) × (i ≡ (held_of ds.hold_back s).next)
 
 abbrev pub told_in : Delivering → ℕ → ℕ → set.FinSet nat_cmp → Delivering
 told_in ds s i members =

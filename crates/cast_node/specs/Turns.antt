@@ -6,7 +6,7 @@
 --     kept_answer, kept_after        else the answer, and what is kept then
 --     frame_made kind kept to slot   the frame of this kind that a node makes for a slot
 --     Gives kept step reply new      both: a step answered by this reply leaves this
-use Rattle.std.specs.Prelude.{◌≡◌, ℕ, suc, ◌+◌, ◌-◌, ◌*◌, ◌==◌, nat_lt, Bool, true, false, not, ◌&&◌, if◌then◌else◌, List, [], ◌∷◌, ◌++◌, length, replicate, slice_index_or, slice_set, Option, Some, None, unwrap_or, Result, Ok, Err}
+use Rattle.std.specs.Prelude.{◌≡◌, ℕ, suc, ◌+◌, ◌-◌, ◌*◌, ◌==◌, nat_lt, Bool, false, not, ◌&&◌, ◌||◌, if◌then◌else◌, List, [], ◌∷◌, ◌++◌, length, replicate, slice_index_or, slice_set, Option, Some, None, unwrap_or, Result, Ok, Err}
 use Rattle.std.specs.Ordering.{nat_cmp}
 use Rattle.std.specs.FinSet as set
 use Rattle.std.specs.FinMap as finite
@@ -152,9 +152,21 @@ may_bring kept from (Carry slot message) =
     && nat_lt slot (kept.config.nodes * kept.config.item_limit)
 may_bring kept from (Took slot) = nat_lt slot (link_to kept from).given
 
--- a frame that is no acknowledgement, or that of a slot that is owed
+-- a pair that is held came in this slot, and its maker is known to hold it
+abbrev pub came_so : Kept → ℕ → ℕ → ℕ → ℕ → Bool
+came_so kept from slot s i =
+    holds kept.relay s i && set.contains (taken_from kept from) slot
+    && set.contains (knowers_of kept s i) from
+
+-- enough nodes are known to hold the pair, and it is the next of its sender
+abbrev pub is_turn : Kept → ℕ → ℕ → Bool
+is_turn kept s i = is_enough kept s i && i == (held_of kept.hold_back s).next
+
+-- a message that did not come so before, or whose turn it is, or the acknowledgement of a slot that is owed
 abbrev pub is_awaited : Kept → ℕ → FrameBody → Bool
-is_awaited kept from (Carry slot message) = true
+is_awaited kept from (Carry slot message) =
+    not (came_so kept from slot message.sender message.number)
+    || is_turn kept message.sender message.number
 is_awaited kept from (Took slot) = finite.contains_key (link_to kept from).owed slot
 
 -- some node of a group could have made the frame for this node

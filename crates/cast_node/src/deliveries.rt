@@ -10,7 +10,7 @@ ghost use Rattle.cast_agree.specs.Journal.{counted_all, decisions_all, restored}
 ghost use Rattle.cast_agree.specs.Counted.{decision};
 ghost use Rattle.cast_node.specs.Kept.{knowers_in, is_enough_in};
 ghost use Rattle.cast_node.specs.Turns.{known_row};
-ghost use Rattle.cast_node.specs.Delivering.{BringsNothing, nothing_delivered, told_in, told_with, outcome_in, outcome_with, waiting_in, forgotten_in};
+ghost use Rattle.cast_node.specs.Delivering.{BringsNothing, HasPlace, IsTurn, row_of, nothing_delivered, told_in, told_with, outcome_in, outcome_with, waiting_in, forgotten_in};
 
 use crate::slot::TakesSlot;
 use cast_agree::{Agree, Counting};
@@ -114,7 +114,7 @@ impl Deliveries {
     }
 
     /// These nodes are known to hold a pair, which came in this slot. Where they are enough, what has its turn by it is
-    /// delivered.
+    /// delivered. Where the slot is taken and the pair has a place, only a pair whose turn it is takes memory.
     pub fn tell<S: TakesSlot>(
         &mut self,
         sender: NodeId,
@@ -130,6 +130,9 @@ impl Deliveries {
         ensures taken { OnOk result (link.new ≡ S.with_slot link.old slot) }
         ensures err { OnErr result (self.new ≡ self.old) }
         ensures as_before { OnErr result (link.new ≡ link.old) }
+        ensures again { OnErr result (S.has_slot link.old slot ≡ true
+            → HasPlace self.old.knowers sender number
+            → IsTurn self.old sender number members) }
     {
         if self.tell_silently(sender, number, &members, link, slot)? {
             return Ok(no_news(self.alloc));
@@ -148,7 +151,7 @@ impl Deliveries {
     }
 
     /// These nodes are known to hold a pair, which came in this slot, where no message has its turn by that. Says whether it is
-    /// so; else they are enough, and nothing changed.
+    /// so; else they are enough, and nothing changed. It takes memory only where the slot is not taken, or the pair has no place.
     pub fn tell_silently<S: TakesSlot>(
         &mut self,
         sender: NodeId,
@@ -171,6 +174,8 @@ impl Deliveries {
         ensures same_link { IfOk result (λ silent. IsFalse silent → link.new ≡ link.old) }
         ensures err { OnErr result (self.new ≡ self.old) }
         ensures as_before { OnErr result (link.new ≡ link.old) }
+        ensures again { OnErr result (S.has_slot link.old slot ≡ true
+            → length (row_of self.old.knowers sender) ≤ number) }
     {
         if !self.brings_nothing(sender, number, members) {
             return Ok(false);
@@ -262,12 +267,13 @@ pub fn no_news(alloc: Global) -> Outcome
     }
 }
 
-// Room for a place of this number.
+// Room for a place of this number. Where it is there, it takes no memory.
 fn make_place(row: &mut Vec<GroupSet>, number: u64) -> Result<(), AllocError>
     requires { number < 4096 }
     ensures same { row.new.items ≡ row.old.items }
     ensures ok { OnOk result
         (vec_len row.new + (suc number - vec_len row.new) ≤ vec_capacity row.new) }
+    ensures again { OnErr result (length row.old.items ≤ number) }
 {
     row.reserve((number as usize + 1).saturating_sub(row.len()))
 }
@@ -285,7 +291,8 @@ fn note(row: &mut Vec<GroupSet>, number: u64, members: GroupSet)
     row[place] = members;
 }
 
-// Copies the messages that a mark of the pair gives their turn, makes room for their items, and counts them.
+// Copies the messages that a mark of the pair gives their turn, makes room for their items, and counts them. It takes memory
+// only where it is the pair's turn.
 fn prepare(
     hold_back: &HoldBack,
     items: &mut Vec<Item>,
@@ -306,6 +313,7 @@ fn prepare(
         + length (known_items (held_of hold_back.now sender) number) ≤ vec_capacity items.new) }
     ensures same { items.new.items ≡ items.old.items }
     ensures err { OnErr result (agree.new ≡ agree.old) }
+    ensures turn { OnErr result (number ≡ (held_of hold_back.now sender).next) }
 {
     let messages = hold_back.ready(sender, number)?;
     items.reserve(messages.len())?;

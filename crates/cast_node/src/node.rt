@@ -204,8 +204,9 @@ impl Node {
 
     /// Takes a frame that arrives, and answers what is delivered and decided. The frame is for this node. Refused is an arrival
     /// at a crashed node, and else want of memory. A refusal changes nothing, nor does a frame that no node of the group could
-    /// have made for this node, of which nothing comes, not even want of memory. An acknowledgement of a slot that is not owed,
-    /// such as a second one, is never refused for want of memory.
+    /// have made for this node, of which nothing comes, not even want of memory. Neither is an acknowledgement of a slot that is
+    /// not owed, such as a second one, refused for want of memory, nor a message that is held, in a slot that was taken, of a
+    /// maker that is known to hold it, unless its turn has come.
     #[tactic(auto, using(std::proofs::lemmas::Bool::Decides::nat_tests), unfolding(cast_model::specs::Refusals::first_fault, crate::specs::Turns::kept_fault))]
     pub fn arrive(&mut self, frame: &Frame) -> Result<Outcome, StepFault>
         requires { frame.now.to ≡ self.old.me }
@@ -226,6 +227,33 @@ impl Node {
             FrameBody::Carry { slot, message } => self.take_carried(frame.from, *slot, message)?,
             FrameBody::Took { slot } => self.take_acknowledged(frame.from, *slot)?,
         };
+        Ok(outcome)
+    }
+
+    /// Takes a frame that arrives from a peer with a message that the node holds, told by its slot and its numbers, as `arrive`
+    /// does whatever the message's item.
+    #[tactic(auto, using(std::proofs::lemmas::Bool::Decides::nat_tests), unfolding(cast_model::specs::Refusals::first_fault, crate::specs::Turns::kept_fault))]
+    pub fn arrive_again(
+        &mut self,
+        from: NodeId,
+        slot: u64,
+        sender: NodeId,
+        number: u64,
+    ) -> Result<Outcome, StepFault>
+        requires { holds self.old.relay sender number ≡ true }
+        ensures exact { (seq : ℕ) (item : Carried) → Gives self.old
+            (Arrived (carried_frame self.old.me from seq slot sender number item))
+            (arrived_reply self.old.me result) self.new }
+        ensures awaited { (item : Carried) → OnErr result (self.old.live ≡ true →
+            is_awaited self.old from (carry_slot slot sender number item) ≡ true) }
+    {
+        if !self.live {
+            return Err(StepFault::Crashed);
+        }
+        if !self.is_peer(from) || !self.may_carry(slot, sender, number) {
+            return Ok(no_news(self.alloc));
+        }
+        let outcome = self.take_again(from, slot, sender, number)?;
         Ok(outcome)
     }
 
@@ -425,6 +453,8 @@ impl Node {
         ensures ok { OnOk result (self.new
             ≡ (arrived_body self.old from (Carry slot message.now)).kept) }
         ensures err { OnErr result (self.new ≡ self.old) }
+        ensures awaited { OnErr result
+            (is_awaited self.old from (Carry slot message.now) ≡ true) }
     {
         let place = usize::from(from.0);
         if self.relay.holds(message.sender, message.number) {
@@ -465,6 +495,8 @@ impl Node {
         ensures ok { (item : Carried) → OnOk result (self.new
             ≡ (arrived_body self.old from (carry_slot slot sender number item)).kept) }
         ensures err { OnErr result (self.new ≡ self.old) }
+        ensures awaited { (item : Carried) → OnErr result
+            (is_awaited self.old from (carry_slot slot sender number item) ≡ true) }
     {
         let place = usize::from(from.0);
         let mut members = self.deliveries.members(sender, number);

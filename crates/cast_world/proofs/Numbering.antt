@@ -8,9 +8,9 @@ use Rattle.cast_message.specs.declared.config.Config.{Config}
 use Rattle.cast_message.specs.declared.event.Event.{Event}
 use Rattle.cast_message.specs.declared.event.Event.TheVariants.{Send, Ack, Arrive}
 use Rattle.cast_model.specs.History.{History}
-use Rattle.cast_model.specs.Rounds.{Due, due, frames_for, events_for, plan_from, plan}
+use Rattle.cast_model.specs.Rounds.{Due, Rest, due, frames_for, events_for, plan_from, plan}
 use Rattle.cast_model.proofs.Members.{Member, here, Member-append_right}
-use Rattle.cast_model.proofs.Dues.{due_ok}
+use Rattle.cast_model.proofs.Dues.{due_ok, none_due-from_Rest}
 use Rattle.cast_model.proofs.Round.{frames_for-push}
 use Rattle.cast_world.specs.Group.{State, Stands}
 use Rattle.cast_world.specs.Rounds.{events_after}
@@ -34,6 +34,11 @@ zero_at (suc n) (suc p) = zero_at n p
 pub counted_none : (made : List ℕ) → made ≡ replicate 256 0 → AreCounted [] made
 unfolding frames_for
 counted_none made is = subst (AreCounted []) (sym is) (record { size = refl; counted = λ p l. zero_at 256 p })
+
+-- at rest there are no events
+pub plan_rest : (config : Config) (past : History) → Rest config past → plan config past ≡ plan_from past [] []
+unfolding plan
+plan_rest config past rest = ap (plan_from past []) (none_due-from_Rest config past rest)
 
 -- no slot, no event
 pub plan_none : (past : History) (events : List Event) → events ≡ [] → events ≡ plan_from past [] []

@@ -20,11 +20,11 @@ use Rattle.std.specs.FinMap as finite
 use Rattle.cast_relay.specs.Held.{holds}
 use Rattle.cast_node.specs.Kept.{Kept, nothing_kept, link_to, is_enough}
 use Rattle.cast_node.specs.Calls.{number_reply}
-use Rattle.cast_node.specs.Turns.{told, released, unmoved, own_taken_up, acknowledged, arrived_body, may_arrive, taken_up, with_taken, with_acked, with_knower, kept_fault, kept_after, frame_made, Gives}
+use Rattle.cast_node.specs.Turns.{told, released, unmoved, own_taken_up, acknowledged, arrived_body, may_arrive, taken_up, with_taken, with_acked, with_knower, kept_fault, kept_after, frame_made, is_awaited, Gives}
 use Rattle.cast_node.proofs.Places.{length-slice_set, at_set}
 use Rattle.cast_world.specs.declared.frames.Mark.{Mark}
-use Rattle.cast_world.specs.Group.{State, node_at, marks_at, frame_by, mark_of}
-use Rattle.cast_world.specs.Moves.{marks_after, Takes, TakesStep, ArrivesBy, IsSound}
+use Rattle.cast_world.specs.Group.{State, node_at, marks_at, body_in, frame_by, mark_of}
+use Rattle.cast_world.specs.Moves.{marks_after, Takes, TakesStep, ArrivesBy, IsAwaited, IsSound}
 
 -- a step leaves a node's number and its configuration
 record SamePlace (kept new : Kept) : Type 0 where
@@ -227,6 +227,14 @@ module _ (world : State) (sound : IsSound world) (from seq : ℕ) (mark : Mark) 
 
   pub arrived_me : kept.me ≡ mark.to
   arrived_me = ap (λ k. k.me) (found_at world p kept target_in found) ∙ sound.places p (subst (λ n. p < n) sound.size target_in) ∙ target
+
+  -- what the target awaits, where it lives
+  pub awaited_at : (shown : State) → shown ≡ world → (kept.live ≡ true → is_awaited kept from (body_in world.config world.nodes mark) ≡ true) → IsAwaited shown from seq
+  awaited_at shown is awaits =
+      subst (λ w. IsAwaited w from seq) (sym is)
+      (λ other there. let same : mark ≡ other = cc in
+      subst (λ m. (node_at world m.to).live ≡ true → is_awaited (node_at world m.to) from (body_in world.config world.nodes m) ≡ true) same
+      (subst (λ k. k.live ≡ true → is_awaited k from (body_in world.config world.nodes mark) ≡ true) (found_at world p kept target_in found ∙ ap (node_at world) target) awaits))
 
   module _ (frame : Frame) (frame_is : frame ≡ frame_by world from seq mark) (new : Kept) (reply : Result Answer StepFault) (gives : Gives kept (Arrived frame) reply new) where
     pub sound_arrived : IsSound (record { config = world.config; nodes = slice_set world.nodes p new; marks = world.marks })

@@ -179,13 +179,13 @@ module _ (config : Config) (past : History) (world : State) (st : Stands config 
   first_not cause more e = ap (λ b. cond b (Some cause.refusal) (first_fault more)) e
 
   -- the mark of a frame in its place
-  mark_at : (all : List Frame) (seq : ℕ) → slice_get (map mark_of all) seq ≡ option_map mark_of (slice_get all seq)
+  pub mark_at : (all : List Frame) (seq : ℕ) → slice_get (map mark_of all) seq ≡ option_map mark_of (slice_get all seq)
   mark_at [] seq = refl
   mark_at (frame ∷ all) zero = refl
   mark_at (frame ∷ all) (suc seq) = mark_at all seq
 
   -- a frame's body is that of its mark
-  body_again : (from to : ℕ) (body : FrameBody) → BodyOk past from to body → body_in world.config world.nodes (mark_by to body) ≡ body
+  pub body_again : (from to : ℕ) (body : FrameBody) → BodyOk past from to body → body_in world.config world.nodes (mark_by to body) ≡ body
   body_again from to (Took slot) ok = refl
   body_again from to (Carry slot message) ok =
       let broadcast = ok.broadcast in

@@ -10,10 +10,11 @@
 --     IsFar event                 its slot is greater than a mark can have
 --     IsRefusedForCause config past event reply   the reply is the cause of refusal that the definitions say
 --     IsCrash event               it crashes a node
+--     IsArrival event             a frame arrives
 use Rattle.std.specs.Prelude.{◌≡◌, ℕ, ◌<◌, ◌≤◌, ◌^◌, Option, Some, None, List, [], ◌∷◌, length, map, ◌==◌, if◌then◌else◌, slice_index_or, Result, Ok, Err}
 use Rattle.cast_message.specs.declared.config.Config.{Config}
 use Rattle.cast_message.specs.declared.event.Event.{Event}
-use Rattle.cast_message.specs.declared.event.Event.TheVariants.{Send, Ack, Crash}
+use Rattle.cast_message.specs.declared.event.Event.TheVariants.{Send, Ack, Arrive, Crash}
 use Rattle.cast_message.specs.declared.event.Answer.{Answer}
 use Rattle.cast_message.specs.declared.event.StepFault.{StepFault}
 use Rattle.cast_message.specs.declared.message.Item.{Item}
@@ -122,3 +123,7 @@ IsRefusedForCause config past event (Err refusal) = fault config past event ≡ 
 abbrev pub IsCrash : Event → Type 0
 IsCrash (Crash node) = Unit {0}
 IsCrash _ = ⊥
+
+abbrev pub IsArrival : Event → Type 0
+IsArrival (Arrive from seq) = Unit {0}
+IsArrival _ = ⊥

@@ -1,13 +1,14 @@
 //! The group as one value: events go in, replies come out.
 ghost use Rattle.std.specs.Prelude.{◌≡◌, ◌≢◌, ◌<◌, ◌^◌, ◌∷◌, IsTrue, IsFalse, IfOk, IfSome, IfNone, OnErr, [], Some, None, length, option_map, nat_lt, ◌&&◌, Err};
+ghost use Rattle.std.specs.List.{Contains};
 ghost use Rattle.cast_message.specs.declared.event.StepFault.TheVariants.{Memory};
 ghost use Rattle.cast_model.specs.History.{is_live};
 ghost use Rattle.cast_model.specs.Replies.{reply};
 ghost use Rattle.cast_model.specs.Delivery.{decision};
 ghost use Rattle.cast_model.specs.Shown.{ShowsDelivered, ShowsStream, ShowsOwed};
-ghost use Rattle.cast_world.specs.Group.{Stands, StandingFor, Continues, FindsNode, IsCrash, IsFar, IsRefusedForCause, node_at, marks_at};
+ghost use Rattle.cast_world.specs.Group.{Stands, StandingFor, Continues, FindsNode, IsArrival, IsCrash, IsFar, IsRefusedForCause, node_at, marks_at};
 ghost use Rattle.cast_node.specs.Calls.{number_reply, silent_reply};
-ghost use Rattle.cast_world.specs.Moves.{IsSilent, MakesFrame, StepsTo};
+ghost use Rattle.cast_world.specs.Moves.{IsAwaited, IsSilent, MakesFrame, StepsTo};
 
 use crate::frames::{self, Mark};
 use cast_message::FrameKind::{Carry, Took};
@@ -81,6 +82,10 @@ impl World {
         // A crash takes no memory.
         ensures crash { StandingFor self.old (λ config past.
             IsCrash event.now → result ≡ reply config past event.now) }
+
+        // Nor does the arrival of a frame that arrived before.
+        ensures again { StandingFor self.old (λ config past. IsArrival event.now →
+            Contains past event.now → result ≡ reply config past event.now) }
     {
         match event {
             Event::Order { node, item } => self.order(*node, item),
@@ -147,7 +152,8 @@ impl World {
     }
 
     fn arrive(&mut self, from: NodeId, seq: u64) -> Reply
-        ensures { StepsTo self.old (Event.Arrive from seq) result self.new }
+        ensures steps { StepsTo self.old (Event.Arrive from seq) result self.new }
+        ensures awaited { OnErr result (IsAwaited self.old from seq) }
     {
         if let Some(node) = self.arrive_silently(from, seq) {
             let outcome = no_news(self.alloc);
@@ -157,6 +163,9 @@ impl World {
         let place = usize::from(mark.to.0);
         if let Some(fault) = self.nodes[place].arrive_fault() {
             return Err(fault);
+        }
+        if frames::carries_held(&self.nodes[place], &mark) {
+            return frames::arrive_held(&mut self.nodes[place], from, &mark);
         }
         let frame = frames::rebuild(&self.nodes, from, seq, mark)?;
         frames::arrive(&mut self.nodes[place], &frame)

@@ -22,6 +22,9 @@ returns-then-holds-clause-outcome c = c.take_again.ensures.outcome c.args.messag
 pub returns-then-holds-clause-ok : goal.returns-then-holds-clause-ok
 returns-then-holds-clause-ok c = c.take_again.ensures.ok c.args.message.now.item
 
+pub returns-then-holds-clause-awaited : goal.returns-then-holds-clause-awaited
+returns-then-holds-clause-awaited c = c.take_again.ensures.awaited c.args.message.now.item
+
 pub invariant_of-self : goal.invariant_of-self
 invariant_of-self c =
     let all = links_of c.self.inside.outgoing in

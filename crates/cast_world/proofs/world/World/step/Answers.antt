@@ -2,7 +2,8 @@ use Rattle.std.proofs.Common.{sym, subst}
 use Rattle.cast_message.specs.declared.event.Event.TheVariants.{Order, Send, Ack, Arrive, Crash}
 use Rattle.cast_world.specs.Moves.{StepsTo}
 use Rattle.cast_world.proofs.Stepping.{continues_to, is_answered}
-use Rattle.cast_world.specs.Group.{IsCrash}
+use Rattle.cast_world.specs.Group.{IsArrival, IsCrash}
+use Rattle.cast_world.proofs.Again.{answered_again}
 use Rattle.cast_world.proofs.Far.{refused_far}
 use Rattle.cast_world.proofs.world.World.step.Goals as goal
 
@@ -16,7 +17,7 @@ pub returns-in-Ack-clause-stands : goal.returns-in-Ack-clause-stands
 returns-in-Ack-clause-stands c config past st = rw c.in-Ack.is (continues_to config past c.args.self.now st (Ack c.in-Ack.from c.in-Ack.to c.in-Ack.slot) c.sent-in-Ack.result c.make-in-Ack.new.self (subst (λ r. StepsTo c.args.self.now (Ack c.in-Ack.from c.in-Ack.to c.in-Ack.slot) r c.make-in-Ack.new.self) (sym c.sent-in-Ack.ensures) c.make-in-Ack.ensures))
 
 pub returns-in-Arrive-clause-stands : goal.returns-in-Arrive-clause-stands
-returns-in-Arrive-clause-stands c config past st = rw c.in-Arrive.is (continues_to config past c.args.self.now st (Arrive c.in-Arrive.from c.in-Arrive.seq) c.arrive.result c.arrive.new.self c.arrive.ensures)
+returns-in-Arrive-clause-stands c config past st = rw c.in-Arrive.is (continues_to config past c.args.self.now st (Arrive c.in-Arrive.from c.in-Arrive.seq) c.arrive.result c.arrive.new.self c.arrive.ensures.steps)
 
 pub returns-in-Crash-clause-stands : goal.returns-in-Crash-clause-stands
 returns-in-Crash-clause-stands c config past st = rw c.in-Crash.is (continues_to config past c.args.self.now st (Crash c.in-Crash.node) c.crash.result c.crash.new.self c.crash.ensures.steps)
@@ -50,3 +51,20 @@ returns-in-Arrive-clause-crash c config past st is = absurd (subst IsCrash c.in-
 
 pub returns-in-Crash-clause-crash : goal.returns-in-Crash-clause-crash
 returns-in-Crash-clause-crash c config past st is = is_answered config past c.args.event.now c.crash.result c.crash.new.self c.crash.ensures.sure (returns-in-Crash-clause-stands c config past st)
+
+pub returns-in-Order-clause-again : goal.returns-in-Order-clause-again
+returns-in-Order-clause-again c config past st is = absurd (subst IsArrival c.in-Order.is is)
+
+pub returns-in-Send-clause-again : goal.returns-in-Send-clause-again
+returns-in-Send-clause-again c config past st is = absurd (subst IsArrival c.in-Send.is is)
+
+pub returns-in-Ack-clause-again : goal.returns-in-Ack-clause-again
+returns-in-Ack-clause-again c config past st is = absurd (subst IsArrival c.in-Ack.is is)
+
+pub returns-in-Crash-clause-again : goal.returns-in-Crash-clause-again
+returns-in-Crash-clause-again c config past st is = absurd (subst IsArrival c.in-Crash.is is)
+
+pub returns-in-Arrive-clause-again : goal.returns-in-Arrive-clause-again
+returns-in-Arrive-clause-again c config past st _ =
+    rw c.in-Arrive.is
+    (λ before. answered_again config past c.args.self.now st c.in-Arrive.from c.in-Arrive.seq before c.arrive.result c.arrive.new.self c.arrive.ensures.awaited (continues_to config past c.args.self.now st (Arrive c.in-Arrive.from c.in-Arrive.seq) c.arrive.result c.arrive.new.self c.arrive.ensures.steps))

@@ -1,0 +1,189 @@
+-- A frame that arrived before: its target awaits nothing of it.
+use Rattle.std.proofs.Common.{◌≡◌, ℕ, zero, suc, ◌<◌, refl, sym, ◌∙◌, ap, subst, Bool, true, false, not, cond, ◌&&◌, ◌||◌, List, [], ◌∷◌, ◌++◌, length, Option, Some, None, inl, inr, is_some, Result, Ok, Err, true≢false, arith}
+use Rattle.std.specs.Prelude.{◌==◌, nat_lt, slice_get, option_map, if◌then◌else◌, OnErr}
+use Rattle.std.specs.List.{list_any, Contains}
+use Rattle.std.specs.FinSet as set
+use Rattle.std.proofs.lemmas.Bool.{and_from, cases_eq, eq-eqb, lt-ltb, ne_eqb, not-false, or_right}
+use Rattle.cast_message.specs.declared.config.Config.{Config}
+use Rattle.cast_message.specs.declared.event.Event.{Event}
+use Rattle.cast_message.specs.declared.event.Event.TheVariants.{Arrive}
+use Rattle.cast_message.specs.declared.event.Answer.{Answer}
+use Rattle.cast_message.specs.declared.event.StepFault.{StepFault}
+use Rattle.cast_message.specs.declared.event.StepFault.TheVariants.{NoFrame}
+use Rattle.cast_message.specs.declared.message.Frame.{Frame}
+use Rattle.cast_message.specs.declared.message.FrameBody.{FrameBody}
+use Rattle.cast_message.specs.declared.message.FrameBody.TheVariants.{Carry, Took}
+use Rattle.cast_message.specs.declared.message.Message.{Message}
+use Rattle.cast_model.specs.History.{History, frames, frame_arriving, frame_at, arrivals, has_pair, taken, acked, is_carry_of, is_took_of}
+use Rattle.cast_model.specs.Delivery.{tells_of}
+use Rattle.cast_model.specs.Refusals.{crashed}
+use Rattle.cast_model.specs.Replies.{IsAccepted, IsRefused, causes, causes_of_arrival, fault, answer, reply, reply_by}
+use Rattle.cast_model.specs.Steps.{Arrived, steps_of}
+use Rattle.cast_model.specs.OwnSteps.{own_copies, own_given, own_given_copies, own_knows, own_acked, own_is_ready, message_in, takes}
+use Rattle.cast_model.proofs.Accepted.{no_cause}
+use Rattle.cast_model.proofs.Members.{Member, here, there, Member-uncons, Member-append_left, Member-append_right, Member-slice_get, list_any-Member, Contains-Member}
+use Rattle.cast_model.proofs.Growth.{made, arriving, frames-more, arrivals-more}
+use Rattle.cast_model.proofs.Sound.{sound, HeldAt, BodyOk}
+use Rattle.cast_model.proofs.Projected.{frames_in-steps_of, held-steps_of}
+use Rattle.cast_model.proofs.OwnHeld.{own_taken-steps_of, own_acked-steps_of}
+use Rattle.cast_model.proofs.OwnReplies.{own_fault-steps_of, frame_ends}
+use Rattle.cast_model.proofs.Agreement.{node_in as node_in_group}
+use Rattle.cast_node.specs.Kept.{Kept, taken_from, knowers_of, is_enough, is_enough_in}
+use Rattle.cast_node.specs.Turns.{is_turn, is_awaited, kept_view, kept_causes, kept_fault}
+use Rattle.cast_node.specs.Stands.{Stands as NodeStands}
+use Rattle.cast_node.proofs.HolderSets.{enough-is}
+use Rattle.cast_node.proofs.Refusals.{faults_are}
+use Rattle.cast_world.specs.Group.{State, node_at, marks_at, mark_by, mark_of, body_in, Stands, Continues}
+use Rattle.cast_world.specs.Moves.{IsAwaited}
+use Rattle.cast_world.proofs.Stepping.{body_again, made_all, mark_at}
+
+got_first : {A : Type 0} (xs ys : List A) (i : ℕ) (x : A) → slice_get xs i ≡ Some x → slice_get (xs ++ ys) i ≡ Some x
+got_first [] ys i x e = absurd (cc)
+got_first (y ∷ xs) ys zero x e = e
+got_first (y ∷ xs) ys (suc i) x e = got_first xs ys i x e
+
+-- the frame of an arrival that happened
+record Came (past : History) (from seq : ℕ) : Type 0 where
+  frame : Frame
+  at : slice_get (frames past from) seq ≡ Some frame
+  arrived : Member frame (arrivals past frame.to)
+
+module _ (event : Event) (past : History) (from seq : ℕ) where
+  still_there : (frame : Frame) → slice_get (frames past from) seq ≡ Some frame → slice_get (frames (event ∷ past) from) seq ≡ Some frame
+  still_there frame at = ap (λ all. slice_get all seq) (frames-more event past from) ∙ got_first (frames past from) (made event past from) seq frame at
+
+  came_earlier : Came past from seq → Came (event ∷ past) from seq
+  came_earlier before = record {
+    frame = before.frame;
+    at = still_there before.frame before.at;
+    arrived = subst (Member before.frame) (sym (arrivals-more event past before.frame.to)) (Member-append_left before.frame (arrivals past before.frame.to) (arriving event past before.frame.to) before.arrived);
+  }
+
+module _ (config : Config) (past : History) (from seq : ℕ) where
+  came_now : (o : Option Frame) → slice_get (frames past from) seq ≡ o → fault config past (Arrive from seq) ≡ None → Came (Arrive from seq ∷ past) from seq
+  unfolding fault causes frame_arriving
+  came_now None at fine =
+      absurd (true≢false (no_cause (record { holds = true; refusal = NoFrame }) (causes config past (Arrive from seq)) fine (there (subst (λ o. Member (record { holds = true; refusal = NoFrame }) (causes_of_arrival config past o)) (sym at) here))))
+  came_now (Some frame) at fine = record {
+    frame = frame;
+    at = still_there (Arrive from seq) past from seq frame at;
+    arrived = subst (Member frame) (sym (arrivals-more (Arrive from seq) past frame.to)) (Member-append_right frame (arrivals past frame.to) (arriving (Arrive from seq) past frame.to) (subst (λ o. Member frame (frame_at o frame.to)) (sym at) (subst (λ b. Member frame (cond b (frame ∷ []) [])) (sym (eq-eqb frame.to frame.to refl)) here)));
+  }
+
+came : (config : Config) (past : History) → IsAccepted config past → (from seq : ℕ) → Member (Arrive from seq) past → Came past from seq
+unfolding IsAccepted
+came config [] accepted from seq m = elim m [ ]
+came config (event ∷ past) accepted from seq m = elim (Member-uncons (Arrive from seq) event past m) [
+  | inl now ↦ subst (λ e. Came (e ∷ past) from seq) now (came_now config past from seq (slice_get (frames past from) seq) refl (ap (fault config past) now ∙ accepted.1))
+  | inr earlier ↦ came_earlier event past from seq (came config past accepted.0 from seq earlier)
+]
+
+module _ (config : Config) (past : History) (world : State) (st : Stands config past world) (frame : Frame) (from : ℕ) (maker : frame.from ≡ from)
+    (inside : from < config.nodes) (target : frame.to < config.nodes) (apart : from ≡ frame.to → ⊥) (arrived : Member frame (arrivals past frame.to)) where
+  abbrev me : ℕ
+  me = frame.to
+
+  abbrev kept : Kept
+  kept = node_at world me
+
+  b : NodeStands config me (steps_of past me) kept
+  b = st.nodes me target
+
+  -- of a message, where it is held
+  module _ (slot : ℕ) (message : Message) (body : frame.body ≡ Carry slot message) (sender : message.sender < config.nodes) where
+    abbrev s : ℕ
+    s = message.sender
+
+    abbrev i : ℕ
+    i = message.number
+
+    pair : has_pair (own_copies me (steps_of past me)) s i ≡ true
+    pair = ap (λ copies. has_pair copies s i) (held-steps_of past me) ∙ subst (HeldAt past me) body ((sound config past st.accepted).arrivals_ok me frame arrived).held
+
+    told : own_knows me (steps_of past me) s i from ≡ true
+    unfolding own_knows
+    told =
+        ap (λ all. from == me || from == s || list_any (λ f. f.from == from && tells_of (own_given_copies me (steps_of past me) from) s i f.body) all) (frames_in-steps_of past me)
+        ∙ or_right _ _ (list_any-Member _ frame (arrivals past me) arrived (and_from _ _ (eq-eqb _ _ maker) (ap (tells_of (own_given_copies me (steps_of past me) from) s i) body ∙ and_from _ _ (eq-eqb s s refl) (eq-eqb i i refl))))
+
+    took : set.contains (taken_from kept from) slot ≡ true
+    unfolding taken
+    took =
+        b.taken from slot inside ∙ own_taken-steps_of past me from slot
+        ∙ list_any-Member _ frame (arrivals past me) arrived (and_from _ _ (eq-eqb _ _ maker) (ap (is_carry_of slot) body ∙ eq-eqb slot slot refl))
+
+    known : set.contains (knowers_of kept s i) from ≡ true
+    known = b.knows s i from sender ∙ and_from _ _ pair (and_from _ _ (lt-ltb from config.nodes inside) told)
+
+    ready : is_enough kept s i ≡ true → own_is_ready config me (steps_of past me) s i ≡ true
+    unfolding own_is_ready
+    ready e = and_from _ _ pair (sym (enough-is config me (steps_of past me) kept.knowers b.knows s i sender) ∙ sym (ap (λ (c : Config). is_enough_in c.mode c.faults (knowers_of kept s i)) b.same_config) ∙ e)
+
+    -- the next pair of a sender is not ready
+    no_turn : (enough : Bool) (next : ℕ) → is_enough kept s i ≡ enough → own_is_ready config me (steps_of past me) s next ≡ false → (enough && i == next) ≡ false
+    no_turn false next e stops = refl
+    no_turn true next e stops = elim (cases_eq i next) [
+      | inl same ↦ absurd (true≢false (sym (ready e) ∙ ap (own_is_ready config me (steps_of past me) s) same ∙ stops))
+      | inr other ↦ ne_eqb i next other
+    ]
+
+    carried : is_awaited kept from (Carry slot message) ≡ false
+    carried = ap (λ came. not came || is_turn kept s i) (and_from _ _ (and_from _ _ (b.relay_holds s i sender ∙ pair) took) known) ∙ no_turn (is_enough kept s i) _ refl (b.holds_back s sender).stops
+
+  -- of a word that a slot was taken
+  word : (slot : ℕ) → frame.body ≡ Took slot → is_awaited kept from (Took slot) ≡ false
+  unfolding acked
+  word slot body = ap is_some ((b.out from inside apart).owed slot) ∙ by_test (nat_lt slot (length (own_given me (steps_of past me) from))) (own_acked (steps_of past me) from slot) acknowledged
+    where
+      acknowledged : own_acked (steps_of past me) from slot ≡ true
+      acknowledged =
+          own_acked-steps_of past me from slot
+          ∙ list_any-Member _ frame (arrivals past me) arrived (and_from _ _ (eq-eqb _ _ maker) (ap (is_took_of slot) body ∙ eq-eqb slot slot refl))
+
+      by_test : (given heard : Bool) → heard ≡ true → is_some (if given && not heard then Some (message_in (own_given me (steps_of past me) from) slot) else None) ≡ false
+      by_test true true e = refl
+      by_test false heard e = refl
+      by_test true false e = absurd (true≢false (sym e))
+
+  not_awaited : (body : FrameBody) → frame.body ≡ body → is_awaited kept from body ≡ false
+  not_awaited (Took slot) e = word slot e
+  not_awaited (Carry slot message) e =
+      let ok = subst (BodyOk past frame.from me) e ((sound config past st.accepted).arrivals_ok me frame arrived).made_ok.body_ok in
+      let broadcast = ok.broadcast in
+      carried slot message e (node_in_group config past st.accepted message.sender (omega (arith, broadcast)))
+
+module _ (config : Config) (past : History) (world : State) (st : Stands config past world) (from seq : ℕ) where
+  -- a node that refuses no arrival lives
+  lives : (frame : Frame) → slice_get (frames past from) seq ≡ Some frame → frame.to < config.nodes → fault config past (Arrive from seq) ≡ None → (node_at world frame.to).live ≡ true
+  unfolding kept_fault
+  lives frame at inside fine =
+      let kept = node_at world frame.to in
+      let none : kept_fault kept (Arrived frame) ≡ None = faults_are config frame.to (steps_of past frame.to) kept (st.nodes frame.to inside) (Arrived frame) ∙ own_fault-steps_of config past frame.to st.accepted inside (Arrive from seq) (Arrived frame) (takes from seq frame at refl) ∙ fine in
+      not-false _ (no_cause (crashed (kept_view kept)) (kept_causes kept (Arrived frame)) none here)
+
+  -- nothing is awaited of it, so that a refusal is for its cause
+  sure : Came past from seq → IsAwaited world from seq → fault config past (Arrive from seq) ≡ None → ⊥
+  sure c awaited fine =
+      let frame = c.frame in
+      let member = Member-slice_get (frames past from) seq frame c.at in
+      let ends = frame_ends config past st.accepted from frame member in
+      let ok = (sound config past st.accepted).frames_ok from frame member in
+      let mark : slice_get (marks_at world from) seq ≡ Some (mark_of frame) = ap (λ row. slice_get row seq) (made_all config past world st from) ∙ mark_at config past world st (frames past from) seq ∙ ap (option_map mark_of) c.at in
+      let told = awaited (mark_of frame) mark (subst (λ to. (node_at world to).live ≡ true) (sym (to_of frame.to frame.body)) (lives frame c.at ends.target_in fine)) in
+      true≢false
+      (sym (subst (λ body. is_awaited (node_at world frame.to) from body ≡ true) (body_again config past world st from frame.to frame.body ok.body_ok) (subst (λ to. is_awaited (node_at world to) from (body_in world.config world.nodes (mark_of frame)) ≡ true) (to_of frame.to frame.body) told))
+      ∙ not_awaited config past world st frame from ok.from_is ends.maker_in ends.target_in ends.apart c.arrived frame.body refl)
+    where
+      to_of : (to : ℕ) (body : FrameBody) → (mark_by to body).to ≡ to
+      to_of to (Carry slot message) = refl
+      to_of to (Took slot) = refl
+
+  -- an arrival that happened before is answered as the definitions say
+  pub answered_again : Contains past (Arrive from seq) → (given : Result Answer StepFault) (new : State) → OnErr given (IsAwaited world from seq) → Continues config past (Arrive from seq) given new → given ≡ reply config past (Arrive from seq)
+  unfolding reply
+  answered_again before (Ok answered) new awaited goes_on = sym goes_on.0
+  answered_again before (Err refusal) new awaited goes_on = by_cause (fault config past (Arrive from seq)) refl goes_on.0
+    where
+      by_cause : (o : Option StepFault) → fault config past (Arrive from seq) ≡ o → IsRefused o refusal → ◌≡◌ {A = Result Answer StepFault} (Err refusal) (reply_by o (answer config past (Arrive from seq)))
+      by_cause None fine refused = absurd (sure (came config past st.accepted from seq (Contains-Member (Arrive from seq) past before)) awaited fine)
+      by_cause (Some cause) fine refused = ap Err refused
