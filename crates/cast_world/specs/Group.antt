@@ -9,9 +9,9 @@
 --     Continues config past event reply world     what a world stands for after a step from there
 --     IsFar event                 its slot is greater than a mark can have
 --     IsRefusedForCause config past event reply   the reply is the cause of refusal that the definitions say
---     IsCrash event               it crashes a node
---     IsArrival event             a frame arrives
+--     TakesNoMemory past event    it crashes a node, or is an arrival that happened before
 use Rattle.std.specs.Prelude.{◌≡◌, ℕ, ◌<◌, ◌≤◌, ◌^◌, Option, Some, None, List, [], ◌∷◌, length, map, ◌==◌, if◌then◌else◌, slice_index_or, Result, Ok, Err}
+use Rattle.std.specs.List.{Contains}
 use Rattle.cast_message.specs.declared.config.Config.{Config}
 use Rattle.cast_message.specs.declared.event.Event.{Event}
 use Rattle.cast_message.specs.declared.event.Event.TheVariants.{Send, Ack, Arrive, Crash}
@@ -120,10 +120,7 @@ abbrev pub IsRefusedForCause : Config → History → Event → Result Answer St
 IsRefusedForCause config past event (Ok answer) = ⊥
 IsRefusedForCause config past event (Err refusal) = fault config past event ≡ Some refusal
 
-abbrev pub IsCrash : Event → Type 0
-IsCrash (Crash node) = Unit {0}
-IsCrash _ = ⊥
-
-abbrev pub IsArrival : Event → Type 0
-IsArrival (Arrive from seq) = Unit {0}
-IsArrival _ = ⊥
+abbrev pub TakesNoMemory : History → Event → Type 0
+TakesNoMemory past (Crash node) = Unit {0}
+TakesNoMemory past (Arrive from seq) = Contains past (Arrive from seq)
+TakesNoMemory past _ = ⊥

@@ -1,12 +1,11 @@
 //! The group as one value: events go in, replies come out.
 ghost use Rattle.std.specs.Prelude.{◌≡◌, ◌≢◌, ◌<◌, ◌^◌, ◌∷◌, IsTrue, IsFalse, IfOk, IfSome, IfNone, OnErr, [], Some, None, length, option_map, nat_lt, ◌&&◌, Err};
-ghost use Rattle.std.specs.List.{Contains};
 ghost use Rattle.cast_message.specs.declared.event.StepFault.TheVariants.{Memory};
 ghost use Rattle.cast_model.specs.History.{is_live};
 ghost use Rattle.cast_model.specs.Replies.{reply};
 ghost use Rattle.cast_model.specs.Delivery.{decision};
 ghost use Rattle.cast_model.specs.Shown.{ShowsDelivered, ShowsStream, ShowsOwed};
-ghost use Rattle.cast_world.specs.Group.{Stands, StandingFor, Continues, FindsNode, IsArrival, IsCrash, IsFar, IsRefusedForCause, node_at, marks_at};
+ghost use Rattle.cast_world.specs.Group.{Stands, StandingFor, Continues, FindsNode, IsFar, TakesNoMemory, IsRefusedForCause, node_at, marks_at};
 ghost use Rattle.cast_node.specs.Calls.{number_reply, silent_reply};
 ghost use Rattle.cast_world.specs.Moves.{IsAwaited, IsSilent, MakesFrame, StepsTo};
 
@@ -79,13 +78,9 @@ impl World {
         ensures far { StandingFor self.old (λ config past.
             IsFar event.now → IsRefusedForCause config past event.now result) }
 
-        // A crash takes no memory.
-        ensures crash { StandingFor self.old (λ config past.
-            IsCrash event.now → result ≡ reply config past event.now) }
-
-        // Nor does the arrival of a frame that arrived before.
-        ensures again { StandingFor self.old (λ config past. IsArrival event.now →
-            Contains past event.now → result ≡ reply config past event.now) }
+        // Neither a crash takes memory nor the arrival of a frame that arrived before.
+        ensures sure { StandingFor self.old (λ config past.
+            TakesNoMemory past event.now → result ≡ reply config past event.now) }
     {
         match event {
             Event::Order { node, item } => self.order(*node, item),

@@ -385,18 +385,11 @@ fn writes_a_script_with_no_events(rt: HostRuntime) -> Result<(), Fail> {
     Ok(())
 }
 
-/// Each cause for which a group is not run, in the order of their numbers.
-const NOT_RUN: &[LiveFault] = &[
-    LiveFault::Jobs,
-    LiveFault::Gates,
-    LiveFault::Plan,
-    LiveFault::Memory,
-    LiveFault::Threads,
-];
-
 #[test]
 fn numbers_the_causes_of_no_run(rt: HostRuntime) {
-    for (fault, code) in NOT_RUN.iter().zip(1..6) {
-        assert_eq!(rt; fault.code(), code, "{fault:?}");
-    }
+    assert_eq!(rt; LiveFault::Jobs.code(), 1);
+    assert_eq!(rt; LiveFault::Gates.code(), 2);
+    assert_eq!(rt; LiveFault::Plan.code(), 3);
+    assert_eq!(rt; LiveFault::Memory.code(), 4);
+    assert_eq!(rt; LiveFault::Threads.code(), 5);
 }

@@ -2,7 +2,7 @@ use Rattle.std.proofs.Common.{sym, subst}
 use Rattle.cast_message.specs.declared.event.Event.TheVariants.{Order, Send, Ack, Arrive, Crash}
 use Rattle.cast_world.specs.Moves.{StepsTo}
 use Rattle.cast_world.proofs.Stepping.{continues_to, is_answered}
-use Rattle.cast_world.specs.Group.{IsArrival, IsCrash}
+use Rattle.cast_world.specs.Group.{TakesNoMemory}
 use Rattle.cast_world.proofs.Again.{answered_again}
 use Rattle.cast_world.proofs.Far.{refused_far}
 use Rattle.cast_world.proofs.world.World.step.Goals as goal
@@ -37,34 +37,19 @@ returns-in-Arrive-clause-far c config past st far = refused_far config past st.a
 pub returns-in-Crash-clause-far : goal.returns-in-Crash-clause-far
 returns-in-Crash-clause-far c config past st far = refused_far config past st.accepted c.args.event.now c.crash.result c.crash.new.self far (returns-in-Crash-clause-stands c config past st)
 
-pub returns-in-Order-clause-crash : goal.returns-in-Order-clause-crash
-returns-in-Order-clause-crash c config past st is = absurd (subst IsCrash c.in-Order.is is)
+pub returns-in-Order-clause-sure : goal.returns-in-Order-clause-sure
+returns-in-Order-clause-sure c config past st none = absurd (subst (TakesNoMemory past) c.in-Order.is none)
 
-pub returns-in-Send-clause-crash : goal.returns-in-Send-clause-crash
-returns-in-Send-clause-crash c config past st is = absurd (subst IsCrash c.in-Send.is is)
+pub returns-in-Send-clause-sure : goal.returns-in-Send-clause-sure
+returns-in-Send-clause-sure c config past st none = absurd (subst (TakesNoMemory past) c.in-Send.is none)
 
-pub returns-in-Ack-clause-crash : goal.returns-in-Ack-clause-crash
-returns-in-Ack-clause-crash c config past st is = absurd (subst IsCrash c.in-Ack.is is)
+pub returns-in-Ack-clause-sure : goal.returns-in-Ack-clause-sure
+returns-in-Ack-clause-sure c config past st none = absurd (subst (TakesNoMemory past) c.in-Ack.is none)
 
-pub returns-in-Arrive-clause-crash : goal.returns-in-Arrive-clause-crash
-returns-in-Arrive-clause-crash c config past st is = absurd (subst IsCrash c.in-Arrive.is is)
-
-pub returns-in-Crash-clause-crash : goal.returns-in-Crash-clause-crash
-returns-in-Crash-clause-crash c config past st is = is_answered config past c.args.event.now c.crash.result c.crash.new.self c.crash.ensures.sure (returns-in-Crash-clause-stands c config past st)
-
-pub returns-in-Order-clause-again : goal.returns-in-Order-clause-again
-returns-in-Order-clause-again c config past st is = absurd (subst IsArrival c.in-Order.is is)
-
-pub returns-in-Send-clause-again : goal.returns-in-Send-clause-again
-returns-in-Send-clause-again c config past st is = absurd (subst IsArrival c.in-Send.is is)
-
-pub returns-in-Ack-clause-again : goal.returns-in-Ack-clause-again
-returns-in-Ack-clause-again c config past st is = absurd (subst IsArrival c.in-Ack.is is)
-
-pub returns-in-Crash-clause-again : goal.returns-in-Crash-clause-again
-returns-in-Crash-clause-again c config past st is = absurd (subst IsArrival c.in-Crash.is is)
-
-pub returns-in-Arrive-clause-again : goal.returns-in-Arrive-clause-again
-returns-in-Arrive-clause-again c config past st _ =
+pub returns-in-Arrive-clause-sure : goal.returns-in-Arrive-clause-sure
+returns-in-Arrive-clause-sure c config past st =
     rw c.in-Arrive.is
     (λ before. answered_again config past c.args.self.now st c.in-Arrive.from c.in-Arrive.seq before c.arrive.result c.arrive.new.self c.arrive.ensures.awaited (continues_to config past c.args.self.now st (Arrive c.in-Arrive.from c.in-Arrive.seq) c.arrive.result c.arrive.new.self c.arrive.ensures.steps))
+
+pub returns-in-Crash-clause-sure : goal.returns-in-Crash-clause-sure
+returns-in-Crash-clause-sure c config past st _ = is_answered config past c.args.event.now c.crash.result c.crash.new.self c.crash.ensures.sure (returns-in-Crash-clause-stands c config past st)
