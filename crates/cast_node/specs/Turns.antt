@@ -152,7 +152,7 @@ may_bring kept from (Carry slot message) =
     && nat_lt slot (kept.config.nodes * kept.config.item_limit)
 may_bring kept from (Took slot) = nat_lt slot (link_to kept from).given
 
--- a pair that is held came in this slot, and its maker is known to hold it
+-- a pair is held, its peer is known to hold it, and this slot of the peer was taken
 abbrev pub came_so : Kept → ℕ → ℕ → ℕ → ℕ → Bool
 came_so kept from slot s i =
     holds kept.relay s i && set.contains (taken_from kept from) slot

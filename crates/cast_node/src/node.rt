@@ -244,13 +244,16 @@ impl Node {
         ensures exact { (seq : ℕ) (item : Carried) → Gives self.old
             (Arrived (carried_frame self.old.me from seq slot sender number item))
             (arrived_reply self.old.me result) self.new }
+        ensures possible { (seq : ℕ) (item : Carried) → OnErr result (self.old.live ≡ true →
+            may_arrive self.old (carried_frame self.old.me from seq slot sender number item)
+            ≡ true) }
         ensures awaited { (item : Carried) → OnErr result (self.old.live ≡ true →
             is_awaited self.old from (carry_slot slot sender number item) ≡ true) }
     {
         if !self.live {
             return Err(StepFault::Crashed);
         }
-        if !self.is_peer(from) || !self.may_carry(slot, sender, number) {
+        if !(self.is_peer(from) && self.may_carry(slot, sender, number)) {
             return Ok(no_news(self.alloc));
         }
         let outcome = self.take_again(from, slot, sender, number)?;
@@ -258,8 +261,9 @@ impl Node {
     }
 
     /// Takes a frame that arrives from a peer with a message that the node holds, told by its slot and its numbers, as `arrive`
-    /// does whatever the message's item, where nothing is delivered or decided by it. Says whether it did; else nothing changed,
-    /// and `arrive` says what comes of the frame.
+    /// does whatever the message's item, where nothing is delivered or decided by it. Says whether it did. It may always say
+    /// that it did not: then nothing changed, and `arrive_again` says what comes of the frame. It tries it where the pair had
+    /// its turn, or too few nodes are known to hold it.
     #[tactic(auto, using(std::proofs::lemmas::Bool::Decides::nat_tests), unfolding(cast_model::specs::Refusals::first_fault, crate::specs::Turns::kept_fault))]
     pub fn arrive_again_silently(
         &mut self,
@@ -284,7 +288,8 @@ impl Node {
     }
 
     /// Takes a frame that arrives from a peer with its word that it took a slot, as `arrive` does, where nothing is delivered or
-    /// decided by it. Says whether it did; else nothing changed, and `arrive` says what comes of the frame.
+    /// decided by it. Says whether it did. It may always say that it did not: then nothing changed, and `arrive` says what comes
+    /// of the frame. It tries it where the pair had its turn, or too few nodes are known to hold it.
     #[tactic(auto, using(std::proofs::lemmas::Bool::Decides::nat_tests), unfolding(cast_model::specs::Refusals::first_fault, crate::specs::Turns::kept_fault))]
     pub fn arrive_took_silently(&mut self, from: NodeId, slot: u64) -> bool
         ensures took { IsTrue result → (seq : ℕ) → Gives self.old

@@ -213,7 +213,7 @@ pub fn carries_held(node: &Node, mark: &Mark) -> bool
     !is_word(mark) && is_held(node, mark)
 }
 
-/// The frame of a mark arrives at its target, which holds its message: so no item is copied.
+/// The frame of a mark arrives at its target, which holds its message: so its item is not sought in its sender's stream.
 pub fn arrive_held(node: &mut Node, from: NodeId, mark: &Mark) -> Reply
     requires carries { (mark.now.sender == 255) ≡ false }
     requires held { holds node.old.relay mark.now.sender mark.now.number ≡ true }

@@ -12,7 +12,7 @@ ghost use Rattle.cast_world.specs.Moves.{IsAwaited, IsSilent, MakesFrame, StepsT
 use crate::frames::{self, Mark};
 use cast_message::FrameKind::{Carry, Took};
 use cast_message::{Answer, Config, Event, FrameKind, Item, NodeId, Reply, StepFault};
-use cast_node::{Node, no_news};
+use cast_node::Node;
 use std::alloc::{AllocError, Global};
 use std::marker::Model;
 
@@ -92,8 +92,9 @@ impl World {
     }
 
     /// Takes one event, where it is a send, an acknowledgement, or an arrival at which nothing is delivered or decided, and is
-    /// accepted. Says whether it did; else nothing changed, and `step` says what becomes of the event. Most events are so, and
-    /// for them it is faster than `step`.
+    /// accepted. Says whether it did. It may always say that it did not: then nothing changed, and `step` says what becomes of
+    /// the event. It tries sends, acknowledgements, and arrivals of words and of held messages. Most events are so, and for them
+    /// it is faster than `step`.
     pub fn step_if_silent(&mut self, event: &Event) -> bool
         ensures took { IsTrue result → StandingFor self.old (λ config past.
             IsSilent (reply config past event.now)
@@ -150,10 +151,6 @@ impl World {
         ensures steps { StepsTo self.old (Event.Arrive from seq) result self.new }
         ensures awaited { OnErr result (IsAwaited self.old from seq) }
     {
-        if let Some(node) = self.arrive_silently(from, seq) {
-            let outcome = no_news(self.alloc);
-            return Ok(Answer::Arrived { node, outcome });
-        }
         let mark = frames::find(&self.marks, from, seq)?;
         let place = usize::from(mark.to.0);
         if let Some(fault) = self.nodes[place].arrive_fault() {
