@@ -179,7 +179,7 @@ impl Carrier {
     }
 }
 
-/// Runs a carrier until its engine has ended and the outbox is empty, and says so on the board.
+/// Runs a carrier until its engine has ended, or the group was stopped, and the outbox is empty, and says so on the board.
 pub fn run_carrier<R: Wait>(rt: &R, mut carrier: Carrier, board: &Board, node: usize) -> Carrier
     ensures { IsSameCarrier carrier result }
 {

@@ -22,7 +22,7 @@ use std::marker::Model;
 use std::sync::Wait;
 
 // So often in succession an engine that finds nothing to do gives up the processor. What it owes it sends again in less, so
-// after so many turns nothing is owed, or the outbox stays full, and it waits for others alone.
+// after so many turns nothing is owed, or the outbox stays full or memory is wanting, and it waits for others alone.
 const PATIENCE: u64 = 2 * LAST_SENT as u64;
 
 /// What came of a turn.
@@ -30,11 +30,12 @@ const PATIENCE: u64 = 2 * LAST_SENT as u64;
 pub enum Turn {
     /// Something was done.
     Moved,
-    /// Nothing was done: no parcel was put or taken, no order taken, no slot sent, no notice put.
+    /// Nothing was done, but that the node may have crashed: no parcel was put or taken, no order taken, no slot sent, no notice
+    /// put.
     Idle,
     /// The engine has ended, as all engines are quiet.
     Stopped,
-    /// The engine has ended otherwise.
+    /// The engine has ended otherwise, in this turn or in one before.
     Ended,
 }
 
@@ -151,9 +152,9 @@ impl Engine {
     }
 
     /// Takes one turn: passes the gate, puts the parcel that waits, takes one and acknowledges it, takes an order, sends a slot
-    /// that is due, and puts notices: of each no more than one, and of parcels no more than three (`few`). `Ended` is answered where
-    /// the log or the clock is full, the node crashes, or no turn is left, `Stopped` where all engines are quiet; `Idle` only where
-    /// nothing of that was done (`idle`).
+    /// that is due, and puts notices: of each no more than one, and of parcels no more than three (`few`). `Ended` is answered
+    /// once the log or the clock is full, the node has crashed, or no turn is left, `Stopped` where all engines are quiet; `Idle`
+    /// only where nothing of that was done (`idle`).
     #[tactic(auto, using(crate::proofs::Again::desk_same))]
     pub fn turn<G: Gate, R: Wait>(
         &mut self,
@@ -448,14 +449,15 @@ impl Engine {
         true
     }
 
-    // Takes one order and logs it. Answers whether there was one.
+    // Takes one order and logs it. Answers whether there was one. The log is asked first, so that a crash that is due comes
+    // though no order can.
     #[tactic(auto, using(crate::proofs::Again::desk_same))]
     fn take_order<R: Wait>(&mut self, rt: &R) -> bool
         ensures same { IsSameEngine self.old self.new }
         ensures idle { IsFalse result → HasSameBoxes self.old self.new }
         ensures few { DoesFew 0 1 0 0 self.old self.new }
     {
-        if self.no_orders || !self.journal.may_log() {
+        if !self.journal.may_log() || self.no_orders {
             return false;
         }
         let Some(order) = take_order(rt, &mut self.desk) else {

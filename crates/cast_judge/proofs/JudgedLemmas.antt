@@ -1,5 +1,6 @@
 -- What a judging stands for, as it takes lines and parts of lines.
-use Rattle.std.proofs.Common.{◌≡◌, ℕ, ◌+◌, ◌^◌, ◌<◌, ◌&&◌, Bool, true, false, cond, nat_eq, List, [], ◌∷◌, ◌++◌, append_assoc, append-nil, length, length-append, Option, Some, None, refl, sym, ap, subst, ◌∙◌, arith}
+use Rattle.std.proofs.Common.{◌≡◌, ℕ, ◌+◌, ◌^◌, ◌<◌, ◌&&◌, Bool, true, false, cond, nat_eq, List, [], ◌∷◌, ◌++◌, append_assoc, append-nil, length, length-append, Option, Some, None, inl, inr, refl, sym, ap, subst, ◌∙◌, arith}
+use Rattle.std.specs.Prelude.{if◌then◌else◌, Result, Ok, Err, OnOk, is_ok}
 use Rattle.std.proofs.lemmas.List.Elements.{All-nil}
 use Rattle.cast_record.specs.declared.line.Line.{Line}
 use Rattle.cast_record.specs.declared.verdict.Verdict.TheVariants.{Good, Bad}
@@ -56,7 +57,23 @@ was_reading state text kept tail lines e h = absurd (cc)
 
 pub started : (kept : Kept) → IsNew kept → IsReading [] kept [] 0
 unfolding verdict
-started kept new = record { past = []; stands = stands_for_none kept new; count = refl; clean = All-nil (λ b. nat_eq b 10 ≡ false); same = λ more. refl }
+started kept new = record { past = []; stands = stands_for_none kept new; count = refl; clean = All-nil (λ b. nat_eq b 10 ≡ false); unfinished = record { whole = []; cut = refl; ends = inl refl }; same = λ more. refl }
+
+-- bytes that grew where the call answered
+pub grown : {X E : Type 0} (r : Result X E) (new old more : List ℕ) → new ≡ (if is_ok r then old ++ more else old) → OnOk r (new ≡ old ++ more)
+grown (Ok x) new old more e = e
+grown (Err x) new old more e = tt
+
+-- more of the unfinished line comes
+pub line_goes_on : (text tail part : List ℕ) (kept : Kept) (lines : ℕ) → IsReading text kept tail lines → HasNone 10 part → IsReading (text ++ part) kept (tail ++ part) lines
+line_goes_on text tail part kept lines h clean = record {
+  past = h.past;
+  stands = h.stands;
+  count = h.count;
+  clean = clean_both tail part h.clean clean;
+  unfinished = record { whole = h.unfinished.whole; cut = ap (λ t. t ++ part) h.unfinished.cut ∙ append_assoc h.unfinished.whole tail part; ends = h.unfinished.ends };
+  same = λ more. ap verdict (append_assoc text part more) ∙ h.same (part ++ more) ∙ ap (verdict_of h.past) (sym (append_assoc tail part more));
+}
 
 -- a line feed comes, after the rest of a line
 pub line_counted : (text tail part : List ℕ) (old new : Kept) (lines : ℕ) (o : Option ℕ) → IsReading text old tail lines → HasNone 10 part → lines < 2 ^ 63
@@ -69,6 +86,7 @@ line_counted text tail part old new lines None h clean short judges =
       stands = kept.stands;
       count = omega (arith, h.count);
       clean = All-nil (λ b. nat_eq b 10 ≡ false);
+      unfinished = record { whole = text ++ (part ++ 10 ∷ []); cut = sym (append-nil (text ++ (part ++ 10 ∷ []))); ends = inr (text ++ part, sym (append_assoc text part (10 ∷ []))) };
       same = λ more. ap verdict (append_assoc text (part ++ 10 ∷ []) more) ∙ h.same ((part ++ 10 ∷ []) ++ more)
           ∙ ap (verdict_of h.past) (ap (λ r. tail ++ r) (append_assoc part (10 ∷ []) more) ∙ sym (append_assoc tail part (10 ∷ more)))
           ∙ line_goes h.past (kept.line ∷ h.past) (tail ++ part) more (clean_both tail part h.clean clean) kept.goes;

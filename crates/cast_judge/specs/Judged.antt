@@ -1,7 +1,8 @@
 -- What a judging stands for: the text that was fed.
 --     Stands text judging     the judging is that of this text
+--     EndsWith text tail      the text ends with this beginning of a line
 --     IsSkipped old new       nothing was kept of a piece
-use Rattle.std.specs.Prelude.{◌≡◌, ℕ, ◌+◌, ◌≤◌, ◌==◌, Bool, true, false, List, [], ◌∷◌, ◌++◌, length, Option, Some, None}
+use Rattle.std.specs.Prelude.{◌≡◌, ◌⊎◌, ℕ, ◌+◌, ◌≤◌, ◌==◌, Bool, true, false, List, [], ◌∷◌, ◌++◌, length, Option, Some, None}
 use Rattle.std.specs.List.{slice_split, All}
 use Rattle.cast_record.specs.declared.line.Line.{Line}
 use Rattle.cast_record.specs.declared.verdict.Verdict.{Verdict}
@@ -52,13 +53,20 @@ HasNone byte bytes = All (λ b. (b == byte) ≡ false) bytes
 abbrev pub verdict_of : List Line → List ℕ → Verdict
 verdict_of past text = verdict_after past (slice_split (λ b. b == 10) text)
 
+-- the bytes are what stands behind the last line feed of the text, if they have none
+pub record EndsWith (text tail : List ℕ) : Type 0 where
+  pub whole : List ℕ
+  pub cut : text ≡ whole ++ tail
+  pub ends : (whole ≡ []) ⊎ ((lines : List ℕ) × (whole ≡ lines ++ 10 ∷ []))
+
 -- The lines of the text broke no rule, and their beginnings stand in what is kept: whatever follows, the verdict is that on
--- the unfinished line and what follows, after those lines.
+-- the unfinished line, which is the end of the text, and what follows, after those lines.
 pub record IsReading (text : List ℕ) (kept : Kept) (tail : List ℕ) (lines : ℕ) : Type 0 where
   pub past : List Line
   pub stands : StandsFor past kept
   pub count : length past ≡ lines
   pub clean : HasNone 10 tail
+  pub unfinished : EndsWith text tail
   pub same : (more : List ℕ) → verdict (text ++ more) ≡ verdict_of past (tail ++ more)
 
 -- whatever follows, the text offends there

@@ -2,11 +2,11 @@
 use crate::runs::{TURNS, run_jobs};
 use crate::seen::see;
 use anyhow::Result;
-use cast_message::{Event, NodeId};
+use cast_message::{Event, List, NodeId};
 use cast_node::EntryKind;
 use cast_report::{EngineEnd, NodeReport};
 use cast_run::{LiveRun, SubmitAll};
-use cast_script::Fault;
+use cast_script::{Fault, FaultPlan};
 use run_setup::{Shape, lose_every};
 use std::alloc::Global;
 use std::sync::Wait;
@@ -14,6 +14,9 @@ use std::thread::Threads;
 
 // The most entries after which a crash is tried.
 const MOST: u64 = 30;
+
+// How often a crash as the last thing is tried.
+const TIMES: u64 = 20;
 
 // Two nodes that lose every second frame; node 1 crashes once its log has so many entries.
 fn run_crash<R: Threads + Wait + Copy + Send + 'static>(
@@ -66,6 +69,31 @@ pub fn at_each_entry<R: Threads + Wait + Print + Copy + Send + 'static>(
         }
     }
     println!(&rt; "{row}: {} crashes tried", MOST + 1)?;
+    Ok(())
+}
+
+/// A node whose crash is due only with the last of all that is to do, the acknowledgement of its one item, crashes all the same.
+pub fn as_the_last_thing<R: Threads + Wait + Print + Copy + Send + 'static>(
+    rt: R,
+    alloc: Global,
+    row: &str,
+) -> Result<()> {
+    let mut faults = List::new(alloc);
+    let node = NodeId(0);
+    faults.push(Fault::Crash { node, entries: 3 })?;
+    let plan = FaultPlan { faults };
+    for _run in 0..TIMES {
+        let run = run_jobs(rt, alloc, Shape::new(2, 0, 1), &plan, &[0], 1, TURNS)?;
+        let in_place = run
+            .report
+            .reports()
+            .get(0)
+            .is_some_and(|node| ends_in_crash(node, 3));
+        if !in_place {
+            println!(&rt; "{row}: node 0 did not crash")?;
+        }
+    }
+    println!(&rt; "{row}: {TIMES} runs")?;
     Ok(())
 }
 

@@ -21,7 +21,7 @@ use std::env;
 use std::sync::Wait;
 use std::thread::Threads;
 
-const ROWS: [&str; 17] = [
+const ROWS: [&str; 18] = [
     "gates",
     "gates-of-three",
     "live-refusals",
@@ -38,6 +38,7 @@ const ROWS: [&str; 17] = [
     "one-place",
     "every-fault-on-every-link",
     "crash-at-each-entry",
+    "crash-as-the-last-thing",
     "crash-with-a-frame-under-way",
 ];
 
@@ -77,6 +78,7 @@ fn run_row<R: Threads + Wait + Print + Copy + Send + 'static>(
         "one-place" => losses::one_place(rt, alloc, name),
         "every-fault-on-every-link" => losses::every_fault(rt, alloc, name),
         "crash-at-each-entry" => crashes::at_each_entry(rt, alloc, name),
+        "crash-as-the-last-thing" => crashes::as_the_last_thing(rt, alloc, name),
         "crash-with-a-frame-under-way" => under_way::crash_with_a_frame_under_way(rt, alloc, name),
         other => bail!("{other}: no such row"),
     }

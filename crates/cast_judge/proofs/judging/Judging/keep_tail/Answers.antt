@@ -1,9 +1,10 @@
-use Rattle.std.proofs.Common.{◌+◌, ◌<◌, [], ◌++◌, append-nil, Some, length, sym, ◌∙◌, subst, arith}
+use Rattle.std.proofs.Common.{◌+◌, ◌<◌, [], ◌++◌, append-nil, Some, length, refl, sym, ◌∙◌, subst, arith}
 use Rattle.std.proofs.lemmas.Bool.Decides.{nat_tests}
 use Rattle.std.proofs.lemmas.Grind.{common_steps}
+use Rattle.cast_message.proofs.Results.{ok_of}
 use Rattle.cast_judge.specs.Judged.{Offends, state_with}
 use Rattle.cast_judge.specs.declared.judging.State.TheVariants.{Reading}
-use Rattle.cast_judge.proofs.JudgedLemmas.{was_reading, moved, let_go, too_long, after_end}
+use Rattle.cast_judge.proofs.JudgedLemmas.{was_reading, reading_state, moved, grown, line_goes_on, let_go, too_long, after_end}
 use Rattle.cast_judge.proofs.judging.Judging.keep_tail.Goals as goal
 use Rattle.cast_judge.proofs.judging.Judging.keep_tail.Goals.{then-is_ended-via-then-is_ended, then-is_ended-via-else-is_ended+then-is_too_long}
 
@@ -22,3 +23,12 @@ returns-then-is_ended-clause-stands c text st =
     ] in
     moved (state_with (Some 0) Reading) new.state (text ++ part) self.kept new.kept [] new.tail.items self.lines new.lines
     c.offend.ensures.state c.offend.ensures.kept c.offend.ensures.tail c.offend.ensures.lines (let_go text (text ++ part) self.tail.items self.kept self.lines 0 h offends)
+
+pub returns-clause-stands : goal.returns-clause-stands
+returns-clause-stands c text st =
+    let self = c.args.self.now in
+    let part = c.args.part.now in
+    let h = was_reading self.state text self.kept self.tail.items self.lines c.requires.reading st in
+    ok_of c.extend_from_slice.result (grown c.extend_from_slice.result c.extend_from_slice.new.self.items self.tail.items part c.extend_from_slice.ensures.items)
+    (λ items. moved Reading self.state (text ++ part) self.kept self.kept (self.tail.items ++ part) c.extend_from_slice.new.self.items self.lines self.lines
+    (reading_state self.state c.requires.reading) refl items refl (line_goes_on text self.tail.items part self.kept self.lines h c.requires.clean))
