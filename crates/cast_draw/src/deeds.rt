@@ -9,7 +9,8 @@ use crate::marks::{put_decision, put_delivery};
 use cast_message::{Decision, Item, Message, NodeId};
 use std::alloc::AllocError;
 
-/// Puts a box for each delivery, and below that which brought it a diamond for each decision. Answers how many marks these are.
+/// Puts a box for each delivery, and in the place after that which brought it a diamond for each decision. Answers how many
+/// marks these are.
 pub fn put_deeds(
     ink: &mut Ink,
     spot: Spot,

@@ -125,7 +125,7 @@ fn put_numbered_box(ink: &mut Ink, cell: Cell, message: &Message) -> Result<(), 
     ])
 }
 
-/// A diamond below a delivery, with the value that was decided.
+/// A diamond in the place after a delivery, with the value that was decided.
 pub fn put_decision(
     ink: &mut Ink,
     cell: Cell,

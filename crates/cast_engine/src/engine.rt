@@ -33,9 +33,9 @@ pub enum Turn {
     /// Nothing was done, but that the node may have crashed: no parcel was put or taken, no order taken, no slot sent, no notice
     /// put.
     Idle,
-    /// The engine has ended, as all engines are quiet.
+    /// All engines are quiet, so that the engine has ended, if it had not otherwise in this turn.
     Stopped,
-    /// The engine has ended otherwise, in this turn or in one before.
+    /// The engine has ended otherwise, in this turn or in one before, and not all engines are known to be quiet.
     Ended,
 }
 

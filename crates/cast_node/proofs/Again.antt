@@ -1,8 +1,9 @@
 -- A frame that comes again: its slot is taken, and its maker is known to hold the pair.
-use Rattle.std.proofs.Common.{◌≡◌, ℕ, zero, suc, ◌<◌, refl, sym, ◌∙◌, ap, true≢false, Bool, true, false, ◌&&◌, ◌||◌, not, List, [], ◌∷◌, inl, inr, length, arith}
+use Rattle.std.proofs.Common.{◌≡◌, ℕ, zero, suc, ◌<◌, refl, sym, ◌∙◌, ap, true≢false, Bool, true, false, ◌&&◌, ◌||◌, not, List, [], ◌∷◌, Some, inl, inr, length, arith}
 use Rattle.std.specs.Prelude.{slice_index_or}
 use Rattle.std.specs.Ordering.{nat_cmp}
 use Rattle.std.specs.Cmp.{nat_cmp_total}
+use Rattle.std.specs.FinMap as finite
 use Rattle.std.specs.FinSet as set
 use Rattle.std.specs.FinSet.{contains-insert, contains-empty, same_set, nat_cmp-IsAntisymmetric}
 use Rattle.std.proofs.lemmas.Bool.{and_parts, eq-eqb}
@@ -12,8 +13,9 @@ use Rattle.cast_message.specs.declared.message.Message.{Message}
 use Rattle.cast_fifo.specs.Held.{held_of}
 use Rattle.cast_agree.specs.Counted.{Counted}
 use Rattle.cast_agree.specs.Journal.{befores_all}
-use Rattle.cast_node.specs.Kept.{Kept, taken_from, knowers_of, is_enough, is_enough_in}
-use Rattle.cast_node.specs.Turns.{came_so, is_turn, is_awaited}
+use Rattle.cast_node.specs.Kept.{Kept, link_to, taken_from, knowers_of, is_enough, is_enough_in}
+use Rattle.cast_message.specs.declared.message.FrameBody.TheVariants.{Took}
+use Rattle.cast_node.specs.Turns.{came_so, is_turn, is_turn_with, is_word_awaited, is_awaited}
 use Rattle.cast_node.specs.Calls.{carry_slot}
 use Rattle.cast_node.specs.Delivering.{HasPlace}
 
@@ -45,6 +47,25 @@ awaits kept from slot s i members item is turn = by_test (came_so kept from slot
         let told = turn (and_parts _ _ parts.0).1 (has_place (slice_index_or kept.knowers s []) i from parts.1) in
         let same : members ≡ knowers_of kept s i = is ∙ insert_known (knowers_of kept s i) from parts.1 in
         let enough : is_enough kept s i ≡ true = sym (ap (is_enough_in kept.config.mode kept.config.faults) same) ∙ told.0 in
+        (λ k. enough k && eq-eqb i (held_of kept.hold_back s).next told.1 k)
+
+-- of the acknowledgement of a slot with a pair that the node is known to hold, only one by which its turn comes
+pub awaits_word : (kept : Kept) (from slot : ℕ) (message : Message) (members : set.FinSet nat_cmp) → finite.get (link_to kept from).owed slot ≡ Some message → members ≡ set.insert (knowers_of kept message.sender message.number) from →
+    (HasPlace kept.knowers message.sender message.number → (is_enough_in kept.config.mode kept.config.faults members ≡ true) × (message.number ≡ (held_of kept.hold_back message.sender).next)) →
+    is_awaited kept from (Took slot) ≡ true
+awaits_word kept from slot message members owed is turn = ap (is_word_awaited kept from) owed ∙ by_test (set.contains (knowers_of kept s i) kept.me) refl
+  where
+    s : ℕ
+    s = message.sender
+
+    i : ℕ
+    i = message.number
+
+    by_test : (held : Bool) → set.contains (knowers_of kept s i) kept.me ≡ held → (not held || is_turn_with kept s i (set.insert (knowers_of kept s i) from)) ≡ true
+    by_test false e = refl
+    by_test true e =
+        let told = turn (has_place (slice_index_or kept.knowers s []) i kept.me e) in
+        let enough : is_enough_in kept.config.mode kept.config.faults (set.insert (knowers_of kept s i) from) ≡ true = ap (is_enough_in kept.config.mode kept.config.faults) (sym is) ∙ told.0 in
         (λ k. enough k && eq-eqb i (held_of kept.hold_back s).next told.1 k)
 
 -- of no messages none is counted

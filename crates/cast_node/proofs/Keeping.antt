@@ -1,12 +1,11 @@
 -- What a node's fields keep, through its steps.
-use Rattle.std.specs.Prelude.{◌≡◌, ℕ, ◌+◌, ◌-◌, ◌≤◌, ◌==◌, nat_le, Bool, true, false, not, ◌&&◌, ◌||◌, List, [], ◌∷◌, ◌++◌, length, refl, Result, Ok, Err, OnErr, is_err}
+use Rattle.std.specs.Prelude.{◌≡◌, ℕ, ◌+◌, ◌-◌, ◌≤◌, ◌==◌, nat_le, Bool, false, not, ◌&&◌, ◌||◌, List, [], ◌∷◌, ◌++◌, length, refl}
 use Rattle.std.specs.List.{list_any}
 use Rattle.std.specs.Ordering.{nat_cmp, eq_by_cmp}
 use Rattle.std.specs.Cmp.{nat_cmp_total}
 use Rattle.std.specs.FinSet as set
 use Rattle.std.specs.FinSet.{contains-insert}
 use Rattle.std.proofs.Common.{sym, ap, ◌∙◌, subst, arith, length-append}
-use Rattle.std.proofs.lemmas.Bool.{false≢true}
 use Rattle.std.proofs.lemmas.Bool.Decides.{nat_tests}
 use Rattle.cast_message.proofs.Booleans.{or_assoc, or_comm, or_false}
 use Rattle.cast_message.specs.declared.config.Config.{Config}
@@ -21,7 +20,6 @@ use Rattle.cast_sets.specs.Members.{remove-inserted}
 use Rattle.cast_node.specs.Delivering.{Delivering}
 use Rattle.cast_node.specs.Taking.{with_proposal, without_proposal}
 use Rattle.cast_node.specs.Sound.{IsNode, Owes}
-use Rattle.cast_node.specs.Giving.{OwesNothing}
 
 any_end : (f : Item → Bool) (items : List Item) (item : Item) → list_any f (items ++ item ∷ []) ≡ (list_any f items || f item)
 any_end f [] item = or_false (f item)
@@ -46,27 +44,20 @@ withdrawn proposed items Close h e = refl
 withdrawn proposed items (Propose j value) h e = remove-inserted proposed j (h j ∙ e)
 
 -- nothing changes
-pub keeps_all : (config : Config) (me : ℕ) (stream stream' : List Item) (closed : Bool) (proposed proposed' : set.FinSet nat_cmp) (relay relay' : Held) (outgoing outgoing' : List (Link Message)) (incoming : List (set.FinSet nat_cmp)) (ds ds' : Delivering) (quiet : Bool) →
-    IsNode config me stream closed proposed relay outgoing incoming ds quiet → stream' ≡ stream → proposed' ≡ proposed → relay' ≡ relay → outgoing' ≡ outgoing → ds' ≡ ds → IsNode config me stream' closed proposed' relay' outgoing' incoming ds' quiet
-keeps_all config me stream stream' closed proposed proposed' relay relay' outgoing outgoing' incoming ds ds' quiet h s p r o d =
-    subst (λ x. IsNode config me x closed proposed' relay' outgoing' incoming ds' quiet) (sym s)
-    (subst (λ x. IsNode config me stream closed x relay' outgoing' incoming ds' quiet) (sym p)
-    (subst (λ x. IsNode config me stream closed proposed x outgoing' incoming ds' quiet) (sym r)
-    (subst (λ x. IsNode config me stream closed proposed relay x incoming ds' quiet) (sym o)
-    (subst (λ x. IsNode config me stream closed proposed relay outgoing incoming x quiet) (sym d) h))))
-
--- what was refused leaves nothing owed, where nothing was
-pub still_silent : {X E : Type 0} (r : Result X E) (quiet : Bool) (outgoing outgoing' : List (Link Message)) → OnErr r (outgoing' ≡ outgoing) → (quiet ≡ true → OwesNothing outgoing) → (quiet && is_err r) ≡ true → OwesNothing outgoing'
-still_silent (Err x) true outgoing outgoing' same silent e = subst OwesNothing (sym same) (silent refl)
-still_silent (Err x) false outgoing outgoing' same silent e = absurd (false≢true e)
-still_silent (Ok x) true outgoing outgoing' same silent e = absurd (false≢true e)
-still_silent (Ok x) false outgoing outgoing' same silent e = absurd (false≢true e)
+pub keeps_all : (config : Config) (me : ℕ) (stream stream' : List Item) (closed : Bool) (proposed proposed' : set.FinSet nat_cmp) (relay relay' : Held) (outgoing outgoing' : List (Link Message)) (incoming : List (set.FinSet nat_cmp)) (ds ds' : Delivering) →
+    IsNode config me stream closed proposed relay outgoing incoming ds → stream' ≡ stream → proposed' ≡ proposed → relay' ≡ relay → outgoing' ≡ outgoing → ds' ≡ ds → IsNode config me stream' closed proposed' relay' outgoing' incoming ds'
+keeps_all config me stream stream' closed proposed proposed' relay relay' outgoing outgoing' incoming ds ds' h s p r o d =
+    subst (λ x. IsNode config me x closed proposed' relay' outgoing' incoming ds') (sym s)
+    (subst (λ x. IsNode config me stream closed x relay' outgoing' incoming ds') (sym p)
+    (subst (λ x. IsNode config me stream closed proposed x outgoing' incoming ds') (sym r)
+    (subst (λ x. IsNode config me stream closed proposed relay x incoming ds') (sym o)
+    (subst (λ x. IsNode config me stream closed proposed relay outgoing incoming x) (sym d) h))))
 
 -- lists of the same length
-pub keeps_rows : (config : Config) (me : ℕ) (stream : List Item) (closed : Bool) (proposed : set.FinSet nat_cmp) (relay relay' : Held) (outgoing outgoing' : List (Link Message)) (incoming incoming' : List (set.FinSet nat_cmp)) (ds ds' : Delivering) (quiet quiet' : Bool) →
-    IsNode config me stream closed proposed relay outgoing incoming ds quiet → relay'.me ≡ relay.me → relay'.own ≡ relay.own → length outgoing' ≡ length outgoing → length incoming' ≡ length incoming →
-    ds'.mode ≡ ds.mode → ds'.faults ≡ ds.faults → length ds'.hold_back ≡ length ds.hold_back → length ds'.knowers ≡ length ds.knowers → Owes config.nodes config.item_limit outgoing' → (quiet' ≡ true → OwesNothing outgoing') → IsNode config me stream closed proposed relay' outgoing' incoming' ds' quiet'
-keeps_rows config me stream closed proposed relay relay' outgoing outgoing' incoming incoming' ds ds' quiet quiet' h m w o i a b c d owes silent = record {
+pub keeps_rows : (config : Config) (me : ℕ) (stream : List Item) (closed : Bool) (proposed : set.FinSet nat_cmp) (relay relay' : Held) (outgoing outgoing' : List (Link Message)) (incoming incoming' : List (set.FinSet nat_cmp)) (ds ds' : Delivering) →
+    IsNode config me stream closed proposed relay outgoing incoming ds → relay'.me ≡ relay.me → relay'.own ≡ relay.own → length outgoing' ≡ length outgoing → length incoming' ≡ length incoming →
+    ds'.mode ≡ ds.mode → ds'.faults ≡ ds.faults → length ds'.hold_back ≡ length ds.hold_back → length ds'.knowers ≡ length ds.knowers → Owes config.nodes config.item_limit outgoing' → IsNode config me stream closed proposed relay' outgoing' incoming' ds'
+keeps_rows config me stream closed proposed relay relay' outgoing outgoing' incoming incoming' ds ds' h m w o i a b c d owes = record {
   place = h.place;
   relay_me = m ∙ h.relay_me;
   relay_own = w ∙ h.relay_own;
@@ -80,18 +71,17 @@ keeps_rows config me stream closed proposed relay relay' outgoing outgoing' inco
   senders = c ∙ h.senders;
   rows = d ∙ h.rows;
   owes = owes;
-  silent = silent;
 }
 
 below : (n m : ℕ) (b : Bool) → (not b && nat_le (n - 1) m) ≡ false → b ≡ false → m + 2 ≤ n
 below n m b e f = grind (arith, nat_tests)
 
 -- an item of its own
-pub keeps_own : (config : Config) (me : ℕ) (stream stream' : List Item) (closed closed' : Bool) (proposed proposed' : set.FinSet nat_cmp) (relay relay' : Held) (outgoing outgoing' : List (Link Message)) (incoming : List (set.FinSet nat_cmp)) (ds ds' : Delivering) (quiet : Bool) (item : Item) →
-    IsNode config me stream closed proposed relay outgoing incoming ds quiet → list_any is_close stream ≡ false → (not (is_close item) && nat_le (config.item_limit - 1) (length stream)) ≡ false →
+pub keeps_own : (config : Config) (me : ℕ) (stream stream' : List Item) (closed closed' : Bool) (proposed proposed' : set.FinSet nat_cmp) (relay relay' : Held) (outgoing outgoing' : List (Link Message)) (incoming : List (set.FinSet nat_cmp)) (ds ds' : Delivering) (item : Item) →
+    IsNode config me stream closed proposed relay outgoing incoming ds → list_any is_close stream ≡ false → (not (is_close item) && nat_le (config.item_limit - 1) (length stream)) ≡ false →
     stream' ≡ stream ++ item ∷ [] → closed' ≡ is_close item → proposed' ≡ with_proposal proposed item → relay'.me ≡ relay.me → relay'.own ≡ relay.own + 1 → length outgoing' ≡ length outgoing →
-    ds'.mode ≡ ds.mode → ds'.faults ≡ ds.faults → length ds'.hold_back ≡ length ds.hold_back → length ds'.knowers ≡ length ds.knowers → Owes config.nodes config.item_limit outgoing' → IsNode config me stream' closed' proposed' relay' outgoing' incoming ds' false
-keeps_own config me stream stream' closed closed' proposed proposed' relay relay' outgoing outgoing' incoming ds ds' quiet item h unclosed full s cl p m w o a b c d owes =
+    ds'.mode ≡ ds.mode → ds'.faults ≡ ds.faults → length ds'.hold_back ≡ length ds.hold_back → length ds'.knowers ≡ length ds.knowers → Owes config.nodes config.item_limit outgoing' → IsNode config me stream' closed' proposed' relay' outgoing' incoming ds'
+keeps_own config me stream stream' closed closed' proposed proposed' relay relay' outgoing outgoing' incoming ds ds' item h unclosed full s cl p m w o a b c d owes =
     let long : length stream' ≡ length stream + 1 = ap length s ∙ length-append stream (item ∷ []) in
     record {
       place = h.place;
@@ -107,5 +97,4 @@ keeps_own config me stream stream' closed closed' proposed proposed' relay relay
       senders = c ∙ h.senders;
       rows = d ∙ h.rows;
       owes = owes;
-      silent = λ e. absurd (false≢true e);
     }

@@ -19,5 +19,6 @@ pub mod Gifts
 pub mod Wholes
 pub mod Keeping
 pub mod Owing
+pub mod OwedPeers
 pub mod Through
 pub mod Words

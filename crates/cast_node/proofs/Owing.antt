@@ -1,13 +1,13 @@
 -- What is owed to peers stays as it is to be.
-use Rattle.std.specs.Prelude.{◌≡◌, ℕ, zero, suc, ◌+◌, Bool, true, false, cond, if◌then◌else◌, List, [], ◌∷◌, ◌++◌, replicate, slice_set, Option, Some, None, refl}
+use Rattle.std.specs.Prelude.{◌≡◌, ℕ, zero, suc, ◌+◌, Bool, true, false, cond, if◌then◌else◌, List, [], ◌∷◌, replicate, slice_set, Option, Some, None}
 use Rattle.std.specs.Ordering.{nat_cmp, eq_by_cmp}
 use Rattle.std.specs.Cmp.{nat_cmp_total}
 use Rattle.std.specs.FinMap as finite
-use Rattle.std.specs.FinMap.{get-insert, get-remove, get-empty, empty_of_len}
+use Rattle.std.specs.FinMap.{get-insert, get-remove, get-empty}
 use Rattle.std.proofs.Common.{sym, ap, ◌∙◌, subst}
 use Rattle.cast_link.specs.Links.{Link, with_given, with_acknowledged}
 use Rattle.cast_relay.specs.Held.{Held, relays_to}
-use Rattle.cast_node.specs.Giving.{given_on, link_in, OwesOnly, OwesNothing}
+use Rattle.cast_node.specs.Giving.{given_on, link_in, OwesOnly}
 
 module _ {X : Type 0} where
   none_some : (x : X) → ◌≡◌ {A = Option X} None (Some x) → ⊥
@@ -67,15 +67,3 @@ module _ {X : Type 0} where
 
   pub owes_more : (Is Are : X → Type 0) (links : List (Link X)) → ((kept : X) → Is kept → Are kept) → OwesOnly Is links → OwesOnly Are links
   owes_more Is Are links more h q slot kept e = more kept (h q slot kept e)
-
-  -- nothing is owed, and still nothing with one link more that owes nothing
-  pub nothing_yet : (n : ℕ) → OwesNothing {X = X} (replicate n (record { given = 0; owed = finite.empty }))
-  nothing_yet zero q = refl
-  nothing_yet (suc n) zero = refl
-  nothing_yet (suc n) (suc q) = nothing_yet n q
-
-  pub nothing_last : (links : List (Link X)) (last : Link X) → OwesNothing links → finite.len last.owed ≡ 0 → OwesNothing (links ++ last ∷ [])
-  nothing_last [] last h e zero = empty_of_len last.owed e
-  nothing_last [] last h e (suc q) = refl
-  nothing_last (x ∷ links) last h e zero = h zero
-  nothing_last (x ∷ links) last h e (suc q) = nothing_last links last (λ q. h (suc q)) e q

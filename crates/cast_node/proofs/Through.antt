@@ -10,7 +10,7 @@ use Rattle.std.proofs.lemmas.List.{get_or_default, length-map}
 use Rattle.cast_message.specs.declared.message.Message.{Message}
 use Rattle.cast_link.specs.Links.{Link, with_given, with_acknowledged, IsLeastFrom}
 use Rattle.cast_relay.specs.Held.{Held, relays_to}
-use Rattle.cast_node.specs.Giving.{given_on, taken_back_from, link_in, OwesNothing}
+use Rattle.cast_node.specs.Giving.{given_on, taken_back_from, link_in}
 use Rattle.cast_node.specs.Outgoing.{kept_message, owed_through, link_through, links_of, OwesBelow, Outbound, given_to, IsLastGiven}
 use Rattle.cast_node.proofs.Owing.{owes_given, owes_more}
 use Rattle.cast_node.proofs.Gifts.{length_given}
@@ -176,9 +176,6 @@ acknowledged_through messages links q slot =
 pub nothing_given_through : (n : ℕ) → map (link_through []) (replicate n (record { given = 0; owed = finite.empty })) ≡ replicate n (record { given = 0; owed = finite.empty })
 nothing_given_through zero = refl
 nothing_given_through (suc n) = λ i. record { given = 0; owed = through_empty [] i } ∷ nothing_given_through n i
-
-pub nothing_through : (messages : List Message) (links : List (Link ℕ)) → OwesNothing links → OwesNothing (map (link_through messages) links)
-nothing_through messages links h q = ap (λ (l : Link Message). l.owed) (link_at messages links q) ∙ ap (owed_through messages) (h q) ∙ through_empty messages
 
 pub least_through : (messages : List Message) (owed : finite.FinMap nat_cmp ℕ) (from : ℕ) (result : Option ℕ) → IsLeastFrom owed from result → IsLeastFrom (owed_through messages owed) from result
 least_through messages owed from None h = λ other l. get_through messages owed other ∙ ap (option_map (kept_message messages)) (h other l)

@@ -3,9 +3,12 @@
 --     taken_back_from q relay source sender links   and taken back from each of them
 --     link_in links q            the link to a peer
 --     OwesOnly Is links          what is kept of each slot owed is so
---     OwesNothing links          no slot is owed to any peer
-use Rattle.std.specs.Prelude.{◌≡◌, ℕ, ◌+◌, if◌then◌else◌, List, [], ◌∷◌, slice_index_or, Some}
+--     OwesNoneOf links peers     no slot is owed to any of these peers
+--     AreOwed links peers        these are the peers that are owed a slot
+use Rattle.std.specs.Prelude.{◌≡◌, ℕ, ◌+◌, nat_lt, true, if◌then◌else◌, List, [], ◌∷◌, slice_index_or, Some}
+use Rattle.std.specs.Ordering.{nat_cmp}
 use Rattle.std.specs.FinMap as map
+use Rattle.std.specs.FinSet as set
 use Rattle.cast_link.specs.Links.{Link, with_given, without_last}
 use Rattle.cast_relay.specs.Held.{Held, relays_to}
 
@@ -28,5 +31,8 @@ abbrev pub OwesOnly : {X : Type 0} → (X → Type 0) → List (Link X) → Type
 OwesOnly {X = X} Is links = (q slot : ℕ) (kept : X) →
     map.get (link_in links q).owed slot ≡ Some kept → Is kept
 
-abbrev pub OwesNothing : {X : Type 0} → List (Link X) → Type 0
-OwesNothing links = (q : ℕ) → (link_in links q).owed ≡ map.empty
+abbrev pub OwesNoneOf : {X : Type 0} → List (Link X) → set.FinSet nat_cmp → Type 0
+OwesNoneOf links peers = (q : ℕ) → set.contains peers q ≡ true → (link_in links q).owed ≡ map.empty
+
+abbrev pub AreOwed : {X : Type 0} → List (Link X) → set.FinSet nat_cmp → Type 0
+AreOwed links peers = (q : ℕ) → set.contains peers q ≡ nat_lt 0 (map.len (link_in links q).owed)

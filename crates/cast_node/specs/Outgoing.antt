@@ -9,16 +9,18 @@
 --     given_to relay source message out        a message is given to each peer to which it goes
 --     taken_back relay source sender out       and taken back
 --     OwesBelow n links          each slot that is owed keeps a place below n
+--     IsOutgoing n links owed    so it is of links to at most 64 peers, and these are the ones that are owed a slot
 --     IsLastGiven relay source sender out      the last message has no slots but those that taking it back frees
-use Rattle.std.specs.Prelude.{ℕ, ◌-◌, ◌<◌, List, [], ◌∷◌, ◌++◌, length, map, take, replicate, slice_index_or, refl}
+use Rattle.std.specs.Prelude.{ℕ, ◌-◌, ◌<◌, ◌≤◌, List, [], ◌∷◌, ◌++◌, length, map, take, replicate, slice_index_or, refl}
 use Rattle.std.specs.Ordering.{nat_cmp}
 use Rattle.std.specs.FinMap as finite
+use Rattle.std.specs.FinSet as set
 use Rattle.std.specs.Coded.{Coded, code_by, coded×, coded_ℕ, coded_list}
 use Rattle.cast_message.specs.declared.message.Item.TheVariants.{Close}
 use Rattle.cast_message.specs.declared.message.Message.{Message}
 use Rattle.cast_link.specs.Links.{Link, link_code}
 use Rattle.cast_relay.specs.Held.{Held}
-use Rattle.cast_node.specs.Giving.{given_on, taken_back_from, OwesOnly}
+use Rattle.cast_node.specs.Giving.{given_on, taken_back_from, OwesOnly, AreOwed}
 
 pub record Outbound : Type 0 where
   pub messages : List Message
@@ -66,6 +68,11 @@ taken_back relay source sender out = record {
 
 abbrev pub OwesBelow : ℕ → List (Link ℕ) → Type 0
 OwesBelow n links = OwesOnly (λ place. place < n) links
+
+pub record IsOutgoing (n : ℕ) (links : List (Link ℕ)) (owed : set.FinSet nat_cmp) : Type 0 where
+  pub below : OwesBelow n links
+  pub peers : length links ≤ 64
+  pub owes : AreOwed links owed
 
 abbrev pub IsLastGiven : Held → ℕ → ℕ → Outbound → Type 0
 IsLastGiven relay source sender out =

@@ -1,7 +1,7 @@
 -- What a node's fields keep, and how what it keeps is told apart.
 --     Owes          what is owed to peers has a sender and a number within the limits
 --     IsNode        the lists have a place for each node, and what is cached of the stream is so
-use Rattle.std.specs.Prelude.{◌≡◌, ℕ, ◌+◌, ◌≤◌, ◌<◌, Bool, true, false, List, length, refl}
+use Rattle.std.specs.Prelude.{◌≡◌, ℕ, ◌+◌, ◌≤◌, ◌<◌, Bool, false, List, length, refl}
 use Rattle.std.specs.List.{list_any}
 use Rattle.std.specs.Ordering.{nat_cmp}
 use Rattle.std.specs.FinSet as set
@@ -15,7 +15,7 @@ use Rattle.cast_relay.specs.Held.{Held, held_code}
 use Rattle.cast_fifo.specs.declared.waiting.Waiting.{Waiting}
 use Rattle.cast_fifo.specs.Held.{Held as HeldBack}
 use Rattle.cast_agree.specs.Counted.{Counted, counted_code}
-use Rattle.cast_node.specs.Giving.{OwesOnly, OwesNothing}
+use Rattle.cast_node.specs.Giving.{OwesOnly}
 use Rattle.cast_node.specs.Kept.{Kept}
 use Rattle.cast_node.specs.Delivering.{Delivering}
 use Rattle.cast_node.specs.Code.{sets_code, held_back_code}
@@ -29,7 +29,7 @@ Owes nodes limit links = OwesOnly (IsWithin nodes limit) links
 
 pub record IsNode (config : Config) (me : ℕ) (stream : List Item) (closed : Bool)
     (proposed : set.FinSet nat_cmp) (relay : Held) (outgoing : List (Link Message))
-    (incoming : List (set.FinSet nat_cmp)) (deliveries : Delivering) (quiet : Bool) : Type 0 where
+    (incoming : List (set.FinSet nat_cmp)) (deliveries : Delivering) : Type 0 where
   pub place : me < config.nodes
   pub relay_me : relay.me ≡ me
   pub relay_own : relay.own ≡ length stream
@@ -43,7 +43,6 @@ pub record IsNode (config : Config) (me : ℕ) (stream : List Item) (closed : Bo
   pub senders : length deliveries.hold_back ≡ config.nodes
   pub rows : length deliveries.knowers ≡ config.nodes
   pub owes : Owes config.nodes config.item_limit outgoing
-  pub silent : quiet ≡ true → OwesNothing outgoing
 
 abbrev pub kept_code : Coded Config → Coded Item → Coded Message → Coded Waiting → Coded Kept
 kept_code config item message waiting =

@@ -33,7 +33,7 @@ use Rattle.cast_fifo.specs.Held.{held_of, known_items, known_after}
 use Rattle.cast_fifo.specs.Calls.{Hold, held_after}
 use Rattle.cast_agree.specs.Journal.{counted_all, decisions_all}
 use Rattle.cast_node.specs.Giving.{given_on}
-use Rattle.cast_node.specs.Kept.{Kept, link_to, taken_from, knowers_of, is_enough}
+use Rattle.cast_node.specs.Kept.{Kept, link_to, taken_from, knowers_of, is_enough, is_enough_in}
 
 -- a row in which the place has these members; places before it that weren't there are empty
 abbrev pub known_row : List (set.FinSet nat_cmp) → ℕ → set.FinSet nat_cmp →
@@ -158,16 +158,29 @@ came_so kept from slot s i =
     holds kept.relay s i && set.contains (taken_from kept from) slot
     && set.contains (knowers_of kept s i) from
 
--- enough nodes are known to hold the pair, and it is the next of its sender
-abbrev pub is_turn : Kept → ℕ → ℕ → Bool
-is_turn kept s i = is_enough kept s i && i == (held_of kept.hold_back s).next
+-- these are enough, and the pair is the next of its sender
+abbrev pub is_turn_with : Kept → ℕ → ℕ → set.FinSet nat_cmp → Bool
+is_turn_with kept s i members =
+    is_enough_in kept.config.mode kept.config.faults members && i == (held_of kept.hold_back s).next
 
--- a message that did not come so before, or whose turn it is, or the acknowledgement of a slot that is owed
+abbrev pub is_turn : Kept → ℕ → ℕ → Bool
+is_turn kept s i = is_turn_with kept s i (knowers_of kept s i)
+
+-- a pair that the node is not known to hold itself, or whose turn it is once this peer is known to hold it
+abbrev pub is_word_awaited : Kept → ℕ → Option Message → Bool
+is_word_awaited kept from None = false
+is_word_awaited kept from (Some message) =
+    not (set.contains (knowers_of kept message.sender message.number) kept.me)
+    || is_turn_with kept message.sender message.number
+    (set.insert (knowers_of kept message.sender message.number) from)
+
+-- a message that did not come so before, or whose turn it is, or the acknowledgement of a slot that is owed with such a pair
 abbrev pub is_awaited : Kept → ℕ → FrameBody → Bool
 is_awaited kept from (Carry slot message) =
     not (came_so kept from slot message.sender message.number)
     || is_turn kept message.sender message.number
-is_awaited kept from (Took slot) = finite.contains_key (link_to kept from).owed slot
+is_awaited kept from (Took slot) =
+    is_word_awaited kept from (finite.get (link_to kept from).owed slot)
 
 -- some node of a group could have made the frame for this node
 abbrev pub may_arrive : Kept → Frame → Bool

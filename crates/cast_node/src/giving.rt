@@ -1,12 +1,13 @@
 //! A message goes to the peers of a node, and is taken back from them where a step can't be finished. A slot keeps the place
 //! of its message.
-ghost use Rattle.std.specs.Prelude.{◌≡◌, ◌+◌, ◌≤◌, IsTrue, if◌then◌else◌, length, OnOk, OnErr};
+ghost use Rattle.std.specs.Prelude.{◌≡◌, ◌+◌, ◌≤◌, if◌then◌else◌, length, OnOk, OnErr};
 ghost use Rattle.cast_link.specs.Links.{with_given, without_last};
-ghost use Rattle.cast_node.specs.Giving.{given_on, taken_back_from, OwesNothing};
+ghost use Rattle.cast_node.specs.Giving.{given_on, taken_back_from, AreOwed};
 
 use cast_link::LinkOut;
 use cast_message::NodeId;
 use cast_relay::Relay;
+use cast_sets::GroupSet;
 use std::alloc::AllocError;
 
 /// Gives what stands at this place to each of these peers to which a message of the sender goes that came from the source,
@@ -55,14 +56,18 @@ pub fn take_back_all(
     take_back_all(rest, first + 1, relay, source, sender);
 }
 
-/// Whether no slot is owed to any of these peers.
-pub fn owe_nothing(links: &[LinkOut<u32>]) -> bool
-    ensures { IsTrue result → OwesNothing links.now }
+/// The peers that are owed a slot.
+pub fn owed_peers(links: &[LinkOut<u32>]) -> GroupSet
+    requires { length links.now ≤ 64 }
+    ensures { AreOwed links.now result }
 {
-    match links.split_last() {
-        None => true,
-        Some((last, rest)) => last.owed() == 0 && owe_nothing(rest),
+    let mut owed = GroupSet::new();
+    for peer in 0..links.len() {
+        if links[peer].owed() != 0 {
+            owed.insert(NodeId(peer as u8));
+        }
     }
+    owed
 }
 
 // Gives what stands at a place to a peer, where it goes there.

@@ -1,5 +1,5 @@
 //! A node of a broadcast group: what it holds, gives, waits for, delivers and decides.
-ghost use Rattle.std.specs.Prelude.{◌≡◌, ℕ, ◌==◌, ◌<◌, ◌+◌, ◌∷◌, [], false, true, IsTrue, nat_lt, Some, None, option_map, slice_get, if◌then◌else◌, IfOk, IfErr, OnOk, OnErr, IsFalse};
+ghost use Rattle.std.specs.Prelude.{◌≡◌, ℕ, ◌==◌, ◌<◌, ◌+◌, ◌∷◌, [], false, true, IsTrue, nat_lt, Some, None, option_map, slice_get, if◌then◌else◌, IfOk, IfErr, OnOk, OnErr, IsFalse, ◌↔◌};
 ghost use Rattle.cast_message.specs.Items.{has_payload};
 ghost use Rattle.std.specs.FinMap as finite;
 ghost use Rattle.std.specs.FinSet as set;
@@ -12,6 +12,7 @@ ghost use Rattle.cast_message.specs.declared.message.Item.{Item as Carried};
 ghost use Rattle.cast_agree.specs.Counted.{decision};
 ghost use Rattle.cast_link.specs.Links.{IsLeastFrom};
 ghost use Rattle.cast_relay.specs.Held.{holds};
+ghost use Rattle.cast_node.specs.Giving.{OwesNoneOf};
 ghost use Rattle.cast_node.specs.Kept.{nothing_kept, link_to, knowers_of};
 ghost use Rattle.cast_node.specs.Turns.{Gives, kept_fault, kept_view, carry_of, took_of, message_owed, ordered, arrived_body, is_awaited, may_arrive};
 ghost use Rattle.cast_model.specs.Refusals.{no_node, self_link, crashed, first_fault, is_too_long, is_second_proposal};
@@ -27,7 +28,7 @@ use cast_message::{
     Config, FRAME_LIMIT, Frame, FrameBody, Item, Message, NodeId, Outcome, PAYLOAD_LIMIT, StepFault,
 };
 use cast_relay::Relay;
-use cast_sets::NumberSet;
+use cast_sets::{GroupSet, NumberSet};
 use std::alloc::{AllocError, Global};
 use std::marker::Model;
 
@@ -64,8 +65,6 @@ pub struct Node {
     // What it took of each peer.
     incoming: Vec<LinkIn>,
     deliveries: Deliveries,
-    // It owes no peer anything; false also where that was not looked for.
-    quiet: bool,
 }
 
 impl Model for Node {
@@ -98,7 +97,7 @@ impl Model for Node {
     } };
 
     ghost invariant = { λ n. IsNode n.config n.me n.stream.items n.closed n.proposed n.relay
-        (links_of n.outgoing) n.incoming.items n.deliveries n.quiet };
+        (links_of n.outgoing) n.incoming.items n.deliveries };
 }
 
 impl Node {
@@ -204,9 +203,10 @@ impl Node {
 
     /// Takes a frame that arrives, and answers what is delivered and decided. The frame is for this node. Refused is an arrival
     /// at a crashed node, and else want of memory. A refusal changes nothing, nor does a frame that no node of the group could
-    /// have made for this node, of which nothing comes, not even want of memory. Neither is an acknowledgement of a slot that is
-    /// not owed, such as a second one, refused for want of memory, nor a message that is held, in a slot that was taken, of a
-    /// maker that is known to hold it, unless its turn has come.
+    /// have made for this node, of which nothing comes, not even want of memory. Neither is refused for want of memory an
+    /// acknowledgement of a slot that is not owed, such as a second one, or of one with a pair that the node is known to hold,
+    /// unless the pair's turn comes by it, nor a message that is held, in a slot that was taken, of a maker that is known to hold
+    /// it, unless its turn has come.
     #[tactic(auto, using(std::proofs::lemmas::Bool::Decides::nat_tests), unfolding(cast_model::specs::Refusals::first_fault, crate::specs::Turns::kept_fault))]
     pub fn arrive(&mut self, frame: &Frame) -> Result<Outcome, StepFault>
         requires { frame.now.to ≡ self.old.me }
@@ -385,12 +385,11 @@ impl Node {
         self.outgoing.least_owed(to, from)
     }
 
-    /// Whether it is known to owe no peer anything: so it is right after the last slot owed was acknowledged, until more is taken
-    /// up. It takes no memory.
-    pub fn owes_nothing(&self) -> bool
-        ensures { IsTrue result → (q : ℕ) → (link_to self.now q).owed ≡ finite.empty }
+    /// Whether it owes one of these peers a slot. It takes no memory, and looks at no link.
+    pub fn owes_one_of(&self, peers: &GroupSet) -> bool
+        ensures { IsFalse result ↔ OwesNoneOf self.now.outgoing peers.now }
     {
-        self.quiet
+        self.outgoing.owes_one_of(peers)
     }
 
     /// Whether it holds a pair. It takes no memory.
@@ -470,17 +469,14 @@ impl Node {
             source: from,
             members: first_members(self.me, message.sender, from),
         };
-        let answer = take_up_carried(
+        take_up_carried(
             &mut self.relay,
             &mut self.outgoing,
             &mut self.deliveries,
             &mut self.incoming[place],
             slot,
             fresh,
-        );
-        // Where it was refused no more is owed than before.
-        self.quiet &= answer.is_err();
-        answer
+        )
     }
 
     // Takes a slot of a peer with a message that the node holds in it.
@@ -530,7 +526,6 @@ impl Node {
             .deliveries
             .tell(sender, number, members, &mut NoSlot, 0)?;
         self.outgoing.acknowledge(from, slot);
-        self.quiet = self.outgoing.owes_nothing();
         Ok(outcome)
     }
 
@@ -584,7 +579,6 @@ impl Node {
             return false;
         }
         self.outgoing.acknowledge(from, slot);
-        self.quiet = self.outgoing.owes_nothing();
         true
     }
 
@@ -610,7 +604,6 @@ impl Node {
             outgoing: Outgoing::new(alloc, config.nodes())?,
             incoming,
             deliveries: Deliveries::new(alloc, config)?,
-            quiet: true,
         })
     }
 
@@ -761,7 +754,6 @@ impl Node {
             item,
         ) {
             Ok(outcome) => {
-                self.quiet = false;
                 self.closed = kept.is_close();
                 self.stream.push_reserved(kept);
                 Ok(outcome)

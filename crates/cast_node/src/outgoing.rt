@@ -1,17 +1,18 @@
 //! What a node gives its peers. A message goes to many of them and stands here once: the slots of a link keep its place, in
 //! eight bytes, and no count of its payload moves where a slot is given, acknowledged or dropped.
-ghost use Rattle.std.specs.Prelude.{◌≡◌, ◌<◌, ◌≤◌, IsTrue, length, replicate, slice_set, IfOk, OnOk, OnErr};
+ghost use Rattle.std.specs.Prelude.{◌≡◌, ◌<◌, ◌≤◌, ◌↔◌, IsFalse, length, replicate, slice_set, IfOk, OnOk, OnErr};
 ghost use Rattle.std.specs.FinMap as finite;
 ghost use Rattle.std.specs.Option.{option_copied};
 ghost use Rattle.cast_link.specs.Links.{with_acknowledged, IsLeastFrom};
 ghost use Rattle.cast_node.specs.Turns.{given_from};
-ghost use Rattle.cast_node.specs.Giving.{link_in, OwesNothing};
+ghost use Rattle.cast_node.specs.Giving.{link_in, OwesNoneOf};
 ghost use Rattle.cast_node.specs.Outgoing.{links_of, nothing_given, given_to, taken_back, IsLastGiven};
 
-use crate::giving::{give_all, owe_nothing, take_back_all};
+use crate::giving::{give_all, owed_peers, take_back_all};
 use cast_link::LinkOut;
 use cast_message::{Message, NodeId};
 use cast_relay::Relay;
+use cast_sets::GroupSet;
 use std::alloc::{AllocError, Global};
 use std::marker::Model;
 
@@ -22,11 +23,13 @@ pub struct Outgoing {
     messages: Vec<Message>,
     // By peer. A slot keeps the place of its message.
     links: Vec<LinkOut<u32>>,
+    // The peers that are owed a slot, so that no link need be looked at to know whether one of some peers is.
+    owed: GroupSet,
 }
 
 impl Model for Outgoing {
     ghost use Rattle.std.specs.Prelude.{length};
-    ghost use Rattle.cast_node.specs.Outgoing.{Outbound, outbound_code, OwesBelow};
+    ghost use Rattle.cast_node.specs.Outgoing.{Outbound, outbound_code, IsOutgoing};
     ghost use Rattle.cast_message.specs.contracts.message.Message as m;
 
     ghost Value = { Outbound };
@@ -35,12 +38,13 @@ impl Model for Outgoing {
 
     ghost view = { λ o. record { messages = o.messages.items; links = o.links.items } };
 
-    ghost invariant = { λ o. OwesBelow (length o.messages.items) o.links.items };
+    ghost invariant = { λ o. IsOutgoing (length o.messages.items) o.links.items o.owed };
 }
 
 impl Outgoing {
     /// Nothing was given to any of so many peers.
     pub fn new(alloc: Global, peers: u64) -> Result<Outgoing, AllocError>
+        requires { peers ≤ 64 }
         ensures ok { IfOk result (λ outgoing. outgoing ≡ nothing_given peers) }
         ensures links { IfOk result (λ outgoing. links_of outgoing
             ≡ replicate peers (record { given = 0; owed = finite.empty })) }
@@ -52,6 +56,7 @@ impl Outgoing {
         Ok(Outgoing {
             messages: Vec::new(alloc),
             links,
+            owed: GroupSet::new(),
         })
     }
 
@@ -80,7 +85,10 @@ impl Outgoing {
         self.messages.push(message.copy()?)?;
         let links = self.links.as_mut_slice();
         match give_all(links, 0, relay, source, message.sender, place as u32) {
-            Ok(()) => Ok(()),
+            Ok(()) => {
+                self.owed = owed_peers(self.links.as_slice());
+                Ok(())
+            }
             Err(refused) => {
                 self.messages.pop();
                 Err(refused)
@@ -95,6 +103,7 @@ impl Outgoing {
         ensures { self.new ≡ taken_back relay.now source sender self.old }
     {
         take_back_all(self.links.as_mut_slice(), 0, relay, source, sender);
+        self.owed = owed_peers(self.links.as_slice());
         self.messages.pop();
     }
 
@@ -113,7 +122,11 @@ impl Outgoing {
         ensures { links_of self.new ≡ slice_set (links_of self.old) to
             (with_acknowledged (link_in (links_of self.old) to) slot) }
     {
-        self.links[usize::from(to.0)].acked(slot);
+        let link = &mut self.links[usize::from(to.0)];
+        link.acked(slot);
+        if link.owed() == 0 {
+            self.owed.remove(to);
+        }
     }
 
     /// How many slots a peer was given.
@@ -140,10 +153,10 @@ impl Outgoing {
         self.links[usize::from(to.0)].least_owed(from)
     }
 
-    /// Whether no slot is owed to any peer.
-    pub fn owes_nothing(&self) -> bool
-        ensures { IsTrue result → OwesNothing (links_of self.now) }
+    /// Whether a slot is owed to one of these peers.
+    pub fn owes_one_of(&self, peers: &GroupSet) -> bool
+        ensures { IsFalse result ↔ OwesNoneOf (links_of self.now) peers.now }
     {
-        owe_nothing(self.links.as_slice())
+        self.owed.meets(peers)
     }
 }

@@ -1,5 +1,5 @@
 //! A set of nodes of one group, which has at most 64: a bit for each, in one word.
-ghost use Rattle.std.specs.Prelude.{◌≡◌, ◌<◌};
+ghost use Rattle.std.specs.Prelude.{◌≡◌, ◌<◌, ◌↔◌, IsFalse};
 ghost use Rattle.std.specs.FinSet as set;
 
 use cast_message::NodeId;
@@ -56,5 +56,20 @@ impl GroupSet {
         ensures { self.new ≡ set.insert self.old node }
     {
         self.word |= 1 << node.0;
+    }
+
+    /// Takes a node of the group out, one below 64.
+    pub fn remove(&mut self, node: NodeId)
+        requires { node < 64 }
+        ensures { self.new ≡ set.remove self.old node }
+    {
+        self.word &= !(1 << node.0);
+    }
+
+    /// Whether a node is in both sets.
+    pub fn meets(&self, other: &GroupSet) -> bool
+        ensures { IsFalse result ↔ set.intersection self.now other.now ≡ set.empty }
+    {
+        self.word & other.word != 0
     }
 }

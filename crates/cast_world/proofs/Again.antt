@@ -1,5 +1,5 @@
 -- A frame that arrived before: its target awaits nothing of it.
-use Rattle.std.proofs.Common.{◌≡◌, ℕ, zero, suc, ◌<◌, refl, sym, ◌∙◌, ap, subst, Bool, true, false, not, cond, ◌&&◌, ◌||◌, List, [], ◌∷◌, ◌++◌, length, Option, Some, None, inl, inr, is_some, Result, Ok, Err, true≢false, arith}
+use Rattle.std.proofs.Common.{◌≡◌, ℕ, zero, suc, ◌<◌, refl, sym, ◌∙◌, ap, subst, Bool, true, false, not, cond, ◌&&◌, ◌||◌, List, [], ◌∷◌, ◌++◌, length, Option, Some, None, inl, inr, Result, Ok, Err, true≢false, arith}
 use Rattle.std.specs.Prelude.{◌==◌, nat_lt, slice_get, option_map, if◌then◌else◌, OnErr}
 use Rattle.std.specs.List.{list_any, Contains}
 use Rattle.std.specs.FinSet as set
@@ -29,7 +29,7 @@ use Rattle.cast_model.proofs.OwnHeld.{own_taken-steps_of, own_acked-steps_of}
 use Rattle.cast_model.proofs.OwnReplies.{own_fault-steps_of, frame_ends}
 use Rattle.cast_model.proofs.Agreement.{node_in as node_in_group}
 use Rattle.cast_node.specs.Kept.{Kept, taken_from, knowers_of, is_enough, is_enough_in}
-use Rattle.cast_node.specs.Turns.{is_turn, is_awaited, kept_view, kept_causes, kept_fault}
+use Rattle.cast_node.specs.Turns.{is_turn, is_word_awaited, is_awaited, kept_view, kept_causes, kept_fault}
 use Rattle.cast_node.specs.Stands.{Stands as NodeStands}
 use Rattle.cast_node.proofs.HolderSets.{enough-is}
 use Rattle.cast_node.proofs.Refusals.{faults_are}
@@ -133,14 +133,14 @@ module _ (config : Config) (past : History) (world : State) (st : Stands config 
   -- of a word that a slot was taken
   word : (slot : ℕ) → frame.body ≡ Took slot → is_awaited kept from (Took slot) ≡ false
   unfolding acked
-  word slot body = ap is_some ((b.out from inside apart).owed slot) ∙ by_test (nat_lt slot (length (own_given me (steps_of past me) from))) (own_acked (steps_of past me) from slot) acknowledged
+  word slot body = ap (is_word_awaited kept from) ((b.out from inside apart).owed slot) ∙ by_test (nat_lt slot (length (own_given me (steps_of past me) from))) (own_acked (steps_of past me) from slot) acknowledged
     where
       acknowledged : own_acked (steps_of past me) from slot ≡ true
       acknowledged =
           own_acked-steps_of past me from slot
           ∙ list_any-Member _ frame (arrivals past me) arrived (and_from _ _ (eq-eqb _ _ maker) (ap (is_took_of slot) body ∙ eq-eqb slot slot refl))
 
-      by_test : (given heard : Bool) → heard ≡ true → is_some (if given && not heard then Some (message_in (own_given me (steps_of past me) from) slot) else None) ≡ false
+      by_test : (given heard : Bool) → heard ≡ true → is_word_awaited kept from (if given && not heard then Some (message_in (own_given me (steps_of past me) from) slot) else None) ≡ false
       by_test true true e = refl
       by_test false heard e = refl
       by_test true false e = absurd (true≢false (sym e))

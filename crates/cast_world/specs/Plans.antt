@@ -1,11 +1,13 @@
 -- What is due in a round, read off what a world keeps.
---     live_at world              the nodes that have not crashed
+--     live_at world              the nodes that have not crashed; AreLive world nodes: these are they
 --     owed_slots link            the slots of a link that are owed, ascending; owed_below n link: those below n
 --     due_at world               the slots that live nodes owe live nodes, by the giver, then the taker
 --     events_from world d        the events that settle one slot from here
-use Rattle.std.specs.Prelude.{◌≡◌, ◌≢◌, ℕ, false, ◌^◌, ◌<◌, ◌≤◌, ◌==◌, if◌then◌else◌, List, [], ◌∷◌, length, map}
+use Rattle.std.specs.Prelude.{◌≡◌, ◌≢◌, ℕ, false, ◌^◌, ◌<◌, ◌≤◌, ◌==◌, nat_lt, ◌&&◌, if◌then◌else◌, List, [], ◌∷◌, length, map}
 use Rattle.std.specs.List.{filter, flat_map, range_with_len}
+use Rattle.std.specs.Ordering.{nat_cmp}
 use Rattle.std.specs.FinMap as finite
+use Rattle.std.specs.FinSet as set
 use Rattle.cast_message.specs.declared.event.Event.{Event}
 use Rattle.cast_message.specs.declared.event.Event.TheVariants.{Send, Ack, Arrive}
 use Rattle.cast_model.specs.Delivery.{nodes_of}
@@ -17,6 +19,10 @@ use Rattle.cast_world.specs.Group.{State, node_at, marks_at}
 
 abbrev pub live_at : State → List ℕ
 live_at world = filter (λ p. (node_at world p).live) (nodes_of world.config)
+
+abbrev pub AreLive : State → set.FinSet nat_cmp → Type 0
+AreLive world nodes =
+    (q : ℕ) → set.contains nodes q ≡ (nat_lt q (length world.nodes) && (node_at world q).live)
 
 abbrev pub due_of : ℕ → ℕ → ℕ → Due
 due_of p q slot = record { from = p; to = q; slot = slot }

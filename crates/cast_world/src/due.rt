@@ -5,12 +5,13 @@ ghost use Rattle.cast_node.specs.Kept.{link_to};
 ghost use Rattle.cast_node.specs.Calls.{is_peer};
 ghost use Rattle.cast_model.specs.Rounds.{Rest, due};
 ghost use Rattle.cast_world.specs.Group.{StandingFor};
-ghost use Rattle.cast_world.specs.Plans.{live_at, due_of, due_between_at, due_at, owed_below, OwesNoneFrom, events_from, IsBounded};
+ghost use Rattle.cast_world.specs.Plans.{AreLive, live_at, due_of, due_between_at, due_at, owed_below, OwesNoneFrom, events_from, IsBounded};
 
 use crate::due_slots::{DueSlot, DueSlots};
 use crate::world::World;
 use cast_message::{Event, NodeId};
 use cast_node::Node;
+use cast_sets::GroupSet;
 use std::alloc::{AllocError, Global};
 
 impl World {
@@ -56,21 +57,29 @@ impl World {
 fn find_due(alloc: Global, world: &World) -> Result<DueSlots, AllocError>
     ensures { IsBounded world.now → IfOk result (λ due. due ≡ due_at world.now) }
 {
+    let live = world.live_nodes();
     let mut due = DueSlots::new(alloc);
     for giver in 0..world.node_count() {
         if world.is_up(NodeId(giver)) {
-            add_due_from(world, NodeId(giver), &mut due)?;
+            add_due_from(world, NodeId(giver), &live, &mut due)?;
         }
     }
     Ok(due)
 }
 
-fn add_due_from(world: &World, giver: NodeId, due: &mut DueSlots) -> Result<(), AllocError>
-    requires { giver < length world.now.nodes }
+// The slots that a node owes live nodes.
+fn add_due_from(
+    world: &World,
+    giver: NodeId,
+    live: &GroupSet,
+    due: &mut DueSlots,
+) -> Result<(), AllocError>
+    requires giver { giver < length world.now.nodes }
+    requires live { AreLive world.now live.now }
     ensures { IsBounded world.now → OnOk result (due.new
         ≡ due.old ++ flat_map (due_between_at world.now giver) (live_at world.now)) }
 {
-    if world.node_of(giver).owes_nothing() {
+    if !world.node_of(giver).owes_one_of(live) {
         return Ok(());
     }
     for taker in 0..world.node_count() {

@@ -1,15 +1,17 @@
 //! Rest: no live node owes a live node anything, so that nothing that a round could bring is missing anywhere.
-ghost use Rattle.std.specs.Prelude.{◌≡◌, ◌<◌, ◌↔◌, IsTrue};
+ghost use Rattle.std.specs.Prelude.{◌≡◌, ◌<◌, ◌↔◌, IsTrue, length};
 ghost use Rattle.cast_message.specs.declared.config.Mode.TheVariants.{Uniform};
 ghost use Rattle.cast_model.specs.Rounds.{Rest, HaveFewCrashed, FewCrashedIn};
 ghost use Rattle.cast_world.specs.Group.{StandingFor};
-ghost use Rattle.cast_world.specs.Rounds.{IsSettled, IsSettledWithAll, IsFirstGiver, AgreesAtRest, HaveWhatAnyDelivered};
+ghost use Rattle.cast_world.specs.Plans.{AreLive};
+ghost use Rattle.cast_world.specs.Rounds.{IsSettledWithAll, IsFirstGiver, AgreesAtRest, HaveWhatAnyDelivered};
 
 use crate::world::World;
 use cast_message::NodeId;
+use cast_sets::GroupSet;
 
 impl World {
-    /// Whether no live node owes a live node a slot. It takes no memory, and looks at each link once at most.
+    /// Whether no live node owes a live node a slot. It takes no memory, and looks at nodes alone, at no link.
     ///
     /// At rest all live nodes have delivered the same from each sender, the whole stream of a live one; and an instance that one
     /// of them decided, or of which proposals of as many senders as there are nodes less faults stand in what they delivered, is
@@ -31,52 +33,41 @@ impl World {
     pub(crate) fn first_giver(&self) -> Option<NodeId>
         ensures { StandingFor self.now (λ config past. IsFirstGiver config past result) }
     {
+        let live = self.live_nodes();
         for giver in 0..self.node_count() {
-            if !self.owes_nobody(NodeId(giver)) {
+            if !self.owes_nobody(NodeId(giver), &live) {
                 return Some(NodeId(giver));
             }
         }
         None
     }
 
-    // Whether a node is not live, or owes no live node a slot.
-    fn owes_nobody(&self, giver: NodeId) -> bool
-        ensures { StandingFor self.now (λ config past.
-            giver < config.nodes → (IsTrue result ↔ IsSettledWithAll config past giver)) }
+    /// The nodes that have not crashed. It takes no memory.
+    pub(crate) fn live_nodes(&self) -> GroupSet
+        ensures { AreLive self.now result }
     {
-        if self.is_quiet(giver) {
-            return true;
-        }
-        for taker in 0..self.node_count() {
-            if !self.is_settled(giver, NodeId(taker)) {
-                return false;
+        let mut live = GroupSet::new();
+        for node in 0..self.node_count() {
+            if self.is_up(NodeId(node)) {
+                live.insert(NodeId(node));
             }
         }
-        true
+        live
     }
 
-    // Whether a node is known to owe nobody anything, so that its links need not be looked at.
-    fn is_quiet(&self, giver: NodeId) -> bool
+    // Whether a node is not live, or owes no live node a slot.
+    fn owes_nobody(&self, giver: NodeId, live: &GroupSet) -> bool
+        requires giver { giver < length self.now.nodes }
+        requires live { AreLive self.now live.now }
         ensures { StandingFor self.now (λ config past.
-            giver < config.nodes → IsTrue result → IsSettledWithAll config past giver) }
+            IsTrue result ↔ IsSettledWithAll config past giver) }
     {
-        match self.node(giver) {
-            Some(node) => node.owes_nothing(),
-            None => false,
-        }
-    }
-
-    // Whether one of the two is not live, or the first owes the other nothing.
-    fn is_settled(&self, giver: NodeId, taker: NodeId) -> bool
-        ensures { StandingFor self.now (λ config past. giver < config.nodes → taker < config.nodes →
-            (IsTrue result ↔ IsSettled past giver taker)) }
-    {
-        if !self.live(giver) || !self.live(taker) {
+        let node = self.node_of(giver);
+        if !node.live() {
             return true;
         }
-        match self.owed(giver, taker) {
-            Some(count) => count == 0,
-            None => true,
-        }
+        let mut others = live.copy();
+        others.remove(giver);
+        !node.owes_one_of(&others)
     }
 }

@@ -123,7 +123,7 @@ fn run_live_script<I: Read, R: Runtime + AllocGlobal + Threads + Wait + Copy + S
     };
     let run = run_script(*rt, rt.alloc(), script, &progress);
     if let Some(teller) = teller {
-        teller.stop();
+        teller.stop(rt);
     }
     run
 }

@@ -12,15 +12,22 @@ use std::time::Duration;
 // Seconds from one line to the next.
 const LINE_SECONDS: u64 = 1;
 
+// How many milliseconds a line that is being told is waited for.
+const LAST_LINE_MILLIS: u64 = 1000;
+
 /// What the thread that tells shares with the one that waits for the run.
 #[derive(Drop)]
 struct Bell {
+    // The run has ended.
     ended: AtomicBool,
+    // A line is being told.
+    speaks: AtomicBool,
     parker: Parker,
 }
 
 /// A thread that tells how far a run is, until it is told that the run has ended. It is not joined: where standard error takes
-/// nothing it waits for that, and what became of the run is told all the same.
+/// nothing it waits for that, and what became of the run is told all the same. But a line that is being told then is waited for,
+/// a second at most: where the program began without standard error, the next file that is made stands in its place.
 #[derive(Drop)]
 pub struct Teller {
     bell: Arc<Bell, Global>,
@@ -37,8 +44,8 @@ pub fn due_deliveries(script: &Script) -> u64 {
 }
 
 impl Teller {
-    /// Starts to tell, in a thread more than those of the run. Where no memory or no thread can be had for it, nothing is
-    /// told, and the run goes on all the same.
+    /// Starts to tell, in a thread more than those of the run, which is started first. Where no memory or no thread can be had
+    /// for it, nothing is told, and the run goes on all the same.
     pub fn start<T: Threads + Wait + Copy + Send + 'static>(
         rt: T,
         alloc: Global,
@@ -48,6 +55,7 @@ impl Teller {
     ) -> Option<Teller> {
         let bell = Bell {
             ended: AtomicBool::new(false),
+            speaks: AtomicBool::new(false),
             parker: Parker::new(),
         };
         let bell = Arc::new(alloc, bell).ok()?;
@@ -59,9 +67,16 @@ impl Teller {
     }
 
     /// Stops telling, as the run has ended.
-    pub fn stop(&self) {
+    pub fn stop<R: Wait>(&self, rt: &R) {
         self.bell.ended.store(true, Ordering::SeqCst);
         self.bell.parker.unpark();
+        let nap = Parker::new();
+        for _ in 0..LAST_LINE_MILLIS {
+            if !self.bell.speaks.load(Ordering::SeqCst) {
+                return;
+            }
+            nap.park_timeout(rt, Duration::from_millis(1));
+        }
     }
 }
 
@@ -69,12 +84,22 @@ fn tell_each_second<R: Wait>(rt: &R, stderr: Stderr, progress: &Progress, due: u
     for _ in rt.forever() {
         bell.parker
             .park_timeout(rt, Duration::from_secs(LINE_SECONDS));
-        if bell.ended.load(Ordering::SeqCst) {
+        // Who stops it says so before it looks whether a line is being told, so one of the two sees the other.
+        bell.speaks.store(true, Ordering::SeqCst);
+        let ended = bell.ended.load(Ordering::SeqCst);
+        if !ended {
+            tell_line(&stderr, progress, due);
+        }
+        bell.speaks.store(false, Ordering::SeqCst);
+        if ended {
             return;
         }
-        let deliveries = progress.deliveries();
-        let turns = progress.turns();
-        // Where standard error fails there is nobody to tell.
-        let _ = eprintln!(&stderr; "castgroup: {deliveries} of {due} deliveries, {turns} turns");
     }
+}
+
+fn tell_line(stderr: &Stderr, progress: &Progress, due: u64) {
+    let deliveries = progress.deliveries();
+    let turns = progress.turns();
+    // Where standard error fails there is nobody to tell.
+    let _ = eprintln!(stderr; "castgroup: {deliveries} of {due} deliveries, {turns} turns");
 }

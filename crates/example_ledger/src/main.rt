@@ -48,8 +48,8 @@ fn step_by_step(rt: &impl Print, alloc: Global) -> Result<()> {
     Ok(())
 }
 
-// How the threads take turns differs from run to run. What is printed doesn't: the tellers end when all is delivered,
-// unless memory was wanting.
+// How the threads take turns differs from run to run. What is printed doesn't: the tellers end when all is delivered, unless
+// memory was wanting, or a teller was called as often as a job is at most before that.
 fn in_threads<R: Threads + Wait + Print + Copy + Send + 'static>(
     rt: R,
     alloc: Global,

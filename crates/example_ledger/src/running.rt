@@ -39,8 +39,8 @@ pub struct RunningLedger {
 
 /// Runs a group in threads as `run_live` does, with a plan of what goes wrong and at most 4,000,000 turns a node, and merges what
 /// its nodes logged. Whether it has come to rest, `assembly.world` says. It is refused as `run_live` refuses it: for a teller at
-/// a node that does not exist, more than 4 at one, or a plan that names a node that does not exist; for want of memory; for a
-/// thread that isn't started.
+/// a node that does not exist, more than 4 at one, or a plan that names a node that does not exist or a node's link to itself;
+/// for want of memory; for a thread that isn't started.
 pub fn run_tellers<R: Threads + Wait + Copy + Send + 'static>(
     rt: R,
     alloc: Global,

@@ -24,6 +24,14 @@ fn keeps_nodes_of_a_group(rt: HostRuntime) {
     nodes.insert(NodeId(63));
     assert!(rt; nodes.len() == 2);
     assert!(rt; nodes.copy().len() == 2);
+    let mut others = GroupSet::new();
+    others.insert(NodeId(63));
+    assert!(rt; nodes.meets(&others) && others.meets(&nodes));
+    others.remove(NodeId(63));
+    others.remove(NodeId(62));
+    others.insert(NodeId(1));
+    assert!(rt; others.len() == 1 && !nodes.meets(&others));
+    assert!(rt; !GroupSet::new().meets(&nodes));
 }
 
 // Numbers, and whether each is new when it is inserted, was there when it is removed, and is there in the end.

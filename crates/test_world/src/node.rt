@@ -3,6 +3,7 @@
 use crate::events::{MOST_FRAMES, config, propose};
 use cast_message::{Frame, FrameBody, Item, Message, Mode, NodeId, StepFault};
 use cast_node::Node;
+use cast_sets::GroupSet;
 use std::alloc::Global;
 use std::process::Abort;
 use std::test::Fail;
@@ -43,7 +44,8 @@ enum Sight {
     // Of a sender and a number.
     KnownBy(u8, u64),
     Holds(u8, u64),
-    OwesNothing,
+    // Of two peers.
+    OwesOneOf(u8, u8),
 }
 
 // What a node answers.
@@ -156,6 +158,17 @@ fn length(items: Option<&[Item]>) -> Answer {
     number(items.map(|items| items.len() as u64))
 }
 
+fn nodes_of(one: u8, other: u8) -> GroupSet {
+    let mut nodes = GroupSet::new();
+    if one < 64 {
+        nodes.insert(NodeId(one));
+    }
+    if other < 64 {
+        nodes.insert(NodeId(other));
+    }
+    nodes
+}
+
 fn see(node: &Node, sight: Sight) -> Answer {
     match sight {
         Sight::Stream => length(Some(node.stream())),
@@ -166,7 +179,7 @@ fn see(node: &Node, sight: Sight) -> Answer {
         Sight::Frames => Answer::Number(node.frames()),
         Sight::KnownBy(sender, number) => Answer::Number(node.known_by(NodeId(sender), number)),
         Sight::Holds(sender, number) => Answer::Is(node.holds(NodeId(sender), number)),
-        Sight::OwesNothing => Answer::Is(node.owes_nothing()),
+        Sight::OwesOneOf(one, other) => Answer::Is(node.owes_one_of(&nodes_of(one, other))),
     }
 }
 
@@ -336,9 +349,10 @@ const HOLDERS: Rows = &[
 
 const WORDS: Rows = &[
     // Node 0 orders a Close, which no peer could carry to it.
-    (Ask::See(Sight::OwesNothing), Ok(Answer::Is(true))),
+    (Ask::See(Sight::OwesOneOf(1, 2)), Ok(Answer::Is(false))),
     (Ask::Close, Ok(Answer::Ordered(0, 0))),
-    (Ask::See(Sight::OwesNothing), Ok(Answer::Is(false))),
+    (Ask::See(Sight::OwesOneOf(0, 2)), Ok(Answer::Is(true))),
+    (Ask::See(Sight::OwesOneOf(0, 3)), Ok(Answer::Is(false))),
     (Ask::CarryAgain(1, 0, 0, 0), Ok(Answer::Delivered(0))),
     // These are words of no peer of three, or of a slot that was not given.
     (Ask::Took(0, 0), Ok(Answer::Delivered(0))),
@@ -348,9 +362,10 @@ const WORDS: Rows = &[
     // Both peers took it.
     (Ask::Took(1, 0), Ok(Answer::Delivered(1))),
     (Ask::Took(1, 0), Ok(Answer::Delivered(0))),
-    (Ask::See(Sight::OwesNothing), Ok(Answer::Is(false))),
+    (Ask::See(Sight::OwesOneOf(0, 1)), Ok(Answer::Is(false))),
+    (Ask::See(Sight::OwesOneOf(1, 2)), Ok(Answer::Is(true))),
     (Ask::Took(2, 0), Ok(Answer::Delivered(0))),
-    (Ask::See(Sight::OwesNothing), Ok(Answer::Is(true))),
+    (Ask::See(Sight::OwesOneOf(1, 2)), Ok(Answer::Is(false))),
     // A crashed node hears nothing.
     (Ask::MayArrive, Ok(Answer::Done)),
     (Ask::Crash, Ok(Answer::Done)),

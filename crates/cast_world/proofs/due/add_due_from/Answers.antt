@@ -1,5 +1,5 @@
 use Rattle.std.proofs.Common.{◌∙◌, sym}
-use Rattle.cast_world.specs.Plans.{due_between_at, live_at}
+use Rattle.cast_world.specs.Plans.{due_between_at}
 use Rattle.cast_world.proofs.Planning.{nodes_more, nodes_same, none_due}
 use Rattle.cast_world.proofs.due.add_due_from.Goals.{then-is_up+in_ok-add_due_between, else-is_up}
 use Rattle.cast_world.proofs.due.add_due_from.Goals as goal
@@ -12,6 +12,6 @@ loop-taker-preserved c bounded = elim c.if-is_up.branch [
       nodes_same (due_between_at c.args.world.now c.args.giver) _ c.loop-taker.taker c.args.due.now c.loop-taker.due c.if-is_up.due (sym c.is_up.ensures ∙ w.if-is_up.false) (c.loop-taker.invariant bounded) w.due-is
 ]
 
-pub returns-then-owes_nothing : goal.returns-then-owes_nothing
-returns-then-owes_nothing c bounded =
-    none_due c.args.world.now c.args.giver c.node_of.result.now (live_at c.args.world.now) c.args.due.now c.node_of.ensures.node (c.owes_nothing.ensures c.if-owes_nothing.true)
+pub returns-then-not-owes_one_of : goal.returns-then-not-owes_one_of
+returns-then-not-owes_one_of c bounded =
+    none_due c.args.world.now c.args.giver c.node_of.result.now c.args.live.now c.args.due.now c.node_of.ensures.node c.node_of.ensures.size c.requires.live (c.owes_one_of.ensures.0 c.if-not-owes_one_of.true)

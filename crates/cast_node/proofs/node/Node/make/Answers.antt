@@ -7,8 +7,7 @@ use Rattle.std.specs.List.{list_any}
 use Rattle.cast_relay.specs.Held.{Held}
 use Rattle.cast_node.specs.Delivering.{Delivering}
 use Rattle.cast_node.specs.Sound.{Owes, IsWithin}
-use Rattle.cast_node.specs.Giving.{OwesNothing}
-use Rattle.cast_node.proofs.Owing.{owes_none, nothing_yet}
+use Rattle.cast_node.proofs.Owing.{owes_none}
 use Rattle.cast_node.proofs.Parts.{length-replicate}
 use Rattle.cast_node.proofs.node.Node.make.Goals as goal
 
@@ -33,5 +32,4 @@ invariant_of-result c =
       senders = ap (λ (d : Delivering). length d.hold_back) ds ∙ length-replicate _ _;
       rows = ap (λ (d : Delivering). length d.knowers) ds ∙ length-replicate _ _;
       owes = subst (Owes c.args.config.now.nodes c.args.config.now.item_limit) (sym out) (owes_none (IsWithin c.args.config.now.nodes c.args.config.now.item_limit) _);
-      silent = λ _. subst OwesNothing (sym out) (nothing_yet _);
     }

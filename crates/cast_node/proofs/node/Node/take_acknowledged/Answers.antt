@@ -1,7 +1,12 @@
-use Rattle.std.proofs.Common.{◌∙◌, ap, sym, arith, rules}
+use Rattle.std.proofs.Common.{◌∙◌, refl, ap, sym, subst, arith, rules}
+use Rattle.std.specs.FinMap as finite
 use Rattle.std.specs.FinSet as set
 use Rattle.std.specs.Option.{option_copied}
-use Rattle.cast_node.specs.Kept.{Kept}
+use Rattle.cast_message.proofs.Results.{on_err}
+use Rattle.cast_fifo.specs.Held.{held_of}
+use Rattle.cast_node.specs.Kept.{Kept, link_to, knowers_of, is_enough_in}
+use Rattle.cast_node.specs.Delivering.{HasPlace}
+use Rattle.cast_node.proofs.Again.{awaits_word}
 use Rattle.cast_node.specs.Outgoing.{links_of}
 use Rattle.cast_node.proofs.Words.{word_told, word_keeps}
 use Rattle.cast_node.proofs.node.Node.take_acknowledged.Goals as goal
@@ -23,10 +28,21 @@ pub acknowledge-requires : goal.acknowledge-requires
 acknowledge-requires c = omega (arith, c.requires, c.self.invariant.peers_out, ap (λ (k : Kept). k.config.nodes) c.self.view_is)
 
 pub invariant_of-self-2 : goal.invariant_of-self-2
-invariant_of-self-2 c = word_keeps c.self.invariant c.args.from c.args.slot c.in-Some.message.now (links_of c.acknowledge.new.self) c.acknowledge.ensures c.insert.new.self c.tell.new.self _ c.in_ok-outcome.ensures.ok c.owes_nothing-self-inside.ensures
+invariant_of-self-2 c = word_keeps c.self.invariant c.args.from c.args.slot c.in-Some.message.now (links_of c.acknowledge.new.self) c.acknowledge.ensures c.insert.new.self c.tell.new.self c.in_ok-outcome.ensures.ok
 
 pub returns : goal.returns
 returns c =
     let told = word_told c.self.invariant c.args.from c.args.slot c.in-Some.message.now (links_of c.acknowledge.new.self) c.acknowledge.ensures c.self.inside.live c.self.inside.frames c.args.self.now c.insert.new.self c.tell.new.self c.self.view_is
     (sym c.message.ensures ∙ ap option_copied c.in-Some.is) (c.insert.ensures ∙ ap (λ members. set.insert members c.args.from) c.members-members.ensures) c.in_ok-outcome.ensures.ok in
     record { outcome = c.in_ok-outcome.ensures.outcome ∙ told.1; ok = told.0; err = search rules; awaited = search rules }
+
+pub returns-in_err-outcome-clause-awaited : goal.returns-in_err-outcome-clause-awaited
+returns-in_err-outcome-clause-awaited c =
+    let message = c.in-Some.message.now in
+    let now = c.self.view_is in
+    let members = c.insert.ensures ∙ ap (λ known. set.insert known c.args.from) (c.members-members.ensures ∙ ap (λ (k : Kept). knowers_of k message.sender message.number) now) in
+    let owed = ap (λ (k : Kept). finite.get (link_to k c.args.from).owed c.args.slot) (sym now) ∙ sym c.message.ensures ∙ ap option_copied c.in-Some.is in
+    on_err c.from_residual.result
+    (awaits_word c.args.self.now c.args.from c.args.slot message c.insert.new.self owed members
+    (λ place. let turn = c.in_err-outcome.ensures.again refl (subst (λ (k : Kept). HasPlace k.knowers message.sender message.number) (sym now) place) in
+    (sym (ap (λ (k : Kept). is_enough_in k.config.mode k.config.faults c.insert.new.self) now) ∙ sym (λ j. is_enough_in (c.self.invariant.mode j) (c.self.invariant.faults j) c.insert.new.self) ∙ turn.0, turn.1 ∙ ap (λ (k : Kept). (held_of k.hold_back message.sender).next) now)))

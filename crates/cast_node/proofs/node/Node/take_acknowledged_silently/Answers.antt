@@ -23,7 +23,7 @@ pub acknowledge-requires : goal.acknowledge-requires
 acknowledge-requires c = omega (arith, c.requires, c.self.invariant.peers_out, ap (λ (k : Kept). k.config.nodes) c.self.view_is)
 
 pub invariant_of-self-2 : goal.invariant_of-self-2
-invariant_of-self-2 c = word_keeps c.self.invariant c.args.from c.args.slot c.in-Some.message.now (links_of c.acknowledge.new.self) c.acknowledge.ensures c.insert.new.self c.tell_silently.new.self _ (c.in-Ok.ensures.ok c.if-not-silent.false) c.owes_nothing-self-inside.ensures
+invariant_of-self-2 c = word_keeps c.self.invariant c.args.from c.args.slot c.in-Some.message.now (links_of c.acknowledge.new.self) c.acknowledge.ensures c.insert.new.self c.tell_silently.new.self (c.in-Ok.ensures.ok c.if-not-silent.false)
 
 pub returns : goal.returns
 returns c =

@@ -27,7 +27,7 @@ invariant_of-self-in-Ok c =
     let links = done.spread.links in
     let room = c.self.invariant.room (c.self.invariant.closes ∙ fine.unclosed) in
     let within : (relay.me < c.self.inside.config.nodes) × (relay.own < c.self.inside.config.item_limit) = (omega (arith, c.self.invariant.place, c.self.invariant.relay_me), omega (arith, room, c.self.invariant.relay_own)) in
-    keeps_own c.self.inside.config c.self.inside.me c.self.inside.stream.items _ c.self.inside.closed _ c.self.inside.proposed _ relay _ (links_of c.self.inside.outgoing) _ c.self.inside.incoming.items ds c.take_up_own.new.deliveries c.self.inside.quiet c.args.item c.self.invariant fine.unclosed fine.room
+    keeps_own c.self.inside.config c.self.inside.me c.self.inside.stream.items _ c.self.inside.closed _ c.self.inside.proposed _ relay _ (links_of c.self.inside.outgoing) _ c.self.inside.incoming.items ds c.take_up_own.new.deliveries c.args.item c.self.invariant fine.unclosed fine.room
     (c.push_reserved.ensures.items ∙ (λ k. c.reserve.ensures.items k ++ c.in_ok-kept.ensures.ok k ∷ []))
     (c.is_close-self-inside.ensures ∙ ap is_close c.in_ok-kept.ensures.ok)
     (c.in_ok-propose.ensures.ok ∙ ap (with_proposal c.self.inside.proposed) c.in_ok-kept.ensures.ok)
@@ -52,6 +52,6 @@ invariant_of-self-in-Err c =
     let fine = subst (λ k. OrderFine k c.args.item) (sym c.self.view_is) (order_fine c.args.self.now c.args.item c.requires) in
     let back = c.in-Err.ensures in
     let all = links_of c.self.inside.outgoing in
-    keeps_all c.self.inside.config c.self.inside.me c.self.inside.stream.items _ c.self.inside.closed c.self.inside.proposed _ c.self.inside.relay _ all _ c.self.inside.incoming.items c.self.inside.deliveries _ c.self.inside.quiet c.self.invariant c.reserve.ensures.items
+    keeps_all c.self.inside.config c.self.inside.me c.self.inside.stream.items _ c.self.inside.closed c.self.inside.proposed _ c.self.inside.relay _ all _ c.self.inside.incoming.items c.self.inside.deliveries _ c.self.invariant c.reserve.ensures.items
     (c.withdraw.ensures ∙ (λ k. without_proposal ((c.in_ok-propose.ensures.ok ∙ ap (with_proposal c.self.inside.proposed) c.in_ok-kept.ensures.ok) k) (c.in_ok-kept.ensures.ok k)) ∙ withdrawn c.self.inside.proposed c.self.inside.stream.items c.args.item c.self.invariant.proposals fine.first)
     back.err (ap links_of back.spread.same_outgoing) back.spread.same_deliveries

@@ -23,7 +23,7 @@ index-requires-2 c =
     let messages = c.self.inside.messages.items in
     let links = c.self.inside.links.items in
     let here = link_here _ _ c.from.result c.args.to c.index.result.now _ c.self.view_is (c.from.ensures ∙ c.to.view_is) c.requires c.index.ensures in
-    let kept = c.self.invariant c.args.to c.args.slot c.in_ok-place.place.now (ap (λ l. finite.get l.owed c.args.slot) (sym here) ∙ sym c.in_ok-place.ensures) in
+    let kept = c.self.invariant.below c.args.to c.args.slot c.in_ok-place.place.now (ap (λ l. finite.get l.owed c.args.slot) (sym here) ∙ sym c.in_ok-place.ensures) in
     omega (arith, kept, c.self.inside.messages.ok.0)
 
 pub returns : goal.returns
@@ -31,7 +31,7 @@ returns c =
     let messages = c.self.inside.messages.items in
     let links = c.self.inside.links.items in
     let here = link_here _ _ c.from.result c.args.to c.index.result.now _ c.self.view_is (c.from.ensures ∙ c.to.view_is) c.requires c.index.ensures in
-    let kept = c.self.invariant c.args.to c.args.slot c.in_ok-place.place.now (ap (λ l. finite.get l.owed c.args.slot) (sym here) ∙ sym c.in_ok-place.ensures) in
+    let kept = c.self.invariant.below c.args.to c.args.slot c.in_ok-place.place.now (ap (λ l. finite.get l.owed c.args.slot) (sym here) ∙ sym c.in_ok-place.ensures) in
     ap Some (c.index-2.ensures ∙ get_or_default messages c.in_ok-place.place.now _ (kept_message [] 0) kept)
     ∙ ap (option_map (kept_message messages)) (c.in_ok-place.ensures ∙ ap (λ l. finite.get l.owed c.args.slot) here)
     ∙ sym (get_through messages (link_in links c.args.to).owed c.args.slot)

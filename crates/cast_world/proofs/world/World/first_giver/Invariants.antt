@@ -3,8 +3,8 @@ use Rattle.std.proofs.Common.{ℕ, ◌<◌}
 use Rattle.cast_message.specs.declared.config.Config.{Config}
 use Rattle.cast_model.specs.History.{History}
 use Rattle.cast_world.specs.Group.{Stands}
-use Rattle.cast_world.specs.Rounds.{IsSettled}
+use Rattle.cast_world.specs.Rounds.{IsSettledWithAll}
 use Rattle.cast_world.proofs.world.World.first_giver.Given as goal
 
 abbrev pub invariant-loop-giver : goal.invariant-loop-giver
-invariant-loop-giver l = (config : Config) (past : History) → Stands config past l.self → (p q : ℕ) → p < l.giver → q < config.nodes → IsSettled past p q
+invariant-loop-giver l = (config : Config) (past : History) → Stands config past l.self → (p : ℕ) → p < l.giver → IsSettledWithAll config past p
