@@ -2,3 +2,4 @@ pub mod Transfers
 pub mod Sheets
 pub mod Applied
 pub mod Tellers
+pub mod Story

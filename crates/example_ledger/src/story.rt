@@ -1,6 +1,7 @@
 //! What happens in the example: who orders what, and a list of events in which frames are lost, repeated and reordered and a
 //! node crashes.
-ghost use Rattle.std.specs.Prelude.{◌<◌, IfOk};
+ghost use Rattle.std.specs.Prelude.{◌≡◌, ◌<◌, IfOk, map};
+ghost use Rattle.example_ledger.specs.Story.{all_links, loses_every_second};
 ghost use Rattle.example_ledger.specs.Tellers.{AreNewTellers};
 ghost use Rattle.example_ledger.specs.Transfers.{account_count};
 
@@ -21,8 +22,12 @@ const DAN: u8 = 3;
 
 const NODES: u8 = 3;
 
+const LINKS: &[(u8, u8)] = &[(0, 1), (0, 2), (1, 0), (1, 2), (2, 0), (2, 1)];
+
 /// Three nodes, of which one may crash.
-pub fn config() -> Result<Config, ConfigFault> {
+pub fn config() -> Result<Config, ConfigFault>
+    ensures { IfOk result (λ config. (config.nodes ≡ 3) × (config.faults ≡ 1)) }
+{
     Config::check(u64::from(NODES), 1, 1, 4096, 65536, 64, 0, Mode::Basic)
 }
 
@@ -63,19 +68,20 @@ pub fn tellers(alloc: Global) -> Result<Vec<(NodeId, Teller)>, AllocError>
 }
 
 /// On each link every second frame that carries a message is lost, the first one too.
-pub fn losses(alloc: Global) -> Result<FaultPlan, AllocError> {
+pub fn losses(alloc: Global) -> Result<FaultPlan, AllocError>
+    ensures { IfOk result (λ plan. plan.faults ≡ map loses_every_second all_links) }
+{
     let mut faults = List::new(alloc);
-    for from in 0..NODES {
-        for to in 0..NODES {
-            if from != to {
-                faults.push(lose_every_second(NodeId(from), NodeId(to)))?;
-            }
-        }
+    for link in LINKS {
+        let (from, to) = *link;
+        faults.push(lose_every_second(NodeId(from), NodeId(to)))?;
     }
     Ok(FaultPlan { faults })
 }
 
-fn lose_every_second(from: NodeId, to: NodeId) -> Fault {
+fn lose_every_second(from: NodeId, to: NodeId) -> Fault
+    ensures { result ≡ loses_every_second (from, to) }
+{
     Fault::Lose {
         kind: FrameKind::Carry,
         from,

@@ -1,7 +1,7 @@
 //! A client in a thread of its own, which orders transfers and keeps a book by what its node tells it.
-ghost use Rattle.std.specs.Prelude.{◌≡◌, ◌↔◌, ◌<◌, ◌≤◌, ◌++◌, ◌∷◌, [], length, IsTrue};
+ghost use Rattle.std.specs.Prelude.{◌≡◌, ◌↔◌, ◌<◌, ◌≤◌, ◌++◌, ◌∷◌, ◌+◌, [], length, IsTrue};
 ghost use Rattle.cast_desk.specs.Desk.{IsSameClient};
-ghost use Rattle.cast_run.specs.Jobs.{submitted, got};
+ghost use Rattle.cast_run.specs.Jobs.{HoldsOf, KeepsFact, submitted, got};
 ghost use Rattle.cast_merge.specs.Told.{told};
 ghost use Rattle.example_ledger.specs.Tellers.{HasOrdered};
 
@@ -30,7 +30,14 @@ impl ClientJob for Teller {
 
     ghost fact = { TellerFact };
 
-    fn turn<R: Wait>(&mut self, rt: &R, client: &mut Client) -> bool {
+    // What every job's turn does, and that an order at most is made, and a notice at most taken.
+    fn turn<R: Wait>(&mut self, rt: &R, client: &mut Client) -> bool
+        requires { HoldsOf TellerFact self.old client.old }
+        ensures same { IsSameClient client.old client.new }
+        ensures fact { KeepsFact TellerFact self.old client.old self.new client.new result }
+        ensures one_order { length client.new.orders.put ≤ length client.old.orders.put + 1 }
+        ensures one_notice { length client.new.tray.taken ≤ length client.old.tray.taken + 1 }
+    {
         self.order_next(rt, client);
         self.apply_next(rt, client);
         // Reading the sheet is how a proof comes by it: it is the sheet of the journal.
@@ -68,6 +75,7 @@ impl Teller {
         ensures given { (self.new.items ≡ self.old.items)
             × (self.new.expected ≡ self.old.expected) }
         ensures same { IsSameClient client.old client.new }
+        ensures one { length client.new.orders.put ≤ length client.old.orders.put + 1 }
         ensures tray { client.new.tray ≡ client.old.tray }
         ensures ordered { HasOrdered self.new (submitted client.new) }
         ensures book { self.new.book ≡ self.old.book }
@@ -90,6 +98,7 @@ impl Teller {
             × (self.new.next ≡ self.old.next) }
         ensures same { IsSameClient client.old client.new }
         ensures orders { client.new.orders ≡ client.old.orders }
+        ensures one { length client.new.tray.taken ≤ length client.old.tray.taken + 1 }
         ensures book { self.new.book.journal ≡ told (got client.new) }
     {
         if self.book.reserve().is_err() {

@@ -1,1 +1,2 @@
 pub mod NewJobs
+pub mod Plans

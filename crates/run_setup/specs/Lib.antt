@@ -1,2 +1,3 @@
 pub mod NewJobs
 pub mod Silence
+pub mod Plans

@@ -2,12 +2,12 @@
 use crate::runs::{TURNS, run_jobs};
 use crate::seen::see;
 use anyhow::Result;
-use cast_message::{Event, List, NodeId};
+use cast_message::{Event, NodeId};
 use cast_node::EntryKind;
 use cast_report::{EngineEnd, NodeReport};
 use cast_run::{LiveRun, SubmitAll};
-use cast_script::{Fault, FaultPlan};
-use run_setup::{Shape, lose_every};
+use cast_script::Fault;
+use run_setup::{Shape, lose_every, one_fault};
 use std::alloc::Global;
 use std::sync::Wait;
 use std::thread::Threads;
@@ -78,10 +78,8 @@ pub fn as_the_last_thing<R: Threads + Wait + Print + Copy + Send + 'static>(
     alloc: Global,
     row: &str,
 ) -> Result<()> {
-    let mut faults = List::new(alloc);
     let node = NodeId(0);
-    faults.push(Fault::Crash { node, entries: 3 })?;
-    let plan = FaultPlan { faults };
+    let plan = one_fault(alloc, Fault::Crash { node, entries: 3 })?;
     for _run in 0..TIMES {
         let run = run_jobs(rt, alloc, Shape::new(2, 0, 1), &plan, &[0], 1, TURNS)?;
         let in_place = run
