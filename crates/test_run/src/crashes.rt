@@ -78,8 +78,11 @@ pub fn as_the_last_thing<R: Threads + Wait + Print + Copy + Send + 'static>(
     alloc: Global,
     row: &str,
 ) -> Result<()> {
-    let node = NodeId(0);
-    let plan = one_fault(alloc, Fault::Crash { node, entries: 3 })?;
+    let crash = Fault::Crash {
+        node: NodeId(0),
+        entries: 3,
+    };
+    let plan = one_fault(alloc, crash)?;
     for _run in 0..TIMES {
         let run = run_jobs(rt, alloc, Shape::new(2, 0, 1), &plan, &[0], 1, TURNS)?;
         let in_place = run
