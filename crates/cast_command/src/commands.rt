@@ -20,7 +20,7 @@ const REFUSALS: &str = "Refused events (r EVENT CODE):
 /// What the lines of a summary mean.
 const ENDS: &str =
     "A line for each node, with its end and how many items it delivered from each node. Ends:
-  stopped    the nodes that still ran had all clients done and owed one another nothing, as engines told
+  stopped    its clients were done, and the nodes that still ran owed one another nothing, as engines told
   crashed    the plan crashed it
   turnlimit  its turns, or those of a client, were used up
   logfull    its log has as many entries as it may have

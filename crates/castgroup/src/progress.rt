@@ -27,7 +27,7 @@ struct Bell {
 
 /// A thread that tells how far a run is, until it is told that the run has ended. It is not joined: where standard error takes
 /// nothing it waits for that, and what became of the run is told all the same. But a line that is being told then is waited for,
-/// a second at most: where the program began without standard error, the next file that is made stands in its place.
+/// about a second at most: where the program began without standard error, the next file that is made stands in its place.
 #[derive(Drop)]
 pub struct Teller {
     bell: Arc<Bell, Global>,
