@@ -4,7 +4,7 @@
 --     drawn_after sheet index event reply     the picture after an event that has this place in the script
 --     settle_begun, settle_ended              the picture as a settle begins, and is over
 --     wants_memory sheet index event reply    whether memory may be wanted for what the event adds
-use Rattle.std.specs.Prelude.{ℕ, ◌+◌, ◌-◌, Bool, true, false, ◌||◌, is_some, nat_lt, max, if◌then◌else◌, List, [], ◌∷◌, ◌++◌, length, slice_get, slice_index_or, slice_set, Option, Some, None, Result, Ok, Err}
+use Rattle.std.specs.Prelude.{ℕ, ◌+◌, ◌-◌, Bool, true, false, not, ◌||◌, is_some, nat_lt, max, if◌then◌else◌, List, [], ◌∷◌, ◌++◌, length, slice_get, slice_index_or, slice_set, Option, Some, None, Result, Ok, Err}
 use Rattle.cast_message.specs.StepCode.{step_code}
 use Rattle.cast_message.specs.declared.event.Event.{Event}
 use Rattle.cast_message.specs.declared.event.Event.TheVariants.{Order, Send, Ack, Arrive, Crash}
@@ -20,7 +20,7 @@ use Rattle.cast_draw.specs.declared.frames.Cargo.TheVariants as cargos
 use Rattle.cast_draw.specs.declared.frames.Fate.TheVariants.{UnderWay}
 use Rattle.cast_draw.specs.declared.frames.MadeFrame.{MadeFrame}
 use Rattle.cast_draw.specs.Heights.{height_of}
-use Rattle.cast_draw.specs.Gifts.{Gifts, holding, slot_of}
+use Rattle.cast_draw.specs.Gifts.{Gifts, holding, is_held, slot_of}
 use Rattle.cast_draw.specs.MadeFrames.{with_arrival}
 use Rattle.cast_draw.specs.Deeds.{Deed, deeds, deeds_text, width_of}
 use Rattle.cast_draw.specs.Marks.{broadcast_text, crash_text, refusal_text, ground_text}
@@ -133,22 +133,22 @@ abbrev pub drawn_after : Sheet → ℕ → Event → Result Answer StepFault →
 drawn_after sheet index event (Ok answer) = answered sheet index event answer
 drawn_after sheet index event (Err fault) = refused sheet index fault
 
--- a message is held where it arrives
-abbrev pub is_message : Cargo → Bool
-is_message (Message pair) = true
-is_message cargos.Ack = false
+-- a message that the node does not hold yet
+abbrev pub is_new : Gifts → Cargo → Bool
+is_new gifts (Message pair) = not (is_held gifts.held pair)
+is_new gifts cargos.Ack = false
 
--- an arrival that is shown is drawn, and a message is held; where there is no such frame nothing is
-abbrev pub arrival_wants : Bool → Option MadeFrame → Bool
-arrival_wants is_shown None = false
-arrival_wants is_shown (Some frame) = is_shown || is_message frame.cargo
+-- an arrival that is shown is drawn, and a message that is new there is held; where there is no such frame nothing is
+abbrev pub arrival_wants : Bool → Gifts → Option MadeFrame → Bool
+arrival_wants is_shown gifts None = false
+arrival_wants is_shown gifts (Some frame) = is_shown || is_new gifts frame.cargo
 
 -- what a node orders is held, and each frame that is made is kept; the rest is drawn
 abbrev pub answer_wants : Sheet → ℕ → Event → Answer → Bool
 answer_wants sheet index (Order node item) (Ordered number outcome) = true
 answer_wants sheet index (Send from to slot) (Sent seq) = is_some (slot_of (gifts_at sheet.gifts from) to slot)
 answer_wants sheet index (Ack from to slot) (Sent seq) = true
-answer_wants sheet index (Arrive from seq) (Arrived node outcome) = arrival_wants (shows sheet.window index) (slice_get (made_at sheet.made from) seq)
+answer_wants sheet index (Arrive from seq) (Arrived node outcome) = arrival_wants (shows sheet.window index) (gifts_at sheet.gifts node) (slice_get (made_at sheet.made from) seq)
 answer_wants sheet index (Crash node) Down = shows sheet.window index
 answer_wants sheet index event answer = false
 

@@ -1,5 +1,5 @@
 //! What each node gives each peer, slot by slot: which message a frame carries that is made for a slot.
-ghost use Rattle.std.specs.Prelude.{◌≡◌, ◌+◌, ◌≤◌, ◌++◌, ◌∷◌, [], IfOk, OnOk, if◌then◌else◌, length, not, slice_get};
+ghost use Rattle.std.specs.Prelude.{◌≡◌, ◌+◌, ◌≤◌, ◌++◌, ◌∷◌, [], IfOk, OnOk, OnErr, false, if◌then◌else◌, length, not, slice_get};
 ghost use Rattle.cast_draw.specs.Gifts.{holding, slot_of, nothing_given, given_on, goes_on, is_held, with_held};
 
 use cast_message::NodeId;
@@ -71,9 +71,10 @@ impl Links {
     }
 
     /// Holds a message that came from this peer, or is the node's own. One that was not held goes on to all but its sender
-    /// and that peer.
+    /// and that peer. One that is held takes no memory.
     pub fn hold(&mut self, pair: Pair, source: NodeId) -> Result<(), AllocError>
-        ensures { OnOk result (self.new ≡ holding self.old pair source) }
+        ensures ok { OnOk result (self.new ≡ holding self.old pair source) }
+        ensures again { OnErr result (is_held self.old.held pair ≡ false) }
     {
         if add(self.held.as_mut_slice(), pair)? {
             return give_on(self.given.as_mut_slice(), self.me, &pair, source, 0);
@@ -124,6 +125,7 @@ impl Row {
 fn add(held: &mut [NumberSet], pair: Pair) -> Result<bool, AllocError>
     ensures test { IfOk result (λ is_new. is_new ≡ not (is_held held.old pair)) }
     ensures ok { OnOk result (held.new ≡ with_held held.old pair) }
+    ensures again { OnErr result (is_held held.old pair ≡ false) }
 {
     let place = usize::from(pair.sender.0);
     if place >= held.len() {

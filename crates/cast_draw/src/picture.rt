@@ -221,6 +221,7 @@ impl Picture {
             ≡ arrived (sheet_of self.old) index from seq node outcome.now
             (slice_get (made_at self.old.made.items from) seq)) }
         ensures err { OnErr result (arrival_wants (shows self.old.window index)
+            (gifts_at self.old.links.items node)
             (slice_get (made_at self.old.made.items from) seq) ≡ true) }
     {
         let is_shown = self.window.shows(index);

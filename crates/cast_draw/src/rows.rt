@@ -3,7 +3,7 @@ ghost use Rattle.std.specs.Prelude.{◌≡◌, ◌++◌, ◌∷◌, [], ◌≤�
 ghost use Rattle.std.specs.List.{range_with_len};
 ghost use Rattle.cast_draw.specs.Gifts.{nothing_given, slot_of};
 ghost use Rattle.cast_draw.specs.MadeFrames.{with_arrival};
-ghost use Rattle.cast_draw.specs.Drawn.{gifts_at, held_of_cargo, is_message, made_at};
+ghost use Rattle.cast_draw.specs.Drawn.{gifts_at, held_of_cargo, is_new, made_at};
 
 use crate::frames::{Cargo, MadeFrame, MadeFrames};
 use crate::links::{Links, Pair};
@@ -34,7 +34,7 @@ pub fn new_made(alloc: Global, nodes: u64) -> Result<Vec<MadeFrames>, AllocError
     Ok(made)
 }
 
-/// A node holds what came from this one. What is no node holds nothing. Memory is wanted for a message alone.
+/// A node holds what came from this one. What is no node holds nothing. Memory is wanted for a new message alone.
 pub fn hold(
     links: &mut Vec<Links>,
     node: NodeId,
@@ -42,7 +42,7 @@ pub fn hold(
     source: NodeId,
 ) -> Result<(), AllocError>
     ensures ok { OnOk result (links.new.items ≡ held_of_cargo links.old.items node cargo source) }
-    ensures err { OnErr result (is_message cargo ≡ true) }
+    ensures err { OnErr result (is_new (gifts_at links.old.items node) cargo ≡ true) }
 {
     let Cargo::Message(pair) = cargo else {
         return Ok(());

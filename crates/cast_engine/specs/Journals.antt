@@ -18,7 +18,7 @@ use Rattle.cast_node.specs.Kept.{Kept}
 use Rattle.cast_node.specs.Turns.{Gives}
 use Rattle.cast_desk.specs.declared.desk.OrderIn.{OrderIn}
 use Rattle.cast_report.specs.declared.report.EngineEnd.{EngineEnd}
-use Rattle.cast_report.specs.declared.report.EngineEnd.TheVariants.{Crashed, LogFull, ClockFull}
+use Rattle.cast_report.specs.declared.report.EngineEnd.TheVariants.{Stopped as AllStopped, Crashed, TurnLimit, LogFull, ClockFull}
 use Rattle.cast_report.specs.Linked.{event_of, outcome_in_answer}
 use Rattle.cast_engine.specs.Runs.{origin_of}
 
@@ -68,11 +68,12 @@ abbrev pub AsksOrder : Kept → Kept → Item → Result (Item × Outcome) StepF
 AsksOrder old new item (Ok told) = (number : ℕ) × Gives old (Ordered item) (Ok (AnswerOrdered number told.1)) new
 AsksOrder old new item (Err fault) = Gives old (Ordered item) (Err fault) new
 
--- an end that no fact of the log is tied to
-abbrev pub IsQuietEnd : EngineEnd → Type 0
-IsQuietEnd Crashed = ⊥
-IsQuietEnd LogFull = ⊥
-IsQuietEnd _ = Unit {0}
+-- where an engine ends so, short of a crash and of a full log: with turns left it could log an entry more
+abbrev pub MayEnd : JournalState → EngineEnd → Type 0
+MayEnd j Crashed = ⊥
+MayEnd j LogFull = ⊥
+MayEnd j TurnLimit = Unit {0}
+MayEnd j _ = MayLog j
 
 -- only the end was noted
 abbrev pub OnlyEnds : JournalState → JournalState → Type 0
@@ -85,7 +86,7 @@ Halts old new = OnlyEnds old new ⊎ LogsStep old new Stopped None old.clock
 -- why it ends, where nothing may be logged any more: the log is full, the clock is, or the crash is due
 abbrev pub HaltsBy : JournalState → Option EngineEnd → Type 0
 HaltsBy j (Some LogFull) = j.config.log_limit ≤ length j.log
-HaltsBy j (Some ClockFull) = j.clock + 1 ≡ 2 ^ 64
+HaltsBy j (Some ClockFull) = (length j.log < j.config.log_limit) × (j.clock + 1 ≡ 2 ^ 64)
 HaltsBy j (Some Crashed) = j.crash ≡ Some (length j.log)
 HaltsBy j _ = ⊥
 
@@ -115,10 +116,12 @@ is_crash (StepEntry event origin outcome) = is_crash_event event
 is_crash (Refused origin fault) = false
 
 -- how a log may end: a crash stands last, after as many entries as the plan says, and exactly where the end is Crashed; the end LogFull comes only at
--- the limit
+-- the limit, ClockFull only below it, and Stopped only where no crash is due either
 pub record EndsAs (limit : ℕ) (crash : Option ℕ) (ended : Option EngineEnd) (log : List Entry) : Type 0 where
   pub within : length log ≤ limit
   pub full : ended ≡ Some LogFull → length log ≡ limit
+  pub below : ended ≡ Some ClockFull → length log < limit
+  pub rested : ended ≡ Some AllStopped → (length log < limit) × ((n : ℕ) → crash ≡ Some n → length log < n)
   pub due : ended ≢ Some Crashed → (n : ℕ) → crash ≡ Some n → length log ≤ n
   pub last : (i : ℕ) (e : Entry) → slice_get log i ≡ Some e → is_crash e.kind ≡ true → (suc i ≡ length log) × (crash ≡ Some i) × (ended ≡ Some Crashed)
   pub crashed : ended ≡ Some Crashed → (i : ℕ) × (e : Entry) × (slice_get log i ≡ Some e) × (is_crash e.kind ≡ true)

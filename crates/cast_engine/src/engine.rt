@@ -3,7 +3,7 @@ ghost use Rattle.std.specs.Prelude.{◌≡◌, ◌<◌, [], length, IfOk, IfNone
 ghost use Rattle.cast_box.specs.Ends.{IsSamePutter, IsNextToEnd};
 ghost use Rattle.cast_engine.specs.Group.{with_ended};
 ghost use Rattle.cast_engine.specs.Engines.{EngineState, IsSameEngine, HasSameBoxes, DoesFew, IsIdleRightly, IsSameDesk, TakesOrder, TakesIn, Handed, Leaves, Tells, WereTold, IsUnused, trays_at};
-ghost use Rattle.cast_engine.specs.Journals.{MayLog, IsQuietEnd};
+ghost use Rattle.cast_engine.specs.Journals.{MayLog};
 
 use crate::board::{Board, Quiet};
 use crate::feeding::{Place, first_places, notify_all};
@@ -171,7 +171,7 @@ impl Engine {
             return Turn::Ended;
         }
         if !self.count_turn() {
-            self.end(EngineEnd::TurnLimit);
+            self.use_up();
             return Turn::Ended;
         }
         gate.pass(rt);
@@ -181,7 +181,7 @@ impl Engine {
             tell_gate(gate, entries);
         }
         if quiet.may_stop(board) {
-            self.end(EngineEnd::Stopped);
+            self.stop();
             return Turn::Stopped;
         }
         if moved { Turn::Moved } else { Turn::Idle }
@@ -426,14 +426,24 @@ impl Engine {
         self.journal.may_log()
     }
 
-    // Notes that the engine ends.
+    // Ends as all engines are quiet. The log is asked first: the slot sent last may have filled it, or made a crash due.
     #[tactic(auto, using(crate::proofs::Again::desk_same))]
-    fn end(&mut self, end: EngineEnd)
-        requires { IsQuietEnd end }
+    fn stop(&mut self)
         ensures same { IsSameEngine self.old self.new }
         ensures boxes { HasSameBoxes self.old self.new }
     {
-        self.journal.end(end);
+        if self.journal.may_log() {
+            self.journal.end(EngineEnd::Stopped);
+        }
+    }
+
+    // Ends as no turn is left.
+    #[tactic(auto, using(crate::proofs::Again::desk_same))]
+    fn use_up(&mut self)
+        ensures same { IsSameEngine self.old self.new }
+        ensures boxes { HasSameBoxes self.old self.new }
+    {
+        self.journal.end(EngineEnd::TurnLimit);
     }
 
     // Counts the turn. Answers whether there was one left.

@@ -6,7 +6,7 @@ ghost use Rattle.cast_node.specs.Calls.{sent_reply};
 ghost use Rattle.cast_node.specs.Kept.{nothing_kept};
 ghost use Rattle.cast_node.specs.Turns.{Gives, frame_made};
 ghost use Rattle.cast_report.specs.declared.report.EngineEnd.TheVariants.{Crashed};
-ghost use Rattle.cast_engine.specs.Journals.{MayLog, LogsStep, LogsOrder, OnlyEnds, Halts, HaltsBy, Rises, EndsAs, AsksOrder, IsQuietEnd};
+ghost use Rattle.cast_engine.specs.Journals.{MayLog, LogsStep, LogsOrder, OnlyEnds, Halts, HaltsBy, Rises, EndsAs, AsksOrder, MayEnd};
 
 use crate::parcel::Parcel;
 use cast_desk::OrderIn;
@@ -232,7 +232,7 @@ impl Journal {
 
     /// Notes that the engine ends, where it has not.
     pub fn end(&mut self, end: EngineEnd)
-        requires { IsQuietEnd end }
+        requires { MayEnd self.old end }
         ensures only { OnlyEnds self.old self.new }
         ensures noted { self.old.ended ≡ None → self.new.ended ≡ Some end }
         ensures kept { IsSome self.old.ended → self.new ≡ self.old }

@@ -7,7 +7,7 @@
 --     summary_text config past ends said   the whole summary
 --     WritesSummary input old new said     the writer has the summary of a run of the script that was read
 --     Summarizes                           the same, or a fault has its cause
-use Rattle.std.specs.Prelude.{◌≡◌, ℕ, ◌+◌, ◌++◌, ◌↔◌, [], ◌∷◌, List, Bool, true, false, IsTrue, length, map, flat_map, codes, decimal, reverse, slice_get, Some, None, Option, Result, Ok, Err}
+use Rattle.std.specs.Prelude.{◌≡◌, ℕ, ◌+◌, ◌≤◌, ◌++◌, ◌↔◌, [], ◌∷◌, List, Bool, true, false, IsTrue, length, map, flat_map, codes, decimal, reverse, slice_get, Some, None, Option, Result, Ok, Err}
 use Rattle.std.specs.List.{range_with_len}
 use Rattle.std.specs.Io.KnownBytes.{Appends, Keeps}
 use Rattle.cast_message.specs.declared.config.Config.{Config}
@@ -77,7 +77,8 @@ pub record FitsGroup (script : Script) : Type 0 where
   pub plan : ArePlanned script.config.nodes script.plan.faults
 
 -- these are reports of a run of the script, which fits its group: what arrives keeps to its plan, each log ends as plan and limits say, with
--- stamps from the first on, and each job of the script had a client, which submitted the first of its items
+-- stamps from the first on, and each job of the script had a client, which submitted the first of its items; no more of them are left at its node
+-- than a box has places, and none where that stopped
 pub record IsRunOf (script : Script) (reports : List NodeReport) : Type 0 where
   pub fits : FitsGroup script
   pub planned : KeepsTo script.config (faults_of script.plan.faults) reports
@@ -91,6 +92,8 @@ pub record IsRunOf (script : Script) (reports : List NodeReport) : Type 0 where
   pub new : AreNewJobs handed
   pub served : AreServed script.config SubmitsGiven handed reports back clients
   pub origins : HaveOrigins handed reports
+  pub room : (i : ℕ) (client : ClientReport) → slice_get clients i ≡ Some client → client.left ≤ script.config.box_size
+  pub none_left : (i : ℕ) (client : ClientReport) (report : NodeReport) → slice_get clients i ≡ Some client → slice_get reports client.node ≡ Some report → report.ended ≡ Stopped → client.left ≡ 0
 
 -- ---- its summary
 

@@ -1,7 +1,7 @@
 //! A client in a thread of its own, which orders transfers and keeps a book by what its node tells it.
-ghost use Rattle.std.specs.Prelude.{◌≡◌, ◌↔◌, ◌<◌, ◌≤◌, ◌++◌, ◌∷◌, ◌+◌, [], length, IsTrue};
+ghost use Rattle.std.specs.Prelude.{◌≡◌, ◌↔◌, ◌<◌, ◌≤◌, ◌++◌, ◌∷◌, ◌+◌, [], length, IsTrue, IsFalse};
 ghost use Rattle.cast_desk.specs.Desk.{IsSameClient};
-ghost use Rattle.cast_run.specs.Jobs.{HoldsOf, KeepsFact, submitted, got};
+ghost use Rattle.cast_run.specs.Jobs.{HoldsOf, KeepsFact, TriesNext, submitted, got};
 ghost use Rattle.cast_merge.specs.Told.{told};
 ghost use Rattle.example_ledger.specs.Tellers.{HasOrdered};
 
@@ -30,13 +30,17 @@ impl ClientJob for Teller {
 
     ghost fact = { TellerFact };
 
-    // What every job's turn does, and that an order at most is made, and a notice at most taken.
+    // What every job's turn does, and that an order at most is made, none only for a cause, and a notice at most taken; and
+    // when the teller is done.
     fn turn<R: Wait>(&mut self, rt: &R, client: &mut Client) -> bool
         requires { HoldsOf TellerFact self.old client.old }
         ensures same { IsSameClient client.old client.new }
         ensures fact { KeepsFact TellerFact self.old client.old self.new client.new result }
         ensures one_order { length client.new.orders.put ≤ length client.old.orders.put + 1 }
+        ensures tries { TriesNext self.old.items self.old.next client.old client.new }
         ensures one_notice { length client.new.tray.taken ≤ length client.old.tray.taken + 1 }
+        ensures ends { IsFalse result ↔ (length self.new.items ≤ self.new.next)
+            × (self.new.expected ≤ length self.new.book.journal) }
     {
         self.order_next(rt, client);
         self.apply_next(rt, client);
@@ -76,6 +80,7 @@ impl Teller {
             × (self.new.expected ≡ self.old.expected) }
         ensures same { IsSameClient client.old client.new }
         ensures one { length client.new.orders.put ≤ length client.old.orders.put + 1 }
+        ensures tries { TriesNext self.old.items self.old.next client.old client.new }
         ensures tray { client.new.tray ≡ client.old.tray }
         ensures ordered { HasOrdered self.new (submitted client.new) }
         ensures book { self.new.book ≡ self.old.book }

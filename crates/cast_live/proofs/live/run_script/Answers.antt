@@ -1,6 +1,7 @@
 use Rattle.std.proofs.Common.{◌∙◌, ap, refl, sym, subst}
 use Rattle.std.proofs.lemmas.Result.{err_from_is_err_and}
 use Rattle.cast_run.specs.Jobs.{told_job}
+use Rattle.cast_run.proofs.Replied.{none_left}
 use Rattle.cast_live.specs.Live.{IsRunOf}
 use Rattle.cast_live.proofs.LiveLemmas.{new_fact, fits, refused_for}
 use Rattle.cast_live.proofs.live.run_script.Goals as goal
@@ -32,4 +33,6 @@ returns-clause-ran g c =
       new = c.in_ok-jobs.ensures.new;
       served = c.in_ok-run.ensures.jobs;
       origins = c.in_ok-run.ensures.origins;
+      room = c.in_ok-run.ensures.room;
+      none_left = none_left c.args.script.config handed _ run.jobs.items run.clients.items c.in_ok-run.ensures.jobs;
     })

@@ -1,6 +1,6 @@
 use Rattle.std.proofs.Common.{inl}
 use Rattle.cast_engine.proofs.Staying.{stays_halt}
-use Rattle.cast_engine.proofs.engine.Engine.end.Goals as goal
+use Rattle.cast_engine.proofs.engine.Engine.use_up.Goals as goal
 
 pub invariant_of-self : goal.invariant_of-self
 invariant_of-self c =
