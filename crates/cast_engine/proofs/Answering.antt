@@ -18,10 +18,11 @@ use Rattle.cast_node.specs.declared.entry.EntryKind.TheVariants.{Step as StepEnt
 use Rattle.cast_desk.specs.declared.desk.OrderIn.{OrderIn}
 use Rattle.cast_box.specs.Lists.{of}
 use Rattle.cast_report.specs.Linked.{Mark, Trail, steps_in, event_of, outcome_in}
-use Rattle.cast_engine.specs.Runs.{Has, Read, Moved, Served, Denied, Run, mark, trail_of, log_of, orders_of, order_by, entry_by, IsRead, IsRun, is_order, origin_of}
+use Rattle.cast_carrier.specs.Lists.{Has}
+use Rattle.cast_engine.specs.Runs.{Read, Moved, Served, Denied, Run, mark, trail_of, log_of, orders_of, order_by, entry_by, IsRead, IsRun, is_order, origin_of}
 use Rattle.cast_engine.specs.Journals.{Rises}
 use Rattle.cast_engine.specs.Serving.{is_of, origin_in, entries_of, orders_by, before, HasOriginOf, IsOriginIn, IsAnswered, IsAnsweredBy, Matches}
-use Rattle.cast_engine.proofs.Lists.{has_left, has_last, has_snoc, has_none}
+use Rattle.cast_carrier.proofs.Lists.{has_left, has_last, has_snoc, has_none}
 
 module _ {A B : Type 0} where
   pub matches_snoc : (R : A → B → Type 0) (xs : List A) (ys : List B) (x : A) (y : B) → Matches R xs ys → R x y → Matches R (xs ++ x ∷ []) (ys ++ y ∷ [])

@@ -3,7 +3,7 @@ use Rattle.std.proofs.Common.{◌≡◌, ◌≢◌, ℕ, zero, suc, ◌+◌, ◌
 use Rattle.std.proofs.lemmas.List.{append-nil, append_assoc, length-append, length-set}
 use mathlib.Core.Logic.{dite}
 use Rattle.std.proofs.Math.Decide.{dec_lt}
-use Rattle.std.proofs.lemmas.Option.{none-some, slice_get_past, slice_get_read, slice_get_within}
+use Rattle.std.proofs.lemmas.Option.{none-some, slice_get_past, slice_get_within}
 use Rattle.cast_box.proofs.Closing.{found}
 use Rattle.cast_box.specs.Ends.{PutterEnd, IsSamePutter, AreSamePutters}
 use Rattle.cast_box.proofs.Same.{putters_set, get_set}
@@ -13,7 +13,8 @@ use Rattle.cast_desk.specs.Feed.{told_by, feed_from, orders_of, orders_in}
 use Rattle.cast_desk.proofs.Feeds.{take_all, counted_more, fed_more as fed_more'}
 use Rattle.cast_engine.specs.declared.feeding.Place.{Place}
 use Rattle.cast_engine.specs.Feeding.{told_at, told_here, IsNext, IsPlaced, IsFed, told_to, AreFed, FedIn, FedAt}
-use Rattle.cast_engine.proofs.Lists.{get_left}
+use Rattle.cast_carrier.proofs.Lists.{read_at, take_next}
+use Rattle.cast_report.proofs.Logging.{get_left}
 
 take_front : {A : Type 0} (xs ys : List A) (n : ℕ) → n ≤ length xs → take n (xs ++ ys) ≡ take n xs
 take_front xs ys zero h = refl
@@ -24,9 +25,6 @@ get_none : {A : Type 0} (xs : List A) (n : ℕ) → slice_get xs n ≡ None → 
 get_none [] n e = omega arith
 get_none (x ∷ xs) zero e = absurd cc
 get_none (x ∷ xs) (suc n) e = let h = get_none xs n e in omega arith
-
-pub read_at : {A : Type 0} (xs : List A) (n : ℕ) (x : A) → n < length xs → x ≡ get_or xs n x → slice_get xs n ≡ Some x
-read_at xs n x h e = slice_get_read xs (length xs) n x refl h e
 
 module _ (client : ℕ) (log more : List Entry) (place : Place) (f : IsPlaced client log place) where
   front : take place.entry (log ++ more) ≡ take place.entry log
@@ -109,11 +107,6 @@ set_same : {A : Type 0} (xs : List A) (i : ℕ) (x : A) → slice_get xs i ≡ S
 set_same [] i x e = absurd cc
 set_same (y ∷ ys) zero x e = let h : y ≡ x = cc in ap (λ z. z ∷ ys) h
 set_same (y ∷ ys) (suc i) x e = ap (λ l. y ∷ l) (set_same ys i x e)
-
-pub take_next : {A : Type 0} (xs : List A) (n : ℕ) (x : A) → slice_get xs n ≡ Some x → take (suc n) xs ≡ take n xs ++ x ∷ []
-take_next [] n x e = absurd cc
-take_next (y ∷ ys) zero x e = let h : y ≡ x = cc in ap (λ z. z ∷ []) h
-take_next (y ∷ ys) (suc n) x e = ap (λ l. y ∷ l) (take_next ys n x e)
 
 module _ (client : ℕ) (log : List Entry) (trays : List (PutterEnd Notice)) (old place : Place) (f : FedIn client log trays old) (p : IsPlaced client log place) (same : told_to client log place ≡ told_to client log old) where
   -- nothing was put

@@ -4,17 +4,17 @@ use Rattle.std.specs.Prelude.{slice_get, slice_set}
 use Rattle.std.proofs.lemmas.Bool.{cases_eq}
 use Rattle.cast_box.specs.Ends.{PutterEnd, TakerEnd, IsSamePutter}
 use Rattle.cast_desk.specs.declared.notice.Notice.{Notice}
-use Rattle.cast_engine.specs.declared.parcel.Parcel.{Parcel}
+use Rattle.cast_carrier.specs.declared.parcel.Parcel.{Parcel}
 use Rattle.cast_engine.specs.Feeding.{put_into, TellEach}
 use Rattle.cast_engine.specs.Engines.{EngineState, HasSameBoxes, DoesFew}
 
 -- where nothing was done, no more was
 pub few_same : (takes orders puts tells : ℕ) (a b : EngineState) → HasSameBoxes a b → DoesFew takes orders puts tells a b
 few_same takes orders puts tells a b same = record {
-  taken = omega (arith, ap (λ (e : TakerEnd Parcel). length e.taken) same.1);
-  ordered = omega (arith, ap length same.2);
+  taken = omega (arith, ap (λ (e : TakerEnd Parcel). length e.taken) same.2);
+  ordered = omega (arith, ap length same.3);
   put = omega (arith, ap (λ (e : PutterEnd Parcel). length e.put) same.0);
-  told = λ c. omega (arith, ap (λ (trays : List (PutterEnd Notice)). length (put_into (slice_get trays c))) same.3);
+  told = λ c. omega (arith, ap (λ (trays : List (PutterEnd Notice)). length (put_into (slice_get trays c))) same.4);
 }
 
 pub few_again : (t o p n t' o' p' n' : ℕ) (a b c : EngineState) → DoesFew t o p n a b → DoesFew t' o' p' n' b c → DoesFew (t + t') (o + o') (p + p') (n + n') a c
@@ -26,7 +26,7 @@ few_again t o p n t' o' p' n' a b c f g = record {
 }
 
 pub same_again : (a b c : EngineState) → HasSameBoxes a b → HasSameBoxes b c → HasSameBoxes a c
-same_again a b c f g = (g.0 ∙ f.0, g.1 ∙ f.1, g.2 ∙ f.2, g.3 ∙ f.3)
+same_again a b c f g = (g.0 ∙ f.0, g.1 ∙ f.1, g.2 ∙ f.2, g.3 ∙ f.3, g.4 ∙ f.4)
 
 -- a turn's work, and nothing before it
 pub few_worked : (a b c d : EngineState) → HasSameBoxes a b → HasSameBoxes b c → DoesFew 1 1 3 1 c d → DoesFew 1 1 3 1 a d

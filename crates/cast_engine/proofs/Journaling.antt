@@ -43,6 +43,7 @@ module _ (limit : ℕ) (crash : Option ℕ) (log : List Entry) (ends : EndsAs li
     full = λ h. absurd cc;
     below = λ h. absurd cc;
     rested = λ h. absurd cc;
+    used_up = λ h. absurd cc;
     due = λ h n is. let s = safe n is in let l = longer e in omega arith;
     last = λ i x at c. ⊎_elim (λ (y : slice_get log i ≡ Some x). let no : None ≡ Some Crashed = (ends.last i x y c).2 in absurd cc)
         (λ (y : (i ≡ length log) × (e ≡ x)). absurd (false≢true (sym quiet ∙ ap (λ (z : Entry). is_crash z.kind) y.1 ∙ c))) (get_snoc log e x i at);
@@ -55,6 +56,7 @@ module _ (limit : ℕ) (crash : Option ℕ) (log : List Entry) (ends : EndsAs li
     full = λ h. absurd cc;
     below = λ h. absurd cc;
     rested = λ h. absurd cc;
+    used_up = λ h. absurd cc;
     due = λ h n is. absurd (h refl);
     last = λ i x at c. ⊎_elim (λ (y : slice_get log i ≡ Some x). let no : None ≡ Some Crashed = (ends.last i x y c).2 in absurd cc)
         (λ (y : (i ≡ length log) × (e ≡ x)). let l = longer e in (omega (arith, y.0), due ∙ ap (λ n. Some n) (sym y.0), refl)) (get_snoc log e x i at);
@@ -145,6 +147,6 @@ unfolding Rises
 begun config room node log clock crash r e c l = subst (λ log. JournalKeeps config room node log clock crash None) (sym e) (record {
   has_room = r;
   rises = c;
-  ends = record { within = omega arith; full = λ h. absurd cc; below = λ h. absurd cc; rested = λ h. absurd cc; due = λ h n is. omega arith; last = λ i x at. absurd cc; crashed = λ h. absurd cc };
+  ends = record { within = omega arith; full = λ h. absurd cc; below = λ h. absurd cc; rested = λ h. absurd cc; used_up = λ h. absurd cc; due = λ h n is. omega arith; last = λ i x at. absurd cc; crashed = λ h. absurd cc };
   lives = λ h. l;
 })

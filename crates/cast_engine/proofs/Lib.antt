@@ -1,12 +1,8 @@
 pub mod Journaling
-pub mod Lists
 pub mod Running
 pub mod Fed
 pub mod Staying
-pub mod Carrying
-pub mod Copying
 pub mod Telling
 pub mod Answering
 pub mod Again
-pub mod Suffering
 pub mod Few

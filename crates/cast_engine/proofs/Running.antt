@@ -19,14 +19,14 @@ use Rattle.cast_node.proofs.Continuing.{continues}
 use Rattle.cast_node.proofs.Refusals.{faults_are}
 use Rattle.cast_node.proofs.Showing.{carries, tells_taken}
 use Rattle.cast_desk.specs.declared.desk.OrderIn.{OrderIn}
-use Rattle.cast_engine.specs.declared.parcel.Parcel.{Parcel}
+use Rattle.cast_carrier.specs.declared.parcel.Parcel.{Parcel}
 use Rattle.cast_report.specs.Linked.{Trail, event_of, outcome_in, steps_in, made_in, kept_in, stamped, IsFor}
 use Rattle.cast_engine.specs.Runs.{Read, Moved, Served, Denied, Run, mark, trail_of, log_of, orders_of, IsRun, AreReceived, IsReceived, IsReceivedBy, HasTakenEach, arrived_by, arrivals_in, made_of, parcel, is_order, origin_of, EngineKeeps}
 use Rattle.cast_engine.specs.Journals.{JournalState, LogsStep, LogsRefusal, LogsOrder, OnlyEnds, Halts}
 use Rattle.cast_message.specs.declared.message.FrameKind.{FrameKind}
 use Rattle.cast_message.specs.declared.message.FrameKind.TheVariants.{Carry, Took}
 use Rattle.cast_engine.specs.Engines.{KeepsOf, Handed}
-use Rattle.cast_engine.proofs.Lists.{has_left, has_last}
+use Rattle.cast_carrier.proofs.Lists.{has_left, has_last}
 
 -- what was put and what waits, where a parcel was handed on while none waited
 handed_all : (put put' : List Parcel) (held' : Option Parcel) (x : Parcel) → Handed put put' held' x → put' ++ option_to_list held' ≡ put ++ x ∷ []

@@ -1,5 +1,5 @@
 -- What an engine keeps, call by call.
-use Rattle.std.proofs.Common.{◌≡◌, ℕ, zero, suc, length, map, slice_get, ◌+◌, ◌<◌, List, [], ◌∷◌, ◌++◌, Option, Some, None, sym, refl, ap, ◌∙◌, subst, inl, ⊎_elim, arith, Bool, true, false}
+use Rattle.std.proofs.Common.{◌≡◌, ℕ, zero, suc, length, map, slice_get, ◌+◌, ◌<◌, List, [], ◌∷◌, ◌++◌, Option, Some, None, sym, refl, ap, ◌∙◌, subst, inl, inr, ⊎_elim, arith, Bool, true, false}
 use Rattle.std.specs.Prelude.{IsTrue, IsFalse, is_some, replicate}
 use Rattle.std.proofs.lemmas.List.{length-replicate}
 use Rattle.cast_message.specs.declared.config.Config.{Config}
@@ -13,7 +13,7 @@ use Rattle.cast_box.specs.Ends.{PutterEnd}
 use Rattle.cast_desk.specs.declared.desk.Desk.{Desk}
 use Rattle.cast_desk.specs.declared.desk.OrderIn.{OrderIn}
 use Rattle.cast_desk.specs.declared.notice.Notice.{Notice}
-use Rattle.cast_engine.specs.declared.parcel.Parcel.{Parcel}
+use Rattle.cast_carrier.specs.declared.parcel.Parcel.{Parcel}
 use Rattle.cast_engine.specs.declared.feeding.Place.{Place}
 use Rattle.cast_report.specs.Linked.{steps_in, kept_in, made_in}
 use Rattle.cast_engine.specs.Runs.{EngineKeeps, arrivals_in, trail_of, log_of, orders_of, IsRun, AreReceived}
@@ -31,6 +31,12 @@ IsSameJournal old new = (new.config ≡ old.config) × (new.node.me ≡ old.node
 pub none_held : (held : Option Parcel) → is_some held ≡ false → held ≡ None
 none_held None e = refl
 none_held (Some x) e = absurd cc
+
+only_same : (old new : JournalState) → new ≡ old → OnlyEnds old new
+only_same old new e = subst (λ j. OnlyEnds old j) (sym e) refl
+
+only_ended : (old new : JournalState) (ended : Option EngineEnd) → new ≡ record old { ended = ended } → OnlyEnds old new
+only_ended old new ended e = subst (λ j. OnlyEnds old j) (sym e) refl
 
 -- the same journal after a question
 pub stays_same : (old new : JournalState) (put : List Parcel) (held : Option Parcel) (arrived : List (ℕ × Parcel)) (desk : Option Desk) (places : List Place)
@@ -82,11 +88,18 @@ module _ (old new : JournalState) (put : List Parcel) (held : Option Parcel) (ar
       })
 
   pub stays_taken : (arrived' : List (ℕ × Parcel)) (number : ℕ) (x : Parcel) → arrived' ≡ arrived ++ (number, x) ∷ [] → TakesIn old new x → EngineStays new put held arrived' desk places
-  stays_taken arrived' number x is t =
-      ⊎_elim (λ (e : OnlyEnds old new). stays_dropped arrived' (number, x) e is) (λ (l : LogsStep old new (Arrived x.frame) None x.stamp × (x.frame.to ≡ old.node.me)). stays_arrived arrived' number x is l.0 l.1) t
+  stays_taken arrived' number x is t = elim t [
+    | inl l ↦ stays_arrived arrived' number x is l.0 l.1
+    | inr (inl dropped) ↦ stays_dropped arrived' (number, x) (only_same old new dropped.0) is
+    | inr (inr full) ↦ stays_dropped arrived' (number, x) (only_ended old new _ full.1) is
+  ]
 
   pub same_taken : (x : Parcel) → TakesIn old new x → IsSameJournal old new
-  same_taken x t = ⊎_elim (λ (e : OnlyEnds old new). same_halt (inl e)) (λ (l : LogsStep old new (Arrived x.frame) None x.stamp × (x.frame.to ≡ old.node.me)). same_step (Arrived x.frame) None x.stamp l.0) t
+  same_taken x t = elim t [
+    | inl l ↦ same_step (Arrived x.frame) None x.stamp l.0
+    | inr (inl dropped) ↦ same_halt (inl (only_same old new dropped.0))
+    | inr (inr full) ↦ same_halt (inl (only_ended old new _ full.1))
+  ]
 
   module _ (put' : List Parcel) (held' : Option Parcel) (x : Parcel) (above : ℕ) (time : x.stamp ≡ new.clock) (none : held ≡ None) (h : Handed put put' held' x) where
     pub stays_made : (kind : FrameKind) (to slot : ℕ) → LogsStep old new (making kind to slot) None above → x.frame ≡ frame_made kind old.node to slot
@@ -180,7 +193,7 @@ back x y P q v = subst P (sym q) v
 -- what it leaves
 pub leaves : (j : JournalState) (put : List Parcel) (held : Option Parcel) (arrived : List (ℕ × Parcel)) (desk : Option Desk) (places : List Place) (e : EngineState)
     → EngineStays j put held arrived desk places → e.config ≡ j.config → e.me ≡ j.node.me → e.crash ≡ j.crash → e.outbox.put ≡ put → e.inbox.taken ≡ arrived → e.desk ≡ desk
-    → (log : List Entry) (node : Kept) (ended : Option EngineEnd) → log ≡ j.log → node ≡ j.node → ended ≡ j.ended → Rises j.config.first_stamp j.log j.clock → EndsAs j.config.log_limit j.crash j.ended j.log
+    → (log : List Entry) (node : Kept) (ended : EngineEnd) → log ≡ j.log → node ≡ j.node → j.ended ≡ Some ended → Rises j.config.first_stamp j.log j.clock → EndsAs j.config.log_limit j.crash j.ended j.log
     → Leaves e log node ended
 leaves j put held arrived desk places e k c m cr p a d log node ended l n en r x =
     let K : Config → ℕ → Kept → List Entry → List Parcel → List (ℕ × Parcel) → Option Desk → Type 0 = λ c m n l p a d. EngineKeeps c m n l p held a (taken_at d) in
@@ -197,7 +210,7 @@ leaves j put held arrived desk places e k c m cr p a d log node ended l n en r x
       fed = back e.desk desk (λ o. AreFed log (trays_at o) places) d (back log j.log (λ g. AreFed g (trays_at desk) places) l k.fed);
       clock = j.clock;
       rises = back e.config j.config (λ c. Rises c.first_stamp log j.clock) c (back log j.log (λ g. Rises j.config.first_stamp g j.clock) l r);
-      ends = back e.config j.config (λ c. EndsAs c.log_limit e.crash ended log) c
-          (back e.crash j.crash (λ o. EndsAs j.config.log_limit o ended log) cr
-          (back ended j.ended (λ o. EndsAs j.config.log_limit j.crash o log) en (back log j.log (λ g. EndsAs j.config.log_limit j.crash j.ended g) l x)));
+      ends = back e.config j.config (λ c. EndsAs c.log_limit e.crash (Some ended) log) c
+          (back e.crash j.crash (λ o. EndsAs j.config.log_limit o (Some ended) log) cr
+          (back (Some ended) j.ended (λ o. EndsAs j.config.log_limit j.crash o log) (sym en) (back log j.log (λ g. EndsAs j.config.log_limit j.crash j.ended g) l x)));
     }

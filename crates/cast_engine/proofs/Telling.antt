@@ -13,17 +13,18 @@ use Rattle.cast_node.specs.declared.entry.Entry.{Entry}
 use Rattle.cast_node.specs.Kept.{Kept}
 use Rattle.cast_desk.specs.declared.notice.Notice.{Notice}
 use Rattle.cast_desk.specs.Feed.{told_by, feed_from, feed, orders_in, orders_of as orders_in_log}
-use Rattle.cast_engine.specs.declared.parcel.Parcel.{Parcel}
+use Rattle.cast_carrier.specs.declared.parcel.Parcel.{Parcel}
 use Rattle.cast_report.specs.declared.report.EngineEnd.{EngineEnd}
 use Rattle.cast_engine.specs.declared.feeding.Place.{Place}
 use Rattle.cast_report.specs.Linked.{Taken, steps_in, taken_in, taken_by, taken, taken_of, AreTaken, IsRising, EachArrival, OnArrival, made_in}
-use Rattle.cast_engine.specs.Runs.{Has, Moved, Served, Denied, Run, mark, parcel, made_of, trail_of, log_of, orders_of, entry_by, IsRun, AreReceived, IsReceivedBy}
+use Rattle.cast_carrier.specs.Lists.{Has}
+use Rattle.cast_engine.specs.Runs.{Moved, Served, Denied, Run, mark, parcel, made_of, trail_of, log_of, orders_of, entry_by, IsRun, AreReceived, IsReceivedBy}
 use Rattle.cast_engine.specs.Journals.{Rises}
 use Rattle.cast_engine.specs.Feeding.{told_here, told_at, told_to, IsPlaced, AreFed}
 use Rattle.cast_engine.specs.Engines.{EngineState, Leaves, Tells, WereTold, trays_at}
 use Rattle.cast_box.proofs.Closing.{found, map_at}
 use Rattle.cast_report.proofs.Logging.{one_more, made_numbered}
-use Rattle.cast_engine.proofs.Lists.{has_left}
+use Rattle.cast_carrier.proofs.Lists.{has_left}
 use Rattle.cast_engine.proofs.Answering.{run_fits, run_origins}
 use Rattle.cast_engine.specs.Serving.{Serves}
 use Rattle.cast_desk.specs.declared.desk.OrderIn.{OrderIn}
@@ -89,7 +90,7 @@ handed_made config p run runs xs all x h =
     let seq = (made_numbered config p (trail_of run) (run_taken config p run runs) h.0 (made_of x) at).1 in
     ap (slice_get made) seq ∙ at
 
-pub leaves_tell : (e : EngineState) (log : List Entry) (node : Kept) (ended : Option EngineEnd) → Leaves e log node ended → Tells e log node
+pub leaves_tell : (e : EngineState) (log : List Entry) (node : Kept) (ended : EngineEnd) → Leaves e log node ended → Tells e log node
 leaves_tell e log node ended l =
     let k = l.keeps in
     record {
@@ -157,5 +158,5 @@ fed_told log trays places f c tray at =
     let it = f.1 c tray place.0 at place.1 in
     subst (StartsWith (feed log c)) (sym it.1) (told_begins c log place.0 it.0)
 
-pub leaves_told : (e : EngineState) (log : List Entry) (node : Kept) (ended : Option EngineEnd) → Leaves e log node ended → WereTold log (trays_at e.desk)
+pub leaves_told : (e : EngineState) (log : List Entry) (node : Kept) (ended : EngineEnd) → Leaves e log node ended → WereTold log (trays_at e.desk)
 leaves_told e log node ended l = fed_told log (trays_at e.desk) l.places l.fed

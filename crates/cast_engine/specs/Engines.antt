@@ -1,23 +1,26 @@
 -- An engine, as contracts see it, and what it keeps.
-use Rattle.std.specs.Prelude.{◌≡◌, ℕ, ◌+◌, ◌<◌, ◌≤◌, length, List, [], ◌∷◌, ◌++◌, map, slice_get, Option, Some, None, ◌⊎◌, ⊤}
+use Rattle.std.specs.Prelude.{◌≡◌, ◌≢◌, ℕ, ◌+◌, ◌<◌, ◌≤◌, ◌^◌, true, length, List, [], ◌∷◌, ◌++◌, map, slice_get, Option, Some, None, ◌⊎◌, ⊤}
 use Rattle.cast_message.specs.declared.config.Config.{Config}
 use Rattle.cast_box.specs.Ends.{PutterEnd, TakerEnd, IsSamePutter, IsSameTaker, AreSamePutters}
 use Rattle.cast_node.specs.declared.entry.Entry.{Entry}
 use Rattle.cast_desk.specs.declared.desk.Desk.{Desk}
 use Rattle.cast_desk.specs.declared.desk.OrderIn.{OrderIn}
 use Rattle.cast_desk.specs.declared.notice.Notice.{Notice}
-use Rattle.cast_engine.specs.declared.parcel.Parcel.{Parcel}
+use Rattle.cast_carrier.specs.declared.parcel.Parcel.{Parcel}
 use Rattle.cast_engine.specs.declared.feeding.Place.{Place}
 use Rattle.cast_engine.specs.declared.engine.Turn.{Turn}
 use Rattle.cast_engine.specs.declared.engine.Turn.TheVariants.{Idle}
-use Rattle.cast_engine.specs.Runs.{EngineKeeps, Has, HasTakenEach, parcel, made_of}
+use Rattle.cast_carrier.specs.Lists.{Has}
+use Rattle.cast_engine.specs.Runs.{EngineKeeps, HasTakenEach, parcel, made_of}
 use Rattle.cast_report.specs.Linked.{Trail, IsLogOf, made_in, stamped, EachArrival}
 use Rattle.cast_box.specs.Lists.{StartsWith}
 use Rattle.cast_desk.specs.Feed.{feed}
 use Rattle.cast_engine.specs.Serving.{Serves}
-use Rattle.cast_engine.specs.Journals.{JournalState, LogsStep, OnlyEnds, Rises, EndsAs}
+use Rattle.cast_engine.specs.Journals.{JournalState, LogsStep, Rises, EndsAs}
 use Rattle.cast_report.specs.declared.report.EngineEnd.{EngineEnd}
+use Rattle.cast_report.specs.declared.report.EngineEnd.TheVariants.{Stopped, TurnLimit, ClockFull}
 use Rattle.cast_node.specs.Kept.{Kept}
+use Rattle.cast_node.specs.Turns.{is_awaited}
 use Rattle.cast_model.specs.Steps.{Arrived}
 use Rattle.cast_engine.specs.Feeding.{AreFed, TellEach}
 
@@ -26,8 +29,13 @@ pub record EngineState : Type 0 where
   pub me : ℕ
   pub crash : Option ℕ
   pub outbox : PutterEnd Parcel
+  pub held : Option Parcel  -- waits to be put into the outbox
   pub inbox : TakerEnd Parcel
   pub desk : Option Desk
+
+-- the engine has ended one putter more of its inbox
+abbrev pub with_ended : EngineState → List Parcel → EngineState
+with_ended e put = record e { inbox = record e.inbox { ended = e.inbox.ended ++ put ∷ [] } }
 
 -- the desk of a node without clients has no box: it gives no orders, and has no trays
 abbrev pub taken_at : Option Desk → List (ℕ × OrderIn)
@@ -52,10 +60,10 @@ pub record IsSameEngine (old new : EngineState) : Type 0 where
   pub inbox : IsSameTaker old.inbox new.inbox
   pub desk : IsSameDesk old.desk new.desk
 
--- no parcel was put or taken, no order taken, and no notice put
+-- no parcel was put, taken or kept to be put, no order taken, and no notice put
 abbrev pub HasSameBoxes : EngineState → EngineState → Type 0
 HasSameBoxes old new =
-    (new.outbox ≡ old.outbox) × (new.inbox ≡ old.inbox)
+    (new.outbox ≡ old.outbox) × (new.held ≡ old.held) × (new.inbox ≡ old.inbox)
     × (taken_at new.desk ≡ taken_at old.desk) × (trays_at new.desk ≡ trays_at old.desk)
 
 -- so many parcels were taken, orders taken, parcels put, and notices put for each client, at most
@@ -87,23 +95,35 @@ abbrev pub TakesOrder : Option Desk → Option OrderIn → Option Desk → Type 
 TakesOrder old None new = (taken_at new ≡ taken_at old) × (trays_at new ≡ trays_at old)
 TakesOrder old (Some order) new = (from : ℕ) × (taken_at new ≡ taken_at old ++ (from, order) ∷ []) × (trays_at new ≡ trays_at old)
 
--- a parcel's arrival was logged, or nothing but an end was noted
+-- why a parcel is dropped: it is for another node, or something may come of its frame, which takes memory
+abbrev pub IsDropped : JournalState → Parcel → Type 0
+IsDropped j x = (x.frame.to ≢ j.node.me) ⊎ (is_awaited j.node x.frame.from x.frame.body ≡ true)
+
+-- a parcel's arrival was logged, or the parcel was dropped, or it has the last stamp, by which the clock is full
 abbrev pub TakesIn : JournalState → JournalState → Parcel → Type 0
-TakesIn old new x = OnlyEnds old new ⊎ (LogsStep old new (Arrived x.frame) None x.stamp × (x.frame.to ≡ old.node.me))
+TakesIn old new x =
+    (LogsStep old new (Arrived x.frame) None x.stamp × (x.frame.to ≡ old.node.me))
+    ⊎ (((new ≡ old) × IsDropped old x) ⊎ ((x.stamp + 1 ≡ 2 ^ 64) × (new ≡ record old { ended = Some ClockFull })))
+
+-- an engine chooses to end so: all are quiet, or no turn is left
+abbrev pub IsChosen : EngineEnd → Type 0
+IsChosen Stopped = Unit {0}
+IsChosen TurnLimit = Unit {0}
+IsChosen _ = ⊥
 
 -- no order was taken, and no notice given
 abbrev pub IsUnused : Option Desk → Type 0
 IsUnused desk = (taken_at desk ≡ []) × ((c : ℕ) (tray : PutterEnd Notice) → slice_get (trays_at desk) c ≡ Some tray → tray.put ≡ [])
 
 -- what an engine that ended leaves
-pub record Leaves (e : EngineState) (log : List Entry) (node : Kept) (ended : Option EngineEnd) : Type 0 where
+pub record Leaves (e : EngineState) (log : List Entry) (node : Kept) (ended : EngineEnd) : Type 0 where
   pub held : Option Parcel
   pub keeps : EngineKeeps e.config e.me node log e.outbox.put held e.inbox.taken (taken_at e.desk)
   pub places : List Place
   pub fed : AreFed log (trays_at e.desk) places
   pub clock : ℕ
   pub rises : Rises e.config.first_stamp log clock
-  pub ends : EndsAs e.config.log_limit e.crash ended log
+  pub ends : EndsAs e.config.log_limit e.crash (Some ended) log
 
 -- the log tells of the node's steps; what was put into the outbox is the first of the frames that they made, in order, with their
 -- stamps; and each frame that arrived came out of the inbox in a parcel of its own, whose stamp is smaller than the arrival's

@@ -68,11 +68,10 @@ abbrev pub AsksOrder : Kept → Kept → Item → Result (Item × Outcome) StepF
 AsksOrder old new item (Ok told) = (number : ℕ) × Gives old (Ordered item) (Ok (AnswerOrdered number told.1)) new
 AsksOrder old new item (Err fault) = Gives old (Ordered item) (Err fault) new
 
--- where an engine ends so, short of a crash and of a full log: with turns left it could log an entry more
+-- where an engine ends so, short of a crash and of a full log: it could log an entry more
 abbrev pub MayEnd : JournalState → EngineEnd → Type 0
 MayEnd j Crashed = ⊥
 MayEnd j LogFull = ⊥
-MayEnd j TurnLimit = Unit {0}
 MayEnd j _ = MayLog j
 
 -- only the end was noted
@@ -115,13 +114,18 @@ abbrev pub is_crash : EntryKind → Bool
 is_crash (StepEntry event origin outcome) = is_crash_event event
 is_crash (Refused origin fault) = false
 
+-- the log is not full, and no crash is due
+abbrev pub GoesOn : ℕ → Option ℕ → List Entry → Type 0
+GoesOn limit crash log = (length log < limit) × ((n : ℕ) → crash ≡ Some n → length log < n)
+
 -- how a log may end: a crash stands last, after as many entries as the plan says, and exactly where the end is Crashed; the end LogFull comes only at
--- the limit, ClockFull only below it, and Stopped only where no crash is due either
+-- the limit, ClockFull only below it, and Stopped and TurnLimit only where no crash is due either
 pub record EndsAs (limit : ℕ) (crash : Option ℕ) (ended : Option EngineEnd) (log : List Entry) : Type 0 where
   pub within : length log ≤ limit
   pub full : ended ≡ Some LogFull → length log ≡ limit
   pub below : ended ≡ Some ClockFull → length log < limit
-  pub rested : ended ≡ Some AllStopped → (length log < limit) × ((n : ℕ) → crash ≡ Some n → length log < n)
+  pub rested : ended ≡ Some AllStopped → GoesOn limit crash log
+  pub used_up : ended ≡ Some TurnLimit → GoesOn limit crash log
   pub due : ended ≢ Some Crashed → (n : ℕ) → crash ≡ Some n → length log ≤ n
   pub last : (i : ℕ) (e : Entry) → slice_get log i ≡ Some e → is_crash e.kind ≡ true → (suc i ≡ length log) × (crash ≡ Some i) × (ended ≡ Some Crashed)
   pub crashed : ended ≡ Some Crashed → (i : ℕ) × (e : Entry) × (slice_get log i ≡ Some e) × (is_crash e.kind ≡ true)

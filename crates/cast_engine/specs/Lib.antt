@@ -2,9 +2,4 @@ pub mod Runs
 pub mod Journals
 pub mod Feeding
 pub mod Engines
-pub mod Carriers
 pub mod Serving
-pub mod Plans
-pub mod Fates
-pub mod Copies
-pub mod Group

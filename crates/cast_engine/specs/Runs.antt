@@ -22,12 +22,9 @@ use Rattle.cast_node.specs.declared.entry.EntryKind.TheVariants.{Step as StepEnt
 use Rattle.cast_node.specs.Kept.{Kept}
 use Rattle.cast_node.specs.Stands.{Stands}
 use Rattle.cast_desk.specs.declared.desk.OrderIn.{OrderIn}
-use Rattle.cast_engine.specs.declared.parcel.Parcel.{Parcel}
+use Rattle.cast_carrier.specs.declared.parcel.Parcel.{Parcel}
+use Rattle.cast_carrier.specs.Lists.{Has}
 use Rattle.cast_report.specs.Linked.{Mark, Made, Trail, event_of, outcome_in, steps_in, made_in, kept_in, stamped, IsFor}
-
--- x stands in the list
-abbrev pub Has : {A : Type 0} → List A → A → Type 0
-Has xs x = (i : ℕ) × (slice_get xs i ≡ Some x)
 
 -- An entry, and what it came of.
 pub data Read : Type 0 where

@@ -17,7 +17,8 @@ use Rattle.cast_node.specs.declared.entry.EntryKind.{EntryKind}
 use Rattle.cast_node.specs.declared.entry.EntryKind.TheVariants.{Step as StepEntry, Refused}
 use Rattle.cast_desk.specs.declared.desk.OrderIn.{OrderIn}
 use Rattle.cast_report.specs.Linked.{Trail, steps_in}
-use Rattle.cast_engine.specs.Runs.{Has, origin_of}
+use Rattle.cast_carrier.specs.Lists.{Has}
+use Rattle.cast_engine.specs.Runs.{origin_of}
 
 abbrev pub is_of : ℕ → Option Origin → Bool
 is_of c None = false

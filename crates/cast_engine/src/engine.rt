@@ -1,18 +1,16 @@
 //! An engine: the owner of a node, its log and its clock, with the ends of its boxes.
-ghost use Rattle.std.specs.Prelude.{◌≡◌, ◌<◌, [], length, IfOk, IfNone, IsFalse};
+ghost use Rattle.std.specs.Prelude.{◌≡◌, ◌<◌, [], length, IfOk, IfNone, IsFalse, Some, None};
 ghost use Rattle.cast_box.specs.Ends.{IsSamePutter, IsNextToEnd};
-ghost use Rattle.cast_engine.specs.Group.{with_ended};
-ghost use Rattle.cast_engine.specs.Engines.{EngineState, IsSameEngine, HasSameBoxes, DoesFew, IsIdleRightly, IsSameDesk, TakesOrder, TakesIn, Handed, Leaves, Tells, WereTold, IsUnused, trays_at};
+ghost use Rattle.cast_engine.specs.Engines.{EngineState, IsSameEngine, HasSameBoxes, IsChosen, DoesFew, IsIdleRightly, IsSameDesk, TakesOrder, TakesIn, Handed, Leaves, Tells, WereTold, IsUnused, trays_at, with_ended};
 ghost use Rattle.cast_engine.specs.Journals.{MayLog};
 
-use crate::board::{Board, Quiet};
 use crate::feeding::{Place, first_places, notify_all};
 use crate::gate::Gate;
 use crate::journal::Journal;
-use crate::parcel::Parcel;
+use crate::quiet::Quiet;
 use crate::resend::{LAST_SENT, Resend};
-use crate::waiting::Waiting;
 use cast_box::{Full, Putter, Taker};
+use cast_carrier::{Board, Parcel, Waiting};
 use cast_desk::{Desk, OrderIn};
 use cast_message::{Config, Frame, FrameBody, FrameKind, NodeId};
 use cast_node::{Entry, EntryKind, Node};
@@ -30,8 +28,7 @@ const PATIENCE: u64 = 2 * LAST_SENT as u64;
 pub enum Turn {
     /// Something was done.
     Moved,
-    /// Nothing was done, but that the node may have crashed: no parcel was put or taken, no order taken, no slot sent, no notice
-    /// put.
+    /// No parcel was put, taken or kept to be put, no order taken and no notice put. A crash that was due may have been logged.
     Idle,
     /// All engines are quiet, so that the engine has ended, if it had not otherwise in this turn.
     Stopped,
@@ -70,6 +67,7 @@ impl Model for Engine {
       me = e.journal.node.me;
       crash = e.journal.crash;
       outbox = e.outbox;
+      held = e.held;
       inbox = e.inbox;
       desk = e.desk;
     } };
@@ -94,7 +92,7 @@ pub enum Received {
 pub struct EngineParts {
     pub log: Vec<Entry>,
     pub node: Node,
-    pub ended: Option<EngineEnd>,
+    pub ended: EngineEnd,
     pub outbox: Putter<Parcel>,
     pub inbox: Taker<Parcel>,
     pub desk: Option<Desk>,
@@ -130,6 +128,7 @@ impl Engine {
               me = me;
               crash = crash;
               outbox = boxes.outbox;
+              held = None;
               inbox = boxes.inbox;
               desk = boxes.desk;
             }) }
@@ -171,7 +170,7 @@ impl Engine {
             return Turn::Ended;
         }
         if !self.count_turn() {
-            self.use_up();
+            self.end(EngineEnd::TurnLimit);
             return Turn::Ended;
         }
         gate.pass(rt);
@@ -181,7 +180,7 @@ impl Engine {
             tell_gate(gate, entries);
         }
         if quiet.may_stop(board) {
-            self.stop();
+            self.end(EngineEnd::Stopped);
             return Turn::Stopped;
         }
         if moved { Turn::Moved } else { Turn::Idle }
@@ -199,7 +198,7 @@ impl Engine {
         let exchanged = self.exchange(rt, board, quiet);
         let jobs_ended = quiet.jobs_ended(board);
         let ordered = self.take_order(rt);
-        let sent = self.resend(rt);
+        let sent = self.resend(rt, board);
         let told = self.notify(rt);
         self.note_served(jobs_ended, ordered, told);
         quiet.write(board, jobs_ended && !ordered && self.is_settled(board));
@@ -284,7 +283,7 @@ impl Engine {
         self.inbox.end(putter);
     }
 
-    /// What the engine leaves.
+    /// What the engine leaves. One that has not ended, as it was told to stop, ends here as if no turn were left.
     pub fn into_parts(self) -> EngineParts
         ensures ends { (result.outbox ≡ self.outbox) × (result.inbox ≡ self.inbox)
             × (result.desk ≡ self.desk) }
@@ -293,12 +292,13 @@ impl Engine {
         ensures told { WereTold result.log.items (trays_at self.desk) }
     {
         let Engine {
-            journal,
+            mut journal,
             outbox,
             inbox,
             desk,
             ..
         } = self;
+        journal.close();
         let (log, node, ended) = journal.into_parts();
         EngineParts {
             log,
@@ -361,20 +361,20 @@ impl Engine {
         true
     }
 
-    // Sends a slot that is due, to the next peer in cyclic order to which one is. Answers whether it did.
+    // Sends a slot that is due, to the next peer in cyclic order that has not ended and to which one is. Answers whether it did.
     #[tactic(auto, using(crate::proofs::Again::desk_same))]
-    fn resend<R: Wait>(&mut self, rt: &R) -> bool
+    fn resend<R: Wait>(&mut self, rt: &R, board: &Board) -> bool
         ensures same { IsSameEngine self.old self.new }
         ensures few { DoesFew 0 0 1 0 self.old self.new }
         ensures idle { IsFalse result → HasSameBoxes self.old self.new }
     {
         self.next_turn();
-        self.send_due(rt)
+        self.send_due(rt, board)
     }
 
     // Sends the slot that is due next. Answers whether there was one.
     #[tactic(auto, using(crate::proofs::Again::desk_same))]
-    fn send_due<R: Wait>(&mut self, rt: &R) -> bool
+    fn send_due<R: Wait>(&mut self, rt: &R, board: &Board) -> bool
         ensures same { IsSameEngine self.old self.new }
         ensures few { DoesFew 0 0 1 0 self.old self.new }
         ensures idle { IsFalse result → HasSameBoxes self.old self.new }
@@ -382,7 +382,7 @@ impl Engine {
         if self.held.is_some() {
             return false;
         }
-        let Some((to, slot)) = self.resend.next_due(self.journal.node()) else {
+        let Some((to, slot)) = self.resend.next_due(self.journal.node(), board) else {
             return false;
         };
         if !self.make(rt, FrameKind::Carry, to, slot) {
@@ -426,24 +426,17 @@ impl Engine {
         self.journal.may_log()
     }
 
-    // Ends as all engines are quiet. The log is asked first: the slot sent last may have filled it, or made a crash due.
+    // Ends, as all engines are quiet or no turn is left. The log is asked first: the slot sent last may have filled it, or made a
+    // crash due.
     #[tactic(auto, using(crate::proofs::Again::desk_same))]
-    fn stop(&mut self)
+    fn end(&mut self, end: EngineEnd)
+        requires { IsChosen end }
         ensures same { IsSameEngine self.old self.new }
         ensures boxes { HasSameBoxes self.old self.new }
     {
         if self.journal.may_log() {
-            self.journal.end(EngineEnd::Stopped);
+            self.journal.end(end);
         }
-    }
-
-    // Ends as no turn is left.
-    #[tactic(auto, using(crate::proofs::Again::desk_same))]
-    fn use_up(&mut self)
-        ensures same { IsSameEngine self.old self.new }
-        ensures boxes { HasSameBoxes self.old self.new }
-    {
-        self.journal.end(EngineEnd::TurnLimit);
     }
 
     // Counts the turn. Answers whether there was one left.
@@ -586,7 +579,7 @@ fn hand<R: Wait>(
 ) -> bool
     ensures same { IsSamePutter outbox.old outbox.new }
     ensures handed { Handed outbox.old.put outbox.new.put held.new parcel }
-    ensures kept { IsFalse result → outbox.new ≡ outbox.old }
+    ensures kept { IsFalse result → (outbox.new ≡ outbox.old) × (held.new ≡ Some parcel) }
 {
     match outbox.put(rt, parcel) {
         Ok(()) => {

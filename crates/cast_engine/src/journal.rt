@@ -1,14 +1,14 @@
 //! The node of an engine, with its log and its clock.
-ghost use Rattle.std.specs.Prelude.{◌≡◌, ◌+◌, ◌<◌, ◌^◌, [], length, Some, None, Ok, IfOk, OnOk, OnErr, IsTrue, IsFalse, IsSome};
+ghost use Rattle.std.specs.Prelude.{◌≡◌, ◌+◌, ◌<◌, ◌^◌, [], length, true, Some, None, Err, IfOk, IfErr, OnOk, OnErr, IsTrue, IsFalse, IsSome, is_some};
 ghost use Rattle.cast_model.specs.Steps.{Arrived, Stopped, making};
 ghost use Rattle.cast_report.specs.Linked.{event_of};
 ghost use Rattle.cast_node.specs.Calls.{sent_reply};
 ghost use Rattle.cast_node.specs.Kept.{nothing_kept};
-ghost use Rattle.cast_node.specs.Turns.{Gives, frame_made};
+ghost use Rattle.cast_node.specs.Turns.{Gives, frame_made, is_awaited};
 ghost use Rattle.cast_report.specs.declared.report.EngineEnd.TheVariants.{Crashed};
 ghost use Rattle.cast_engine.specs.Journals.{MayLog, LogsStep, LogsOrder, OnlyEnds, Halts, HaltsBy, Rises, EndsAs, AsksOrder, MayEnd};
 
-use crate::parcel::Parcel;
+use cast_carrier::Parcel;
 use cast_desk::OrderIn;
 use cast_message::{Config, Event, Frame, FrameKind, Item, NodeId, Outcome, StepFault};
 use cast_node::{Entry, EntryKind, Node, Origin, no_news};
@@ -96,6 +96,7 @@ impl Journal {
         ensures halts { IsFalse result → Halts self.old self.new }
         ensures kept { IsSome self.old.ended → self.new ≡ self.old }
         ensures cause { IsFalse result → self.old.ended ≡ None → HaltsBy self.old self.new.ended }
+        ensures ended { IsFalse result → IsSome self.new.ended }
     {
         if self.ended.is_some() {
             return false;
@@ -140,7 +141,8 @@ impl Journal {
         self.ended = Some(EngineEnd::Crashed);
     }
 
-    /// Takes a frame that arrives, and logs it. A refusal changes nothing.
+    /// Takes a frame that arrives, and logs it. Only memory can be wanting, and only where something may come of the frame. A
+    /// refusal changes nothing.
     pub fn arrive(&mut self, parcel: &Parcel) -> Result<(), StepFault>
         requires may { MayLog self.old }
         requires to { parcel.now.frame.to ≡ self.old.node.me }
@@ -149,6 +151,8 @@ impl Journal {
             (LogsStep self.old self.new (Arrived parcel.now.frame) None parcel.now.stamp) }
         ensures ended { self.new.ended ≡ self.old.ended }
         ensures err { OnErr result (self.new ≡ self.old) }
+        ensures awaited { OnErr result (is_awaited self.old.node parcel.now.frame.from
+            parcel.now.frame.body ≡ true) }
     {
         let outcome = self.node.arrive(&parcel.frame)?;
         let stamp = self.clock.max(parcel.stamp) + 1;
@@ -168,7 +172,7 @@ impl Journal {
         Ok(())
     }
 
-    /// Makes a frame of this kind for a slot, and logs it. A refusal changes nothing.
+    /// Makes a frame of this kind for a slot, and logs it, or answers why the node makes none. A refusal changes nothing.
     pub fn make(&mut self, kind: FrameKind, to: NodeId, slot: u64) -> Result<Parcel, StepFault>
         requires { MayLog self.old }
         ensures ok { OnOk result
@@ -178,6 +182,8 @@ impl Journal {
             × (parcel.stamp ≡ self.new.clock)) }
         ensures ended { self.new.ended ≡ self.old.ended }
         ensures err { OnErr result (self.new ≡ self.old) }
+        ensures refused { IfErr result (λ fault.
+            Gives self.old.node (making kind to slot) (Err fault) self.old.node) }
     {
         let from = self.node.id();
         let frame = frame_by(&mut self.node, kind, to, slot)?;
@@ -242,8 +248,20 @@ impl Journal {
         }
     }
 
+    /// Ends the engine, where it has not ended: as its log says, or else as if no turn were left.
+    pub fn close(&mut self)
+        ensures halts { Halts self.old self.new }
+        ensures ended { IsSome self.new.ended }
+    {
+        if self.may_log() {
+            self.end(EngineEnd::TurnLimit);
+        }
+    }
+
     /// Whether the engine has ended.
-    pub fn has_ended(&self) -> bool {
+    pub fn has_ended(&self) -> bool
+        ensures { result ≡ is_some self.now.ended }
+    {
         self.ended.is_some()
     }
 
@@ -268,10 +286,11 @@ impl Journal {
         self.log.as_slice()
     }
 
-    /// The log, the node and the end, where the engine ended.
-    pub fn into_parts(self) -> (Vec<Entry>, Node, Option<EngineEnd>)
+    /// The log, the node and the end of an engine that has ended.
+    pub fn into_parts(self) -> (Vec<Entry>, Node, EngineEnd)
+        requires { IsSome self.ended }
         ensures parts { (result.0.items ≡ self.log) × (result.1 ≡ self.node)
-            × (result.2 ≡ self.ended) }
+            × (self.ended ≡ Some result.2) }
         ensures rises { Rises self.config.first_stamp self.log self.clock }
         ensures ends { EndsAs self.config.log_limit self.crash self.ended self.log }
     {
@@ -281,7 +300,7 @@ impl Journal {
             ended,
             ..
         } = self;
-        (log, node, ended)
+        (log, node, ended.unwrap())
     }
 }
 

@@ -1,22 +1,17 @@
-//! What runs in the threads of a node: its engine, which owns the node with its log, and its carrier, which takes frames to other
-//! nodes. Between them stand parcels, a board on which engines tell when they are quiet, and gates that they pass.
+//! Engines: the owner of a node, with its log, its clock and the ends of its boxes, turn by turn. The engines of a group tell one
+//! another on a board when they are quiet, and pass a gate in each turn.
 #![tactic(auto)]
 
-mod board;
-mod carrier;
 mod engine;
 mod feeding;
 mod gate;
 mod journal;
-mod parcel;
 mod progress;
+mod quiet;
 mod resend;
-mod waiting;
 
-pub use board::{Board, Quiet};
-pub use carrier::{Carrier, run_carrier};
 pub use engine::{Engine, EngineBoxes, EngineParts, Turn, run_engine};
 pub use gate::{Gate, OpenGate};
-pub use parcel::Parcel;
 pub use progress::{CountingGate, Progress};
+pub use quiet::Quiet;
 pub use resend::Resend;

@@ -2,7 +2,7 @@
 --     IsNoScript bytes fault     read as a script, the bytes have this fault of their own
 --     IsNoGroup bytes fault      the bytes are a script, of which this is the first cause for which no group is run
 use Rattle.std.specs.Prelude.{◌≡◌, ℕ, List, Ok, Err}
-use Rattle.cast_run.specs.Faults.{IsMisfit}
+use Rattle.cast_job.specs.Faults.{IsMisfit}
 use Rattle.cast_script.specs.declared.live_fault.LiveFault.{LiveFault}
 use Rattle.cast_script.specs.declared.script.Script.{Script}
 use Rattle.cast_script.specs.declared.script.ScriptFault.{ScriptFault}

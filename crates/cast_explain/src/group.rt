@@ -6,8 +6,8 @@ ghost use Rattle.cast_explain.specs.Words.{IsNamed};
 use crate::Explanation;
 use crate::named::named;
 use cast_desk::MOST_CLIENTS;
+use cast_job::find_misfit;
 use cast_message::NodeId;
-use cast_run::find_misfit;
 use cast_script::{Fault, LiveFault, Script, ScriptFault, read_script};
 use std::alloc::{AllocError, Global};
 

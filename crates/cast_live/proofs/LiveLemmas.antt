@@ -5,14 +5,14 @@ use Rattle.std.specs.Io.KnownBytes.{Appends}
 use Rattle.std.proofs.KnownBytes.{Keeps-refl}
 use Rattle.cast_model.specs.Replies.{history}
 use Rattle.cast_words.specs.Written.{WroteAll, WrotePrefix}
-use Rattle.cast_run.specs.declared.submit_all.SubmitAll.{SubmitAll}
+use Rattle.cast_job.specs.declared.submit_all.SubmitAll.{SubmitAll}
 use Rattle.cast_message.specs.declared.config.Config.{Config}
 use Rattle.cast_message.specs.declared.message.Item.{Item}
 use Rattle.cast_box.specs.Lists.{of}
 use Rattle.cast_script.specs.declared.live_fault.LiveFault.{LiveFault}
 use Rattle.cast_script.specs.declared.live_fault.LiveFault.TheVariants as lives
-use Rattle.cast_run.specs.Faults.{JobsFit, IsFaultOf}
-use Rattle.cast_run.specs.Jobs.{Submits, told_job, replies_in}
+use Rattle.cast_job.specs.Faults.{JobsFit, IsFaultOf}
+use Rattle.cast_job.specs.Jobs.{Submits, told_job, replies_in}
 use Rattle.cast_script.specs.declared.script.Script.{Script}
 use Rattle.cast_live.specs.declared.live.FinishedRun.{FinishedRun}
 use Rattle.cast_live.specs.declared.summary.Summary.{Summary}

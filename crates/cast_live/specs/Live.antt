@@ -27,14 +27,14 @@ use Rattle.cast_record.specs.declared.verdict.Verdict.TheVariants.{Good}
 use Rattle.cast_record.specs.VerdictText.{verdict_text}
 use Rattle.cast_run.specs.Planned.{faults_of, KeepsTo}
 use Rattle.cast_run.specs.declared.reports.ClientReport.{ClientReport}
-use Rattle.cast_run.specs.Faults.{JobsFit}
-use Rattle.cast_engine.specs.Plans.{ArePlanned, crash_from}
-use Rattle.cast_run.specs.Jobs.{SubmitsGiven}
+use Rattle.cast_job.specs.Faults.{JobsFit}
+use Rattle.cast_carrier.specs.Plans.{ArePlanned, crash_from}
+use Rattle.cast_job.specs.Jobs.{SubmitsGiven}
 use Rattle.cast_engine.specs.Journals.{EndsAs}
 use Rattle.cast_run.specs.Serves.{AreStamped, AreServed, HaveOrigins}
 use Rattle.cast_script.specs.declared.live_fault.LiveFault.{LiveFault}
 use Rattle.cast_script.specs.declared.live_fault.LiveFault.TheVariants as lives
-use Rattle.cast_run.specs.declared.submit_all.SubmitAll.{SubmitAll}
+use Rattle.cast_job.specs.declared.submit_all.SubmitAll.{SubmitAll}
 use Rattle.cast_script.specs.declared.script.Script.{Script}
 use Rattle.cast_live.specs.declared.live.FinishedRun.{FinishedRun}
 use Rattle.cast_live.specs.declared.summary.Summary.{Summary}

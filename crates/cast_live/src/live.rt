@@ -1,7 +1,7 @@
 //! Running the group of a script in threads, and telling what became of it.
 ghost use Rattle.std.specs.Prelude.{◌≡◌, ◌++◌, ◌∷◌, [], false, IfOk, IfErr, OnOk, map};
 ghost use Rattle.cast_record.specs.Text.{record_text};
-ghost use Rattle.cast_run.specs.Jobs.{told_job};
+ghost use Rattle.cast_job.specs.Jobs.{told_job};
 ghost use Rattle.cast_script.specs.Replay.{script_text};
 ghost use Rattle.cast_live.specs.Live.{IsFinished, IsNewJob, AreNewJobs, items_of, IsOfRunning, IsRunOf, Summarizes};
 ghost use Rattle.cast_text.specs.Text.{Puts, UsesStreams};

@@ -13,16 +13,17 @@ use Rattle.cast_script.specs.declared.script.Fault.{Fault}
 use Rattle.cast_report.specs.declared.report.NodeReport.{NodeReport}
 use Rattle.cast_report.specs.Linked.{Trail, Made, IsLogOf, EachArrival, made_in}
 use Rattle.cast_report.proofs.Logging.{choose, each_arrival, made_numbered}
-use Rattle.cast_engine.specs.declared.parcel.Parcel.{Parcel}
-use Rattle.cast_engine.specs.declared.carrier.Ordinals.{Ordinals}
-use Rattle.cast_engine.specs.Runs.{Has, HasTakenEach, parcel, made_of}
-use Rattle.cast_engine.specs.Fates.{fate_in, counted_in}
-use Rattle.cast_engine.specs.Copies.{none_taken, copies, is_for, frames_for, counted_all, due}
+use Rattle.cast_carrier.specs.declared.parcel.Parcel.{Parcel}
+use Rattle.cast_carrier.specs.declared.carrier.Ordinals.{Ordinals}
+use Rattle.cast_carrier.specs.Lists.{Has}
+use Rattle.cast_engine.specs.Runs.{HasTakenEach, parcel, made_of}
+use Rattle.cast_carrier.specs.Fates.{fate_in, counted_in}
+use Rattle.cast_carrier.specs.Copies.{none_taken, copies, is_for, frames_for, counted_all, due}
 use Rattle.cast_engine.specs.Engines.{EngineState}
-use Rattle.cast_engine.specs.Carriers.{CarrierState}
-use Rattle.cast_engine.specs.Group.{IsGathered}
-use Rattle.cast_engine.proofs.Copying.{IsThrough, due_is_through, due_once, same_read}
-use Rattle.cast_engine.proofs.Lists.{get_left}
+use Rattle.cast_carrier.specs.Carriers.{CarrierState}
+use Rattle.cast_run.specs.Group.{IsGathered}
+use Rattle.cast_carrier.proofs.Copying.{IsThrough, due_is_through, due_once, same_read}
+use Rattle.cast_report.proofs.Logging.{get_left}
 use Rattle.cast_run.specs.Planned.{ordinals_of, frames_to, is_same_frame, times_arrived, Allows, Arrives, frames_made, KeepsTo, HaveFaults}
 use Rattle.cast_run.proofs.Together.{CameFrom, OfNode, of_node, taken_was_put, only_one}
 

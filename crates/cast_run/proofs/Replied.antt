@@ -21,8 +21,8 @@ use Rattle.cast_engine.specs.Serving.{Matches, IsAnswered, entries_of, is_of, or
 use Rattle.cast_report.specs.declared.report.EngineEnd.TheVariants.{Stopped}
 use Rattle.cast_report.specs.declared.report.NodeReport.{NodeReport}
 use Rattle.cast_run.specs.declared.reports.ClientReport.{ClientReport}
-use Rattle.cast_run.specs.declared.submit_all.SubmitAll.{SubmitAll}
-use Rattle.cast_run.specs.Jobs.{SubmitsGiven, replies_in}
+use Rattle.cast_job.specs.declared.submit_all.SubmitAll.{SubmitAll}
+use Rattle.cast_job.specs.Jobs.{SubmitsGiven, replies_in}
 use Rattle.cast_run.specs.Serves.{AreServed, IsServed}
 use Rattle.cast_box.proofs.Closing.{found}
 

@@ -1,14 +1,10 @@
 -- Lists whose room is made before the threads start.
---     IsRoomFor n v              an empty list with room for n
 --     HasEndRoom n room          room for what n engines leave
 --     HasRoom n k room           and for what is gathered of k jobs
-use Rattle.std.specs.Prelude.{◌≡◌, ◌≤◌, ℕ, [], vec_len, vec_capacity}
-use Rattle.std.specs.Global.{Vec}
+use Rattle.std.specs.Prelude.{ℕ}
+use Rattle.cast_carrier.specs.Lists.{IsRoomFor}
 use Rattle.cast_run.specs.declared.ending.EndRoom.{EndRoom}
 use Rattle.cast_run.specs.declared.room.Room.{Room}
-
-abbrev pub IsRoomFor : {T : Type 0} → ℕ → Vec T → Type 0
-IsRoomFor n v = (v.items ≡ []) × (vec_len v ≡ 0) × (n ≤ vec_capacity v)
 
 pub record HasEndRoom (n : ℕ) (room : EndRoom) : Type 0 where
   pub takers : IsRoomFor n room.takers

@@ -1,3 +1,1 @@
-pub mod Buffered
 pub mod Running
-pub mod Cutting

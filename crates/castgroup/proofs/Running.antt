@@ -7,7 +7,7 @@ use Rattle.cast_script.specs.declared.script.Script.{Script}
 use Rattle.cast_text.specs.Text.{IsScriptIn, Tells}
 use Rattle.cast_text.specs.declared.fault.TextFault.{TextFault}
 use Rattle.cast_text.specs.declared.fault.TextFault.TheVariants as faults
-use Rattle.castgroup.specs.Made.{RefusesRun, RunsScript}
+use Rattle.castgroup.specs.Ran.{RefusesRun, RunsScript}
 
 pub runs_script : (input : Option (List ℕ)) (script : Script) (ran : Result FinishedRun TextFault) → IsScriptIn input script → IfOk ran (λ run. run.report.config ≡ script.config) → IfOk ran (λ run. IsRunOf script run.report.reports) → IfOk ran (RunsScript input)
 runs_script input script (Ok run) read config is_run = record { script = script; read = read; config = config; ran = is_run }

@@ -1,2 +1,1 @@
-pub mod Made
-pub mod Streams
+pub mod Ran

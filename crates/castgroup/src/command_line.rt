@@ -1,8 +1,6 @@
 //! The words that the program was called with, and what is shown where they ask for nothing that it does.
-use crate::explain::explain_output;
-use crate::source::Failure;
-use crate::status::{Status, refuse};
 use cast_command::{Refusal, Shown};
+use cast_console::{Failure, Status, explain_output, refuse};
 use cast_text::TextFault;
 use std::io;
 use std::rt::Runtime;

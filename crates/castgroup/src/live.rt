@@ -4,14 +4,16 @@ ghost use Rattle.std.specs.Io.Buffered.{writer_buffer, writer_inner};
 ghost use Rattle.std.specs.Io.KnownBytes.{Appends, append_known};
 ghost use Rattle.cast_live.specs.Live.{IsFinished, IsSummaryOf};
 ghost use Rattle.cast_text.specs.Text.{TakesInput, Tells, WroteFront};
-ghost use Rattle.castgroup.specs.Made.{IsCut, IsTold, RefusesRun, RunsScript, output_text};
+ghost use Rattle.cast_console.specs.Made.{IsCut};
+ghost use Rattle.castgroup.specs.Ran.{IsTold, RefusesRun, RunsScript, output_text};
 
-use crate::explain::{explain_fault, explain_output, explain_run};
-use crate::output::hand_on;
-use crate::progress::{Teller, due_deliveries};
-use crate::source::{Failure, Heard, StreamName, open_source};
-use crate::status::{Status, refuse};
+use crate::progress::{ProgressReporter, due_deliveries};
 use cast_command::{Call, RunFiles};
+use cast_console::{
+    Failure, Heard, Status, StreamName, explain_fault, explain_output, hand_on, open_source,
+    refuse, tell,
+};
+use cast_explain::verdict_words;
 use cast_live::{
     Counted, FinishedRun, Summary, run_script, summarize, write_record_of, write_replay_of,
     write_summary,
@@ -36,9 +38,9 @@ pub fn live_script<R: Runtime + AllocGlobal + Threads + Wait + Copy + Send + 'st
     stderr: Stderr,
 ) -> Status {
     let wanted = tells_progress || stderr.is_terminal();
-    let told = if wanted { Some(stderr) } else { None };
+    let progress_to = if wanted { Some(stderr) } else { None };
     let mut source = open_source(rt, call);
-    let run = match run_live_script(rt, &mut Meter::new(&mut source), told) {
+    let run = match run_live_script(rt, &mut Meter::new(&mut source), progress_to) {
         Ok(run) => run,
         Err(fault) => {
             let status = refuse(rt, fault);
@@ -47,9 +49,14 @@ pub fn live_script<R: Runtime + AllocGlobal + Threads + Wait + Copy + Send + 'st
         }
     };
     drop(source);
-    let kept = keep_files(rt, files, &run);
+    let record = keep(rt, files.record, &run, RunFile::Record);
+    let replay = keep(rt, files.replay, &run, RunFile::Replay);
     let told = tell_summary(rt, &run);
-    let stop = match (told, kept) {
+    // What is said comes after the summary, as there may be nobody who reads it, and the files are closed: where the program began
+    // without standard error, a file stands in its place.
+    let record = warn_of_length(rt, record, RunFile::Record);
+    let replay = warn_of_length(rt, replay, RunFile::Replay);
+    let stop = match (told, both_kept(record, replay)) {
         (Ok(summary), Ok(())) => return tell_verdict(rt, &run, summary, call.explains),
         (Err(summary), Err(file)) => summary.or_memory(file),
         (Err(stop), Ok(())) | (Ok(_), Err(stop)) => stop,
@@ -101,11 +108,30 @@ fn status_of(summary: Summary) -> Status {
     }
 }
 
+// Explains the verdict on the record of a run in threads.
+fn explain_run<R: Runtime + AllocGlobal>(rt: &R, run: &FinishedRun, line: u64, rule: u64)
+    requires { IsFinished run.now }
+{
+    let mut record = Meter::new(Vec::new(rt.alloc()));
+    if write_record_of(run, &mut record).is_err() {
+        return;
+    }
+    let text = record.into_inner();
+    let words = verdict_words(
+        rt.alloc(),
+        "the record of the run",
+        text.as_slice(),
+        line,
+        rule,
+    );
+    tell(rt, words);
+}
+
 // Reads the script and runs its group, and where that is wanted tells how far it is.
 fn run_live_script<I: Read, R: Runtime + AllocGlobal + Threads + Wait + Copy + Send + 'static>(
     rt: &R,
     reader: &mut Meter<I>,
-    told: Option<Stderr>,
+    progress_to: Option<Stderr>,
 ) -> Result<FinishedRun, TextFault>
     requires { reader.old.failed ≡ false }
     ensures finished { IfOk result IsFinished }
@@ -117,32 +143,33 @@ fn run_live_script<I: Read, R: Runtime + AllocGlobal + Threads + Wait + Copy + S
 {
     let script = read_script_text(rt.alloc(), reader)?;
     let progress = Progress::shared(rt.alloc(), script.config.nodes())?;
-    let teller = match told {
-        Some(stderr) => Teller::start(*rt, rt.alloc(), stderr, &progress, due_deliveries(&script)),
+    let due = due_deliveries(&script);
+    let reporter = match progress_to {
+        Some(stderr) => ProgressReporter::start(*rt, rt.alloc(), stderr, &progress, due),
         None => None,
     };
     let run = run_script(*rt, rt.alloc(), script, &progress);
-    if let Some(teller) = teller {
-        teller.stop(rt);
+    if let Some(reporter) = reporter {
+        reporter.stop(rt);
     }
     run
 }
 
 /// What is kept of a run in a file.
 #[derive(Clone, Copy)]
-enum Kept {
+enum RunFile {
     /// The record of what happened.
     Record,
     /// The script that says what happened.
     Replay,
 }
 
-impl Kept {
+impl RunFile {
     // What is said where it is longer than this program reads.
     fn warning(self) -> &'static str {
         match self {
-            Kept::Record => "record longer than judge reads",
-            Kept::Replay => "replay longer than run reads",
+            RunFile::Record => "record longer than judge reads",
+            RunFile::Replay => "replay longer than run reads",
         }
     }
 }
@@ -151,7 +178,7 @@ impl Kept {
 #[derive(Clone, Copy)]
 enum Output {
     /// What is kept of it in a file.
-    Kept(Kept),
+    File(RunFile),
     /// What became of it.
     Summary(Summary),
 }
@@ -169,49 +196,50 @@ impl Output {
             (fault ≡ TextFault.Write) × (writer.new.failed ≡ true)) }
     {
         match self {
-            Output::Kept(Kept::Record) => write_record_of(run, writer),
-            Output::Kept(Kept::Replay) => write_replay_of(run, writer),
+            Output::File(RunFile::Record) => write_record_of(run, writer),
+            Output::File(RunFile::Replay) => write_replay_of(run, writer),
             Output::Summary(summary) => Ok(write_summary(run, summary, writer)?),
         }
     }
 }
 
-// Writes the record and the replay to the files that are named, each whatever became of the other.
-// Where neither is written, want of memory is told first, and else the record's fault.
-fn keep_files<'a, R: Runtime + AllocGlobal>(
-    rt: &R,
-    files: RunFiles<'a>,
-    run: &FinishedRun,
-) -> Result<(), Stop<'a>>
-    requires { IsFinished run.now }
-{
-    let record = keep(rt, files.record, run, Kept::Record);
-    let replay = keep(rt, files.replay, run, Kept::Replay);
-    match (record, replay) {
-        (Err(record), Err(replay)) => Err(record.or_memory(replay)),
-        (record, replay) => record.and(replay),
-    }
-}
-
-// Writes to the file, if one is named, and says so where the text is longer than this program reads.
+// Writes to the file, if one is named, and answers how many bytes it has.
 fn keep<'a, R: Runtime + AllocGlobal>(
     rt: &R,
     path: Option<&'a str>,
     run: &FinishedRun,
-    kept: Kept,
-) -> Result<(), Stop<'a>>
+    file: RunFile,
+) -> Result<u64, Stop<'a>>
     requires { IsFinished run.now }
 {
-    let Some(path) = path else {
-        return Ok(());
-    };
-    // The file is closed when something is said: where the program began without standard error, the file stands in its place.
-    let count = write_file(rt, path, run, kept)?;
-    if count > INPUT_LIMIT as u64 {
+    match path {
+        Some(path) => write_file(rt, path, run, file),
+        None => Ok(0),
+    }
+}
+
+// Says so where a file was written whose text is longer than this program reads.
+fn warn_of_length<'a, R: Eprint>(
+    rt: &R,
+    kept: Result<u64, Stop<'a>>,
+    file: RunFile,
+) -> Result<(), Stop<'a>> {
+    if kept? > INPUT_LIMIT as u64 {
         // Where standard error fails there is nowhere left to say so.
-        let _ = eprintln!(rt; "castgroup: {}", kept.warning());
+        let _ = eprintln!(rt; "castgroup: {}", file.warning());
     }
     Ok(())
+}
+
+// Where neither the record nor the replay is written, want of memory is told first, and else the record's fault.
+fn both_kept<'a>(
+    record: Result<(), Stop<'a>>,
+    replay: Result<(), Stop<'a>>,
+) -> Result<(), Stop<'a>> {
+    match (record, replay) {
+        (Err(record), Err(replay)) => Err(record.or_memory(replay)),
+        (record, replay) => record.and(replay),
+    }
 }
 
 // Writes to the file of this name, closes it, and answers how many bytes it has.
@@ -219,7 +247,7 @@ fn write_file<'a, R: Runtime + AllocGlobal>(
     rt: &R,
     path: &'a str,
     run: &FinishedRun,
-    kept: Kept,
+    kept: RunFile,
 ) -> Result<u64, Stop<'a>>
     requires { IsFinished run.now }
 {
@@ -239,7 +267,7 @@ fn write_file<'a, R: Runtime + AllocGlobal>(
     let Ok(buffer) = BufWriter::new(rt.alloc(), Heard::new(Counted::new(file))) else {
         return stop(TextFault::Memory, None);
     };
-    match write_through(run, Output::Kept(kept), buffer) {
+    match write_through(run, Output::File(kept), buffer) {
         (Ok(()), heard) => Ok(heard.inner().count()),
         (Err(fault), heard) => stop(fault, heard.error()),
     }

@@ -1,28 +1,22 @@
-//! The program `castgroup`: opens files, calls the libraries `cast_text` and `cast_live`, and turns what came of it into an exit
-//! status. `cast_command` reads its command line.
+//! The program `castgroup`: asks `cast_command` what the words of its call want, and has it done, by `cast_console`, or, where a
+//! group runs in threads, by `cast_live`. What came of it is its exit status.
 #![tactic(auto)]
 
 mod command_line;
-mod explain;
 mod live;
-mod output;
 mod progress;
-mod source;
-mod status;
-mod texts;
 
 use cast_command::{Request, parse};
+use cast_console::{Status, TextCommand, write_text};
 use cast_explain::RULES;
 use cast_text::Window;
 use command_line::{asks_to_explain, command_words, refuse_request, refuse_words};
 use live::live_script;
-use status::Status;
 use std::io::Stderr;
 use std::process::ExitCode;
 use std::rt::Runtime;
 use std::sync::Wait;
 use std::thread::Threads;
-use texts::{TextCommand, write_text};
 
 fn main(rt: HostRuntime) -> ExitCode {
     ExitCode::from(run(&rt, rt.stderr()).code())

@@ -29,7 +29,7 @@ struct Bell {
 /// nothing it waits for that, and what became of the run is told all the same. But a line that is being told then is waited for,
 /// about a second at most: where the program began without standard error, the next file that is made stands in its place.
 #[derive(Drop)]
-pub struct Teller {
+pub struct ProgressReporter {
     bell: Arc<Bell, Global>,
 }
 
@@ -43,7 +43,7 @@ pub fn due_deliveries(script: &Script) -> u64 {
     items.saturating_mul(script.config.nodes())
 }
 
-impl Teller {
+impl ProgressReporter {
     /// Starts to tell, in a thread more than those of the run, which is started first. Where no memory or no thread can be had
     /// for it, nothing is told, and the run goes on all the same.
     pub fn start<T: Threads + Wait + Copy + Send + 'static>(
@@ -52,7 +52,7 @@ impl Teller {
         stderr: Stderr,
         progress: &Arc<Progress, Global>,
         due: u64,
-    ) -> Option<Teller> {
+    ) -> Option<ProgressReporter> {
         let bell = Bell {
             ended: AtomicBool::new(false),
             speaks: AtomicBool::new(false),
@@ -63,7 +63,7 @@ impl Teller {
         let heard = Arc::try_clone(&bell).ok()?;
         let tell = move || tell_each_second(&rt, stderr, &progress, due, &heard);
         let _thread = thread::spawn(&rt, tell).ok()?;
-        Some(Teller { bell })
+        Some(ProgressReporter { bell })
     }
 
     /// Stops telling, as the run has ended.

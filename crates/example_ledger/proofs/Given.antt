@@ -22,10 +22,10 @@ use Rattle.cast_box.specs.Lists.{of}
 use Rattle.cast_desk.specs.declared.desk.OrderIn.{OrderIn}
 use Rattle.cast_report.specs.declared.report.NodeReport.{NodeReport}
 use Rattle.cast_report.specs.Linked.{Trail, Taken, taken, taken_of, taken_in, taken_by, steps_in, event_of, Linked}
-use Rattle.cast_engine.specs.Runs.{Has}
+use Rattle.cast_carrier.specs.Lists.{Has}
 use Rattle.cast_engine.specs.Serving.{HasOriginOf, Matches, IsAnswered, IsAnsweredBy, before, entries_of, is_of, origin_in}
 use Rattle.cast_run.specs.declared.reports.ClientReport.{ClientReport}
-use Rattle.cast_run.specs.Jobs.{told_job}
+use Rattle.cast_job.specs.Jobs.{told_job}
 use Rattle.cast_run.specs.Serves.{AreServed, IsServed, HaveOrigins}
 use Rattle.cast_world.specs.Group.{State, Stands, node_at}
 use Rattle.example_ledger.specs.declared.teller.Teller.{Teller}

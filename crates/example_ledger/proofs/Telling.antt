@@ -8,7 +8,7 @@ use Rattle.cast_model.specs.Replies.{IsPrefixOf}
 use Rattle.cast_model.specs.Shown.{item_of}
 use Rattle.cast_report.specs.declared.report.NodeReport.{NodeReport}
 use Rattle.cast_run.specs.declared.reports.ClientReport.{ClientReport}
-use Rattle.cast_run.specs.Jobs.{told_job}
+use Rattle.cast_job.specs.Jobs.{told_job}
 use Rattle.cast_run.specs.Serves.{AreServed, IsServed}
 use Rattle.cast_world.specs.Group.{State, Stands, node_at}
 use Rattle.example_ledger.specs.declared.teller.Teller.{Teller}

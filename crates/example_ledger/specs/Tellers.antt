@@ -16,7 +16,7 @@ use Rattle.cast_model.specs.Replies.{IsPrefixOf}
 use Rattle.cast_model.specs.Shown.{item_of}
 use Rattle.cast_desk.specs.declared.notice.Notice.{Notice}
 use Rattle.cast_desk.specs.declared.desk.OrderIn.{OrderIn}
-use Rattle.cast_run.specs.Jobs.{told_job}
+use Rattle.cast_job.specs.Jobs.{told_job}
 use Rattle.example_ledger.specs.declared.teller.Teller.{Teller}
 use Rattle.cast_merge.specs.Told.{told, of_sender}
 use Rattle.example_ledger.specs.Sheets.{BookState, IsSheetOf}

@@ -1,7 +1,7 @@
 //! A client in a thread of its own, which orders transfers and keeps a book by what its node tells it.
 ghost use Rattle.std.specs.Prelude.{◌≡◌, ◌↔◌, ◌<◌, ◌≤◌, ◌++◌, ◌∷◌, ◌+◌, [], length, IsTrue, IsFalse};
 ghost use Rattle.cast_desk.specs.Desk.{IsSameClient};
-ghost use Rattle.cast_run.specs.Jobs.{HoldsOf, KeepsFact, TriesNext, submitted, got};
+ghost use Rattle.cast_job.specs.Jobs.{HoldsOf, KeepsFact, TriesNext, submitted, got};
 ghost use Rattle.cast_merge.specs.Told.{told};
 ghost use Rattle.example_ledger.specs.Tellers.{HasOrdered};
 

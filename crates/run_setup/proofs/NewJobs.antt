@@ -1,7 +1,7 @@
 -- Lists of jobs that get one more.
 use Rattle.std.proofs.Common.{◌≡◌, ◌≤◌, ℕ, zero, suc, List, [], ◌∷◌, ◌++◌, length, take, subst, ap, sym, refl, arith}
-use Rattle.cast_run.specs.declared.submit_all.SubmitAll.{SubmitAll}
-use Rattle.cast_run.specs.Jobs.{told_job, replies_in}
+use Rattle.cast_job.specs.declared.submit_all.SubmitAll.{SubmitAll}
+use Rattle.cast_job.specs.Jobs.{told_job, replies_in}
 use Rattle.run_setup.specs.NewJobs.{EachJob, IsNew}
 
 -- what holds of each job holds with one more

@@ -1,7 +1,7 @@
 //! Jobs that treat their notices otherwise than `SubmitAll`: one keeps each, one takes none.
 ghost use Rattle.std.specs.Prelude.{◌≡◌, ◌<◌, ◌+◌, ◌^◌, [], false, cond, IsTrue, IfOk, length};
 ghost use Rattle.cast_desk.specs.Desk.{IsSameClient};
-ghost use Rattle.cast_run.specs.Jobs.{submitted, got};
+ghost use Rattle.cast_job.specs.Jobs.{submitted, got};
 ghost use Rattle.run_setup.specs.Silence.{IsSilent};
 
 use crate::jobs::data_items;

@@ -1,6 +1,6 @@
 //! What becomes of the frames that a carrier takes, by the faults of a plan.
 use cast_box::{Putter, Taker, make_box};
-use cast_engine::{Carrier, Parcel};
+use cast_carrier::{Carrier, Parcel};
 use cast_message::FrameKind::{Carry, Took};
 use cast_message::{Frame, FrameBody, FrameKind, Item, Message, NodeId};
 use cast_script::Fault;

@@ -1,4 +1,5 @@
 //! Which slots are sent in which turn.
+use cast_carrier::Board;
 use cast_engine::Resend;
 use cast_message::{Config, Frame, FrameBody, Item, Message, Mode, NodeId, StepFault};
 use cast_node::Node;
@@ -15,6 +16,8 @@ enum News {
     Acknowledged(u8, u64),
     // Node 1 carries its first message to it.
     Carried,
+    // The engine of this peer has ended.
+    Ended(u8),
 }
 
 fn give(node: &mut Node, instance: u64) -> Result<(), StepFault> {
@@ -50,7 +53,7 @@ fn bring(node: &mut Node, frame: &Frame) -> Result<(), StepFault> {
     Ok(())
 }
 
-fn take(node: &mut Node, resend: &mut Resend, news: News) -> Result<(), StepFault> {
+fn take(node: &mut Node, resend: &mut Resend, board: &Board, news: News) -> Result<(), StepFault> {
     match news {
         News::Given(instance) => {
             give(node, instance)?;
@@ -64,6 +67,7 @@ fn take(node: &mut Node, resend: &mut Resend, news: News) -> Result<(), StepFaul
             resend.meet(node, &frame);
             bring(node, &frame)?;
         }
+        News::Ended(peer) => board.end(usize::from(peer), false),
     }
     Ok(())
 }
@@ -82,15 +86,17 @@ fn sent(
         give(&mut node, instance)?;
     }
     let mut resend = Resend::new(alloc, &config)?;
+    let jobs = vec![in alloc; 0; nodes as usize]?;
+    let board = Board::new(alloc, jobs.as_slice())?;
     let mut sent = Vec::new(alloc);
     for turn in 0..turns {
         resend.next_turn(&node);
         for (at, news) in news {
             if *at == turn {
-                take(&mut node, &mut resend, *news)?;
+                take(&mut node, &mut resend, &board, *news)?;
             }
         }
-        if let Some((to, slot)) = resend.next_due(&node) {
+        if let Some((to, slot)) = resend.next_due(&node, &board) {
             resend.note(to, slot);
             sent.push((turn, to.0, slot))?;
         }
@@ -125,6 +131,24 @@ fn no_more_slots_are_under_way_than_the_window_takes(rt: HostRuntime) -> Result<
     expect_sent(&rt, (2, 4, 3), &[], 400, &two)?;
     let one = [(0, 1, 0), (256, 1, 0)];
     expect_sent(&rt, (2, 1, 3), &[], 400, &one)
+}
+
+// What lies in a box of 4,096 places for long is sent again, so the window is that of a box of 64.
+#[test]
+fn no_more_slots_are_under_way_than_come_back_in_time(rt: HostRuntime) -> Result<(), Fail> {
+    let mut wanted = Vec::new(rt.alloc());
+    for turn in 0..32 {
+        wanted.push((turn, 1, turn))?;
+    }
+    expect_sent(&rt, (2, 4_096, 40), &[], 200, wanted.as_slice())
+}
+
+// Each peer is owed a slot, and the second has ended before its own is sent, the first before its own is sent again.
+#[test]
+fn a_peer_that_has_ended_is_sent_nothing(rt: HostRuntime) -> Result<(), Fail> {
+    let news = [(1, News::Ended(2)), (300, News::Ended(1))];
+    let wanted = [(0, 1, 0), (1, 3, 0), (256, 1, 0), (257, 3, 0), (513, 3, 0)];
+    expect_sent(&rt, (4, 64, 1), &news, 600, &wanted)
 }
 
 // The window of two slots is full of slots 0 and 1. Once slot 1 is acknowledged, slot 0 holds up nothing, lost or not.

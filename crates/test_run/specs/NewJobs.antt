@@ -1,6 +1,6 @@
 -- Jobs that have not begun: none of these has submitted or got anything.
 use Rattle.std.specs.Prelude.{◌≡◌, ℕ, List, [], false}
-use Rattle.cast_run.specs.Jobs.{SubmitsGiven}
+use Rattle.cast_job.specs.Jobs.{SubmitsGiven}
 use Rattle.run_setup.specs.NewJobs.{EachJob}
 use Rattle.run_setup.specs.Silence.{IsSilent}
 use Rattle.run_setup.specs.declared.clients.Keeper.{Keeper}

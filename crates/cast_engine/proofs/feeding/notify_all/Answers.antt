@@ -2,7 +2,8 @@ use Rattle.std.proofs.Common.{◌∙◌, ◌<◌, length, arith}
 use Rattle.std.proofs.lemmas.List.{length-set}
 use Rattle.std.proofs.lemmas.Bool.{or_parts}
 use Rattle.cast_box.proofs.Same.{putters_again}
-use Rattle.cast_engine.proofs.Fed.{fed_at, fed_set, read_at}
+use Rattle.cast_carrier.proofs.Lists.{read_at}
+use Rattle.cast_engine.proofs.Fed.{fed_at, fed_set}
 use Rattle.cast_engine.proofs.Few.{tells_next}
 use Rattle.cast_engine.proofs.feeding.notify_all.Goals as goal
 

@@ -1,5 +1,5 @@
 use Rattle.std.proofs.Common.{rules, sym, subst}
-use Rattle.cast_run.specs.Faults.{IsMisfit}
+use Rattle.cast_job.specs.Faults.{IsMisfit}
 use Rattle.cast_explain.proofs.Faults.{same_cause}
 use Rattle.cast_explain.proofs.group.group_words.Goals as goal
 

@@ -2,8 +2,8 @@ use Rattle.std.proofs.Common.{OnOk, OnErr, subst}
 use Rattle.std.specs.Io.Buffered.{writer_buffer, writer_contents, writer_inner}
 use Rattle.std.specs.Io.KnownBytes.{Appends}
 use Rattle.cast_text.specs.Text.{WroteFront}
-use Rattle.castgroup.specs.Made.{output_text}
-use Rattle.castgroup.proofs.Cutting.{front_handed}
+use Rattle.castgroup.specs.Ran.{output_text}
+use Rattle.cast_console.proofs.Cutting.{front_handed}
 use Rattle.castgroup.proofs.live.write_through.Goals as goal
 
 pub returns-clause-front : goal.returns-clause-front

@@ -32,7 +32,7 @@ returns-in-Some-clause-same g c =
     let i = c.self.inside in
     let d = c.in-Some.desk in
     let now = c.notify_all.new.desk in
-    let new : EngineState = record { config = i.journal.config; me = i.journal.node.me; crash = i.journal.crash; outbox = i.outbox; inbox = i.inbox; desk = Some now } in
+    let new : EngineState = record { config = i.journal.config; me = i.journal.node.me; crash = i.journal.crash; outbox = i.outbox; held = i.held; inbox = i.inbox; desk = Some now } in
     let T : TakerEnd OrderIn → Type 0 = λ t. IsSameTaker d.orders t in
     let P : EngineState → Type 0 = λ e. IsSameEngine e new in
     subst P c.self.view_is (record {

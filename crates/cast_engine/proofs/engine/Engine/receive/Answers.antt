@@ -24,7 +24,7 @@ returns-in-Some-clause-same g c =
     let k = c.take_in-received.new.journal in
     let same = (c.if-not-may_log.ensures.may refl).0 in
     let s = same_taken j k i.outbox.put i.held i.inbox.taken i.desk i.places.items (stays_same i.journal j i.outbox.put i.held i.inbox.taken i.desk i.places.items c.self.invariant same) c.in-Some.parcel c.take_in-received.ensures in
-    let new : EngineState = record { config = k.config; me = k.node.me; crash = k.crash; outbox = i.outbox; inbox = c.take.new.self; desk = i.desk } in
+    let new : EngineState = record { config = k.config; me = k.node.me; crash = k.crash; outbox = i.outbox; held = i.held; inbox = c.take.new.self; desk = i.desk } in
     let P : EngineState → Type 0 = λ e. IsSameEngine e new in
     subst P c.self.view_is (record {
       config = s.0 ∙ ap (λ (z : JournalState). z.config) same;

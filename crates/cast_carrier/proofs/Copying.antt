@@ -1,0 +1,272 @@
+-- What a carrier puts is no more than its plan lets through.
+use Rattle.std.proofs.Common.{◌≡◌, ◌≢◌, ◌<◌, ◌≤◌, ◌+◌, ◌-◌, ◌==◌, nat_le, nat_lt, ℕ, zero, suc, Bool, true, false, cond, if◌then◌else◌, ◌&&◌, ◌||◌, List, [], ◌∷◌, ◌++◌, map, length, replicate, take, drop, fold, count_by, sum_by, slice_get, slice_set, Option, Some, None, sym, refl, ap, ◌∙◌, subst, ◌⊎◌, ⊎_elim, length-set, take_at, arith}
+use Rattle.std.proofs.lemmas.Bool.{eq-eqb, le-leb, ltb-false, false_from_ne_true}
+use Rattle.std.proofs.lemmas.List.Sums.{fold-append, sum_by-cons, sum_by_push}
+use Rattle.cast_box.specs.Ends.{PutterEnd, AreSamePutters}
+use Rattle.cast_box.proofs.Same.{get_set}
+use Rattle.cast_message.specs.declared.message.Frame.{Frame}
+use Rattle.cast_script.specs.declared.script.Fault.{Fault}
+use Rattle.cast_carrier.specs.declared.parcel.Parcel.{Parcel}
+use Rattle.cast_carrier.specs.declared.carrier.Delayed.{Delayed}
+use Rattle.cast_carrier.specs.declared.carrier.Fate.{Fate}
+use Rattle.cast_carrier.specs.declared.carrier.Ordinals.{Ordinals}
+use Rattle.cast_carrier.specs.Fates.{one_more, fate_in, counted_where, counted_in}
+use Rattle.cast_message.specs.Items.{kind_of}
+use Rattle.cast_carrier.specs.Copies.{none_taken, counted_all, ordinals_after, frames_for, is_for, copies, copies_after, due_from, due, IsByPlan}
+use Rattle.cast_carrier.specs.Carriers.{counted_down, kept_for, CarrierPlans, PutsUpTo, IsNoMore, IsByFate, IsKeptOrLost}
+
+-- ---- what is due, by one frame more
+
+-- one, where the parcel is for the target
+abbrev step_to : ℕ → Parcel → ℕ
+step_to q x = cond (x.frame.to == q) 1 0
+
+due_snoc : (faults : List Fault) (o : List Ordinals) (test : Parcel → Bool) (q more : ℕ) (ms : List (ℕ × Parcel)) (m : ℕ × Parcel)
+    → due_from faults o test q more (ms ++ m ∷ [])
+    ≡ due_from faults o test q (more + step_to q m.1) ms + cond (is_for test q m.1) (copies_after (fate_in faults (fold (λ s n. counted_in s n.1.frame) o ms) m.1.frame) more) 0
+unfolding due_from
+due_snoc faults o test q more [] m =
+    let now : 0 + more ≡ more = omega arith in
+    let all = ap (λ n. cond (is_for test q m.1) (copies_after (fate_in faults o m.1.frame) n) 0) now in
+    omega (arith, all)
+due_snoc faults o test q more (x ∷ ms) m =
+    let one : frames_for q (ms ++ m ∷ []) ≡ frames_for q ms + step_to q m.1 = sum_by_push (λ (n : ℕ × Parcel). cond (n.1.frame.to == q) 1 0) ms m in
+    let later : frames_for q (ms ++ m ∷ []) + more ≡ frames_for q ms + (more + step_to q m.1) = omega (arith, one) in
+    let it = due_snoc faults (counted_in o x.1.frame) test q more ms m in
+    ap (λ n. cond (is_for test q x.1) (copies_after (fate_in faults o x.1.frame) n) 0 + due_from faults (counted_in o x.1.frame) test q more (ms ++ m ∷ [])) later ∙ omega (arith, it)
+
+-- ---- what is kept, by one frame more
+
+down_one : (a to q l more c : ℕ) (t : Bool) → cond ((a == q && t) && nat_le (if a == to then l - 1 else l) more) c 0 ≤ cond ((a == q && t) && nat_le l (more + cond (to == q) 1 0)) c 0
+down_one a to q l more c t = grind arith
+
+kept_down : (test : Parcel → Bool) (to q more : ℕ) (d : List Delayed) → kept_for test q more (map (counted_down to) d) ≤ kept_for test q (more + cond (to == q) 1 0) d
+kept_down test to q more [] = omega arith
+kept_down test to q more (x ∷ d) =
+    let f : Delayed → ℕ = λ z. cond (is_for test q z.parcel && nat_le z.left more) (copies z.twice) 0 in
+    let g : Delayed → ℕ = λ z. cond (is_for test q z.parcel && nat_le z.left (more + cond (to == q) 1 0)) (copies z.twice) 0 in
+    let one : f (counted_down to x) ≤ g x = down_one x.parcel.frame.to to q x.left more (copies x.twice) (test x.parcel) in
+    omega (arith, one, kept_down test to q more d, sum_by-cons f (counted_down to x) (map (counted_down to) d), sum_by-cons g x d)
+
+-- ---- what is put
+
+count_more : (test : Parcel → Bool) (xs ys : List Parcel) (x : Parcel) → (ys ≡ xs ++ x ∷ []) ⊎ (ys ≡ xs) → count_by test ys ≤ count_by test xs + cond (test x) 1 0
+count_more test xs ys x is =
+    let f : Parcel → ℕ = λ z. cond (test z) 1 0 in
+    ⊎_elim
+    (λ (e : ys ≡ xs ++ x ∷ []). let more = ap (sum_by f) e ∙ sum_by_push f xs x in omega (arith, more))
+    (λ (e : ys ≡ xs). let same = ap (sum_by f) e in omega (arith, same))
+    is
+
+pub same_read : {X : Type 0} (xs : List X) (i : ℕ) (a b : X) → slice_get xs i ≡ Some a → slice_get xs i ≡ Some b → a ≡ b
+same_read [] i a b e f = absurd cc
+same_read (x ∷ xs) zero a b e f = let here : x ≡ a = cc in let there : x ≡ b = cc in sym here ∙ there
+same_read (x ∷ xs) (suc i) a b e f = same_read xs i a b e f
+
+put_at_most : (test : Parcel → Bool) (q : ℕ) (x : Parcel) (old new : List Parcel) (n : ℕ) → x.frame.to ≡ q → count_by test new ≤ count_by test old + cond (test x) n 0 → count_by test new ≤ count_by test old + cond (is_for test q x) n 0
+put_at_most test q x old new n is most =
+    let yes : is_for test q x ≡ test x = ap (λ b. b && test x) (eq-eqb x.frame.to q is) in
+    subst (λ b. count_by test new ≤ count_by test old + cond b n 0) (sym yes) most
+
+pub put_once : (inboxes : List (PutterEnd Parcel)) (x : Parcel) (old new : PutterEnd Parcel) → slice_get inboxes x.frame.to ≡ Some old → (new.put ≡ old.put ++ x ∷ []) ⊎ (new.put ≡ old.put)
+    → PutsUpTo 1 inboxes x (slice_set inboxes x.frame.to new)
+put_once inboxes x old new was put test q a b at now =
+    ⊎_elim
+    (λ (t : (q ≡ x.frame.to) × (new ≡ b)).
+    let first : old ≡ a = same_read inboxes q old a (ap (slice_get inboxes) t.0 ∙ was) at in
+    let P : PutterEnd Parcel → Type 0 = λ z. count_by test z.put ≤ count_by test old.put + cond (test x) 1 0 in
+    let Q : PutterEnd Parcel → Type 0 = λ z. count_by test b.put ≤ count_by test z.put + cond (test x) 1 0 in
+    put_at_most test q x a.put b.put 1 (sym t.0) (subst Q first (subst P t.1 (count_more test old.put new.put x put))))
+    (λ (t : (q ≢ x.frame.to) × (slice_get inboxes q ≡ Some b)).
+    let same = ap (λ (z : PutterEnd Parcel). count_by test z.put) (same_read inboxes q a b at t.1) in omega (arith, same))
+    (get_set inboxes x.frame.to q new b now)
+
+pub put_none : (inboxes : List (PutterEnd Parcel)) (x : Parcel) (n : ℕ) → PutsUpTo n inboxes x inboxes
+put_none inboxes x n test q a b at now = let same = ap (λ (z : PutterEnd Parcel). count_by test z.put) (same_read inboxes q a b at now) in omega (arith, same)
+
+pub put_equal : (n : ℕ) (a b : List (PutterEnd Parcel)) (x y : Parcel) → x ≡ y → PutsUpTo n a x b → PutsUpTo n a y b
+put_equal n a b x y e p = subst (λ z. PutsUpTo n a z b) e p
+
+split_for : (b : Bool) (m n all : ℕ) → m + n ≡ all → cond b m 0 + cond b n 0 ≡ cond b all 0
+split_for true m n all e = e
+split_for false m n all e = refl
+
+pub second : (twice : Bool) → (if twice then 1 else 0) + 1 ≡ copies twice
+second true = refl
+second false = refl
+
+pub put_both : (a b c : List (PutterEnd Parcel)) (x : Parcel) (m n all : ℕ) → m + n ≡ all → AreSamePutters b c → PutsUpTo m a x b → PutsUpTo n b x c → PutsUpTo all a x c
+put_both a b c x m n all sum same p r test q old new at now =
+    let mid = same.1 q new now in
+    omega (arith, p test q old mid.0 at mid.1, r test q mid.0 new mid.1 now, split_for (is_for test q x) m n all sum)
+
+-- ---- what is handed on, kept or lost
+
+sum_without : {X : Type 0} (f : X → ℕ) (xs : List X) (i : ℕ) (x : X) → slice_get xs i ≡ Some x → sum_by f (take i xs ++ drop (i + 1) xs) + f x ≡ sum_by f xs
+sum_without f [] i x e = absurd cc
+sum_without f (y ∷ xs) zero x e = let here : y ≡ x = cc in let same = ap f here in omega (arith, same, sum_by-cons f y xs)
+sum_without f (y ∷ xs) (suc i) x e =
+    let next : suc i + 1 ≡ suc (i + 1) = omega arith in
+    let same : sum_by f (take (suc i) (y ∷ xs) ++ drop (suc i + 1) (y ∷ xs)) ≡ sum_by f (y ∷ (take i xs ++ drop (i + 1) xs)) = ap (λ n. sum_by f (take (suc i) (y ∷ xs) ++ drop n (y ∷ xs))) next in
+    omega (arith, same, sum_without f xs i x e, sum_by-cons f y xs, sum_by-cons f y (take i xs ++ drop (i + 1) xs))
+
+is_due : (b : Bool) (left more c : ℕ) → left ≡ 0 → cond b c 0 ≡ cond (b && nat_le left more) c 0
+is_due true left more c e = sym (ap (λ n. cond n c 0) (le-leb left more (omega (arith, e))))
+is_due false left more c e = refl
+
+pub released : (first inboxes inboxes' : List (PutterEnd Parcel)) (old delayed delayed' : List Delayed) (place : ℕ) (d : Delayed)
+    → IsNoMore first old inboxes delayed → slice_get delayed place ≡ Some d → d.left ≡ 0 → delayed' ≡ take place delayed ++ drop (place + 1) delayed
+    → AreSamePutters inboxes inboxes' → PutsUpTo (copies d.twice) inboxes d.parcel inboxes' → IsNoMore first old inboxes' delayed'
+released first inboxes inboxes' old delayed delayed' place d before at due_now rest same most test q more one new was now =
+    let mid = same.1 q new now in
+    let f : Delayed → ℕ = λ z. cond (is_for test q z.parcel && nat_le z.left more) (copies z.twice) 0 in
+    let all : cond (is_for test q d.parcel) (copies d.twice) 0 ≡ f d = is_due (is_for test q d.parcel) d.left more (copies d.twice) due_now in
+    let less = sum_without f delayed place d at in
+    let left = ap (sum_by f) rest in
+    omega (arith, before test q more one mid.0 was mid.1, most test q mid.0 new mid.1 now, all, less, left)
+
+pub passed : (a b : List (PutterEnd Parcel)) (d e f : List Delayed) → e ≡ d → IsNoMore a e b f → IsNoMore a d b f
+passed a b d e f is m = subst (λ l. IsNoMore a l b f) is m
+
+pub lost_so : (fate : Fate) (a b : List (PutterEnd Parcel)) (d e : List Delayed) (x : Parcel) → IsNoMore a (map (counted_down x.frame.to) d) b e → IsByFate fate a d x b e
+lost_so fate a b d e x m test q more old new at now = omega (arith, m test q more old new at now)
+
+allowed : (fate : Fate) (b : Bool) (more : ℕ) → fate.lost ≡ false → cond (b && nat_le fate.delay more) (copies fate.twice) 0 ≤ cond b (copies_after fate more) 0
+allowed fate false more spared = omega arith
+allowed fate true more spared = grind arith
+
+kept_more : (test : Parcel → Bool) (q more : ℕ) (e f : List Delayed) (d : Delayed) (kept : Bool) → f ≡ cond kept (e ++ d ∷ []) e
+    → kept_for test q more f ≤ kept_for test q more e + cond (is_for test q d.parcel && nat_le d.left more) (copies d.twice) 0
+kept_more test q more e f d true is =
+    let g : Delayed → ℕ = λ z. cond (is_for test q z.parcel && nat_le z.left more) (copies z.twice) 0 in let all = ap (sum_by g) is in omega (arith, all, sum_by_push g e d)
+kept_more test q more e f d false is = let all = ap (kept_for test q more) is in omega (arith, all)
+
+pub kept_so : (fate : Fate) (a b : List (PutterEnd Parcel)) (d e f : List Delayed) (x : Parcel) → fate.lost ≡ false → IsNoMore a (map (counted_down x.frame.to) d) b e
+    → IsKeptOrLost e (record { left = fate.delay; twice = fate.twice; parcel = x }) f → IsByFate fate a d x b f
+kept_so fate a b d e f x spared m k test q more old new at now =
+    omega (arith, m test q more old new at now, kept_more test q more e f (record { left = fate.delay; twice = fate.twice; parcel = x }) k.0 k.1, allowed fate (is_for test q x) more spared)
+
+pub handed_so : (fate : Fate) (a b c : List (PutterEnd Parcel)) (d e : List Delayed) (x : Parcel) → fate.lost ≡ false → fate.delay ≤ 0 → IsNoMore a (map (counted_down x.frame.to) d) b e
+    → AreSamePutters b c → PutsUpTo (copies fate.twice) b x c → IsByFate fate a d x c e
+handed_so fate a b c d e x spared none m same most test q more old new at now =
+    let mid = same.1 q new now in
+    let zero_is : fate.delay ≡ 0 = omega (arith, none) in
+    omega (arith, m test q more old mid.0 at mid.1, most test q mid.0 new mid.1 now, is_due (is_for test q x) fate.delay more (copies fate.twice) zero_is, allowed fate (is_for test q x) more spared)
+
+-- ---- a carrier
+
+counted_long : (ordinals : List Ordinals) (frame : Frame) (at : Option Ordinals) → length (counted_where ordinals frame at) ≡ length ordinals
+counted_long ordinals frame None = refl
+counted_long ordinals frame (Some counts) = length-set ordinals frame.to (one_more (kind_of frame.body) counts)
+
+-- the whole row is written back
+pub counted_back : (old new : List Ordinals) (frame : Frame) (len : ℕ) → len ≡ length old → new ≡ counted_in old frame → take len (new ++ drop (length new) old) ≡ counted_in old frame
+counted_back old new frame len long is =
+    let same = ap length is ∙ counted_long old frame (slice_get old frame.to) in take_at new (drop (length new) old) len (same ∙ sym long) ∙ is
+
+pub planned_by : (faults : List Fault) (taken taken' : List (ℕ × Parcel)) (a b : List (PutterEnd Parcel)) (d e : List Delayed) (number : ℕ) (x : Parcel) (ordinals ordinals' : List Ordinals) (fate : Fate)
+    → CarrierPlans faults ordinals taken a d → taken' ≡ taken ++ (number, x) ∷ [] → fate ≡ fate_in faults ordinals x.frame → ordinals' ≡ counted_in ordinals x.frame
+    → AreSamePutters a b → IsByFate fate a d x b e → CarrierPlans faults ordinals' taken' b e
+planned_by faults taken taken' a b d e number x ordinals ordinals' fate k is by count same m =
+    let add : List Ordinals → (ℕ × Parcel) → List Ordinals = λ s n. counted_in s n.1.frame in
+    let more_so : ordinals' ≡ ordinals_after (length b) taken' =
+    count ∙ ap (λ s. counted_in s x.frame) k.0 ∙ sym (fold-append add (replicate (length a) none_taken) taken ((number, x) ∷ [])) ∙ ap (λ n. ordinals_after n (taken ++ (number, x) ∷ [])) (sym same.0) ∙ ap (ordinals_after (length b)) (sym is) in (
+      more_so,
+      λ test q more inbox at.
+          let was = same.1 q inbox at in
+          let step = m test q more was.0 inbox was.1 at in
+          let down = kept_down test x.frame.to q more d in
+          let before = k.1 test q (more + step_to q x) was.0 was.1 in
+          let so : fate ≡ fate_in faults (ordinals_after (length a) taken) x.frame = by ∙ ap (λ s. fate_in faults s x.frame) k.0 in
+          let now = ap (λ z. cond (is_for test q x) (copies_after z more) 0) so in
+          let next = due_snoc faults (replicate (length a) none_taken) test q more taken (number, x) in
+          let all = ap (due faults (length a) test q more) is in
+          let wide = ap (λ n. due faults n test q more taken') same.0 in
+          omega (arith, step, down, before, now, next, all, wide),
+    )
+
+pub by_plan : (faults : List Fault) (ordinals : List Ordinals) (taken : List (ℕ × Parcel)) (inboxes : List (PutterEnd Parcel)) (delayed : List Delayed) → CarrierPlans faults ordinals taken inboxes delayed → IsByPlan faults taken inboxes
+by_plan faults ordinals taken inboxes delayed k test q inbox at = omega (arith, k.1 test q 0 inbox at)
+
+-- ---- what is due is let through
+
+-- one of the parcels taken that are for target q and pass the test is not lost, and as many were taken for the target after it as it
+-- is delayed by
+pub record IsThrough (faults : List Fault) (ordinals : List Ordinals) (test : Parcel → Bool) (q : ℕ) (taken : List (ℕ × Parcel)) : Type 0 where
+  pub before : List (ℕ × Parcel)
+  pub m : ℕ × Parcel
+  pub after : List (ℕ × Parcel)
+  pub split : taken ≡ before ++ m ∷ after
+  pub passes : is_for test q m.1 ≡ true
+  pub spared : (fate_in faults (counted_all ordinals before) m.1.frame).lost ≡ false
+  pub waited : (fate_in faults (counted_all ordinals before) m.1.frame).delay ≤ frames_for q after
+
+let_through : (b : Bool) (fate : Fate) (n : ℕ) → 0 < cond b (copies_after fate n) 0 → (b ≡ true) × (fate.lost ≡ false) × (fate.delay ≤ n)
+let_through false fate n some = absurd (omega (arith, some))
+let_through true fate n some = by_both fate.lost (nat_lt n fate.delay) refl refl some
+  where
+    by_both : (l d : Bool) → fate.lost ≡ l → nat_lt n fate.delay ≡ d → 0 < (if l || d then 0 else copies fate.twice) → (true ≡ true) × (fate.lost ≡ false) × (fate.delay ≤ n)
+    by_both true d lost late some = absurd (omega (arith, some))
+    by_both false true lost late some = absurd (omega (arith, some))
+    by_both false false lost late some = (refl, lost, ltb-false n fate.delay late)
+
+pub due_is_through : (faults : List Fault) (o : List Ordinals) (test : Parcel → Bool) (q : ℕ) (taken : List (ℕ × Parcel)) → 0 < due_from faults o test q 0 taken → IsThrough faults o test q taken
+unfolding due_from
+due_is_through faults o test q [] some = absurd (omega (arith, some))
+due_is_through faults o test q (m ∷ ms) some = by_first (cond (is_for test q m.1) (copies_after (fate_in faults o m.1.frame) (frames_for q ms + 0)) 0) refl (due_is_through faults (counted_in o m.1.frame) test q ms)
+  where
+    by_first : (n : ℕ) → cond (is_for test q m.1) (copies_after (fate_in faults o m.1.frame) (frames_for q ms + 0)) 0 ≡ n
+        → (0 < due_from faults (counted_in o m.1.frame) test q 0 ms → IsThrough faults (counted_in o m.1.frame) test q ms) → IsThrough faults o test q (m ∷ ms)
+    by_first zero is later =
+        let it = later (omega (arith, some, is)) in
+        record { before = m ∷ it.before; m = it.m; after = it.after; split = ap (λ l. m ∷ l) it.split; passes = it.passes; spared = it.spared; waited = it.waited }
+    by_first (suc n) is later =
+        let it = let_through (is_for test q m.1) (fate_in faults o m.1.frame) (frames_for q ms + 0) (omega (arith, is)) in
+        record { before = []; m = m; after = ms; split = refl; passes = it.0; spared = it.1; waited = (let late = it.2 in omega (arith, late)) }
+
+-- ---- what is due of one parcel alone
+
+due_none : (faults : List Fault) (o : List Ordinals) (test : Parcel → Bool) (q more : ℕ) (ms : List (ℕ × Parcel)) → ((i : ℕ) (m : ℕ × Parcel) → slice_get ms i ≡ Some m → is_for test q m.1 ≡ true → ⊥)
+    → due_from faults o test q more ms ≡ 0
+unfolding due_from
+due_none faults o test q more [] none = refl
+due_none faults o test q more (m ∷ ms) none =
+    let fails : is_for test q m.1 ≡ false = false_from_ne_true (is_for test q m.1) (none 0 m refl) in
+    let first = ap (λ b. cond b (copies_after (fate_in faults o m.1.frame) (frames_for q ms + more)) 0) fails in
+    omega (arith, first, due_none faults (counted_in o m.1.frame) test q more ms (λ i k at. none (suc i) k at))
+
+few_copies : (fate : Fate) (b : Bool) (n : ℕ) → cond b (copies_after fate n) 0 ≤ copies fate.twice
+few_copies fate false n = omega arith
+few_copies fate true n = grind arith
+
+-- once, or twice where it is repeated
+pub due_once : (faults : List Fault) (o : List Ordinals) (test : Parcel → Bool) (q more : ℕ) (before : List (ℕ × Parcel)) (m : ℕ × Parcel) (after : List (ℕ × Parcel))
+    → ((i : ℕ) (k : ℕ × Parcel) → slice_get (before ++ m ∷ after) i ≡ Some k → is_for test q k.1 ≡ true → i ≡ length before)
+    → due_from faults o test q more (before ++ m ∷ after) ≤ copies (fate_in faults (counted_all o before) m.1.frame).twice
+unfolding due_from
+due_once faults o test q more [] m after once =
+    let few = few_copies (fate_in faults o m.1.frame) (is_for test q m.1) (frames_for q after + more) in
+    let rest = due_none faults (counted_in o m.1.frame) test q more after (λ i k at passes. let e = once (suc i) k at passes in cc) in
+    omega (arith, few, rest)
+due_once faults o test q more (b ∷ bs) m after once =
+    let fails : is_for test q b.1 ≡ false = false_from_ne_true (is_for test q b.1) (λ passes. let e = once 0 b refl passes in cc) in
+    let first = ap (λ t. cond t (copies_after (fate_in faults o b.1.frame) (frames_for q (bs ++ m ∷ after) + more)) 0) fails in
+    let rest = due_once faults (counted_in o b.1.frame) test q more bs m after (λ i k at passes. let e = once (suc i) k at passes in omega (arith, e)) in
+    omega (arith, first, rest)
+
+-- ---- one frame more was taken
+
+pub down_set : (to : ℕ) (old : List Delayed) (place : ℕ) (d d' : Delayed) → slice_get (map (counted_down to) (take place old) ++ drop place old) place ≡ Some d → d' ≡ counted_down to d
+    → slice_set (map (counted_down to) (take place old) ++ drop place old) place d' ≡ map (counted_down to) (take (place + 1) old) ++ drop (place + 1) old
+down_set to [] zero d d' at is = absurd cc
+down_set to [] (suc place) d d' at is = absurd cc
+down_set to (x ∷ old) zero d d' at is = let here : x ≡ d = cc in ap (λ z. z ∷ old) (is ∙ ap (counted_down to) (sym here))
+down_set to (x ∷ old) (suc place) d d' at is =
+    let next : suc (place + 1) ≡ suc place + 1 = omega arith in
+    ap (λ l. counted_down to x ∷ l) (down_set to old place d d' at is) ∙ ap (λ n. map (counted_down to) (take n (x ∷ old)) ++ drop n (x ∷ old)) next
+
+pub down_long : (to : ℕ) (old : List Delayed) (place : ℕ) → length (map (counted_down to) (take place old) ++ drop place old) ≡ length old
+down_long to [] zero = refl
+down_long to [] (suc place) = refl
+down_long to (x ∷ old) zero = refl
+down_long to (x ∷ old) (suc place) = ap suc (down_long to old place)

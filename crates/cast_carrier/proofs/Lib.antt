@@ -1,0 +1,5 @@
+pub mod Lists
+pub mod Carrying
+pub mod Copying
+pub mod Crashing
+pub mod Suffering

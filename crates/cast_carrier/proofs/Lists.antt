@@ -1,0 +1,30 @@
+-- Lists: what stands in a longer one, first elements, and elements that were read.
+use Rattle.std.proofs.Common.{◌≡◌, ◌<◌, ℕ, zero, suc, List, [], ◌∷◌, ◌++◌, length, take, slice_get, get_or, Some, refl, ap, ◌⊎◌, inl, inr, ⊎_elim}
+use Rattle.std.proofs.lemmas.Option.{slice_get_read}
+use Rattle.cast_box.proofs.Closing.{get_snoc, get_middle}
+use Rattle.cast_carrier.specs.Lists.{Has}
+
+module _ {A : Type 0} where
+  pub has_left : (xs ys : List A) (x : A) → Has xs x → Has (xs ++ ys) x
+  has_left [] ys x h = let e = h.1 in absurd cc
+  has_left (y ∷ xs) ys x (zero, e) = (zero, e)
+  has_left (y ∷ xs) ys x (suc i, e) = let it = has_left xs ys x (i, e) in (suc it.0, it.1)
+
+  pub has_last : (xs : List A) (x : A) → Has (xs ++ x ∷ []) x
+  has_last xs x = (length xs, get_middle xs x [])
+
+  pub has_snoc : (xs : List A) (y x : A) → Has (xs ++ y ∷ []) x → Has xs x ⊎ (y ≡ x)
+  has_snoc xs y x h = ⊎_elim (λ (t : slice_get xs h.0 ≡ Some x). inl (h.0, t)) (λ (t : (h.0 ≡ length xs) × (y ≡ x)). inr t.1) (get_snoc xs y x h.0 h.1)
+
+  pub has_none : (x : A) → Has [] x → ⊥
+  has_none x h = let e = h.1 in cc
+
+-- the first elements, and the next one
+pub take_next : {A : Type 0} (xs : List A) (n : ℕ) (x : A) → slice_get xs n ≡ Some x → take (suc n) xs ≡ take n xs ++ x ∷ []
+take_next [] n x e = absurd cc
+take_next (y ∷ ys) zero x e = let h : y ≡ x = cc in ap (λ z. z ∷ []) h
+take_next (y ∷ ys) (suc n) x e = ap (λ l. y ∷ l) (take_next ys n x e)
+
+-- an element that was read where there is one
+pub read_at : {A : Type 0} (xs : List A) (n : ℕ) (x : A) → n < length xs → x ≡ get_or xs n x → slice_get xs n ≡ Some x
+read_at xs n x h e = slice_get_read xs (length xs) n x refl h e

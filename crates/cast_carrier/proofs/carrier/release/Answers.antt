@@ -1,0 +1,21 @@
+use Rattle.std.proofs.Common.{◌≡◌, ◌<◌, ◌∙◌, ap, length, arith}
+use Rattle.cast_box.proofs.Same.{putters_again}
+use Rattle.cast_carrier.proofs.Lists.{read_at}
+use Rattle.cast_carrier.proofs.Carrying.{moves_due}
+use Rattle.cast_carrier.proofs.Copying.{released, same_read}
+use Rattle.cast_carrier.specs.declared.carrier.Delayed.{Delayed}
+use Rattle.cast_carrier.proofs.carrier.release.Goals as goal
+
+pub loop-place-preserved-then-index-eq0 : goal.loop-place-preserved-then-index-eq0
+loop-place-preserved-then-index-eq0 g c =
+    let l = c.loop-place in
+    let d = c.remove-twice.result in
+    let within : l.place < length l.delayed.items = omega (arith, c.loop-place-test.true, c.len.ensures, l.delayed.ok) in
+    let seen = same_read l.delayed.items l.place d c.index.result.now (read_at l.delayed.items l.place d within c.remove-twice.ensures.value) (read_at l.delayed.items l.place c.index.result.now within c.index.ensures) in
+    let due_now : d.left ≡ 0 = ap (λ (z : Delayed). z.left) seen ∙ c.if-index-eq0.true in (
+      putters_again c.args.inboxes.now.items l.inboxes.items c.hand_on.new.inboxes.items l.invariant.0 c.hand_on.ensures.same,
+      moves_due l.inboxes.items c.hand_on.new.inboxes.items c.args.delayed.now.items l.delayed.items c.remove-twice.new.self.items c.args.inboxes.now.items l.place d l.invariant.1
+          (read_at l.delayed.items l.place d within c.remove-twice.ensures.value) c.remove-twice.ensures.by_index.2 c.hand_on.ensures.puts,
+      released c.args.inboxes.now.items l.inboxes.items c.hand_on.new.inboxes.items c.args.delayed.now.items l.delayed.items c.remove-twice.new.self.items l.place d l.invariant.2
+          (read_at l.delayed.items l.place d within c.remove-twice.ensures.value) due_now c.remove-twice.ensures.by_index.2 c.hand_on.ensures.same c.hand_on.ensures.most,
+    )

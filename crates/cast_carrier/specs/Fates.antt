@@ -1,0 +1,110 @@
+-- What a plan makes of the frames that a carrier takes.
+--     names kind from to first step frame    a fault of these frames names this one
+--     fate_by frame faults                   what becomes of a frame by the faults of a plan
+--     fate_in faults ordinals frame          the same of the next frame for its target, where so many were taken
+--     counted_in ordinals frame              how many were taken then
+use Rattle.std.specs.Prelude.{ℕ, ◌+◌, ◌-◌, ◌%◌, ◌^◌, min, max, ◌==◌, nat_le, Bool, true, false, ◌&&◌, ◌||◌, if◌then◌else◌, List, [], ◌∷◌, slice_get, slice_set, Option, Some, None}
+use Rattle.std.specs.List.{list_any}
+use Rattle.cast_message.specs.declared.message.Frame.{Frame}
+use Rattle.cast_message.specs.declared.message.FrameKind.{FrameKind}
+use Rattle.cast_message.specs.declared.message.FrameKind.TheVariants.{Carry, Took}
+use Rattle.cast_message.specs.Items.{kind_of}
+use Rattle.cast_script.specs.declared.script.Fault.{Fault}
+use Rattle.cast_script.specs.declared.script.Fault.TheVariants.{Lose, Repeat, Delay, Crash}
+use Rattle.cast_carrier.specs.declared.carrier.Fate.{Fate}
+use Rattle.cast_carrier.specs.declared.carrier.NamedFrame.{NamedFrame}
+use Rattle.cast_carrier.specs.declared.carrier.Ordinals.{Ordinals}
+
+-- ---- which frames a fault names
+
+abbrev pub is_kind : FrameKind → FrameKind → Bool
+is_kind Carry Carry = true
+is_kind Carry Took = false
+is_kind Took Carry = false
+is_kind Took Took = true
+
+-- the ordinal is first, first + step, first + 2 * step, ..; with no step, first alone
+abbrev pub is_among : ℕ → ℕ → ℕ → Bool
+is_among first step ordinal =
+    if step == 0 then ordinal == first
+    else (nat_le first ordinal && ((ordinal - first) % step) == 0)
+
+abbrev pub names : FrameKind → ℕ → ℕ → ℕ → ℕ → NamedFrame → Bool
+names kind from to first step frame =
+    to == frame.to && (is_kind kind frame.kind && (from == frame.from && is_among first step frame.ordinal))
+
+-- ---- what becomes of a frame
+
+abbrev pub loses : NamedFrame → Fault → Bool
+loses frame (Lose kind from to first step) = names kind from to first step frame
+loses frame (Repeat kind from to first step) = false
+loses frame (Delay kind from to first step count) = false
+loses frame (Crash node entries) = false
+
+abbrev pub repeats : NamedFrame → Fault → Bool
+repeats frame (Lose kind from to first step) = false
+repeats frame (Repeat kind from to first step) = names kind from to first step frame
+repeats frame (Delay kind from to first step count) = false
+repeats frame (Crash node entries) = false
+
+-- for how many frames more it is kept
+abbrev pub delay_by : NamedFrame → Fault → ℕ
+delay_by frame (Lose kind from to first step) = 0
+delay_by frame (Repeat kind from to first step) = 0
+delay_by frame (Delay kind from to first step count) = if names kind from to first step frame then count else 0
+delay_by frame (Crash node entries) = 0
+
+-- of several delays the longest
+unfoldable pub delay_of : NamedFrame → List Fault → ℕ
+delay_of frame [] = 0
+delay_of frame (fault ∷ faults) = max (delay_by frame fault) (delay_of frame faults)
+
+abbrev pub fate_by : NamedFrame → List Fault → Fate
+fate_by frame faults = record {
+  lost = list_any (loses frame) faults;
+  delay = delay_of frame faults;
+  twice = list_any (repeats frame) faults;
+}
+
+-- a fate, and one fault more
+abbrev pub suffered : NamedFrame → Fate → Fault → Fate
+suffered frame fate fault = record {
+  lost = fate.lost || loses frame fault;
+  delay = max fate.delay (delay_by frame fault);
+  twice = fate.twice || repeats frame fault;
+}
+
+-- ---- the ordinals of frames
+
+abbrev pub ordinal_of : FrameKind → Ordinals → ℕ
+ordinal_of Carry counts = counts.carry
+ordinal_of Took counts = counts.took
+
+-- one frame of the kind more; a count stays at its greatest value
+abbrev pub one_more : FrameKind → Ordinals → Ordinals
+one_more Carry counts = record { carry = min (counts.carry + 1) (2 ^ 64 - 1); took = counts.took }
+one_more Took counts = record { carry = counts.carry; took = min (counts.took + 1) (2 ^ 64 - 1) }
+
+abbrev pub named : Frame → Ordinals → NamedFrame
+named frame counts = record {
+  kind = kind_of frame.body;
+  from = frame.from;
+  to = frame.to;
+  ordinal = ordinal_of (kind_of frame.body) counts;
+}
+
+-- no fault befalls a frame whose target has no ordinals
+abbrev pub fate_where : List Fault → Frame → Option Ordinals → Fate
+fate_where faults frame (Some counts) = fate_by (named frame counts) faults
+fate_where faults frame None = record { lost = false; delay = 0; twice = false }
+
+abbrev pub fate_in : List Fault → List Ordinals → Frame → Fate
+fate_in faults ordinals frame = fate_where faults frame (slice_get ordinals frame.to)
+
+-- the counts of its target, and no other
+abbrev pub counted_where : List Ordinals → Frame → Option Ordinals → List Ordinals
+counted_where ordinals frame (Some counts) = slice_set ordinals frame.to (one_more (kind_of frame.body) counts)
+counted_where ordinals frame None = ordinals
+
+abbrev pub counted_in : List Ordinals → Frame → List Ordinals
+counted_in ordinals frame = counted_where ordinals frame (slice_get ordinals frame.to)

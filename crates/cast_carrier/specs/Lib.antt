@@ -1,0 +1,5 @@
+pub mod Lists
+pub mod Plans
+pub mod Fates
+pub mod Copies
+pub mod Carriers

@@ -1,0 +1,466 @@
+//! A carrier: takes parcels from an outbox and puts each into the inbox of its frame's target, once, twice or never, as the
+//! plan says.
+ghost use Rattle.std.specs.Prelude.{◌≡◌, ◌||◌, [], IfOk, if◌then◌else◌, map, max};
+ghost use Rattle.cast_box.specs.Ends.{AreSamePutters};
+ghost use Rattle.cast_carrier.specs.Copies.{IsByPlan, copies};
+ghost use Rattle.cast_carrier.specs.Carriers.{IsSameCarrier, CarriesOne, AreUnused, Brings, Moves, MovesOn, Puts, PutsUpTo, IsNoMore, IsByFate, IsKeptOrLost, counted_down};
+ghost use Rattle.cast_carrier.specs.Fates.{is_kind, is_among, names, suffered, fate_by, fate_in, ordinal_of, one_more, counted_in};
+
+use crate::board::Board;
+use crate::parcel::Parcel;
+use crate::waiting::Waiting;
+use cast_box::{Putter, Taker};
+use cast_message::{FrameKind, NodeId};
+use cast_script::Fault;
+use std::alloc::{AllocError, Global};
+use std::marker::Model;
+use std::sync::Wait;
+
+// So often in succession a carrier that finds nothing gives up the processor.
+const PATIENCE: u64 = 8;
+
+/// A parcel that is kept until so many more frames were taken for its target.
+#[derive(Drop)]
+pub struct Delayed {
+    pub left: u64,
+    pub twice: bool,
+    pub parcel: Parcel,
+}
+
+/// How many frames of each kind were taken for a target.
+#[derive(Clone, Copy)]
+pub struct Ordinals {
+    pub carry: u64,
+    pub took: u64,
+}
+
+/// What becomes of a frame.
+#[derive(Clone, Copy)]
+pub struct Fate {
+    pub lost: bool,
+    /// How many more frames are taken for its target before it is handed on.
+    pub delay: u64,
+    pub twice: bool,
+}
+
+// Handed on at once, and once.
+const UNHARMED: Fate = Fate {
+    lost: false,
+    delay: 0,
+    twice: false,
+};
+
+impl Fate {
+    // Lost as well, where that is so.
+    fn or_lost(self, lost: bool) -> Fate
+        ensures { result ≡ record {
+          lost = self.lost || lost;
+          delay = self.delay;
+          twice = self.twice;
+        } }
+    {
+        Fate {
+            lost: self.lost || lost,
+            ..self
+        }
+    }
+
+    // Handed on twice, where that is so.
+    fn or_twice(self, twice: bool) -> Fate
+        ensures { result ≡ record {
+          lost = self.lost;
+          delay = self.delay;
+          twice = self.twice || twice;
+        } }
+    {
+        Fate {
+            twice: self.twice || twice,
+            ..self
+        }
+    }
+
+    // Of several delays the longest holds.
+    fn or_delayed(self, delay: u64) -> Fate
+        ensures { result ≡ record {
+          lost = self.lost;
+          delay = max self.delay delay;
+          twice = self.twice;
+        } }
+    {
+        Fate {
+            delay: self.delay.max(delay),
+            ..self
+        }
+    }
+}
+
+/// Carries the parcels of one engine.
+#[derive(Drop)]
+pub struct Carrier {
+    outbox: Taker<Parcel>,
+    // By target.
+    inboxes: Vec<Putter<Parcel>>,
+    faults: Vec<Fault>,
+    // By target.
+    ordinals: Vec<Ordinals>,
+    delayed: Vec<Delayed>,
+}
+
+impl Model for Carrier {
+    ghost use Rattle.cast_carrier.specs.Carriers.{CarrierState, CarrierKeeps, CarrierPlans};
+
+    ghost Value = { CarrierState };
+
+    ghost view = { λ c. record {
+      outbox = c.outbox;
+      inboxes = c.inboxes.items;
+      faults = c.faults.items;
+      delayed = c.delayed.items;
+    } };
+
+    ghost invariant = { λ c. CarrierKeeps c.outbox.taken c.inboxes.items c.delayed.items
+        × CarrierPlans
+        c.faults.items c.ordinals.items c.outbox.taken c.inboxes.items c.delayed.items };
+}
+
+impl Carrier {
+    /// The carrier of these ends, of which none was used. It acts on these faults of a plan.
+    pub fn new(
+        alloc: Global,
+        outbox: Taker<Parcel>,
+        inboxes: Vec<Putter<Parcel>>,
+        faults: Vec<Fault>,
+    ) -> Result<Carrier, AllocError>
+        requires inboxes { AreUnused inboxes.items }
+        requires outbox { outbox.taken ≡ [] }
+        ensures { IfOk result (λ c. c ≡ record {
+          outbox = outbox;
+          inboxes = inboxes.items;
+          faults = faults.items;
+          delayed = [];
+        }) }
+    {
+        let ordinals = vec![in alloc; Ordinals { carry: 0, took: 0 }; inboxes.len()]?;
+        Ok(Carrier {
+            outbox,
+            inboxes,
+            faults,
+            ordinals,
+            delayed: Vec::new(alloc),
+        })
+    }
+
+    /// Carries one parcel. Answers whether there was one; else nothing changed.
+    pub fn carry<R: Wait>(&mut self, rt: &R) -> bool
+        ensures same { IsSameCarrier self.old self.new }
+        ensures one { CarriesOne self.old self.new result }
+    {
+        match self.outbox.take(rt) {
+            Some(parcel) => {
+                let fate = fate_of(&self.faults, &mut self.ordinals, &parcel);
+                take_over(rt, &mut self.inboxes, &mut self.delayed, parcel, fate);
+                true
+            }
+            None => false,
+        }
+    }
+
+    /// The ends. What is delayed is lost. What was put is of the frames that were taken, and as the plan says: nothing that it
+    /// loses or still delays, and nothing twice but what it repeats.
+    pub fn into_parts(self) -> (Taker<Parcel>, Vec<Putter<Parcel>>)
+        ensures parts { (result.0 ≡ self.outbox) × (result.1.items ≡ self.inboxes) }
+        ensures kept { Brings self.outbox.taken self.inboxes }
+        ensures planned { IsByPlan self.faults self.outbox.taken self.inboxes }
+    {
+        let Carrier {
+            outbox,
+            inboxes,
+            ..
+        } = self;
+        (outbox, inboxes)
+    }
+}
+
+/// Runs a carrier until its engine has ended, or the group was stopped, and the outbox is empty, and says so on the board.
+pub fn run_carrier<R: Wait>(rt: &R, mut carrier: Carrier, board: &Board, node: usize) -> Carrier
+    ensures { IsSameCarrier carrier result }
+{
+    let mut waiting = Waiting::new(PATIENCE);
+    for _ in rt.forever() {
+        let last = board.has_ended(node);
+        if carrier.carry(rt) {
+            waiting.found();
+            continue;
+        }
+        if last {
+            break;
+        }
+        waiting.wait(rt);
+    }
+    board.settle(node);
+    carrier
+}
+
+// What becomes of a parcel by the plan, which counts its frame. A frame for a target past the row of ordinals is not counted,
+// and no fault befalls it.
+fn fate_of(faults: &[Fault], ordinals: &mut [Ordinals], parcel: &Parcel) -> Fate
+    ensures fate { result ≡ fate_in faults.now ordinals.old parcel.now.frame }
+    ensures counts { ordinals.new ≡ counted_in ordinals.old parcel.now.frame }
+{
+    let to = parcel.frame.to;
+    let kind = parcel.frame.body.kind();
+    let target = usize::from(to.0);
+    if target >= ordinals.len() {
+        return UNHARMED;
+    }
+    let counts = &mut ordinals[target];
+    let ordinal = count(counts, kind);
+    let frame = NamedFrame {
+        kind,
+        from: parcel.frame.from,
+        to,
+        ordinal,
+    };
+    fate_by(faults, &frame)
+}
+
+// The ordinal of the next frame of the kind, which stays at its greatest value once there.
+fn count(counts: &mut Ordinals, kind: FrameKind) -> u64
+    ensures ordinal { result ≡ ordinal_of kind counts.old }
+    ensures counts { counts.new ≡ one_more kind counts.old }
+{
+    match kind {
+        FrameKind::Carry => {
+            let ordinal = counts.carry;
+            counts.carry = ordinal.saturating_add(1);
+            ordinal
+        }
+        FrameKind::Took => {
+            let ordinal = counts.took;
+            counts.took = ordinal.saturating_add(1);
+            ordinal
+        }
+    }
+}
+
+// A frame by what the faults of a plan name of it.
+#[derive(Drop)]
+pub struct NamedFrame {
+    pub kind: FrameKind,
+    pub from: NodeId,
+    pub to: NodeId,
+    pub ordinal: u64,
+}
+
+impl NamedFrame {
+    // Whether a fault of these frames names it.
+    fn is_hit(&self, kind: FrameKind, from: NodeId, to: NodeId, first: u64, step: u64) -> bool
+        ensures { result ≡ names kind from to first step self.now }
+    {
+        // Most faults are of other frames, and a division takes long.
+        if to != self.to || !is_kind(kind, self.kind) || from != self.from {
+            return false;
+        }
+        is_among(first, step, self.ordinal)
+    }
+}
+
+// Whether two kinds are the same.
+fn is_kind(kind: FrameKind, other: FrameKind) -> bool
+    ensures { result ≡ is_kind kind other }
+{
+    matches!(
+        (kind, other),
+        (FrameKind::Carry, FrameKind::Carry) | (FrameKind::Took, FrameKind::Took)
+    )
+}
+
+// Whether the ordinal is first, first + step, first + 2 * step, ..; with no step, first alone.
+fn is_among(first: u64, step: u64, ordinal: u64) -> bool
+    ensures { result ≡ is_among first step ordinal }
+{
+    if step == 0 {
+        return ordinal == first;
+    }
+    first <= ordinal && (ordinal - first) % step == 0
+}
+
+// What becomes of a frame by all faults of a plan.
+fn fate_by(faults: &[Fault], frame: &NamedFrame) -> Fate
+    ensures { result ≡ fate_by frame.now faults.now }
+{
+    let mut fate = UNHARMED;
+    for fault in faults {
+        fate = suffer(fate, *fault, frame);
+    }
+    fate
+}
+
+// What becomes of a frame by one fault more.
+fn suffer(fate: Fate, fault: Fault, frame: &NamedFrame) -> Fate
+    ensures { result ≡ suffered frame.now fate fault }
+{
+    match fault {
+        Fault::Lose {
+            kind,
+            from,
+            to,
+            first,
+            step,
+        } => fate.or_lost(frame.is_hit(kind, from, to, first, step)),
+        Fault::Repeat {
+            kind,
+            from,
+            to,
+            first,
+            step,
+        } => fate.or_twice(frame.is_hit(kind, from, to, first, step)),
+        Fault::Delay {
+            kind,
+            from,
+            to,
+            first,
+            step,
+            count,
+        } => {
+            if frame.is_hit(kind, from, to, first, step) {
+                fate.or_delayed(count)
+            } else {
+                fate
+            }
+        }
+        Fault::Crash { .. } => fate,
+    }
+}
+
+// Hands on what is due by one more frame for the target, and then loses, keeps or hands on the parcel.
+fn take_over<R: Wait>(
+    rt: &R,
+    inboxes: &mut Vec<Putter<Parcel>>,
+    delayed: &mut Vec<Delayed>,
+    parcel: Parcel,
+    fate: Fate,
+)
+    ensures same { AreSamePutters inboxes.old.items inboxes.new.items }
+    ensures moves { Moves inboxes.old.items delayed.old.items parcel inboxes.new.items
+        delayed.new.items }
+    ensures planned { IsByFate fate inboxes.old.items delayed.old.items parcel inboxes.new.items
+        delayed.new.items }
+{
+    pass_time(rt, inboxes, delayed, &parcel);
+    if fate.lost {
+        lose(parcel);
+        return;
+    }
+    if fate.delay > 0 {
+        keep(delayed, parcel, fate);
+        return;
+    }
+    hand_on(rt, inboxes, parcel, fate.twice);
+}
+
+// Hands on what is due by one more frame for the target.
+fn pass_time<R: Wait>(
+    rt: &R,
+    inboxes: &mut Vec<Putter<Parcel>>,
+    delayed: &mut Vec<Delayed>,
+    parcel: &Parcel,
+)
+    ensures same { AreSamePutters inboxes.old.items inboxes.new.items }
+    ensures moves { MovesOn inboxes.old.items delayed.old.items inboxes.new.items
+        delayed.new.items }
+    ensures planned { IsNoMore inboxes.old.items
+        (map (counted_down parcel.now.frame.to) delayed.old.items)
+        inboxes.new.items delayed.new.items }
+{
+    count_down(delayed, parcel.frame.to);
+    release(rt, inboxes, delayed);
+}
+
+fn lose(_parcel: Parcel) {}
+
+// One frame more was taken for a target.
+fn count_down(delayed: &mut Vec<Delayed>, to: NodeId)
+    ensures { delayed.new.items ≡ map (counted_down to) delayed.old.items }
+{
+    for place in 0..delayed.len() {
+        count_one(&mut delayed[place], to);
+    }
+}
+
+fn count_one(one: &mut Delayed, to: NodeId)
+    ensures { one.new ≡ counted_down to one.old }
+{
+    if one.parcel.frame.to == to {
+        one.left = one.left.saturating_sub(1);
+    }
+}
+
+// Hands on what is due.
+fn release<R: Wait>(rt: &R, inboxes: &mut Vec<Putter<Parcel>>, delayed: &mut Vec<Delayed>)
+    ensures same { AreSamePutters inboxes.old.items inboxes.new.items }
+    ensures moves { MovesOn inboxes.old.items delayed.old.items inboxes.new.items
+        delayed.new.items }
+    ensures planned { IsNoMore inboxes.old.items delayed.old.items inboxes.new.items
+        delayed.new.items }
+{
+    let mut place = 0;
+    while place < delayed.len() {
+        if delayed[place].left == 0 {
+            let Delayed { parcel, twice, .. } = delayed.remove(place);
+            hand_on(rt, inboxes, parcel, twice);
+        } else {
+            place += 1;
+        }
+    }
+}
+
+// Keeps a parcel until as many more were taken for its target as its fate says. It is lost where there is no memory.
+fn keep(delayed: &mut Vec<Delayed>, parcel: Parcel, fate: Fate)
+    ensures { IsKeptOrLost delayed.old.items
+        (record { left = fate.delay; twice = fate.twice; parcel = parcel }) delayed.new.items }
+{
+    let _lost = delayed.push(Delayed {
+        left: fate.delay,
+        twice: fate.twice,
+        parcel,
+    });
+}
+
+// Hands on a parcel once or twice. A copy that finds no memory is lost.
+fn hand_on<R: Wait>(rt: &R, inboxes: &mut Vec<Putter<Parcel>>, parcel: Parcel, twice: bool)
+    ensures same { AreSamePutters inboxes.old.items inboxes.new.items }
+    ensures puts { Puts inboxes.old.items parcel inboxes.new.items }
+    ensures most { PutsUpTo (copies twice) inboxes.old.items parcel inboxes.new.items }
+{
+    put_copy(rt, inboxes, &parcel, twice);
+    put(rt, inboxes, parcel);
+}
+
+// Where the parcel is handed on twice, puts a copy.
+fn put_copy<R: Wait>(rt: &R, inboxes: &mut Vec<Putter<Parcel>>, parcel: &Parcel, twice: bool)
+    ensures same { AreSamePutters inboxes.old.items inboxes.new.items }
+    ensures puts { Puts inboxes.old.items parcel.now inboxes.new.items }
+    ensures most { PutsUpTo (if twice then 1 else 0) inboxes.old.items parcel.now
+        inboxes.new.items }
+{
+    if !twice {
+        return;
+    }
+    if let Ok(copy) = parcel.copy() {
+        put(rt, inboxes, copy);
+    }
+}
+
+// Puts a parcel into the inbox of its target. It is lost where that is full.
+fn put<R: Wait>(rt: &R, inboxes: &mut Vec<Putter<Parcel>>, parcel: Parcel)
+    ensures same { AreSamePutters inboxes.old.items inboxes.new.items }
+    ensures puts { Puts inboxes.old.items parcel inboxes.new.items }
+    ensures most { PutsUpTo 1 inboxes.old.items parcel inboxes.new.items }
+{
+    let to = usize::from(parcel.frame.to.0);
+    if to < inboxes.len() {
+        let inbox = &mut inboxes[to];
+        let _ = inbox.put(rt, parcel);
+    }
+}

@@ -1,0 +1,99 @@
+//! What a plan may name, and what it says of each node.
+ghost use Rattle.std.specs.Prelude.{◌≡◌, ◌↔◌, None, IsTrue, IfOk};
+ghost use Rattle.std.specs.List.{filter};
+ghost use Rattle.cast_carrier.specs.Plans.{ArePlanned, IsPlanned, IsLink, crash_by, crash_from, is_from, least};
+
+use cast_message::NodeId;
+use cast_script::Fault;
+use std::alloc::{AllocError, Global};
+
+/// Whether each fault names nodes of the group, and no link of a node to itself. It takes no memory.
+pub fn is_planned(nodes: u64, faults: &[Fault]) -> bool
+    ensures { IsTrue result ↔ ArePlanned nodes faults.now }
+{
+    for fault in faults {
+        if !names_nodes(nodes, *fault) {
+            return false;
+        }
+    }
+    true
+}
+
+fn names_nodes(nodes: u64, fault: Fault) -> bool
+    ensures { IsTrue result ↔ IsPlanned nodes fault }
+{
+    match fault {
+        Fault::Lose { from, to, .. }
+        | Fault::Repeat { from, to, .. }
+        | Fault::Delay { from, to, .. } => is_link(nodes, from, to),
+        Fault::Crash { node, .. } => u64::from(node.0) < nodes,
+    }
+}
+
+fn is_link(nodes: u64, from: NodeId, to: NodeId) -> bool
+    ensures { IsTrue result ↔ IsLink nodes from to }
+{
+    u64::from(from.0) < nodes && u64::from(to.0) < nodes && from != to
+}
+
+/// After how many entries the node crashes, if it is to crash.
+pub fn crash_of(node: NodeId, faults: &[Fault]) -> Option<u64>
+    ensures { result ≡ crash_from node None faults.now }
+{
+    let mut crash = None;
+    for fault in faults {
+        crash = crash_by(node, crash, *fault);
+    }
+    crash
+}
+
+fn crash_by(node: NodeId, so: Option<u64>, fault: Fault) -> Option<u64>
+    ensures { result ≡ crash_by node so fault }
+{
+    match fault {
+        Fault::Crash {
+            node: other,
+            entries,
+        } => {
+            if other == node {
+                least(so, entries)
+            } else {
+                so
+            }
+        }
+        Fault::Lose { .. } | Fault::Repeat { .. } | Fault::Delay { .. } => so,
+    }
+}
+
+fn least(so: Option<u64>, entries: u64) -> Option<u64>
+    ensures { result ≡ least so entries }
+{
+    match so {
+        Some(least) if least <= entries => so,
+        _ => Some(entries),
+    }
+}
+
+/// The faults of the frames of a node, in their order.
+pub fn faults_from(alloc: Global, node: NodeId, faults: &[Fault]) -> Result<Vec<Fault>, AllocError>
+    ensures { IfOk result (λ own. own.items ≡ filter (is_from node) faults.now) }
+{
+    let mut own = Vec::new(alloc);
+    for fault in faults {
+        if is_from(node, *fault) {
+            own.push(*fault)?;
+        }
+    }
+    Ok(own)
+}
+
+fn is_from(node: NodeId, fault: Fault) -> bool
+    ensures { result ≡ is_from node fault }
+{
+    match fault {
+        Fault::Lose { from, .. } | Fault::Repeat { from, .. } | Fault::Delay { from, .. } => {
+            from == node
+        }
+        Fault::Crash { .. } => false,
+    }
+}

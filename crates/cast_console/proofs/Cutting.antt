@@ -1,0 +1,110 @@
+-- What a stream has of a text that broke off.
+use Rattle.std.proofs.Common.{◌≡◌, ◌++◌, ◌∙◌, ℕ, List, [], Option, None, Some, Result, Ok, Err, IfOk, IfErr, OnOk, OnErr, Bool, inl, inr, append-nil, append_assoc, ap, refl, subst, sym}
+use Rattle.std.specs.Io.KnownBytes.{Appends, Keeps, append_known}
+use Rattle.cast_record.specs.declared.verdict.Verdict.{Verdict}
+use Rattle.cast_text.specs.Drawing.{Draws}
+use Rattle.cast_text.specs.Judging.{Judges}
+use Rattle.cast_text.specs.Migrating.{Migrates}
+use Rattle.cast_text.specs.Text.{Records, WroteFront}
+use Rattle.cast_text.specs.declared.fault.TextFault.{TextFault}
+use Rattle.cast_text.specs.declared.fault.TextFault.TheVariants as faults
+use Rattle.cast_console.specs.Made.{IsCut, BreaksOff, Makes}
+use Rattle.cast_console.specs.declared.texts.TextCommand.{TextCommand}
+use Rattle.cast_console.specs.declared.texts.TextCommand.TheVariants.{Run, Judge, Migrate, Draw}
+
+pub cut_kept : (old new : Option (List ℕ)) → Keeps old new → IsCut old new
+cut_kept None new same = tt
+cut_kept (Some xs) None same = same
+cut_kept (Some xs) (Some ys) same = ([], sym same ∙ sym (append-nil ys))
+
+pub cut_again : (a b c : Option (List ℕ)) → IsCut a b → IsCut b c → IsCut a c
+cut_again None b c one two = tt
+cut_again (Some xs) None c one two = absurd one
+cut_again (Some xs) (Some ys) None one two = two
+cut_again (Some xs) (Some ys) (Some zs) one two = (two.0 ++ one.0, one.1 ∙ ap (λ l. l ++ one.0) two.1 ∙ append_assoc zs two.0 one.0)
+
+pub cut_front : (old new : Option (List ℕ)) (text : List ℕ) → WroteFront old new text → IsCut (append_known old text) new
+cut_front None new text wrote = tt
+cut_front (Some xs) None text wrote = wrote.appends
+cut_front (Some xs) (Some ys) text wrote = (wrote.rest, ap (λ l. xs ++ l) wrote.parts ∙ sym (append_assoc xs wrote.front wrote.rest) ∙ ap (λ l. l ++ wrote.rest) (sym wrote.appends))
+
+-- ---- each command
+
+pub run_breaks : (input old new : Option (List ℕ)) (read_failed failed : Bool) (fault : TextFault) → Records input read_failed old new failed (Err fault) → BreaksOff Run input old new
+run_breaks input old new read_failed failed faults.Read said = inl (cut_kept old new said.1)
+run_breaks input old new read_failed failed faults.TooLong said = inl (cut_kept old new said.1)
+run_breaks input old new read_failed failed (faults.Script why) said = inl (cut_kept old new said.1)
+run_breaks input old new read_failed failed (faults.Live why) said = inl (cut_kept old new said.1)
+run_breaks input old new read_failed failed faults.Write said = inr (_, (said.script, said.read, refl), cut_front old new _ said.breaks.1)
+run_breaks input old new read_failed failed faults.Memory (inl kept) = inl (cut_kept old new kept)
+run_breaks input old new read_failed failed faults.Memory (inr said) = inr (_, (said.script, said.read, refl), cut_front old new _ said.breaks.1)
+run_breaks input old new read_failed failed faults.NotV1 said = inl (cut_kept old new said.1)
+
+pub judge_breaks : (input old new : Option (List ℕ)) (read_failed failed : Bool) (result : Result Verdict TextFault) → Judges input read_failed old new failed result → IfErr result (λ _. BreaksOff Judge input old new)
+judge_breaks input old new read_failed failed (Ok verdict) said = tt
+judge_breaks input old new read_failed failed (Err faults.Read) said = inl (cut_kept old new said.1)
+judge_breaks input old new read_failed failed (Err faults.TooLong) said = inl (cut_kept old new said.1)
+judge_breaks input old new read_failed failed (Err (faults.Script why)) said = inl (cut_kept old new said.1)
+judge_breaks input old new read_failed failed (Err (faults.Live why)) said = inl (cut_kept old new said.1)
+judge_breaks input old new read_failed failed (Err faults.Write) said = inr (_, (said.said, said.read, refl), cut_front old new _ said.front)
+judge_breaks input old new read_failed failed (Err faults.Memory) said = inl (cut_kept old new said.1)
+judge_breaks input old new read_failed failed (Err faults.NotV1) said = inl (cut_kept old new said.1)
+
+pub migrate_breaks : (input old new : Option (List ℕ)) (read_failed failed : Bool) (fault : TextFault) → Migrates input read_failed old new failed (Err fault) → BreaksOff Migrate input old new
+migrate_breaks input old new read_failed failed faults.Read said = inl (cut_kept old new said.1)
+migrate_breaks input old new read_failed failed faults.TooLong said = inl (cut_kept old new said.1)
+migrate_breaks input old new read_failed failed (faults.Script why) said = inl (cut_kept old new said.1)
+migrate_breaks input old new read_failed failed (faults.Live why) said = inl (cut_kept old new said.1)
+migrate_breaks input old new read_failed failed faults.Write said = inr (said.migrated, said.read, cut_front old new _ said.front)
+migrate_breaks input old new read_failed failed faults.Memory said = inl (cut_kept old new said.1)
+migrate_breaks input old new read_failed failed faults.NotV1 said = inl (cut_kept old new said.1)
+
+pub draw_breaks : (window : _) (input old new : Option (List ℕ)) (read_failed failed : Bool) (fault : TextFault) → Draws window input read_failed old new failed (Err fault) → BreaksOff (Draw window) input old new
+draw_breaks window input old new read_failed failed faults.Read said = inl (cut_kept old new said.1)
+draw_breaks window input old new read_failed failed faults.TooLong said = inl (cut_kept old new said.1)
+draw_breaks window input old new read_failed failed (faults.Script why) said = inl (cut_kept old new said.1)
+draw_breaks window input old new read_failed failed (faults.Live why) said = inl (cut_kept old new said.1)
+draw_breaks window input old new read_failed failed faults.Write said = inr (_, (said.script, said.read, refl), cut_front old new _ said.front)
+draw_breaks window input old new read_failed failed faults.Memory said = inl (cut_kept old new said.1)
+draw_breaks window input old new read_failed failed faults.NotV1 said = inl (cut_kept old new said.1)
+
+-- by whichever command it is, and with whichever fault
+pub breaks_of : (command self : TextCommand) (input old new : Option (List ℕ)) (result : Result Verdict TextFault) → self ≡ command → BreaksOff command input old new → IfErr result (λ fault. BreaksOff self input old new)
+breaks_of command self input old new (Ok said) is broke = tt
+breaks_of command self input old new (Err fault) is broke = subst (λ c. BreaksOff c input old new) (sym is) broke
+
+pub breaks_again : (command : TextCommand) (input old mid new : Option (List ℕ)) → BreaksOff command input old mid → IsCut mid new → BreaksOff command input old new
+breaks_again command input old mid new (inl cut) more = inl (cut_again old mid new cut more)
+breaks_again command input old mid new (inr broke) more = inr (broke.0, broke.1, cut_again (append_known old broke.0) mid new broke.2 more)
+
+-- ---- through the buffer
+
+front_of_all : (old mid : Option (List ℕ)) (text : List ℕ) → Appends old mid text → IsCut (append_known old text) mid
+front_of_all old mid text put = cut_front old mid text (record { front = text; rest = []; parts = sym (append-nil text); appends = put })
+
+makes_front : (command : TextCommand) (input old mid : Option (List ℕ)) (said : Verdict) → Makes command input old mid said → BreaksOff command input old mid
+makes_front Run input old mid said made = inr (_, (made.1.script, made.1.read, refl), front_of_all old mid _ made.1.appends)
+makes_front Judge input old mid said made = inr (_, (said, made.read, refl), front_of_all old mid _ made.appends)
+makes_front Migrate input old mid said made = inr (made.1.migrated, made.1.read, front_of_all old mid _ made.1.appends)
+makes_front (Draw window) input old mid said made = inr (_, (made.1.script, made.1.read, refl), front_of_all old mid _ made.1.appends)
+
+-- an empty buffer adds nothing
+pub nothing_held : (known : Option (List ℕ)) (held : List ℕ) → held ≡ [] → append_known known held ≡ known
+nothing_held None held none = refl
+nothing_held (Some xs) held none = ap (λ ys. Some ys) (ap (λ ys. xs ++ ys) none ∙ append-nil xs)
+
+pub breaks_handed : (command : TextCommand) (input old mid new : Option (List ℕ)) (held : List ℕ) (done handed : Result Verdict TextFault) → held ≡ [] → IfOk done (Makes command input (append_known old held) mid)
+    → IfErr done (λ fault. BreaksOff command input (append_known old held) mid) → IsCut mid new → IfErr handed (λ fault. BreaksOff command input old new)
+breaks_handed command input old mid new held done (Ok said) none made broke cut = tt
+breaks_handed command input old mid new held (Ok said) (Err fault) none made broke cut =
+    subst (λ known. BreaksOff command input known new) (nothing_held old held none) (breaks_again command input (append_known old held) mid new (makes_front command input (append_known old held) mid said made) cut)
+breaks_handed command input old mid new held (Err why) (Err fault) none made broke cut =
+    subst (λ known. BreaksOff command input known new) (nothing_held old held none) (breaks_again command input (append_known old held) mid new broke cut)
+
+pub front_handed : (old mid new : Option (List ℕ)) (held text : List ℕ) (done handed : Result (Unit {0}) TextFault) → held ≡ [] → OnOk done (Appends (append_known old held) mid text)
+    → OnErr done (WroteFront (append_known old held) mid text) → IsCut mid new → OnErr handed (IsCut (append_known old text) new)
+front_handed old mid new held text done (Ok said) none made broke cut = tt
+front_handed old mid new held text (Ok said) (Err fault) none made broke cut =
+    subst (λ known. IsCut (append_known known text) new) (nothing_held old held none) (cut_again (append_known (append_known old held) text) mid new (front_of_all (append_known old held) mid text made) cut)
+front_handed old mid new held text (Err why) (Err fault) none made broke cut =
+    subst (λ known. IsCut (append_known known text) new) (nothing_held old held none) (cut_again (append_known (append_known old held) text) mid new (cut_front (append_known old held) mid text broke) cut)

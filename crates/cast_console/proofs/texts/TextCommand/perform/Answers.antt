@@ -1,0 +1,34 @@
+use Rattle.std.proofs.Common.{IfErr, sym, subst}
+use Rattle.cast_console.specs.Made.{BreaksOff}
+use Rattle.cast_console.specs.declared.texts.TextCommand.{TextCommand}
+use Rattle.cast_console.specs.declared.texts.TextCommand.TheVariants.{Run, Migrate, Draw}
+use Rattle.cast_console.proofs.Cutting.{run_breaks, judge_breaks, migrate_breaks, draw_breaks, breaks_of}
+use Rattle.cast_console.proofs.texts.TextCommand.perform.Goals as goal
+
+pub returns-in_err-run_text-in-Run-clause-front : goal.returns-in_err-run_text-in-Run-clause-front
+returns-in_err-run_text-in-Run-clause-front g c =
+    let input = g.R.Read.remaining c.args.reader.now.inner in
+    let old = g.W.Write.contents c.args.writer.now.inner in
+    let new = g.W.Write.contents c.run_text.new.writer.inner in
+    breaks_of Run c.args.self input old new c.from_residual.result c.in-Run.is (run_breaks input old new _ _ c.in_err-run_text-in-Run.field-0.0 c.in_err-run_text-in-Run.ensures.exact)
+
+pub returns-in-Judge-clause-front : goal.returns-in-Judge-clause-front
+returns-in-Judge-clause-front g c =
+    let input = g.R.Read.remaining c.args.reader.now.inner in
+    let old = g.W.Write.contents c.args.writer.now.inner in
+    let new = g.W.Write.contents c.judge_text.new.writer.inner in
+    subst (λ (command : TextCommand). IfErr c.judge_text.result (λ fault. BreaksOff command input old new)) (sym c.in-Judge.is) (judge_breaks input old new _ _ c.judge_text.result c.judge_text.ensures.exact)
+
+pub returns-in_err-migrate_text-in-Migrate-clause-front : goal.returns-in_err-migrate_text-in-Migrate-clause-front
+returns-in_err-migrate_text-in-Migrate-clause-front g c =
+    let input = g.R.Read.remaining c.args.reader.now.inner in
+    let old = g.W.Write.contents c.args.writer.now.inner in
+    let new = g.W.Write.contents c.migrate_text.new.writer.inner in
+    breaks_of Migrate c.args.self input old new c.from_residual-in_err-migrate_text-in-Migrate.result c.in-Migrate.is (migrate_breaks input old new _ _ c.in_err-migrate_text-in-Migrate.field-0.0 c.in_err-migrate_text-in-Migrate.ensures.exact)
+
+pub returns-in_err-draw_text-in-Draw-clause-front : goal.returns-in_err-draw_text-in-Draw-clause-front
+returns-in_err-draw_text-in-Draw-clause-front g c =
+    let input = g.R.Read.remaining c.args.reader.now.inner in
+    let old = g.W.Write.contents c.args.writer.now.inner in
+    let new = g.W.Write.contents c.draw_text.new.writer.inner in
+    breaks_of (Draw c.in-Draw.window) c.args.self input old new c.from_residual-in_err-draw_text-in-Draw.result c.in-Draw.is (draw_breaks c.in-Draw.window input old new _ _ c.in_err-draw_text-in-Draw.field-0.0 c.in_err-draw_text-in-Draw.ensures.exact)

@@ -1,0 +1,64 @@
+-- What the commands write that read one text and write another.
+--     Makes command input old new said    the known bytes grew by what the command makes of its input, and by nothing else; the verdict
+--                                         is that of the judge, and else Good
+--     Refuses command input failed fault  a refused input is so, and a failed read is told where one failed; writes and allocations may
+--                                         fail of any
+--     RefusesText command bytes fault     of these bytes, read and not too long, the command makes no text, for this cause
+--     IsCut whole new                     what is known is a front of what would be
+--     IsTextOf command input text         the text is what the command makes of its input
+--     BreaksOff command input old new     after a fault the known bytes are a front of the old ones and what the command makes of its
+--                                         input behind them
+use Rattle.std.specs.Prelude.{◌≡◌, ◌<◌, ◌≤◌, ◌++◌, ◌⊎◌, ℕ, List, [], ◌∷◌, length, Bool, true, false, Option, None, Some, IfSome, Err}
+use Rattle.std.specs.Io.KnownBytes.{append_known}
+use Rattle.cast_record.specs.Migration.{HasNoHead}
+use Rattle.cast_record.specs.Text.{record_text}
+use Rattle.cast_record.specs.VerdictText.{verdict_text}
+use Rattle.cast_record.specs.declared.verdict.Verdict.{Verdict}
+use Rattle.cast_record.specs.declared.verdict.Verdict.TheVariants.{Good}
+use Rattle.cast_script.specs.Script.{Reads}
+use Rattle.cast_script.specs.declared.script.Script.{Script}
+use Rattle.cast_script.specs.declared.script.ScriptFault.TheVariants as scripts
+use Rattle.cast_text.specs.Drawing.{WritesDrawing}
+use Rattle.cast_text.specs.Judging.{SaysVerdict, JudgesInput}
+use Rattle.cast_text.specs.Migrating.{WritesMigrated, IsInputMigrated}
+use Rattle.cast_text.specs.Pictured.{picture_of}
+use Rattle.cast_text.specs.Recorded.{record_of}
+use Rattle.cast_text.specs.Text.{IsScriptIn, WritesRecord, input_limit}
+use Rattle.cast_text.specs.declared.fault.TextFault.{TextFault}
+use Rattle.cast_text.specs.declared.fault.TextFault.TheVariants as faults
+use Rattle.cast_console.specs.declared.texts.TextCommand.{TextCommand}
+use Rattle.cast_console.specs.declared.texts.TextCommand.TheVariants.{Run, Judge, Migrate, Draw}
+
+abbrev pub Makes : TextCommand → Option (List ℕ) → Option (List ℕ) → Option (List ℕ) → Verdict → Type 0
+Makes Run input old new said = (said ≡ Good) × WritesRecord input old new
+Makes Judge input old new said = SaysVerdict input old new said
+Makes Migrate input old new said = (said ≡ Good) × WritesMigrated input old new
+Makes (Draw window) input old new said = (said ≡ Good) × WritesDrawing window input old new
+
+abbrev pub RefusesText : TextCommand → List ℕ → TextFault → Type 0
+RefusesText command bytes (faults.Script scripts.Memory) = ⊥
+RefusesText Run bytes (faults.Script fault) = Reads (Err fault) bytes
+RefusesText (Draw window) bytes (faults.Script fault) = Reads (Err fault) bytes
+RefusesText Migrate bytes faults.NotV1 = HasNoHead bytes
+RefusesText command bytes fault = ⊥
+
+abbrev pub Refuses : TextCommand → Option (List ℕ) → Bool → TextFault → Type 0
+Refuses command input failed faults.Read = failed ≡ true
+Refuses command input failed faults.Write = failed ≡ false
+Refuses command input failed faults.Memory = failed ≡ false
+Refuses command input failed faults.TooLong = (failed ≡ false) × IfSome input (λ bytes. input_limit < length bytes)
+Refuses command input failed fault = (failed ≡ false) × IfSome input (λ bytes. (length bytes ≤ input_limit) × RefusesText command bytes fault)
+
+abbrev pub IsCut : Option (List ℕ) → Option (List ℕ) → Type 0
+IsCut None new = Unit {0}
+IsCut (Some whole) None = ⊥
+IsCut (Some whole) (Some new) = (rest : List ℕ) × (whole ≡ new ++ rest)
+
+abbrev pub IsTextOf : TextCommand → Option (List ℕ) → List ℕ → Type 0
+IsTextOf Run input text = (script : Script) × IsScriptIn input script × (text ≡ record_text (record_of script))
+IsTextOf Judge input text = (said : Verdict) × JudgesInput input said × (text ≡ verdict_text said ++ 10 ∷ [])
+IsTextOf Migrate input text = IsInputMigrated input text
+IsTextOf (Draw window) input text = (script : Script) × IsScriptIn input script × (text ≡ picture_of script window)
+
+abbrev pub BreaksOff : TextCommand → Option (List ℕ) → Option (List ℕ) → Option (List ℕ) → Type 0
+BreaksOff command input old new = IsCut old new ⊎ ((text : List ℕ) × IsTextOf command input text × IsCut (append_known old text) new)

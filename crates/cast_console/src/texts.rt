@@ -1,0 +1,109 @@
+//! The commands that read one text and write another: `run`, `judge`, `migrate` and `draw`.
+ghost use Rattle.std.specs.Prelude.{◌≡◌, [], false, IfOk, IfErr, OnOk};
+ghost use Rattle.std.specs.Io.Buffered.{writer_buffer, writer_inner};
+ghost use Rattle.cast_text.specs.Text.{TakesInput, Tells};
+ghost use Rattle.cast_console.specs.Made.{Makes, Refuses, BreaksOff};
+
+use crate::explain::{explain_fault, explain_verdict};
+use crate::output::hand_on;
+use crate::source::{Failure, Heard, open_source};
+use crate::status::{Status, refuse};
+use cast_command::Call;
+use cast_text::{TextFault, Verdict, Window, draw_text, judge_text, migrate_text, run_text};
+use cast_words::Meter;
+use std::alloc::Global;
+use std::io;
+use std::io::{BufWriter, Read, Write};
+use std::rt::Runtime;
+
+/// A command that reads one text and writes another.
+#[derive(Clone, Copy)]
+pub enum TextCommand {
+    /// Writes the record of a script.
+    Run,
+    /// Writes the verdict on a record.
+    Judge,
+    /// Writes a record with the new head.
+    Migrate,
+    /// Writes the picture of a script's events, of which those of the window are drawn.
+    Draw(Window),
+}
+
+impl TextCommand {
+    // Performs the command. Answers the judge's verdict, and `Good` for every other command.
+    fn perform<R: Read, W: Write>(
+        self,
+        alloc: Global,
+        reader: &mut Meter<R>,
+        writer: &mut Meter<W>,
+    ) -> Result<Verdict, TextFault>
+        requires { (reader.old.failed ≡ false) × (writer.old.failed ≡ false) }
+        ensures made { IfOk result (Makes self (R.remaining reader.old.inner)
+            (W.contents writer.old.inner) (W.contents writer.new.inner)) }
+        // What failed is told, and nothing else is.
+        ensures told { Tells result reader.new.failed writer.new.failed }
+        ensures read { OnOk result (reader.new.failed ≡ false) }
+        ensures refused { IfErr result (Refuses self (R.remaining reader.old.inner)
+            reader.new.failed) }
+        ensures front { IfErr result (λ _. BreaksOff self (R.remaining reader.old.inner)
+            (W.contents writer.old.inner) (W.contents writer.new.inner)) }
+        ensures taken { TakesInput (R.remaining reader.old.inner)
+            (R.remaining reader.new.inner) }
+    {
+        match self {
+            TextCommand::Run => run_text(alloc, reader, writer)?,
+            TextCommand::Judge => return judge_text(alloc, reader, writer),
+            TextCommand::Migrate => migrate_text(alloc, reader, writer)?,
+            TextCommand::Draw(window) => draw_text(alloc, window, reader, writer)?,
+        }
+        Ok(Verdict::Good)
+    }
+
+    // Performs the command with this buffer, and gives back its writer, which then has all that was written, or, after a fault, a
+    // prefix of it.
+    fn perform_through<R: Read, W: Write + Drop>(
+        self,
+        alloc: Global,
+        reader: &mut Meter<R>,
+        buffer: BufWriter<W>,
+    ) -> (Result<Verdict, TextFault>, W)
+        requires { (reader.old.failed ≡ false) × (writer_buffer buffer ≡ []) }
+        ensures made { IfOk result.0 (Makes self (R.remaining reader.old.inner)
+            (W.contents (writer_inner buffer)) (W.contents result.1)) }
+        ensures read { OnOk result.0 (reader.new.failed ≡ false) }
+        ensures refused { IfErr result.0 (Refuses self (R.remaining reader.old.inner)
+            reader.new.failed) }
+        ensures front { IfErr result.0 (λ _. BreaksOff self (R.remaining reader.old.inner)
+            (W.contents (writer_inner buffer)) (W.contents result.1)) }
+        ensures taken { TakesInput (R.remaining reader.old.inner)
+            (R.remaining reader.new.inner) }
+    {
+        let mut meter = Meter::new(buffer);
+        let done = self.perform(alloc, reader, &mut meter);
+        hand_on(done, meter)
+    }
+}
+
+/// Reads the file, or standard input where none is named, and writes what the command makes of it to standard output.
+pub fn write_text<R: Runtime + AllocGlobal>(
+    rt: &R,
+    command: TextCommand,
+    call: Call<'_>,
+) -> Status {
+    let Ok(output) = BufWriter::new(rt.alloc(), Heard::new(io::writer(rt))) else {
+        return refuse(rt, TextFault::Memory);
+    };
+    let mut source = open_source(rt, call);
+    let (done, heard) = command.perform_through(rt.alloc(), &mut Meter::new(&mut source), output);
+    let fault = match done {
+        Ok(Verdict::Good) => return Status::Good,
+        Ok(Verdict::Bad { line, rule }) => {
+            explain_verdict(rt, line, rule, source);
+            return Status::Bad;
+        }
+        Err(fault) => fault,
+    };
+    let status = refuse(rt, fault);
+    explain_fault(rt, fault, source, Failure::of_output(heard.error()));
+    status
+}

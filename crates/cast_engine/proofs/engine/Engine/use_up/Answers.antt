@@ -1,8 +1,0 @@
-use Rattle.std.proofs.Common.{inl}
-use Rattle.cast_engine.proofs.Staying.{stays_halt}
-use Rattle.cast_engine.proofs.engine.Engine.use_up.Goals as goal
-
-pub invariant_of-self : goal.invariant_of-self
-invariant_of-self c =
-    let i = c.self.inside in
-    stays_halt i.journal _ i.outbox.put i.held i.inbox.taken _ i.places.items c.self.invariant (inl c.end.ensures.only)

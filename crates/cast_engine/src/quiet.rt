@@ -1,0 +1,94 @@
+//! What an engine tells the others of its quiet, by its word on the stop board. No contract speaks of it.
+use cast_carrier::Board;
+use std::alloc::{AllocError, Global};
+
+/// What an engine knows of its own word on the board.
+#[derive(Drop)]
+pub struct Quiet {
+    node: usize,
+    changes: u64,
+    quiet: bool,
+    // Its inbox may hold the last frames of an engine that has ended.
+    unread: bool,
+    // The words as they were read last.
+    seen: Vec<u64>,
+}
+
+impl Quiet {
+    /// An engine that is not quiet. Its room is made here.
+    pub fn new(alloc: Global, node: usize, engines: usize) -> Result<Quiet, AllocError> {
+        let mut seen = Vec::new(alloc);
+        for _engine in 0..engines {
+            seen.push(0)?;
+        }
+        Ok(Quiet {
+            node,
+            changes: 0,
+            quiet: false,
+            unread: false,
+            seen,
+        })
+    }
+
+    /// Notes, before the engine looks into its inbox, whether the last frames of one that has ended may lie there. Until the inbox
+    /// was found empty the engine is not quiet: it says so first, so that no word of before stands once it is not marked any more.
+    pub fn look(&mut self, board: &Board) {
+        if board.is_unread(self.node) {
+            self.unread = true;
+            self.write(board, false);
+            board.look(self.node);
+        }
+    }
+
+    /// Notes that the inbox was found empty.
+    pub fn found_nothing(&mut self) {
+        self.unread = false;
+    }
+
+    /// Says on the board whether the engine is quiet, where that has changed.
+    pub fn write(&mut self, board: &Board, quiet: bool) {
+        let quiet = quiet && !self.unread;
+        if quiet != self.quiet {
+            self.changes = self.changes.wrapping_add(1);
+            self.quiet = quiet;
+            board.write(
+                self.node,
+                self.changes.wrapping_mul(2).wrapping_add(u64::from(quiet)),
+            );
+        }
+    }
+
+    /// Whether all jobs of the engine's clients have ended.
+    pub fn jobs_ended(&self, board: &Board) -> bool {
+        board.has_no_job(self.node)
+    }
+
+    /// Whether two readings of all words in succession were equal, and each engine is quiet, or has ended and its last frames were
+    /// put.
+    pub fn may_stop(&mut self, board: &Board) -> bool {
+        if !self.quiet {
+            return false;
+        }
+        let mut all_quiet = true;
+        for engine in 0..self.seen.len() {
+            let word = board.read(engine);
+            self.seen[engine] = word;
+            all_quiet = all_quiet && word % 2 == 1;
+        }
+        all_quiet && self.is_seen_again(board)
+    }
+
+    /// Notes that the engine has ended, and whether all were quiet then.
+    pub fn end(&self, board: &Board, all_quiet: bool) {
+        board.end(self.node, all_quiet);
+    }
+
+    fn is_seen_again(&self, board: &Board) -> bool {
+        for engine in 0..self.seen.len() {
+            if board.read(engine) != self.seen[engine] {
+                return false;
+            }
+        }
+        true
+    }
+}

@@ -1,0 +1,4 @@
+pub mod Jobs
+pub mod Faults
+pub mod Seats
+pub mod Desks

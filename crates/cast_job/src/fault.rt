@@ -1,0 +1,33 @@
+//! Why threads are not started, and how a run tells it.
+use cast_script::LiveFault;
+use std::alloc::AllocError;
+use std::convert::From;
+
+/// Why threads are not started.
+#[derive(Clone, Copy, Debug, PartialEq, Eq)]
+pub enum StartFault {
+    /// Memory was refused.
+    Memory,
+    /// A thread could not be started.
+    Threads,
+}
+
+impl From<AllocError> for StartFault {
+    fn from(_refused: AllocError) -> StartFault {
+        StartFault::Memory
+    }
+}
+
+impl From<StartFault> for LiveFault {
+    ghost use Rattle.std.specs.Prelude.{◌≡◌};
+    ghost use Rattle.cast_job.specs.Faults.{fault_by};
+
+    ghost from_gives = { λ start fault. fault ≡ fault_by start };
+
+    fn from(start: StartFault) -> LiveFault {
+        match start {
+            StartFault::Memory => LiveFault::Memory,
+            StartFault::Threads => LiveFault::Threads,
+        }
+    }
+}
