@@ -1,12 +1,12 @@
 //! The ledger of a group that runs in threads: each node has a teller, and the tellers' books come out.
-ghost use Rattle.std.specs.Prelude.{◌≡◌, ℕ, IfOk, IfErr, None, Some, map, slice_get};
+ghost use Rattle.std.specs.Prelude.{◌≡◌, ℕ, IfOk, IfErr, OnOk, None, Some, map, slice_get};
 ghost use Rattle.cast_model.specs.Replies.{history, replies};
 ghost use Rattle.cast_world.specs.Group.{Stands};
 ghost use Rattle.cast_merge.specs.Merge.{TellsMerge};
 ghost use Rattle.cast_engine.specs.Journals.{EndsAs};
 ghost use Rattle.cast_carrier.specs.Plans.{crash_from};
 ghost use Rattle.cast_report.specs.declared.report.NodeReport.{NodeReport};
-ghost use Rattle.cast_job.specs.Faults.{IsFaultOf};
+ghost use Rattle.cast_job.specs.Faults.{Fits, IsFaultOf};
 ghost use Rattle.cast_run.specs.Planned.{faults_of, KeepsTo};
 ghost use Rattle.cast_run.specs.Serves.{AreServed};
 ghost use Rattle.example_ledger.specs.Tellers.{AreNewTellers, TellerFact, OrdersAreGiven, TellersApplyPrefixes, TellersKeepSheets};
@@ -80,7 +80,8 @@ pub fn run_tellers<R: Threads + Wait + Copy + Send + 'static>(
     ensures world { IfOk result (λ ledger.
         Stands config (history config ledger.assembly.events) ledger.assembly.world) }
 
-    // The fault is the first cause that holds.
+    // What was handed in fits, or the fault is the first cause that holds.
+    ensures fits { OnOk result (Fits config.nodes tellers.items config.nodes plan.now.faults) }
     ensures fault { IfErr result
         (IsFaultOf config.nodes tellers.items config.nodes plan.now.faults) }
 {
