@@ -2,12 +2,14 @@
 --     KeepsBook book notices      the book is that of these notices
 --     HasOrdered teller sent      it has ordered the first of its items
 --     TellerFact                  what a teller keeps of itself
+--     DoesFew old new             in a turn an order at most is made, and a notice at most taken
 --     AreNewTellers tellers       none of these has ordered or applied anything
 --     IsGiven tellers s item      the item is one that a teller at node s was given
 --     OrdersAreGiven              each item that a node ordered was given to a teller there
 --     TellersApplyPrefixes        what a teller applied of a sender is a prefix of what that sender ordered
 --     TellersKeepSheets tellers   each sheet is the sheet of what was applied
-use Rattle.std.specs.Prelude.{◌≡◌, ℕ, ◌<◌, ◌≤◌, List, [], length, map, take, slice_get, Bool, true, false, Some}
+--     LogsEnd config faults       each node's log ends as plan and limit say
+use Rattle.std.specs.Prelude.{◌≡◌, ℕ, ◌+◌, ◌<◌, ◌≤◌, List, [], length, map, take, slice_get, Bool, true, false, None, Some}
 use Rattle.std.specs.List.{All, Contains}
 use Rattle.cast_message.specs.declared.config.Config.{Config}
 use Rattle.cast_message.specs.declared.message.Item.{Item}
@@ -16,7 +18,12 @@ use Rattle.cast_model.specs.Replies.{IsPrefixOf}
 use Rattle.cast_model.specs.Shown.{item_of}
 use Rattle.cast_desk.specs.declared.notice.Notice.{Notice}
 use Rattle.cast_desk.specs.declared.desk.OrderIn.{OrderIn}
+use Rattle.cast_desk.specs.Desk.{ClientState}
 use Rattle.cast_job.specs.Jobs.{told_job}
+use Rattle.cast_carrier.specs.Plans.{crash_from}
+use Rattle.cast_engine.specs.Journals.{EndsAs}
+use Rattle.cast_report.specs.declared.report.NodeReport.{NodeReport}
+use Rattle.cast_script.specs.declared.script.Fault.{Fault}
 use Rattle.example_ledger.specs.declared.teller.Teller.{Teller}
 use Rattle.cast_merge.specs.Told.{told, of_sender}
 use Rattle.example_ledger.specs.Sheets.{BookState, IsSheetOf}
@@ -38,6 +45,10 @@ pub record TellerFact (given teller : Teller) (sent : List OrderIn) (got : List 
   pub book : KeepsBook teller.book got
   pub all : done ≡ true → (length teller.items ≤ teller.next) × (teller.expected ≤ length teller.book.journal)
 
+-- in a turn an order at most is made, and a notice at most taken
+abbrev pub DoesFew : ClientState → ClientState → Type 0
+DoesFew old new = (length new.orders.put ≤ length old.orders.put + 1) × (length new.tray.taken ≤ length old.tray.taken + 1)
+
 abbrev pub IsNewTeller : Teller → Type 0
 IsNewTeller teller = TellerFact teller teller [] [] false
 
@@ -58,3 +69,7 @@ TellersApplyPrefixes config past tellers =
 
 abbrev pub TellersKeepSheets : List Teller → Type 0
 TellersKeepSheets tellers = (i : ℕ) (teller : Teller) → slice_get tellers i ≡ Some teller → IsSheetOf teller.book.sheet teller.book.journal
+
+abbrev pub LogsEnd : Config → List Fault → List NodeReport → Type 0
+LogsEnd config faults reports =
+    (p : ℕ) (report : NodeReport) → slice_get reports p ≡ Some report → EndsAs config.log_limit (crash_from p None faults) (Some report.ended) report.log

@@ -1,15 +1,12 @@
 //! The ledger of a group that runs in threads: each node has a teller, and the tellers' books come out.
-ghost use Rattle.std.specs.Prelude.{◌≡◌, ℕ, IfOk, IfErr, OnOk, None, Some, map, slice_get};
+ghost use Rattle.std.specs.Prelude.{◌≡◌, IfOk, IfErr, OnOk, map};
 ghost use Rattle.cast_model.specs.Replies.{history, replies};
 ghost use Rattle.cast_world.specs.Group.{Stands};
 ghost use Rattle.cast_merge.specs.Merge.{TellsMerge};
-ghost use Rattle.cast_engine.specs.Journals.{EndsAs};
-ghost use Rattle.cast_carrier.specs.Plans.{crash_from};
-ghost use Rattle.cast_report.specs.declared.report.NodeReport.{NodeReport};
 ghost use Rattle.cast_job.specs.Faults.{Fits, IsFaultOf};
 ghost use Rattle.cast_run.specs.Planned.{faults_of, KeepsTo};
 ghost use Rattle.cast_run.specs.Serves.{AreServed};
-ghost use Rattle.example_ledger.specs.Tellers.{AreNewTellers, TellerFact, OrdersAreGiven, TellersApplyPrefixes, TellersKeepSheets};
+ghost use Rattle.example_ledger.specs.Tellers.{AreNewTellers, LogsEnd, TellerFact, OrdersAreGiven, TellersApplyPrefixes, TellersKeepSheets};
 
 use crate::teller::Teller;
 use cast_merge::{Assembly, assemble};
@@ -66,10 +63,8 @@ pub fn run_tellers<R: Threads + Wait + Copy + Send + 'static>(
     ensures config { IfOk result (λ ledger. ledger.report.config ≡ config) }
     ensures planned { IfOk result (λ ledger.
         KeepsTo config (faults_of plan.now.faults) ledger.report.reports) }
-    ensures logs { IfOk result (λ ledger. (p : ℕ) (report : NodeReport)
-        → slice_get ledger.report.reports p ≡ Some report
-        → EndsAs config.log_limit (crash_from p None plan.now.faults)
-        (Some report.ended) report.log) }
+    ensures logs { IfOk result (λ ledger.
+        LogsEnd config plan.now.faults ledger.report.reports) }
 
     // The events are what the nodes logged, with their replies, and the world shows what became of the group.
     ensures merge { IfOk result (λ ledger. TellsMerge

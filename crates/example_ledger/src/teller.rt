@@ -3,7 +3,7 @@ ghost use Rattle.std.specs.Prelude.{◌≡◌, ◌↔◌, ◌<◌, ◌≤◌, �
 ghost use Rattle.cast_desk.specs.Desk.{IsSameClient};
 ghost use Rattle.cast_job.specs.Jobs.{HoldsOf, KeepsFact, TriesNext, submitted, got};
 ghost use Rattle.cast_merge.specs.Told.{told};
-ghost use Rattle.example_ledger.specs.Tellers.{HasOrdered};
+ghost use Rattle.example_ledger.specs.Tellers.{DoesFew, HasOrdered};
 
 use crate::book::Book;
 use cast_desk::{Client, Notice};
@@ -30,17 +30,16 @@ impl ClientJob for Teller {
 
     ghost fact = { TellerFact };
 
-    // What every job's turn does, and that an order at most is made, none only for a cause, and a notice at most taken; and
-    // when the teller is done.
+    // When the teller is done, and what every job's turn does; that an order at most is made, none only for a cause, and a notice
+    // at most taken.
     fn turn<R: Wait>(&mut self, rt: &R, client: &mut Client) -> bool
         requires { HoldsOf TellerFact self.old client.old }
-        ensures same { IsSameClient client.old client.new }
-        ensures fact { KeepsFact TellerFact self.old client.old self.new client.new result }
-        ensures one_order { length client.new.orders.put ≤ length client.old.orders.put + 1 }
-        ensures tries { TriesNext self.old.items self.old.next client.old client.new }
-        ensures one_notice { length client.new.tray.taken ≤ length client.old.tray.taken + 1 }
         ensures ends { IsFalse result ↔ (length self.new.items ≤ self.new.next)
             × (self.new.expected ≤ length self.new.book.journal) }
+        ensures same { IsSameClient client.old client.new }
+        ensures fact { KeepsFact TellerFact self.old client.old self.new client.new result }
+        ensures few { DoesFew client.old client.new }
+        ensures tries { TriesNext self.old.items self.old.next client.old client.new }
     {
         self.order_next(rt, client);
         self.apply_next(rt, client);
