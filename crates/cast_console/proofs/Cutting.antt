@@ -9,6 +9,8 @@ use Rattle.cast_text.specs.Text.{Records, WroteFront}
 use Rattle.cast_text.specs.declared.fault.TextFault.{TextFault}
 use Rattle.cast_text.specs.declared.fault.TextFault.TheVariants as faults
 use Rattle.cast_console.specs.Made.{IsCut, BreaksOff, Makes}
+use Rattle.cast_console.specs.declared.texts.Done.{Done}
+use Rattle.cast_console.specs.declared.texts.Done.TheVariants.{Written, Judged}
 use Rattle.cast_console.specs.declared.texts.TextCommand.{TextCommand}
 use Rattle.cast_console.specs.declared.texts.TextCommand.TheVariants.{Run, Judge, Migrate, Draw}
 
@@ -69,7 +71,7 @@ draw_breaks window input old new read_failed failed faults.Memory said = inl (cu
 draw_breaks window input old new read_failed failed faults.NotV1 said = inl (cut_kept old new said.1)
 
 -- by whichever command it is, and with whichever fault
-pub breaks_of : (command self : TextCommand) (input old new : Option (List ℕ)) (result : Result Verdict TextFault) → self ≡ command → BreaksOff command input old new → IfErr result (λ fault. BreaksOff self input old new)
+pub breaks_of : (command self : TextCommand) (input old new : Option (List ℕ)) (result : Result Done TextFault) → self ≡ command → BreaksOff command input old new → IfErr result (λ fault. BreaksOff self input old new)
 breaks_of command self input old new (Ok said) is broke = tt
 breaks_of command self input old new (Err fault) is broke = subst (λ c. BreaksOff c input old new) (sym is) broke
 
@@ -82,18 +84,19 @@ breaks_again command input old mid new (inr broke) more = inr (broke.0, broke.1,
 front_of_all : (old mid : Option (List ℕ)) (text : List ℕ) → Appends old mid text → IsCut (append_known old text) mid
 front_of_all old mid text put = cut_front old mid text (record { front = text; rest = []; parts = sym (append-nil text); appends = put })
 
-makes_front : (command : TextCommand) (input old mid : Option (List ℕ)) (said : Verdict) → Makes command input old mid said → BreaksOff command input old mid
-makes_front Run input old mid said made = inr (_, (made.1.script, made.1.read, refl), front_of_all old mid _ made.1.appends)
-makes_front Judge input old mid said made = inr (_, (said, made.read, refl), front_of_all old mid _ made.appends)
-makes_front Migrate input old mid said made = inr (made.1.migrated, made.1.read, front_of_all old mid _ made.1.appends)
-makes_front (Draw window) input old mid said made = inr (_, (made.1.script, made.1.read, refl), front_of_all old mid _ made.1.appends)
+makes_front : (command : TextCommand) (input old mid : Option (List ℕ)) (done : Done) → Makes command input old mid done → BreaksOff command input old mid
+makes_front Run input old mid Written made = inr (_, (made.script, made.read, refl), front_of_all old mid _ made.appends)
+makes_front Judge input old mid (Judged said) made = inr (_, (said, made.read, refl), front_of_all old mid _ made.appends)
+makes_front Migrate input old mid Written made = inr (made.migrated, made.read, front_of_all old mid _ made.appends)
+makes_front (Draw window) input old mid Written made = inr (_, (made.script, made.read, refl), front_of_all old mid _ made.appends)
+makes_front command input old mid done made = absurd made
 
 -- an empty buffer adds nothing
 pub nothing_held : (known : Option (List ℕ)) (held : List ℕ) → held ≡ [] → append_known known held ≡ known
 nothing_held None held none = refl
 nothing_held (Some xs) held none = ap (λ ys. Some ys) (ap (λ ys. xs ++ ys) none ∙ append-nil xs)
 
-pub breaks_handed : (command : TextCommand) (input old mid new : Option (List ℕ)) (held : List ℕ) (done handed : Result Verdict TextFault) → held ≡ [] → IfOk done (Makes command input (append_known old held) mid)
+pub breaks_handed : (command : TextCommand) (input old mid new : Option (List ℕ)) (held : List ℕ) (done handed : Result Done TextFault) → held ≡ [] → IfOk done (Makes command input (append_known old held) mid)
     → IfErr done (λ fault. BreaksOff command input (append_known old held) mid) → IsCut mid new → IfErr handed (λ fault. BreaksOff command input old new)
 breaks_handed command input old mid new held done (Ok said) none made broke cut = tt
 breaks_handed command input old mid new held (Ok said) (Err fault) none made broke cut =

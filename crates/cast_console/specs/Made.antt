@@ -1,6 +1,6 @@
 -- What the commands write that read one text and write another.
---     Makes command input old new said    the known bytes grew by what the command makes of its input, and by nothing else; the verdict
---                                         is that of the judge, and else Good
+--     Makes command input old new done    the known bytes grew by what the command makes of its input, and by nothing else; a verdict
+--                                         is told by the judge alone, and is the one written
 --     Refuses command input failed fault  a refused input is so, and a failed read is told where one failed; writes and allocations may
 --                                         fail of any
 --     RefusesText command bytes fault     of these bytes, read and not too long, the command makes no text, for this cause
@@ -14,7 +14,6 @@ use Rattle.cast_record.specs.Migration.{HasNoHead}
 use Rattle.cast_record.specs.Text.{record_text}
 use Rattle.cast_record.specs.VerdictText.{verdict_text}
 use Rattle.cast_record.specs.declared.verdict.Verdict.{Verdict}
-use Rattle.cast_record.specs.declared.verdict.Verdict.TheVariants.{Good}
 use Rattle.cast_script.specs.Script.{Reads}
 use Rattle.cast_script.specs.declared.script.Script.{Script}
 use Rattle.cast_script.specs.declared.script.ScriptFault.TheVariants as scripts
@@ -26,14 +25,17 @@ use Rattle.cast_text.specs.Recorded.{record_of}
 use Rattle.cast_text.specs.Text.{IsScriptIn, WritesRecord, input_limit}
 use Rattle.cast_text.specs.declared.fault.TextFault.{TextFault}
 use Rattle.cast_text.specs.declared.fault.TextFault.TheVariants as faults
+use Rattle.cast_console.specs.declared.texts.Done.{Done}
+use Rattle.cast_console.specs.declared.texts.Done.TheVariants.{Written, Judged}
 use Rattle.cast_console.specs.declared.texts.TextCommand.{TextCommand}
 use Rattle.cast_console.specs.declared.texts.TextCommand.TheVariants.{Run, Judge, Migrate, Draw}
 
-abbrev pub Makes : TextCommand → Option (List ℕ) → Option (List ℕ) → Option (List ℕ) → Verdict → Type 0
-Makes Run input old new said = (said ≡ Good) × WritesRecord input old new
-Makes Judge input old new said = SaysVerdict input old new said
-Makes Migrate input old new said = (said ≡ Good) × WritesMigrated input old new
-Makes (Draw window) input old new said = (said ≡ Good) × WritesDrawing window input old new
+abbrev pub Makes : TextCommand → Option (List ℕ) → Option (List ℕ) → Option (List ℕ) → Done → Type 0
+Makes Run input old new Written = WritesRecord input old new
+Makes Judge input old new (Judged said) = SaysVerdict input old new said
+Makes Migrate input old new Written = WritesMigrated input old new
+Makes (Draw window) input old new Written = WritesDrawing window input old new
+Makes command input old new done = ⊥
 
 abbrev pub RefusesText : TextCommand → List ℕ → TextFault → Type 0
 RefusesText command bytes (faults.Script scripts.Memory) = ⊥

@@ -29,14 +29,23 @@ pub enum TextCommand {
     Draw(Window),
 }
 
+/// What a command has done.
+#[derive(Clone, Copy)]
+pub enum Done {
+    /// It has written the text that it makes.
+    Written,
+    /// It has judged a record so, and written the verdict.
+    Judged(Verdict),
+}
+
 impl TextCommand {
-    // Performs the command. Answers the judge's verdict, and `Good` for every other command.
+    // Performs the command.
     fn perform<R: Read, W: Write>(
         self,
         alloc: Global,
         reader: &mut Meter<R>,
         writer: &mut Meter<W>,
-    ) -> Result<Verdict, TextFault>
+    ) -> Result<Done, TextFault>
         requires { (reader.old.failed ≡ false) × (writer.old.failed ≡ false) }
         ensures made { IfOk result (Makes self (R.remaining reader.old.inner)
             (W.contents writer.old.inner) (W.contents writer.new.inner)) }
@@ -52,11 +61,11 @@ impl TextCommand {
     {
         match self {
             TextCommand::Run => run_text(alloc, reader, writer)?,
-            TextCommand::Judge => return judge_text(alloc, reader, writer),
+            TextCommand::Judge => return Ok(Done::Judged(judge_text(alloc, reader, writer)?)),
             TextCommand::Migrate => migrate_text(alloc, reader, writer)?,
             TextCommand::Draw(window) => draw_text(alloc, window, reader, writer)?,
         }
-        Ok(Verdict::Good)
+        Ok(Done::Written)
     }
 
     // Performs the command with this buffer, and gives back its writer, which then has all that was written, or, after a fault, a
@@ -66,7 +75,7 @@ impl TextCommand {
         alloc: Global,
         reader: &mut Meter<R>,
         buffer: BufWriter<W>,
-    ) -> (Result<Verdict, TextFault>, W)
+    ) -> (Result<Done, TextFault>, W)
         requires { (reader.old.failed ≡ false) × (writer_buffer buffer ≡ []) }
         ensures made { IfOk result.0 (Makes self (R.remaining reader.old.inner)
             (W.contents (writer_inner buffer)) (W.contents result.1)) }
@@ -96,8 +105,8 @@ pub fn write_text<R: Runtime + AllocGlobal>(
     let mut source = open_source(rt, call);
     let (done, heard) = command.perform_through(rt.alloc(), &mut Meter::new(&mut source), output);
     let fault = match done {
-        Ok(Verdict::Good) => return Status::Good,
-        Ok(Verdict::Bad { line, rule }) => {
+        Ok(Done::Written | Done::Judged(Verdict::Good)) => return Status::Good,
+        Ok(Done::Judged(Verdict::Bad { line, rule })) => {
             explain_verdict(rt, line, rule, source);
             return Status::Bad;
         }

@@ -1,7 +1,5 @@
-use Rattle.std.proofs.Common.{IfErr, sym, subst}
-use Rattle.cast_console.specs.Made.{BreaksOff}
-use Rattle.cast_console.specs.declared.texts.TextCommand.{TextCommand}
-use Rattle.cast_console.specs.declared.texts.TextCommand.TheVariants.{Run, Migrate, Draw}
+use Rattle.std.proofs.Common.{Err}
+use Rattle.cast_console.specs.declared.texts.TextCommand.TheVariants.{Run, Judge, Migrate, Draw}
 use Rattle.cast_console.proofs.Cutting.{run_breaks, judge_breaks, migrate_breaks, draw_breaks, breaks_of}
 use Rattle.cast_console.proofs.texts.TextCommand.perform.Goals as goal
 
@@ -12,12 +10,12 @@ returns-in_err-run_text-in-Run-clause-front g c =
     let new = g.W.Write.contents c.run_text.new.writer.inner in
     breaks_of Run c.args.self input old new c.from_residual.result c.in-Run.is (run_breaks input old new _ _ c.in_err-run_text-in-Run.field-0.0 c.in_err-run_text-in-Run.ensures.exact)
 
-pub returns-in-Judge-clause-front : goal.returns-in-Judge-clause-front
-returns-in-Judge-clause-front g c =
+pub returns-in_err-judge_text-in-Judge-clause-front : goal.returns-in_err-judge_text-in-Judge-clause-front
+returns-in_err-judge_text-in-Judge-clause-front g c =
     let input = g.R.Read.remaining c.args.reader.now.inner in
     let old = g.W.Write.contents c.args.writer.now.inner in
     let new = g.W.Write.contents c.judge_text.new.writer.inner in
-    subst (λ (command : TextCommand). IfErr c.judge_text.result (λ fault. BreaksOff command input old new)) (sym c.in-Judge.is) (judge_breaks input old new _ _ c.judge_text.result c.judge_text.ensures.exact)
+    breaks_of Judge c.args.self input old new c.from_residual-in_err-judge_text-in-Judge.result c.in-Judge.is (judge_breaks input old new _ _ (Err c.in_err-judge_text-in-Judge.field-0.0) c.in_err-judge_text-in-Judge.ensures.exact)
 
 pub returns-in_err-migrate_text-in-Migrate-clause-front : goal.returns-in_err-migrate_text-in-Migrate-clause-front
 returns-in_err-migrate_text-in-Migrate-clause-front g c =
