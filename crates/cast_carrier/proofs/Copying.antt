@@ -8,8 +8,8 @@ use Rattle.cast_message.specs.declared.message.Frame.{Frame}
 use Rattle.cast_script.specs.declared.script.Fault.{Fault}
 use Rattle.cast_carrier.specs.declared.parcel.Parcel.{Parcel}
 use Rattle.cast_carrier.specs.declared.carrier.Delayed.{Delayed}
-use Rattle.cast_carrier.specs.declared.carrier.Fate.{Fate}
-use Rattle.cast_carrier.specs.declared.carrier.Ordinals.{Ordinals}
+use Rattle.cast_carrier.specs.declared.fate.Fate.{Fate}
+use Rattle.cast_carrier.specs.declared.fate.Ordinals.{Ordinals}
 use Rattle.cast_carrier.specs.Fates.{one_more, fate_in, counted_where, counted_in}
 use Rattle.cast_message.specs.Items.{kind_of}
 use Rattle.cast_carrier.specs.Copies.{none_taken, counted_all, ordinals_after, frames_for, is_for, copies, copies_after, due_from, due, IsByPlan}

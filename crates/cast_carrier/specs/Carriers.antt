@@ -5,8 +5,8 @@ use Rattle.cast_box.specs.Ends.{PutterEnd, TakerEnd, IsSameTaker, AreSamePutters
 use Rattle.cast_script.specs.declared.script.Fault.{Fault}
 use Rattle.cast_carrier.specs.declared.parcel.Parcel.{Parcel}
 use Rattle.cast_carrier.specs.declared.carrier.Delayed.{Delayed}
-use Rattle.cast_carrier.specs.declared.carrier.Fate.{Fate}
-use Rattle.cast_carrier.specs.declared.carrier.Ordinals.{Ordinals}
+use Rattle.cast_carrier.specs.declared.fate.Fate.{Fate}
+use Rattle.cast_carrier.specs.declared.fate.Ordinals.{Ordinals}
 use Rattle.cast_carrier.specs.Lists.{Has}
 use Rattle.cast_carrier.specs.Copies.{ordinals_after, is_for, copies, copies_after, due}
 

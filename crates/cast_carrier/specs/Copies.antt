@@ -9,8 +9,8 @@ use Rattle.std.specs.List.{fold, count_by}
 use Rattle.cast_box.specs.Ends.{PutterEnd}
 use Rattle.cast_script.specs.declared.script.Fault.{Fault}
 use Rattle.cast_carrier.specs.declared.parcel.Parcel.{Parcel}
-use Rattle.cast_carrier.specs.declared.carrier.Fate.{Fate}
-use Rattle.cast_carrier.specs.declared.carrier.Ordinals.{Ordinals}
+use Rattle.cast_carrier.specs.declared.fate.Fate.{Fate}
+use Rattle.cast_carrier.specs.declared.fate.Ordinals.{Ordinals}
 use Rattle.cast_carrier.specs.Fates.{fate_in, counted_in}
 
 abbrev pub none_taken : Ordinals

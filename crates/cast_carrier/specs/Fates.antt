@@ -1,5 +1,5 @@
 -- What a plan makes of the frames that a carrier takes.
---     names kind from to first step frame    a fault of these frames names this one
+--     is_one_of frame frames                 the frame is one of these
 --     fate_by frame faults                   what becomes of a frame by the faults of a plan
 --     fate_in faults ordinals frame          the same of the next frame for its target, where so many were taken
 --     counted_in ordinals frame              how many were taken then
@@ -10,10 +10,11 @@ use Rattle.cast_message.specs.declared.message.FrameKind.{FrameKind}
 use Rattle.cast_message.specs.declared.message.FrameKind.TheVariants.{Carry, Took}
 use Rattle.cast_message.specs.Items.{kind_of}
 use Rattle.cast_script.specs.declared.script.Fault.{Fault}
+use Rattle.cast_script.specs.declared.script.Frames.{Frames}
 use Rattle.cast_script.specs.declared.script.Fault.TheVariants.{Lose, Repeat, Delay, Crash}
-use Rattle.cast_carrier.specs.declared.carrier.Fate.{Fate}
-use Rattle.cast_carrier.specs.declared.carrier.NamedFrame.{NamedFrame}
-use Rattle.cast_carrier.specs.declared.carrier.Ordinals.{Ordinals}
+use Rattle.cast_carrier.specs.declared.fate.Fate.{Fate}
+use Rattle.cast_carrier.specs.declared.fate.NamedFrame.{NamedFrame}
+use Rattle.cast_carrier.specs.declared.fate.Ordinals.{Ordinals}
 
 -- ---- which frames a fault names
 
@@ -29,29 +30,29 @@ is_among first step ordinal =
     if step == 0 then ordinal == first
     else (nat_le first ordinal && ((ordinal - first) % step) == 0)
 
-abbrev pub names : FrameKind → ℕ → ℕ → ℕ → ℕ → NamedFrame → Bool
-names kind from to first step frame =
-    to == frame.to && (is_kind kind frame.kind && (from == frame.from && is_among first step frame.ordinal))
+abbrev pub is_one_of : NamedFrame → Frames → Bool
+is_one_of frame frames =
+    frames.to == frame.to && (is_kind frames.kind frame.kind && (frames.from == frame.from && is_among frames.first frames.step frame.ordinal))
 
 -- ---- what becomes of a frame
 
 abbrev pub loses : NamedFrame → Fault → Bool
-loses frame (Lose kind from to first step) = names kind from to first step frame
-loses frame (Repeat kind from to first step) = false
-loses frame (Delay kind from to first step count) = false
+loses frame (Lose frames) = is_one_of frame frames
+loses frame (Repeat frames) = false
+loses frame (Delay frames count) = false
 loses frame (Crash node entries) = false
 
 abbrev pub repeats : NamedFrame → Fault → Bool
-repeats frame (Lose kind from to first step) = false
-repeats frame (Repeat kind from to first step) = names kind from to first step frame
-repeats frame (Delay kind from to first step count) = false
+repeats frame (Lose frames) = false
+repeats frame (Repeat frames) = is_one_of frame frames
+repeats frame (Delay frames count) = false
 repeats frame (Crash node entries) = false
 
 -- for how many frames more it is kept
 abbrev pub delay_by : NamedFrame → Fault → ℕ
-delay_by frame (Lose kind from to first step) = 0
-delay_by frame (Repeat kind from to first step) = 0
-delay_by frame (Delay kind from to first step count) = if names kind from to first step frame then count else 0
+delay_by frame (Lose frames) = 0
+delay_by frame (Repeat frames) = 0
+delay_by frame (Delay frames count) = if is_one_of frame frames then count else 0
 delay_by frame (Crash node entries) = 0
 
 -- of several delays the longest

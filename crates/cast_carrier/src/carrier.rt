@@ -1,16 +1,16 @@
 //! A carrier: takes parcels from an outbox and puts each into the inbox of its frame's target, once, twice or never, as the
 //! plan says.
-ghost use Rattle.std.specs.Prelude.{◌≡◌, ◌||◌, [], IfOk, if◌then◌else◌, map, max};
+ghost use Rattle.std.specs.Prelude.{◌≡◌, [], IfOk, if◌then◌else◌, map};
 ghost use Rattle.cast_box.specs.Ends.{AreSamePutters};
 ghost use Rattle.cast_carrier.specs.Copies.{IsByPlan, copies};
 ghost use Rattle.cast_carrier.specs.Carriers.{IsSameCarrier, CarriesOne, AreUnused, Brings, Moves, MovesOn, Puts, PutsUpTo, IsNoMore, IsByFate, IsKeptOrLost, counted_down};
-ghost use Rattle.cast_carrier.specs.Fates.{is_kind, is_among, names, suffered, fate_by, fate_in, ordinal_of, one_more, counted_in};
 
 use crate::board::Board;
+use crate::fate::{Fate, Ordinals, fate_of};
 use crate::parcel::Parcel;
 use crate::waiting::Waiting;
 use cast_box::{Putter, Taker};
-use cast_message::{FrameKind, NodeId};
+use cast_message::NodeId;
 use cast_script::Fault;
 use std::alloc::{AllocError, Global};
 use std::marker::Model;
@@ -25,73 +25,6 @@ pub struct Delayed {
     pub left: u64,
     pub twice: bool,
     pub parcel: Parcel,
-}
-
-/// How many frames of each kind were taken for a target.
-#[derive(Clone, Copy)]
-pub struct Ordinals {
-    pub carry: u64,
-    pub took: u64,
-}
-
-/// What becomes of a frame.
-#[derive(Clone, Copy)]
-pub struct Fate {
-    pub lost: bool,
-    /// How many more frames are taken for its target before it is handed on.
-    pub delay: u64,
-    pub twice: bool,
-}
-
-// Handed on at once, and once.
-const UNHARMED: Fate = Fate {
-    lost: false,
-    delay: 0,
-    twice: false,
-};
-
-impl Fate {
-    // Lost as well, where that is so.
-    fn or_lost(self, lost: bool) -> Fate
-        ensures { result ≡ record {
-          lost = self.lost || lost;
-          delay = self.delay;
-          twice = self.twice;
-        } }
-    {
-        Fate {
-            lost: self.lost || lost,
-            ..self
-        }
-    }
-
-    // Handed on twice, where that is so.
-    fn or_twice(self, twice: bool) -> Fate
-        ensures { result ≡ record {
-          lost = self.lost;
-          delay = self.delay;
-          twice = self.twice || twice;
-        } }
-    {
-        Fate {
-            twice: self.twice || twice,
-            ..self
-        }
-    }
-
-    // Of several delays the longest holds.
-    fn or_delayed(self, delay: u64) -> Fate
-        ensures { result ≡ record {
-          lost = self.lost;
-          delay = max self.delay delay;
-          twice = self.twice;
-        } }
-    {
-        Fate {
-            delay: self.delay.max(delay),
-            ..self
-        }
-    }
 }
 
 /// Carries the parcels of one engine.
@@ -201,138 +134,6 @@ pub fn run_carrier<R: Wait>(rt: &R, mut carrier: Carrier, board: &Board, node: u
     carrier
 }
 
-// What becomes of a parcel by the plan, which counts its frame. A frame for a target past the row of ordinals is not counted,
-// and no fault befalls it.
-fn fate_of(faults: &[Fault], ordinals: &mut [Ordinals], parcel: &Parcel) -> Fate
-    ensures fate { result ≡ fate_in faults.now ordinals.old parcel.now.frame }
-    ensures counts { ordinals.new ≡ counted_in ordinals.old parcel.now.frame }
-{
-    let to = parcel.frame.to;
-    let kind = parcel.frame.body.kind();
-    let target = usize::from(to.0);
-    if target >= ordinals.len() {
-        return UNHARMED;
-    }
-    let counts = &mut ordinals[target];
-    let ordinal = count(counts, kind);
-    let frame = NamedFrame {
-        kind,
-        from: parcel.frame.from,
-        to,
-        ordinal,
-    };
-    fate_by(faults, &frame)
-}
-
-// The ordinal of the next frame of the kind, which stays at its greatest value once there.
-fn count(counts: &mut Ordinals, kind: FrameKind) -> u64
-    ensures ordinal { result ≡ ordinal_of kind counts.old }
-    ensures counts { counts.new ≡ one_more kind counts.old }
-{
-    match kind {
-        FrameKind::Carry => {
-            let ordinal = counts.carry;
-            counts.carry = ordinal.saturating_add(1);
-            ordinal
-        }
-        FrameKind::Took => {
-            let ordinal = counts.took;
-            counts.took = ordinal.saturating_add(1);
-            ordinal
-        }
-    }
-}
-
-// A frame by what the faults of a plan name of it.
-#[derive(Drop)]
-pub struct NamedFrame {
-    pub kind: FrameKind,
-    pub from: NodeId,
-    pub to: NodeId,
-    pub ordinal: u64,
-}
-
-impl NamedFrame {
-    // Whether a fault of these frames names it.
-    fn is_hit(&self, kind: FrameKind, from: NodeId, to: NodeId, first: u64, step: u64) -> bool
-        ensures { result ≡ names kind from to first step self.now }
-    {
-        // Most faults are of other frames, and a division takes long.
-        if to != self.to || !is_kind(kind, self.kind) || from != self.from {
-            return false;
-        }
-        is_among(first, step, self.ordinal)
-    }
-}
-
-// Whether two kinds are the same.
-fn is_kind(kind: FrameKind, other: FrameKind) -> bool
-    ensures { result ≡ is_kind kind other }
-{
-    matches!(
-        (kind, other),
-        (FrameKind::Carry, FrameKind::Carry) | (FrameKind::Took, FrameKind::Took)
-    )
-}
-
-// Whether the ordinal is first, first + step, first + 2 * step, ..; with no step, first alone.
-fn is_among(first: u64, step: u64, ordinal: u64) -> bool
-    ensures { result ≡ is_among first step ordinal }
-{
-    if step == 0 {
-        return ordinal == first;
-    }
-    first <= ordinal && (ordinal - first) % step == 0
-}
-
-// What becomes of a frame by all faults of a plan.
-fn fate_by(faults: &[Fault], frame: &NamedFrame) -> Fate
-    ensures { result ≡ fate_by frame.now faults.now }
-{
-    let mut fate = UNHARMED;
-    for fault in faults {
-        fate = suffer(fate, *fault, frame);
-    }
-    fate
-}
-
-// What becomes of a frame by one fault more.
-fn suffer(fate: Fate, fault: Fault, frame: &NamedFrame) -> Fate
-    ensures { result ≡ suffered frame.now fate fault }
-{
-    match fault {
-        Fault::Lose {
-            kind,
-            from,
-            to,
-            first,
-            step,
-        } => fate.or_lost(frame.is_hit(kind, from, to, first, step)),
-        Fault::Repeat {
-            kind,
-            from,
-            to,
-            first,
-            step,
-        } => fate.or_twice(frame.is_hit(kind, from, to, first, step)),
-        Fault::Delay {
-            kind,
-            from,
-            to,
-            first,
-            step,
-            count,
-        } => {
-            if frame.is_hit(kind, from, to, first, step) {
-                fate.or_delayed(count)
-            } else {
-                fate
-            }
-        }
-        Fault::Crash { .. } => fate,
-    }
-}
-
 // Hands on what is due by one more frame for the target, and then loses, keeps or hands on the parcel.
 fn take_over<R: Wait>(
     rt: &R,
@@ -349,7 +150,7 @@ fn take_over<R: Wait>(
 {
     pass_time(rt, inboxes, delayed, &parcel);
     if fate.lost {
-        lose(parcel);
+        drop(parcel);
         return;
     }
     if fate.delay > 0 {
@@ -376,8 +177,6 @@ fn pass_time<R: Wait>(
     count_down(delayed, parcel.frame.to);
     release(rt, inboxes, delayed);
 }
-
-fn lose(_parcel: Parcel) {}
 
 // One frame more was taken for a target.
 fn count_down(delayed: &mut Vec<Delayed>, to: NodeId)

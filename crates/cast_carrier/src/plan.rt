@@ -23,9 +23,9 @@ fn names_nodes(nodes: u64, fault: Fault) -> bool
     ensures { IsTrue result ↔ IsPlanned nodes fault }
 {
     match fault {
-        Fault::Lose { from, to, .. }
-        | Fault::Repeat { from, to, .. }
-        | Fault::Delay { from, to, .. } => is_link(nodes, from, to),
+        Fault::Lose(frames) | Fault::Repeat(frames) | Fault::Delay { frames, .. } => {
+            is_link(nodes, frames.from, frames.to)
+        }
         Fault::Crash { node, .. } => u64::from(node.0) < nodes,
     }
 }
@@ -47,8 +47,8 @@ pub fn crash_of(node: NodeId, faults: &[Fault]) -> Option<u64>
     crash
 }
 
-fn crash_by(node: NodeId, so: Option<u64>, fault: Fault) -> Option<u64>
-    ensures { result ≡ crash_by node so fault }
+fn crash_by(node: NodeId, earliest: Option<u64>, fault: Fault) -> Option<u64>
+    ensures { result ≡ crash_by node earliest fault }
 {
     match fault {
         Fault::Crash {
@@ -56,20 +56,20 @@ fn crash_by(node: NodeId, so: Option<u64>, fault: Fault) -> Option<u64>
             entries,
         } => {
             if other == node {
-                least(so, entries)
+                least(earliest, entries)
             } else {
-                so
+                earliest
             }
         }
-        Fault::Lose { .. } | Fault::Repeat { .. } | Fault::Delay { .. } => so,
+        Fault::Lose(_) | Fault::Repeat(_) | Fault::Delay { .. } => earliest,
     }
 }
 
-fn least(so: Option<u64>, entries: u64) -> Option<u64>
-    ensures { result ≡ least so entries }
+fn least(earliest: Option<u64>, entries: u64) -> Option<u64>
+    ensures { result ≡ least earliest entries }
 {
-    match so {
-        Some(least) if least <= entries => so,
+    match earliest {
+        Some(other) if other <= entries => earliest,
         _ => Some(entries),
     }
 }
@@ -91,8 +91,8 @@ fn is_from(node: NodeId, fault: Fault) -> bool
     ensures { result ≡ is_from node fault }
 {
     match fault {
-        Fault::Lose { from, .. } | Fault::Repeat { from, .. } | Fault::Delay { from, .. } => {
-            from == node
+        Fault::Lose(frames) | Fault::Repeat(frames) | Fault::Delay { frames, .. } => {
+            frames.from == node
         }
         Fault::Crash { .. } => false,
     }

@@ -74,9 +74,9 @@ fn plan_words(alloc: Global, script: &Script) -> Result<Option<String>, AllocErr
 
 fn fault_words(alloc: Global, fault: &Fault, nodes: u64) -> Result<Option<String>, AllocError> {
     let (NodeId(from), NodeId(to)) = match fault {
-        Fault::Lose { from, to, .. }
-        | Fault::Repeat { from, to, .. }
-        | Fault::Delay { from, to, .. } => (*from, *to),
+        Fault::Lose(frames) | Fault::Repeat(frames) | Fault::Delay { frames, .. } => {
+            (frames.from, frames.to)
+        }
         Fault::Crash {
             node: NodeId(node),
             ..

@@ -14,7 +14,7 @@ use Rattle.cast_report.specs.declared.report.NodeReport.{NodeReport}
 use Rattle.cast_report.specs.Linked.{Trail, Made, IsLogOf, EachArrival, made_in}
 use Rattle.cast_report.proofs.Logging.{choose, each_arrival, made_numbered}
 use Rattle.cast_carrier.specs.declared.parcel.Parcel.{Parcel}
-use Rattle.cast_carrier.specs.declared.carrier.Ordinals.{Ordinals}
+use Rattle.cast_carrier.specs.declared.fate.Ordinals.{Ordinals}
 use Rattle.cast_carrier.specs.Lists.{Has}
 use Rattle.cast_engine.specs.Runs.{HasTakenEach, parcel, made_of}
 use Rattle.cast_carrier.specs.Fates.{fate_in, counted_in}

@@ -16,8 +16,8 @@ use Rattle.cast_message.specs.declared.message.Frame.{Frame}
 use Rattle.cast_script.specs.declared.script.Fault.{Fault}
 use Rattle.cast_report.specs.declared.report.NodeReport.{NodeReport}
 use Rattle.cast_report.specs.Linked.{Trail, IsLogOf, EachArrival, made_in}
-use Rattle.cast_carrier.specs.declared.carrier.Fate.{Fate}
-use Rattle.cast_carrier.specs.declared.carrier.Ordinals.{Ordinals}
+use Rattle.cast_carrier.specs.declared.fate.Fate.{Fate}
+use Rattle.cast_carrier.specs.declared.fate.Ordinals.{Ordinals}
 use Rattle.cast_carrier.specs.Carriers.{CarrierState}
 use Rattle.cast_carrier.specs.Copies.{none_taken, copies}
 use Rattle.cast_carrier.specs.Fates.{fate_in, counted_in}

@@ -15,6 +15,7 @@ use Rattle.cast_script.specs.declared.element.LinkSlot.{LinkSlot}
 use Rattle.cast_script.specs.declared.script.ScriptEvent.{ScriptEvent}
 use Rattle.cast_script.specs.declared.script.ScriptEvent.TheVariants.{Core, Settle}
 use Rattle.cast_script.specs.declared.script.Fault.{Fault}
+use Rattle.cast_script.specs.declared.script.Frames.{Frames}
 use Rattle.cast_script.specs.declared.script.Fault.TheVariants.{Lose, Repeat, Delay, Crash}
 use Rattle.cast_message.specs.declared.message.FrameKind.{FrameKind}
 use Rattle.cast_message.specs.declared.message.FrameKind.TheVariants.{Carry, Took}
@@ -131,28 +132,31 @@ kind_named name =
 abbrev pub kind_of : Data → Option FrameKind
 kind_of d = option_and_then kind_named (as_str d)
 
--- what befalls the frames that these places name
-abbrev pub befalls : {A : Type 0} → (FrameKind → ℕ → ℕ → ℕ → ℕ → A) → List Data → Option A
-befalls fault (k ∷ p ∷ q ∷ o ∷ m ∷ []) = do
+-- the frames that these places name
+abbrev pub frames_at : Data → Data → Data → Data → Data → Option Frames
+frames_at k p q o m = do
   kind ← kind_of k
   from ← node_of p
   to ← node_of q
   first ← number_of o
   step ← number_of m
-  Some (fault kind from to first step)
-befalls fault _ = None
+  Some (record { kind = kind; from = from; to = to; first = first; step = step })
+
+abbrev pub frames_of : List Data → Option Frames
+frames_of (k ∷ p ∷ q ∷ o ∷ m ∷ []) = frames_at k p q o m
+frames_of _ = None
 
 abbrev pub lose_of : List Data → Option Fault
-lose_of ds = befalls Lose ds
+lose_of ds = option_map Lose (frames_of ds)
 
 abbrev pub repeat_of : List Data → Option Fault
-repeat_of ds = befalls Repeat ds
+repeat_of ds = option_map Repeat (frames_of ds)
 
 abbrev pub delay_of : List Data → Option Fault
 delay_of (k ∷ p ∷ q ∷ o ∷ m ∷ c ∷ []) = do
-  delay ← befalls {A = ℕ → Fault} Delay (k ∷ p ∷ q ∷ o ∷ m ∷ [])
+  frames ← frames_at k p q o m
   count ← number_of c
-  Some (delay count)
+  Some (Delay frames count)
 delay_of _ = None
 
 abbrev pub engine_crash_of : List Data → Option Fault

@@ -1,10 +1,10 @@
 //! The faults of a script's plan.
 ghost use Rattle.std.specs.Prelude.{◌≡◌, map};
 ghost use Rattle.serde_json.specs.View.{view};
-ghost use Rattle.cast_script.specs.Element.{fault_of, fault_at, kind_of, lose_of, repeat_of, delay_of, engine_crash_of};
+ghost use Rattle.cast_script.specs.Element.{fault_of, fault_at, kind_of, frames_of, frames_at, delay_of, engine_crash_of};
 
 use crate::element::{Element, Unread, node, places};
-use crate::script::Fault;
+use crate::script::{Fault, Frames};
 use cast_message::FrameKind;
 use serde_json::Value;
 use std::alloc::Global;
@@ -22,42 +22,21 @@ fn fault(places: &[Value]) -> Option<Fault>
 {
     let (word, others) = places.split_first()?;
     match word.as_str()? {
-        "lose" => lose(others),
-        "repeat" => repeat(others),
+        "lose" => frames(others).map(Fault::Lose),
+        "repeat" => frames(others).map(Fault::Repeat),
         "delay" => delay(others),
         "crash" => crash(others),
         _ => None,
     }
 }
 
-fn lose(places: &[Value]) -> Option<Fault>
-    ensures { result ≡ lose_of (map view places.now) }
+fn frames(places: &[Value]) -> Option<Frames>
+    ensures { result ≡ frames_of (map view places.now) }
 {
     let [word, from, to, first, step] = places else {
         return None;
     };
-    Some(Fault::Lose {
-        kind: kind(word)?,
-        from: node(from)?,
-        to: node(to)?,
-        first: first.as_u64()?,
-        step: step.as_u64()?,
-    })
-}
-
-fn repeat(places: &[Value]) -> Option<Fault>
-    ensures { result ≡ repeat_of (map view places.now) }
-{
-    let [word, from, to, first, step] = places else {
-        return None;
-    };
-    Some(Fault::Repeat {
-        kind: kind(word)?,
-        from: node(from)?,
-        to: node(to)?,
-        first: first.as_u64()?,
-        step: step.as_u64()?,
-    })
+    frames_at(word, from, to, first, step)
 }
 
 fn delay(places: &[Value]) -> Option<Fault>
@@ -67,12 +46,21 @@ fn delay(places: &[Value]) -> Option<Fault>
         return None;
     };
     Some(Fault::Delay {
+        frames: frames_at(word, from, to, first, step)?,
+        count: count.as_u64()?,
+    })
+}
+
+fn frames_at(word: &Value, from: &Value, to: &Value, first: &Value, step: &Value) -> Option<Frames>
+    ensures { result ≡ frames_at (view word.now) (view from.now) (view to.now)
+        (view first.now) (view step.now) }
+{
+    Some(Frames {
         kind: kind(word)?,
         from: node(from)?,
         to: node(to)?,
         first: first.as_u64()?,
         step: step.as_u64()?,
-        count: count.as_u64()?,
     })
 }
 

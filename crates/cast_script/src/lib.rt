@@ -20,4 +20,4 @@ pub use law::is_read_back;
 pub use live_fault::LiveFault;
 pub use reading::read_script;
 pub use replay::write_script;
-pub use script::{Fault, FaultPlan, Script, ScriptEvent, ScriptFault};
+pub use script::{Fault, FaultPlan, Frames, Script, ScriptEvent, ScriptFault};

@@ -10,4 +10,4 @@ abbrev pub all_links : List (ℕ × ℕ)
 all_links = (0, 1) ∷ (0, 2) ∷ (1, 0) ∷ (1, 2) ∷ (2, 0) ∷ (2, 1) ∷ []
 
 abbrev pub loses_every_second : ℕ × ℕ → Fault
-loses_every_second link = Lose Carry link.0 link.1 0 2
+loses_every_second link = Lose (record { kind = Carry; from = link.0; to = link.1; first = 0; step = 2 })

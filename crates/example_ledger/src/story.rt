@@ -8,8 +8,10 @@ ghost use Rattle.example_ledger.specs.Transfers.{account_count};
 use crate::teller::Teller;
 use crate::transfer::Transfer;
 use bytes::Bytes;
-use cast_message::{Config, ConfigFault, Event, Item, List, Mode, NodeId, Payload};
-use cast_script::{Fault, FaultPlan, FrameKind};
+use cast_message::{
+    Config, ConfigFault, Event, Item, List, MOST_ENTRIES, MOST_ITEMS, Mode, NodeId, Payload,
+};
+use cast_script::{Fault, FaultPlan, FrameKind, Frames};
 use std::alloc::{AllocError, Global};
 
 const ADA: u8 = 0;
@@ -28,7 +30,16 @@ const LINKS: &[(u8, u8)] = &[(0, 1), (0, 2), (1, 0), (1, 2), (2, 0), (2, 1)];
 pub fn config() -> Result<Config, ConfigFault>
     ensures { IfOk result (λ config. (config.nodes ≡ 3) × (config.faults ≡ 1)) }
 {
-    Config::check(u64::from(NODES), 1, 1, 4096, 65536, 64, 0, Mode::Basic)
+    Config::check(
+        u64::from(NODES),
+        1,
+        1,
+        MOST_ITEMS,
+        MOST_ENTRIES,
+        64,
+        0,
+        Mode::Basic,
+    )
 }
 
 /// What the client of each node orders, by node. One item says no transfer.
@@ -82,13 +93,13 @@ pub fn losses(alloc: Global) -> Result<FaultPlan, AllocError>
 fn lose_every_second(from: NodeId, to: NodeId) -> Fault
     ensures { result ≡ loses_every_second (from, to) }
 {
-    Fault::Lose {
+    Fault::Lose(Frames {
         kind: FrameKind::Carry,
         from,
         to,
         first: 0,
         step: 2,
-    }
+    })
 }
 
 /// The orders, and then the frames by which the first two nodes come to rest though the third crashes.

@@ -2,10 +2,10 @@
 ghost use Rattle.std.specs.Prelude.{◌≡◌, ◌++◌, ◌∷◌, [], IfOk, OnOk};
 ghost use Rattle.std.specs.List.{flat_map};
 ghost use Rattle.cast_message.specs.declared.message.FrameKind.TheVariants.{Carry, Took};
-ghost use Rattle.run_setup.specs.Plans.{links_from, all_links, lost_every};
+ghost use Rattle.run_setup.specs.Plans.{frames_on, links_from, all_links, lost_every};
 
 use cast_message::{List, NodeId};
-use cast_script::{Fault, FaultPlan, FrameKind};
+use cast_script::{Fault, FaultPlan, FrameKind, Frames};
 use std::alloc::{AllocError, Global};
 
 /// The way from one node to another.
@@ -18,41 +18,35 @@ pub struct Link {
 impl Link {
     /// Every `step`th frame of this kind is lost, from number `first` on, or that one alone where the step is 0.
     pub fn lose(self, kind: FrameKind, first: u64, step: u64) -> Fault
-        ensures { result ≡ Fault.Lose kind self.from self.to first step }
+        ensures { result ≡ Fault.Lose (frames_on self kind first step) }
     {
-        Fault::Lose {
-            kind,
-            from: NodeId(self.from),
-            to: NodeId(self.to),
-            first,
-            step,
-        }
+        Fault::Lose(self.frames(kind, first, step))
     }
 
     /// Every `step`th frame of this kind, from number `first` on, is handed on twice.
     pub fn repeat(self, kind: FrameKind, first: u64, step: u64) -> Fault
-        ensures { result ≡ Fault.Repeat kind self.from self.to first step }
+        ensures { result ≡ Fault.Repeat (frames_on self kind first step) }
     {
-        Fault::Repeat {
-            first,
-            step,
-            kind,
-            from: NodeId(self.from),
-            to: NodeId(self.to),
-        }
+        Fault::Repeat(self.frames(kind, first, step))
     }
 
     /// Every `step`th frame of this kind, from number `first` on, is kept until `count` more frames were taken.
     pub fn delay(self, kind: FrameKind, first: u64, step: u64, count: u64) -> Fault
-        ensures { result ≡ Fault.Delay kind self.from self.to first step count }
+        ensures { result ≡ Fault.Delay (frames_on self kind first step) count }
     {
-        Fault::Delay {
+        let frames = self.frames(kind, first, step);
+        Fault::Delay { frames, count }
+    }
+
+    fn frames(self, kind: FrameKind, first: u64, step: u64) -> Frames
+        ensures { result ≡ frames_on self kind first step }
+    {
+        Frames {
             kind,
             from: NodeId(self.from),
             to: NodeId(self.to),
             first,
             step,
-            count,
         }
     }
 }

@@ -3,7 +3,7 @@ use cast_box::{Putter, Taker, make_box};
 use cast_carrier::{Carrier, Parcel};
 use cast_message::FrameKind::{Carry, Took};
 use cast_message::{Frame, FrameBody, FrameKind, Item, Message, NodeId};
-use cast_script::Fault;
+use cast_script::{Fault, Frames};
 use std::alloc::Global;
 use std::process::Abort;
 use std::sync::Wait;
@@ -75,8 +75,8 @@ fn expect_carried(
     Ok(())
 }
 
-fn lose(kind: FrameKind, first: u64, step: u64) -> Fault {
-    Fault::Lose {
+fn frames(kind: FrameKind, first: u64, step: u64) -> Frames {
+    Frames {
         kind,
         from: NodeId(0),
         to: NodeId(1),
@@ -85,23 +85,17 @@ fn lose(kind: FrameKind, first: u64, step: u64) -> Fault {
     }
 }
 
+fn lose(kind: FrameKind, first: u64, step: u64) -> Fault {
+    Fault::Lose(frames(kind, first, step))
+}
+
 fn repeat(kind: FrameKind, first: u64, step: u64) -> Fault {
-    Fault::Repeat {
-        kind,
-        from: NodeId(0),
-        to: NodeId(1),
-        first,
-        step,
-    }
+    Fault::Repeat(frames(kind, first, step))
 }
 
 fn delay(kind: FrameKind, first: u64, count: u64) -> Fault {
     Fault::Delay {
-        kind,
-        from: NodeId(0),
-        to: NodeId(1),
-        first,
-        step: 0,
+        frames: frames(kind, first, 0),
         count,
     }
 }

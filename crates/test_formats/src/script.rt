@@ -2,7 +2,8 @@
 use bytes::Bytes;
 use cast_message::{Config, ConfigFault, Event, Item, Mode, NodeId, Payload};
 use cast_script::{
-    Fault, FrameKind, LiveFault, ScriptEvent, ScriptFault, is_read_back, read_script, write_script,
+    Fault, FrameKind, Frames, LiveFault, ScriptEvent, ScriptFault, is_read_back, read_script,
+    write_script,
 };
 use cast_words::Meter;
 use std::alloc::{AllocError, Global};
@@ -223,30 +224,24 @@ fn reads_every_event(rt: HostRuntime) -> Result<(), Fail> {
     Ok(())
 }
 
+fn frames(kind: FrameKind, from: u8, to: u8, first: u64, step: u64) -> Frames {
+    Frames {
+        kind,
+        from: NodeId(from),
+        to: NodeId(to),
+        first,
+        step,
+    }
+}
+
 #[test]
 fn reads_every_fault(rt: HostRuntime) -> Result<(), Fail> {
     let script = read_script(rt.alloc(), EVERYTHING.as_bytes())?;
     let wanted = [
-        Fault::Lose {
-            kind: FrameKind::Carry,
-            from: NodeId(0),
-            to: NodeId(1),
-            first: 2,
-            step: 3,
-        },
-        Fault::Repeat {
-            kind: FrameKind::Took,
-            from: NodeId(1),
-            to: NodeId(0),
-            first: 4,
-            step: 5,
-        },
+        Fault::Lose(frames(FrameKind::Carry, 0, 1, 2, 3)),
+        Fault::Repeat(frames(FrameKind::Took, 1, 0, 4, 5)),
         Fault::Delay {
-            kind: FrameKind::Carry,
-            from: NodeId(2),
-            to: NodeId(3),
-            first: 6,
-            step: 7,
+            frames: frames(FrameKind::Carry, 2, 3, 6, 7),
             count: 8,
         },
         Fault::Crash {

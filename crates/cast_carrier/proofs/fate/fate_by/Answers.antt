@@ -1,7 +1,7 @@
 use Rattle.std.proofs.Common.{◌∙◌, ◌<◌, ◌++◌, ◌∷◌, [], ap, sym, length, take, rules}
 use Rattle.std.proofs.lemmas.List.{take_more}
 use Rattle.cast_carrier.proofs.Suffering.{fate_none, fate_more}
-use Rattle.cast_carrier.proofs.carrier.fate_by.Goals as goal
+use Rattle.cast_carrier.proofs.fate.fate_by.Goals as goal
 
 pub loop-fault-init : goal.loop-fault-init
 loop-fault-init c = fate_none c.args.frame.now

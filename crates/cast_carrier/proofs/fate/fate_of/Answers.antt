@@ -1,8 +1,8 @@
 use Rattle.std.proofs.Common.{◌≡◌, ◌<◌, ℕ, List, length, rules}
 use Rattle.std.specs.Prelude.{slice_index_or}
-use Rattle.cast_carrier.specs.declared.carrier.Ordinals.{Ordinals}
+use Rattle.cast_carrier.specs.declared.fate.Ordinals.{Ordinals}
 use Rattle.cast_carrier.proofs.Suffering.{got, fate_there, counted_there}
-use Rattle.cast_carrier.proofs.carrier.fate_of.Goals as goal
+use Rattle.cast_carrier.proofs.fate.fate_of.Goals as goal
 
 abbrev counts_at : List Ordinals → ℕ → Ordinals
 counts_at all to = slice_index_or all to (record { carry = 0; took = 0 })

@@ -1,0 +1,187 @@
+//! What becomes of a frame by a plan.
+ghost use Rattle.std.specs.Prelude.{◌≡◌, ◌||◌, max};
+ghost use Rattle.cast_carrier.specs.Fates.{is_kind, is_among, is_one_of, suffered, fate_by, fate_in, ordinal_of, one_more, counted_in};
+
+use crate::parcel::Parcel;
+use cast_message::{FrameKind, NodeId};
+use cast_script::{Fault, Frames};
+
+/// How many frames of each kind were taken for a target.
+#[derive(Clone, Copy)]
+pub struct Ordinals {
+    pub carry: u64,
+    pub took: u64,
+}
+
+/// What becomes of a frame.
+#[derive(Clone, Copy)]
+pub struct Fate {
+    pub lost: bool,
+    /// How many more frames are taken for its target before it is handed on.
+    pub delay: u64,
+    pub twice: bool,
+}
+
+// Handed on at once, and once.
+const UNHARMED: Fate = Fate {
+    lost: false,
+    delay: 0,
+    twice: false,
+};
+
+impl Fate {
+    // Lost as well, where that is so.
+    fn or_lost(self, lost: bool) -> Fate
+        ensures { result ≡ record {
+          lost = self.lost || lost;
+          delay = self.delay;
+          twice = self.twice;
+        } }
+    {
+        Fate {
+            lost: self.lost || lost,
+            ..self
+        }
+    }
+
+    // Handed on twice, where that is so.
+    fn or_twice(self, twice: bool) -> Fate
+        ensures { result ≡ record {
+          lost = self.lost;
+          delay = self.delay;
+          twice = self.twice || twice;
+        } }
+    {
+        Fate {
+            twice: self.twice || twice,
+            ..self
+        }
+    }
+
+    // Of several delays the longest holds.
+    fn or_delayed(self, delay: u64) -> Fate
+        ensures { result ≡ record {
+          lost = self.lost;
+          delay = max self.delay delay;
+          twice = self.twice;
+        } }
+    {
+        Fate {
+            delay: self.delay.max(delay),
+            ..self
+        }
+    }
+}
+
+/// What becomes of a parcel by the plan, which counts its frame. A frame for a target past the row of ordinals is not counted,
+/// and no fault befalls it.
+pub fn fate_of(faults: &[Fault], ordinals: &mut [Ordinals], parcel: &Parcel) -> Fate
+    ensures fate { result ≡ fate_in faults.now ordinals.old parcel.now.frame }
+    ensures counts { ordinals.new ≡ counted_in ordinals.old parcel.now.frame }
+{
+    let to = parcel.frame.to;
+    let kind = parcel.frame.body.kind();
+    let target = usize::from(to.0);
+    if target >= ordinals.len() {
+        return UNHARMED;
+    }
+    let counts = &mut ordinals[target];
+    let ordinal = count(counts, kind);
+    let frame = NamedFrame {
+        kind,
+        from: parcel.frame.from,
+        to,
+        ordinal,
+    };
+    fate_by(faults, &frame)
+}
+
+// The ordinal of the next frame of the kind, which stays at its greatest value once there.
+fn count(counts: &mut Ordinals, kind: FrameKind) -> u64
+    ensures ordinal { result ≡ ordinal_of kind counts.old }
+    ensures counts { counts.new ≡ one_more kind counts.old }
+{
+    match kind {
+        FrameKind::Carry => {
+            let ordinal = counts.carry;
+            counts.carry = ordinal.saturating_add(1);
+            ordinal
+        }
+        FrameKind::Took => {
+            let ordinal = counts.took;
+            counts.took = ordinal.saturating_add(1);
+            ordinal
+        }
+    }
+}
+
+/// A frame by what the faults of a plan name of it.
+#[derive(Drop)]
+pub struct NamedFrame {
+    pub kind: FrameKind,
+    pub from: NodeId,
+    pub to: NodeId,
+    pub ordinal: u64,
+}
+
+impl NamedFrame {
+    // Whether it is one of these frames.
+    fn is_one_of(&self, frames: &Frames) -> bool
+        ensures { result ≡ is_one_of self.now frames.now }
+    {
+        // Most faults are of other frames, and a division takes long.
+        if frames.to != self.to || !is_kind(frames.kind, self.kind) || frames.from != self.from {
+            return false;
+        }
+        is_among(frames.first, frames.step, self.ordinal)
+    }
+}
+
+// Whether two kinds are the same.
+fn is_kind(kind: FrameKind, other: FrameKind) -> bool
+    ensures { result ≡ is_kind kind other }
+{
+    matches!(
+        (kind, other),
+        (FrameKind::Carry, FrameKind::Carry) | (FrameKind::Took, FrameKind::Took)
+    )
+}
+
+// Whether the ordinal is first, first + step, first + 2 * step, ..; with no step, first alone.
+fn is_among(first: u64, step: u64, ordinal: u64) -> bool
+    ensures { result ≡ is_among first step ordinal }
+{
+    if step == 0 {
+        return ordinal == first;
+    }
+    first <= ordinal && (ordinal - first) % step == 0
+}
+
+// What becomes of a frame by all faults of a plan.
+fn fate_by(faults: &[Fault], frame: &NamedFrame) -> Fate
+    ensures { result ≡ fate_by frame.now faults.now }
+{
+    let mut fate = UNHARMED;
+    for fault in faults {
+        fate = suffer(fate, fault, frame);
+    }
+    fate
+}
+
+// What becomes of a frame by one fault more.
+fn suffer(fate: Fate, fault: &Fault, frame: &NamedFrame) -> Fate
+    ensures { result ≡ suffered frame.now fate fault.now }
+{
+    match fault {
+        Fault::Lose(frames) => fate.or_lost(frame.is_one_of(frames)),
+        Fault::Repeat(frames) => fate.or_twice(frame.is_one_of(frames)),
+        Fault::Delay { frames, count } => {
+            if frame.is_one_of(frames) {
+                fate.or_delayed(*count)
+            } else {
+                fate
+            }
+        }
+        Fault::Crash { .. } => fate,
+    }
+}
