@@ -1,11 +1,7 @@
 -- What a job does with its client.
-use Rattle.std.specs.Prelude.{◌≡◌, ℕ, ◌+◌, ◌≤◌, ◌⊎◌, Bool, true, false, cond, not, List, [], ◌∷◌, ◌++◌, length, map, take, slice_get, Some}
-use Rattle.cast_message.specs.declared.message.Item.{Item}
-use Rattle.cast_job.specs.declared.submit_all.SubmitAll.{SubmitAll}
-use Rattle.cast_box.specs.Lists.{of}
-use Rattle.cast_message.specs.Items.{has_payload}
-use Rattle.cast_desk.specs.Desk.{ClientState, IsRefusal}
-use Rattle.cast_desk.specs.declared.client.DeskFault.{DeskFault}
+use Rattle.std.specs.Prelude.{◌≡◌, ℕ, ◌+◌, ◌≤◌, Bool, true, false, cond, not, List, [], ◌∷◌, length, map, slice_get, Some}
+use Rattle.cast_box.specs.Lists.{of, HasTakenOfEnded}
+use Rattle.cast_desk.specs.Desk.{ClientState}
 use Rattle.cast_desk.specs.declared.desk.OrderIn.{OrderIn}
 use Rattle.cast_desk.specs.declared.notice.Notice.{Notice}
 use Rattle.cast_desk.specs.declared.notice.Notice.TheVariants.{Reply, Delivered, Decided}
@@ -36,36 +32,13 @@ unfoldable pub replies_in : List Notice → ℕ
 replies_in [] = 0
 replies_in (n ∷ ns) = cond (is_reply n) 1 0 + replies_in ns
 
--- the job that submits a list of items has submitted the first of them, and when it is done, all of them, and has as many
--- replies
-pub record Submits (items : List Item) (next replies : ℕ) (sent : List OrderIn) (got : List Notice) (done : Bool) : Type 0 where
-  pub first : map (λ o. o.item) sent ≡ take next items
-  pub within : next ≤ length items
-  pub replied : replies_in got ≡ replies
-  pub below : replies ≤ length items
-  pub all : done ≡ true → (next ≡ length items) × (replies ≡ length items)
-
--- the next item was submitted, or nothing was
-abbrev pub SubmitsNext : List Item → ℕ → ClientState → ClientState → Bool → Type 0
-SubmitsNext items next old new true = (order : OrderIn) × (slice_get items next ≡ Some order.item) × (new.orders.put ≡ old.orders.put ++ order ∷ [])
-SubmitsNext items next old new false = new.orders.put ≡ old.orders.put
-
--- no order was put though an item is left: it is data, of which a copy takes memory, or the desk handed it back
-abbrev pub TriesNext : List Item → ℕ → ClientState → ClientState → Type 0
-TriesNext items next old new =
-    new.orders.put ≡ old.orders.put → (item : Item) → slice_get items next ≡ Some item
-    → (has_payload item ≡ true) ⊎ ((fault : DeskFault) × IsRefusal old item fault)
+-- a notice was taken, unless the tray was empty
+abbrev pub Listens : ClientState → ClientState → Type 0
+Listens old new = new.tray.taken ≡ old.tray.taken → HasTakenOfEnded old.tray.ended old.tray.taken
 
 -- a reply was taken, or none was
 abbrev pub TakesReply : ClientState → ClientState → Bool → Type 0
 TakesReply old new reply = replies_in (got new) ≡ replies_in (got old) + cond reply 1 0
-
--- the fact of such a job: its items are those that it was given
-abbrev pub SubmitsGiven : SubmitAll → SubmitAll → List OrderIn → List Notice → Bool → Type 0
-SubmitsGiven given job sent got done = (job.items ≡ given.items) × Submits job.items job.next job.replies sent got done
-
-abbrev pub SubmitsAll : SubmitAll → ClientState → Type 0
-SubmitsAll job client = Submits job.items job.next job.replies (submitted client) (got client) false
 
 -- a client that has done nothing
 abbrev pub IsFresh : ClientState → Type 0

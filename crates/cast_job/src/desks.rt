@@ -10,11 +10,11 @@ use std::vec::IntoIter;
 
 /// Clients of a node that have no job yet, in the order of their numbers.
 #[derive(Drop)]
-pub struct Waiting {
+pub struct FreeClients {
     rest: IntoIter<Client>,
 }
 
-impl Model for Waiting {
+impl Model for FreeClients {
     ghost use Rattle.std.specs.Prelude.{List};
     ghost use Rattle.cast_desk.specs.Desk.{ClientState};
 
@@ -23,11 +23,11 @@ impl Model for Waiting {
     ghost view = { λ w. w.rest.rest.items };
 }
 
-impl Waiting {
-    fn new(clients: Vec<Client>) -> Waiting
+impl FreeClients {
+    fn new(clients: Vec<Client>) -> FreeClients
         ensures { result ≡ clients.items }
     {
-        Waiting {
+        FreeClients {
             rest: clients.into_iter(),
         }
     }
@@ -46,21 +46,21 @@ fn make_node_desk(
     alloc: Global,
     size: u64,
     clients: u64,
-) -> Result<(Option<Desk>, Waiting), AllocError>
+) -> Result<(Option<Desk>, FreeClients), AllocError>
     requires size { IsSize size }
     requires few { clients ≤ 4 }
     ensures { IfOk result (λ r. IsNewDeskOf size clients r.0 r.1) }
 {
     if clients == 0 {
-        return Ok((None, Waiting::new(Vec::new(alloc))));
+        return Ok((None, FreeClients::new(Vec::new(alloc))));
     }
     let Ok((all, desk)) = make_desk(alloc, size, clients, 0) else {
         return Err(AllocError);
     };
-    Ok((Some(desk), Waiting::new(all)))
+    Ok((Some(desk), FreeClients::new(all)))
 }
 
-type Desks = (Vec<Option<Desk>>, Vec<Waiting>);
+type Desks = (Vec<Option<Desk>>, Vec<FreeClients>);
 
 /// For each count a desk with that many clients, and none for 0.
 pub fn make_desks(alloc: Global, size: u64, counts: &[u64]) -> Result<Desks, AllocError>

@@ -1,5 +1,5 @@
 //! Whether what was handed in for a group fits: its jobs, its gates and its plan.
-ghost use Rattle.std.specs.Prelude.{◌≡◌, IfOk, IfErr, IfSome, IfNone, OnOk, OnErr};
+ghost use Rattle.std.specs.Prelude.{IfOk, IfErr, IfSome, IfNone, OnOk, OnErr};
 ghost use Rattle.cast_job.specs.Faults.{Fits, IsFaultOf, IsMisfit};
 ghost use Rattle.cast_job.specs.Jobs.{IsCount};
 

@@ -9,7 +9,7 @@ ghost use Rattle.cast_carrier.specs.Lists.{IsRoomFor};
 ghost use Rattle.cast_job.specs.Seats.{mark_by};
 ghost use Rattle.cast_job.specs.Seats.{IsSeating, IsEndedAs};
 
-use crate::desks::Waiting;
+use crate::desks::FreeClients;
 use crate::fault::StartFault;
 use crate::job::ClientJob;
 use cast_carrier::Board;
@@ -43,19 +43,20 @@ pub struct Ended<J> {
 
 /// The client that comes back is the one that went, and the job's fact holds of it and the job that went.
 #[derive(Drop)]
-pub struct KeepsFact<J> {
+pub struct JobBack<J> {
     was: Snapshot<Seat<J>>,
 }
 
-impl<J: ClientJob> Promise<Ended<J>> for KeepsFact<J> {
+impl<J: ClientJob> Promise<Ended<J>> for JobBack<J> {
     ghost use Rattle.cast_job.specs.Seats.{IsEndedAs};
 
     ghost kept_by = { λ p e. IsEndedAs J.fact p.was.value e };
 }
 
-pub type JobThread<J> = PromisedHandle<Ended<J>, KeepsFact<J>>;
+/// The thread of a job, which gives the job back.
+pub type JobThread<J> = PromisedHandle<Ended<J>, JobBack<J>>;
 
-/// Calls `turn` until it answers false, `turns` calls were made, or the engine has ended and one more call was made.
+// Calls `turn` until it answers false, `turns` calls were made, or the engine has ended and one more call was made.
 fn run_job<J: ClientJob, R: Wait>(rt: &R, board: &Board, seat: Seat<J>, turns: u64) -> Ended<J>
     requires { J.fact seat.job seat.job (submitted seat.client) (got seat.client) false }
     ensures { IsEndedAs J.fact seat result }
@@ -96,7 +97,7 @@ fn start_job<J: ClientJob + Send + Drop + 'static, R: Threads + Wait + Copy + Se
     ensures { IfOk result (λ t. t.promise.was.value ≡ seat) }
 {
     let board = Arc::try_clone(board)?;
-    let promise = KeepsFact {
+    let promise = JobBack {
         was: Snapshot::of(&seat),
     };
     let started = thread::spawn_with(
@@ -181,7 +182,7 @@ pub fn count_jobs<J>(nodes: u64, jobs: &[(NodeId, J)]) -> Option<JobCounts>
 /// Gives each job the next client of its node.
 pub fn seat_jobs<J: Drop>(
     jobs: Vec<(NodeId, J)>,
-    mut waiting: Vec<Waiting>,
+    mut waiting: Vec<FreeClients>,
     mut seats: Vec<Seat<J>>,
 ) -> Vec<Seat<J>>
     requires room { IsRoomFor (vec_len jobs) seats }

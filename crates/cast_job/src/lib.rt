@@ -7,11 +7,13 @@ mod fault;
 mod fits;
 mod job;
 mod jobs;
+mod submissions;
 mod submit_all;
 
-pub use desks::{Waiting, make_desks};
+pub use desks::{FreeClients, make_desks};
 pub use fault::StartFault;
 pub use fits::{count_fitting, find_misfit};
 pub use job::ClientJob;
 pub use jobs::{Ended, JobCounts, JobThread, Seat, mark_undone, seat_jobs, start_jobs};
+pub use submissions::Submissions;
 pub use submit_all::SubmitAll;

@@ -12,7 +12,8 @@ use Rattle.cast_box.specs.Lists.{of}
 use Rattle.cast_script.specs.declared.live_fault.LiveFault.{LiveFault}
 use Rattle.cast_script.specs.declared.live_fault.LiveFault.TheVariants as lives
 use Rattle.cast_job.specs.Faults.{JobsFit, IsFaultOf}
-use Rattle.cast_job.specs.Jobs.{Submits, told_job, replies_in}
+use Rattle.cast_job.specs.Jobs.{told_job, replies_in}
+use Rattle.cast_job.specs.SubmitAll.{SubmitsGiven}
 use Rattle.cast_script.specs.declared.script.Script.{Script}
 use Rattle.cast_live.specs.declared.live.FinishedRun.{FinishedRun}
 use Rattle.cast_live.specs.declared.summary.Summary.{Summary}
@@ -28,25 +29,26 @@ new_more (y ∷ ys) x each new zero a at = each zero a at
 new_more (y ∷ ys) x each new (suc i) a at = new_more ys x (λ j. each (suc j)) new i a at
 
 -- what a new job's fact says before its first turn
-pub new_fact : (job : SubmitAll) → IsNewJob job → Submits job.items job.next job.replies [] [] false
+pub new_fact : (job : SubmitAll) → IsNewJob job → SubmitsGiven job job [] [] false
 unfolding replies_in
-new_fact job new = subst (λ n. Submits job.items n job.replies [] [] false) (sym new.0) (subst (λ r. Submits job.items 0 r [] [] false) (sym new.1)
-    (record { first = refl; within = omega arith; replied = refl; below = omega arith; all = λ e. absurd cc }))
+new_fact job new =
+    let none = new.1 in
+    record { count = (refl, new.0); first = refl; replies = (sym none, omega (arith, none)); all = λ e. absurd cc }
 
 -- ---- the jobs that are handed in are those of the script
 
 pub items_more : (jobs : List (ℕ × List Item)) (more : List (ℕ × SubmitAll)) (node : ℕ) (job : SubmitAll) (items : List Item) (handed : List (ℕ × SubmitAll)) (rest : List (ℕ × List Item))
-    → map items_of handed ++ (node, items) ∷ rest ≡ jobs → job.items ≡ items → more ≡ handed ++ told_job node job ∷ [] → map items_of more ++ rest ≡ jobs
+    → map items_of handed ++ (node, items) ∷ rest ≡ jobs → job.left ≡ items → more ≡ handed ++ told_job node job ∷ [] → map items_of more ++ rest ≡ jobs
 items_more jobs more node job items handed rest whole same is =
     ap (λ xs. map items_of xs ++ rest) is ∙ ap (λ xs. xs ++ rest) (map-append items_of handed (told_job node job ∷ []))
-    ∙ append_assoc (map items_of handed) ((node, job.items) ∷ []) rest ∙ ap (λ x. map items_of handed ++ (node, x) ∷ rest) same ∙ whole
+    ∙ append_assoc (map items_of handed) ((node, job.left) ∷ []) rest ∙ ap (λ x. map items_of handed ++ (node, x) ∷ rest) same ∙ whole
 
 length-of : (p : ℕ) (handed : List (ℕ × SubmitAll)) → length (of p (map items_of handed)) ≡ length (of p handed)
 length-of p [] = refl
 length-of p (job ∷ handed) = by_test (p == job.0) (length-of p handed)
   where
     by_test : (b : Bool) → length (of p (map items_of handed)) ≡ length (of p handed)
-        → length (cond b (job.1.items ∷ of p (map items_of handed)) (of p (map items_of handed))) ≡ length (cond b (job.1 ∷ of p handed) (of p handed))
+        → length (cond b (job.1.left ∷ of p (map items_of handed)) (of p (map items_of handed))) ≡ length (cond b (job.1 ∷ of p handed) (of p handed))
     by_test true e = ap suc e
     by_test false e = e
 

@@ -29,7 +29,7 @@ use Rattle.cast_run.specs.Planned.{faults_of, KeepsTo}
 use Rattle.cast_run.specs.declared.reports.ClientReport.{ClientReport}
 use Rattle.cast_job.specs.Faults.{JobsFit}
 use Rattle.cast_carrier.specs.Plans.{ArePlanned, crash_from}
-use Rattle.cast_job.specs.Jobs.{SubmitsGiven}
+use Rattle.cast_job.specs.SubmitAll.{SubmitsGiven}
 use Rattle.cast_engine.specs.Journals.{EndsAs}
 use Rattle.cast_run.specs.Serves.{AreStamped, AreServed, HaveOrigins}
 use Rattle.cast_script.specs.declared.live_fault.LiveFault.{LiveFault}
@@ -62,14 +62,14 @@ pub record IsFinished (run : FinishedRun) : Type 0 where
 
 -- a job that has submitted nothing
 abbrev pub IsNewJob : SubmitAll → Type 0
-IsNewJob job = (job.next ≡ 0) × (job.replies ≡ 0)
+IsNewJob job = (job.count ≡ length job.left) × (job.replies ≡ 0)
 
 abbrev pub AreNewJobs : List (ℕ × SubmitAll) → Type 0
 AreNewJobs jobs = (i : ℕ) (job : ℕ × SubmitAll) → slice_get jobs i ≡ Some job → IsNewJob job.1
 
 -- the node of a job, and the items that it submits
 abbrev pub items_of : ℕ × SubmitAll → ℕ × List Item
-items_of job = (job.0, job.1.items)
+items_of job = (job.0, job.1.left)
 
 -- what is planned and the jobs fit the script's group
 pub record FitsGroup (script : Script) : Type 0 where

@@ -151,7 +151,7 @@ fn add_job(
     node: NodeId,
     items: List<Item>,
 ) -> Result<(), AllocError>
-    ensures { OnOk result ((job : SubmitAll) × IsNewJob job × (job.items ≡ items)
+    ensures { OnOk result ((job : SubmitAll) × IsNewJob job × (job.left ≡ items)
         × (all.new.items ≡ all.old.items ++ told_job node job ∷ [])) }
 {
     all.push((node, SubmitAll::new(items)))?;

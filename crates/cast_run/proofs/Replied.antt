@@ -1,7 +1,7 @@
 -- A job that submits a list: where its node stopped, none of its orders is left at the desk.
-use Rattle.std.proofs.Common.{◌≡◌, ℕ, suc, ◌+◌, ◌≤◌, Bool, true, false, cond, List, [], ◌∷◌, ◌++◌, length, map, take, slice_get, Option, Some, None, if◌then◌else◌, refl, sym, ap, ◌∙◌, ◌==◌, arith}
+use Rattle.std.proofs.Common.{◌≡◌, ℕ, suc, ◌+◌, ◌≤◌, Bool, true, false, cond, List, [], ◌∷◌, ◌++◌, length, map, take, slice_get, Option, Some, None, if◌then◌else◌, refl, ap, ◌∙◌, ◌==◌, arith}
 use Rattle.std.specs.List.{filter}
-use Rattle.std.proofs.lemmas.List.{length-map, length-take}
+use Rattle.std.proofs.lemmas.List.{length-take}
 use Rattle.std.proofs.lemmas.Option.{slice_get_within}
 use Rattle.cast_message.specs.declared.config.Config.{Config}
 use Rattle.cast_message.specs.declared.message.Decision.{Decision}
@@ -15,14 +15,15 @@ use Rattle.cast_node.specs.declared.entry.EntryKind.TheVariants.{Step, Refused}
 use Rattle.cast_node.specs.declared.entry.Origin.{Origin}
 use Rattle.cast_desk.specs.declared.notice.Notice.{Notice}
 use Rattle.cast_desk.specs.declared.notice.Notice.TheVariants.{Reply, Delivered, Decided}
-use Rattle.cast_desk.specs.declared.desk.OrderIn.{OrderIn}
 use Rattle.cast_desk.specs.Feed.{feed_from, told_by, reply_of, news_of, orders_in}
 use Rattle.cast_engine.specs.Serving.{Matches, IsAnswered, entries_of, is_of, origin_in}
 use Rattle.cast_report.specs.declared.report.EngineEnd.TheVariants.{Stopped}
 use Rattle.cast_report.specs.declared.report.NodeReport.{NodeReport}
 use Rattle.cast_run.specs.declared.reports.ClientReport.{ClientReport}
 use Rattle.cast_job.specs.declared.submit_all.SubmitAll.{SubmitAll}
-use Rattle.cast_job.specs.Jobs.{SubmitsGiven, replies_in}
+use Rattle.cast_job.specs.Jobs.{replies_in}
+use Rattle.cast_job.specs.SubmitAll.{SubmitsGiven}
+use Rattle.cast_job.proofs.Submitting.{all_sent}
 use Rattle.cast_run.specs.Serves.{AreServed, IsServed}
 use Rattle.cast_box.proofs.Closing.{found}
 
@@ -104,16 +105,16 @@ nothing_left : (config : Config) (handed : List (ℕ × SubmitAll)) (reports : L
     → (report : NodeReport) → slice_get reports r.node ≡ Some report → report.ended ≡ Stopped → r.left ≡ 0
 nothing_left config handed reports i job r s report at ended =
     let same : s.report ≡ report = cc in
-    let submits = s.holds.1 in
+    let submits = s.holds in
     let all = submits.all (s.stopped (ap (λ (n : NodeReport). n.ended) same ∙ ended)) in
-    let item_of : OrderIn → _ = λ o. o.item in
-    let sent = sym (length-map s.sent item_of) ∙ ap length submits.first ∙ length-take job.next job.items in
-    let heard = submits.replied in
+    let sent = all_sent s.handed.left job.left s.sent submits.first all.0 in
+    let given = submits.count.0 ∙ submits.count.1 in
+    let heard = submits.replies.0 in
     let told = ap replies_in s.notices.1 ∙ replies_in_both s.got s.notices.0 in
     let within = replies_within r.client 0 s.report.log in
     let taken = matched (IsAnswered config r.node s.trail) (entries_of r.client s.report.log) (take r.tickets s.sent) s.entries ∙ length-take r.tickets s.sent in
     let many = s.many in
-    omega (arith, all.0, all.1, sent, heard, told, within, taken, many)
+    omega (arith, given, all.1, sent, heard, told, within, taken, many)
 
 pub none_left : (config : Config) (handed : List (ℕ × SubmitAll)) (reports : List NodeReport) (back : List SubmitAll) (clients : List ClientReport) → AreServed config SubmitsGiven handed reports back clients
     → (i : ℕ) (r : ClientReport) (report : NodeReport) → slice_get clients i ≡ Some r → slice_get reports r.node ≡ Some report → report.ended ≡ Stopped → r.left ≡ 0

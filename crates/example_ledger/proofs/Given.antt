@@ -1,5 +1,5 @@
 -- Each item that a node has ordered was given to a teller there.
-use Rattle.std.proofs.Common.{◌≡◌, ◌<◌, ℕ, zero, suc, Bool, true, false, cond, List, [], ◌∷◌, length, map, reverse, take, Option, Some, refl, sym, ap, ◌∙◌, subst, eqb, eq-eqb, eqb-true, arith}
+use Rattle.std.proofs.Common.{◌≡◌, ◌<◌, ℕ, zero, suc, Bool, true, false, cond, List, [], ◌∷◌, ◌++◌, length, map, reverse, take, Option, Some, refl, sym, ap, ◌∙◌, subst, eqb, eq-eqb, eqb-true, arith}
 use Rattle.std.specs.Prelude.{is_some, ◌||◌, if◌then◌else◌, slice_get}
 use Rattle.std.specs.List.{All, Contains, filter}
 use Rattle.std.proofs.lemmas.List.{reverse-append}
@@ -26,10 +26,11 @@ use Rattle.cast_carrier.specs.Lists.{Has}
 use Rattle.cast_engine.specs.Serving.{HasOriginOf, Matches, IsAnswered, IsAnsweredBy, before, entries_of, is_of, origin_in}
 use Rattle.cast_run.specs.declared.reports.ClientReport.{ClientReport}
 use Rattle.cast_job.specs.Jobs.{told_job}
+use Rattle.cast_job.specs.Submissions.{AreFirst}
 use Rattle.cast_run.specs.Serves.{AreServed, IsServed, HaveOrigins}
 use Rattle.cast_world.specs.Group.{State, Stands, node_at}
 use Rattle.example_ledger.specs.declared.teller.Teller.{Teller}
-use Rattle.example_ledger.specs.Tellers.{TellerFact, HasOrdered, IsGiven, OrdersAreGiven}
+use Rattle.example_ledger.specs.Tellers.{TellerFact, IsGiven, OrdersAreGiven}
 use Rattle.example_ledger.proofs.Telling.{something_at}
 
 -- ---- from the log of a node to its stream
@@ -125,11 +126,15 @@ items_of_orders P (order ∷ orders) all =
     let rest : List Item = map (λ o. o.item) orders in
     All-cons (λ (o : OrderIn). P o.item) order orders (All-head P order.item rest all) (items_of_orders P orders (All-tail P order.item rest all))
 
+all_front : (P : Item → Type 0) (xs ys : List Item) → All P (xs ++ ys) → All P xs
+all_front P [] ys all = All-nil P
+all_front P (x ∷ xs) ys all = All-cons P x xs (All-head P x (xs ++ ys) all) (all_front P xs ys (All-tail P x (xs ++ ys) all))
+
 -- what a teller has ordered it was given
-orders_of_teller : (P : Item → Type 0) (given teller : Teller) (sent : List OrderIn) → teller.items ≡ given.items → HasOrdered teller sent → All P given.items
-    → All (λ order. P order.item) sent
-orders_of_teller P given teller sent same ordered all =
-    items_of_orders P sent (subst (All P) (sym ordered) (All-take P teller.next teller.items (subst (All P) (sym same) all)))
+orders_of_teller : (P : Item → Type 0) (given left : List Item) (sent : List OrderIn) → AreFirst given left sent → All P given → All (λ order. P order.item) sent
+orders_of_teller P given left sent first all =
+    let items : List Item = map (λ o. o.item) sent in
+    items_of_orders P sent (all_front P items left (subst (All P) (sym first) all))
 
 -- an entry that answers an order by a step that orders this item is of an order of this item
 item_answered : (config : Config) (p node : ℕ) (earlier : Steps) (kind : EntryKind) (order : OrderIn) (item : Item) (origin : Option Origin) (outcome : Outcome)
@@ -143,13 +148,13 @@ item_answered config p node earlier (Refused from fault) order item origin done 
 -- an order of a client is of an item that its teller was given
 module _ (config : Config) (handed : List (ℕ × Teller)) (reports : List NodeReport) (i : ℕ) (teller : Teller) (client : ClientReport)
     (is : IsServed config TellerFact handed reports i teller client) where
-  order_is_given : (P : Item → Type 0) → All P is.handed.items
+  order_is_given : (P : Item → Type 0) → All P is.handed.orders
       → (entry : Entry) (node : ℕ) (item : Item) (origin : Option Origin) (outcome : Outcome) → Has is.report.log entry
       → entry.kind ≡ StepEntry (Order node item) origin outcome → is_of client.client origin ≡ true → P item
   unfolding entries_of
   order_is_given P all entry node item origin outcome has kind own =
       let Q : OrderIn → Type 0 = λ order. P order.item in
-      let sent = orders_of_teller P is.handed teller is.sent is.holds.same.0 is.holds.ordered all in
+      let sent = orders_of_teller P is.handed.orders teller.orders is.sent is.holds.ordered all in
       let passes : is_of client.client (origin_in entry.kind) ≡ true = ap (λ k. is_of client.client (origin_in k)) kind ∙ own in
       let found = matched (IsAnswered config client.node is.trail) Q (entries_of client.client is.report.log) (take client.tickets is.sent) entry is.entries
       (All-take Q client.tickets is.sent sent)
@@ -177,8 +182,8 @@ module _ (config : Config) (handed : List (ℕ × Teller)) (reports : List NodeR
       let c : client.0.client ≡ number = is.number ∙ ap (λ n. length (of n (take i handed))) same.0 ∙ job.3 in
       let own : report ≡ is.report = let there = is.report_at in let on = ap (slice_get reports) same.0 in cc in
       let P : Item → Type 0 = IsGiven handed s in
-      let all : All P given.items = All-weaker (Contains given.items) P (λ x has. (i, given, job.2, has)) given.items (All-contains_itself given.items) in
-      order_is_given config handed reports i back.0 client.0 is P (subst (λ (t : Teller). All P t.items) (sym same.1) all)
+      let all : All P given.orders = All-weaker (Contains given.orders) P (λ x has. (i, given, job.2, has)) given.orders (All-contains_itself given.orders) in
+      order_is_given config handed reports i back.0 client.0 is P (subst (λ (t : Teller). All P t.orders) (sym same.1) all)
       entry s item origin outcome (subst (λ (r : NodeReport). Has r.log entry) own has) kind
       (ap (is_of client.0.client) from.1 ∙ eq-eqb number client.0.client (sym c))
 

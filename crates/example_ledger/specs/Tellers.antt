@@ -1,15 +1,13 @@
 -- What a teller orders and applies.
 --     KeepsBook book notices      the book is that of these notices
---     HasOrdered teller sent      it has ordered the first of its items
 --     TellerFact                  what a teller keeps of itself
---     DoesFew old new             in a turn an order at most is made, and a notice at most taken
 --     AreNewTellers tellers       none of these has ordered or applied anything
 --     IsGiven tellers s item      the item is one that a teller at node s was given
 --     OrdersAreGiven              each item that a node ordered was given to a teller there
 --     TellersApplyPrefixes        what a teller applied of a sender is a prefix of what that sender ordered
 --     TellersKeepSheets tellers   each sheet is the sheet of what was applied
 --     LogsEnd config faults       each node's log ends as plan and limit say
-use Rattle.std.specs.Prelude.{◌≡◌, ℕ, ◌+◌, ◌<◌, ◌≤◌, List, [], length, map, take, slice_get, Bool, true, false, None, Some}
+use Rattle.std.specs.Prelude.{◌≡◌, ℕ, ◌<◌, ◌≤◌, List, [], length, map, slice_get, Bool, true, false, None, Some}
 use Rattle.std.specs.List.{All, Contains}
 use Rattle.cast_message.specs.declared.config.Config.{Config}
 use Rattle.cast_message.specs.declared.message.Item.{Item}
@@ -18,8 +16,8 @@ use Rattle.cast_model.specs.Replies.{IsPrefixOf}
 use Rattle.cast_model.specs.Shown.{item_of}
 use Rattle.cast_desk.specs.declared.notice.Notice.{Notice}
 use Rattle.cast_desk.specs.declared.desk.OrderIn.{OrderIn}
-use Rattle.cast_desk.specs.Desk.{ClientState}
 use Rattle.cast_job.specs.Jobs.{told_job}
+use Rattle.cast_job.specs.Submissions.{AreFirst}
 use Rattle.cast_carrier.specs.Plans.{crash_from}
 use Rattle.cast_engine.specs.Journals.{EndsAs}
 use Rattle.cast_report.specs.declared.report.NodeReport.{NodeReport}
@@ -33,21 +31,13 @@ pub record KeepsBook (book : BookState) (notices : List Notice) : Type 0 where
   pub applied : book.journal ≡ told notices
   pub sheet : IsSheetOf book.sheet book.journal
 
--- the first of its items, in order, are what was submitted
-abbrev pub HasOrdered : Teller → List OrderIn → Type 0
-HasOrdered teller sent = map (λ order. order.item) sent ≡ take teller.next teller.items
-
 -- the fact that a teller keeps about itself: its items are those that it was given, and the first of them are ordered; its book
 -- is that of the notices that it got; and once it is done, no item is left, and it has applied as many messages as it waits for
 pub record TellerFact (given teller : Teller) (sent : List OrderIn) (got : List Notice) (done : Bool) : Type 0 where
-  pub same : (teller.items ≡ given.items) × (teller.expected ≡ given.expected)
-  pub ordered : HasOrdered teller sent
+  pub same : teller.expected ≡ given.expected
+  pub ordered : AreFirst given.orders teller.orders sent
   pub book : KeepsBook teller.book got
-  pub all : done ≡ true → (length teller.items ≤ teller.next) × (teller.expected ≤ length teller.book.journal)
-
--- in a turn an order at most is made, and a notice at most taken
-abbrev pub DoesFew : ClientState → ClientState → Type 0
-DoesFew old new = (length new.orders.put ≤ length old.orders.put + 1) × (length new.tray.taken ≤ length old.tray.taken + 1)
+  pub all : done ≡ true → (teller.orders ≡ []) × (teller.expected ≤ length teller.book.journal)
 
 abbrev pub IsNewTeller : Teller → Type 0
 IsNewTeller teller = TellerFact teller teller [] [] false
@@ -57,7 +47,7 @@ AreNewTellers tellers = (i node : ℕ) (teller : Teller) → slice_get tellers i
 
 -- the item is one of those that a teller at node s was given
 abbrev pub IsGiven : List (ℕ × Teller) → ℕ → Item → Type 0
-IsGiven tellers s item = (i : ℕ) × (teller : Teller) × (slice_get tellers i ≡ Some (told_job s teller)) × Contains teller.items item
+IsGiven tellers s item = (i : ℕ) × (teller : Teller) × (slice_get tellers i ≡ Some (told_job s teller)) × Contains teller.orders item
 
 abbrev pub OrdersAreGiven : Config → History → List (ℕ × Teller) → Type 0
 OrdersAreGiven config past tellers = (s : ℕ) → s < config.nodes → All (IsGiven tellers s) (stream past s)

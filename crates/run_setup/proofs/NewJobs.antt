@@ -1,5 +1,5 @@
 -- Lists of jobs that get one more.
-use Rattle.std.proofs.Common.{◌≡◌, ◌≤◌, ℕ, zero, suc, List, [], ◌∷◌, ◌++◌, length, take, subst, ap, sym, refl, arith}
+use Rattle.std.proofs.Common.{◌≡◌, ℕ, zero, suc, List, [], ◌∷◌, ◌++◌, length, subst, ap, sym, refl, arith}
 use Rattle.cast_job.specs.declared.submit_all.SubmitAll.{SubmitAll}
 use Rattle.cast_job.specs.Jobs.{told_job, replies_in}
 use Rattle.run_setup.specs.NewJobs.{EachJob, IsNew}
@@ -16,15 +16,6 @@ each_with P (x ∷ xs) n j each h (suc i) node job e = each_with P xs n j (λ k 
 pub none_new : {J : Type 0} (P : J → Type 0) → EachJob P []
 none_new P i node job e = absurd cc
 
-pub is_new : (job : SubmitAll) → job.next ≡ 0 → job.replies ≡ 0 → IsNew job
+pub is_new : (job : SubmitAll) → job.count ≡ length job.left → job.replies ≡ 0 → IsNew job
 unfolding replies_in
-is_new job n r = (
-  refl,
-  record {
-    first = subst (λ k. [] ≡ take k job.items) (sym n) refl;
-    within = subst (λ k. k ≤ length job.items) (sym n) (omega arith);
-    replied = sym r;
-    below = subst (λ k. k ≤ length job.items) (sym r) (omega arith);
-    all = λ e. absurd cc;
-  },
-)
+is_new job count none = record { count = (refl, count); first = refl; replies = (sym none, omega (arith, none)); all = λ e. absurd cc }

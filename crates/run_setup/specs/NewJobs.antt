@@ -3,7 +3,8 @@
 --     AreNew jobs       none of these jobs has submitted or got anything
 use Rattle.std.specs.Prelude.{◌≡◌, ℕ, List, [], false, Some, slice_get}
 use Rattle.cast_job.specs.declared.submit_all.SubmitAll.{SubmitAll}
-use Rattle.cast_job.specs.Jobs.{SubmitsGiven, told_job}
+use Rattle.cast_job.specs.Jobs.{told_job}
+use Rattle.cast_job.specs.SubmitAll.{SubmitsGiven}
 
 abbrev pub EachJob : {J : Type 0} → (J → Type 0) → List (ℕ × J) → Type 0
 EachJob {J} P jobs = (i node : ℕ) (job : J) → slice_get jobs i ≡ Some (told_job node job) → P job

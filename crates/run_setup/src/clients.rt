@@ -1,13 +1,13 @@
 //! Jobs that treat their notices otherwise than `SubmitAll`: one keeps each, one takes none.
-ghost use Rattle.std.specs.Prelude.{◌≡◌, ◌<◌, ◌+◌, ◌^◌, [], false, cond, IsTrue, IfOk, length};
+ghost use Rattle.std.specs.Prelude.{◌≡◌, [], false, IfOk};
 ghost use Rattle.cast_desk.specs.Desk.{IsSameClient};
-ghost use Rattle.cast_job.specs.Jobs.{submitted, got};
+ghost use Rattle.cast_job.specs.Jobs.{got};
 ghost use Rattle.run_setup.specs.Silence.{IsSilent};
 
 use crate::jobs::data_items;
 use cast_desk::{Client, Notice};
 use cast_message::{Item, List};
-use cast_run::ClientJob;
+use cast_run::{ClientJob, Submissions};
 use std::alloc::{AllocError, Global};
 use std::sync::Wait;
 
@@ -15,8 +15,8 @@ use std::sync::Wait;
 /// that than there is room for, it takes no more, and is never done.
 #[derive(Drop)]
 pub struct Keeper {
-    items: List<Item>,
-    next: usize,
+    left: Submissions,
+    count: usize,
     replies: usize,
     kept: Vec<Notice>,
 }
@@ -28,11 +28,9 @@ impl ClientJob for Keeper {
     ghost fact = { λ given j sent got done. j.kept.items ≡ got };
 
     fn turn<R: Wait>(&mut self, rt: &R, client: &mut Client) -> bool {
-        if submit_at(rt, client, self.items.as_slice(), self.next) {
-            self.next += 1;
-        }
+        self.left.submit_next(rt, client);
         self.keep_next(rt, client);
-        self.replies < self.items.as_slice().len()
+        self.replies < self.count
     }
 }
 
@@ -42,8 +40,8 @@ impl Keeper {
         ensures { IfOk result (λ job. job.kept.items ≡ []) }
     {
         Ok(Keeper {
-            items,
-            next: 0,
+            count: items.as_slice().len(),
+            left: Submissions::new(items),
             replies: 0,
             kept: Vec::with_capacity(alloc, 16)?,
         })
@@ -78,44 +76,27 @@ impl Keeper {
 /// Submits items and never takes a notice; it is done with the last that its desk had room for.
 #[derive(Drop)]
 pub struct Silent {
-    items: List<Item>,
-    next: usize,
+    left: Submissions,
 }
 
 impl ClientJob for Silent {
     ghost use Rattle.run_setup.specs.Silence.{IsSilent};
 
-    ghost fact = { λ given j sent got done. IsSilent j sent got done };
+    ghost fact = { IsSilent };
 
     fn turn<R: Wait>(&mut self, rt: &R, client: &mut Client) -> bool {
-        if submit_at(rt, client, self.items.as_slice(), self.next) {
-            self.next += 1;
-        }
-        self.next != self.items.as_slice().len()
+        self.left.submit_next(rt, client);
+        !self.left.is_empty()
     }
 }
 
 impl Silent {
     /// A job for so many items.
     pub fn new(alloc: Global, items: u64) -> Result<Silent, AllocError>
-        ensures { IfOk result (λ job. IsSilent job [] [] false) }
+        ensures { IfOk result (λ job. IsSilent job job [] [] false) }
     {
         Ok(Silent {
-            items: data_items(alloc, items)?,
-            next: 0,
+            left: Submissions::new(data_items(alloc, items)?),
         })
-    }
-}
-
-// Submits the item of this number, where there is one and the desk has room. Answers whether it did.
-fn submit_at<R: Wait>(rt: &R, client: &mut Client, items: &[Item], at: usize) -> bool
-    ensures same { IsSameClient client.old client.new }
-    ensures tray { client.new.tray ≡ client.old.tray }
-    ensures sent { length (submitted client.new) ≡ length (submitted client.old) + cond result 1 0 }
-    ensures within { IsTrue result → at + 1 < 2 ^ 64 }
-{
-    match items.get(at).map(Item::copy) {
-        Some(Ok(item)) => client.submit(rt, item).is_ok(),
-        _ => false,
     }
 }

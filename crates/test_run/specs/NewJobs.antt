@@ -1,6 +1,6 @@
 -- Jobs that have not begun: none of these has submitted or got anything.
 use Rattle.std.specs.Prelude.{◌≡◌, ℕ, List, [], false}
-use Rattle.cast_job.specs.Jobs.{SubmitsGiven}
+use Rattle.cast_job.specs.SubmitAll.{SubmitsGiven}
 use Rattle.run_setup.specs.NewJobs.{EachJob}
 use Rattle.run_setup.specs.Silence.{IsSilent}
 use Rattle.run_setup.specs.declared.clients.Keeper.{Keeper}
@@ -20,7 +20,7 @@ abbrev pub AreNewKeepers : List (ℕ × Keeper) → Type 0
 AreNewKeepers jobs = EachJob IsNewKeeper jobs
 
 abbrev pub IsNewSilent : Silent → Type 0
-IsNewSilent job = IsSilent job [] [] false
+IsNewSilent job = IsSilent job job [] [] false
 
 abbrev pub AreNewSilent : List (ℕ × Silent) → Type 0
 AreNewSilent jobs = EachJob IsNewSilent jobs

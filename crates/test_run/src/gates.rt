@@ -97,7 +97,7 @@ pub struct SignalReply {
 }
 
 impl ClientJob for SignalReply {
-    ghost use Rattle.cast_job.specs.Jobs.{SubmitsGiven};
+    ghost use Rattle.cast_job.specs.SubmitAll.{SubmitsGiven};
 
     ghost fact = { λ given j sent got done. SubmitsGiven given.all j.all sent got done };
 

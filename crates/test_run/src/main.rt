@@ -1,6 +1,6 @@
 //! The worked rows of groups that run in threads, each with what came of it on one line: with no argument all of them, else
 //! those that the arguments name. Only what every schedule gives is printed. `scripts/run-rows` runs each many times over,
-//! and with each allocation refused in turn.
+//! and one of them with each allocation and each thread refused in turn.
 #![tactic(auto)]
 
 mod clients;

@@ -16,8 +16,8 @@ use std::thread::Threads;
 // How often the gate of node 1 looks whether the other engines have ended, before it gives up.
 const LOOKS: u64 = 20_000;
 
-/// A gate of the nodes 0, 1 and 2. The engine of node 0 begins once that of node 1 has taken a turn, in which it became quiet. That
-/// of node 1 takes its next once the others have ended, or after a while: till then it leaves alone what comes.
+/// A gate of the nodes 0, 1 and 2. The engine of node 0 begins once that of node 1 has taken a turn, in which it became quiet.
+/// That of node 1 takes its next once the others have ended, or after a while: till then it leaves alone what comes.
 #[derive(Drop)]
 pub struct LateGate {
     node: u8,
@@ -54,8 +54,8 @@ impl LateGate {
     }
 }
 
-/// Node 0 sends its item to node 1 and crashes, with the frame under way, while the others are quiet. Node 1 passes it on, and both
-/// stop at rest.
+/// Node 0 sends its item to node 1 and crashes, with the frame under way, while the others are quiet. Node 1 passes it on, and
+/// both stop at rest.
 pub fn crash_with_a_frame_under_way<R: Threads + Wait + Print + Copy + Send + 'static>(
     rt: R,
     alloc: Global,
