@@ -76,14 +76,14 @@ impl Model for Engine {
         (e.desk) e.places.items };
 }
 
-/// What a parcel that was taken has brought from a peer.
+// What a parcel that was taken has brought from a peer.
 #[derive(Clone, Copy)]
-pub enum Received {
-    /// The message in this slot, which is to be acknowledged.
+enum Received {
+    // The message in this slot, which is to be acknowledged.
     Carried { from: NodeId, slot: u64 },
-    /// Word that the peer took this slot.
+    // Word that the peer took this slot.
     Acknowledged { from: NodeId, slot: u64 },
-    /// Nothing: the parcel was dropped.
+    // Nothing: the parcel was dropped.
     Nothing,
 }
 
@@ -186,94 +186,6 @@ impl Engine {
         if moved { Turn::Moved } else { Turn::Idle }
     }
 
-    // What a turn does: exchanges parcels, takes an order, sends a slot that is due, puts notices, and tells the board whether
-    // the engine is quiet. Answers whether anything but the last was done. The jobs are asked before the desk is found empty and
-    // the trays full: once no job is left, both stay so, and are looked at no more.
-    #[tactic(auto, using(crate::proofs::Again::desk_same))]
-    fn work<R: Wait>(&mut self, rt: &R, board: &Board, quiet: &mut Quiet) -> bool
-        ensures same { IsSameEngine self.old self.new }
-        ensures few { DoesFew 1 1 3 1 self.old self.new }
-        ensures idle { IsFalse result → HasSameBoxes self.old self.new }
-    {
-        let exchanged = self.exchange(rt, board, quiet);
-        let jobs_ended = quiet.jobs_ended(board);
-        let ordered = self.take_order(rt);
-        let sent = self.resend(rt, board);
-        let told = self.notify(rt);
-        self.note_served(jobs_ended, ordered, told);
-        quiet.write(board, jobs_ended && !ordered && self.is_settled(board));
-        exchanged || ordered || sent || told
-    }
-
-    // Notes, where no job is left, whether the desk was empty and each client's next notice found its tray full.
-    #[tactic(auto, using(crate::proofs::Again::desk_same))]
-    fn note_served(&mut self, jobs_ended: bool, ordered: bool, told: bool)
-        ensures { self.new ≡ self.old }
-    {
-        let all_wait = self.places.iter().all(|place| place.waiting.is_some());
-        self.no_orders = jobs_ended && !ordered;
-        self.trays_full = jobs_ended && !told && all_wait;
-    }
-
-    // Puts the parcel that waits, takes one and acknowledges it. Answers whether it put or took one.
-    #[tactic(auto, using(crate::proofs::Again::desk_same))]
-    fn exchange<R: Wait>(&mut self, rt: &R, board: &Board, quiet: &mut Quiet) -> bool
-        ensures same { IsSameEngine self.old self.new }
-        ensures few { DoesFew 1 0 2 0 self.old self.new }
-        ensures idle { IsFalse result → HasSameBoxes self.old self.new }
-    {
-        let put = self.flush(rt);
-        let received = self.receive_and_acknowledge(rt, board, quiet);
-        put || received
-    }
-
-    // Takes a parcel, where none waits to be put, and acknowledges what it carries. Answers whether it took one.
-    #[tactic(auto, using(crate::proofs::Again::desk_same))]
-    fn receive_and_acknowledge<R: Wait>(&mut self, rt: &R, board: &Board, quiet: &mut Quiet) -> bool
-        ensures same { IsSameEngine self.old self.new }
-        ensures few { DoesFew 1 0 1 0 self.old self.new }
-        ensures idle { IsFalse result → HasSameBoxes self.old self.new }
-    {
-        if self.held.is_some() {
-            return false;
-        }
-        quiet.look(board);
-        let Some(received) = self.receive(rt) else {
-            quiet.found_nothing();
-            return false;
-        };
-        match received {
-            Received::Carried { from, slot } => {
-                quiet.write(board, false);
-                self.make(rt, FrameKind::Took, from, slot);
-            }
-            Received::Acknowledged { from, slot } => self.hear(from, slot),
-            Received::Nothing => {}
-        }
-        true
-    }
-
-    // A peer took a slot, so there is room for others on the way to it.
-    #[tactic(auto, using(crate::proofs::Again::desk_same))]
-    fn hear(&mut self, from: NodeId, slot: u64)
-        ensures { self.new ≡ self.old }
-    {
-        self.resend.hear(from, slot);
-    }
-
-    // Whether no parcel waits and nothing is owed to an engine that has not ended.
-    fn is_settled(&self, board: &Board) -> bool {
-        if self.held.is_some() {
-            return false;
-        }
-        for peer in 0..board.len() {
-            if owes(self.journal.node(), peer) && !board.has_ended(peer) {
-                return false;
-            }
-        }
-        true
-    }
-
     /// Ends the next putter of the inbox.
     #[tactic(auto, using(crate::proofs::Again::desk_same))]
     pub fn end_inbox(&mut self, putter: Putter<Parcel>)
@@ -310,6 +222,72 @@ impl Engine {
         }
     }
 
+    // Whether the engine may go on: its log and its clock are not full, and no crash is due, which is logged here.
+    #[tactic(auto, using(crate::proofs::Again::desk_same))]
+    fn may_go_on(&mut self) -> bool
+        ensures same { IsSameEngine self.old self.new }
+        ensures boxes { HasSameBoxes self.old self.new }
+    {
+        self.journal.may_log()
+    }
+
+    // Counts the turn. Answers whether there was one left.
+    #[tactic(auto, using(crate::proofs::Again::desk_same))]
+    fn count_turn(&mut self) -> bool
+        ensures same { IsSameEngine self.old self.new }
+        ensures boxes { HasSameBoxes self.old self.new }
+    {
+        if self.turns == 0 {
+            return false;
+        }
+        self.turns -= 1;
+        true
+    }
+
+    // Ends, as all engines are quiet or no turn is left. The log is asked first: the slot sent last may have filled it, or made a
+    // crash due.
+    #[tactic(auto, using(crate::proofs::Again::desk_same))]
+    fn end(&mut self, end: EngineEnd)
+        requires { IsChosen end }
+        ensures same { IsSameEngine self.old self.new }
+        ensures boxes { HasSameBoxes self.old self.new }
+    {
+        if self.journal.may_log() {
+            self.journal.end(end);
+        }
+    }
+
+    // What a turn does: exchanges parcels, takes an order, sends a slot that is due, puts notices, and tells the board whether
+    // the engine is quiet. Answers whether anything but the last was done. The jobs are asked before the desk is found empty and
+    // the trays full: once no job is left, both stay so, and are looked at no more.
+    #[tactic(auto, using(crate::proofs::Again::desk_same))]
+    fn work<R: Wait>(&mut self, rt: &R, board: &Board, quiet: &mut Quiet) -> bool
+        ensures same { IsSameEngine self.old self.new }
+        ensures few { DoesFew 1 1 3 1 self.old self.new }
+        ensures idle { IsFalse result → HasSameBoxes self.old self.new }
+    {
+        let exchanged = self.exchange(rt, board, quiet);
+        let jobs_ended = quiet.jobs_ended(board);
+        let ordered = self.take_order(rt);
+        let sent = self.resend_due(rt, board);
+        let told = self.notify(rt);
+        self.note_served(jobs_ended, ordered, told);
+        quiet.write(board, jobs_ended && !ordered && self.is_settled(board));
+        exchanged || ordered || sent || told
+    }
+
+    // Puts the parcel that waits, takes one and acknowledges it. Answers whether it put or took one.
+    #[tactic(auto, using(crate::proofs::Again::desk_same))]
+    fn exchange<R: Wait>(&mut self, rt: &R, board: &Board, quiet: &mut Quiet) -> bool
+        ensures same { IsSameEngine self.old self.new }
+        ensures few { DoesFew 1 0 2 0 self.old self.new }
+        ensures idle { IsFalse result → HasSameBoxes self.old self.new }
+    {
+        let put = self.flush(rt);
+        let received = self.receive_and_acknowledge(rt, board, quiet);
+        put || received
+    }
+
     // Puts the parcel that the outbox refused last, where there is one. Answers whether it was put.
     #[tactic(auto, using(crate::proofs::Again::desk_same))]
     fn flush<R: Wait>(&mut self, rt: &R) -> bool
@@ -321,6 +299,32 @@ impl Engine {
             return false;
         };
         hand(rt, &mut self.outbox, &mut self.held, parcel)
+    }
+
+    // Takes a parcel, where none waits to be put, and acknowledges what it carries. Answers whether it took one.
+    #[tactic(auto, using(crate::proofs::Again::desk_same))]
+    fn receive_and_acknowledge<R: Wait>(&mut self, rt: &R, board: &Board, quiet: &mut Quiet) -> bool
+        ensures same { IsSameEngine self.old self.new }
+        ensures few { DoesFew 1 0 1 0 self.old self.new }
+        ensures idle { IsFalse result → HasSameBoxes self.old self.new }
+    {
+        if self.held.is_some() {
+            return false;
+        }
+        quiet.look(board);
+        let Some(received) = self.receive(rt) else {
+            quiet.found_nothing();
+            return false;
+        };
+        match received {
+            Received::Carried { from, slot } => {
+                quiet.write(board, false);
+                self.make(rt, FrameKind::Took, from, slot);
+            }
+            Received::Acknowledged { from, slot } => self.hear(from, slot),
+            Received::Nothing => {}
+        }
+        true
     }
 
     // Takes one parcel, where there is one, and logs its arrival.
@@ -361,15 +365,50 @@ impl Engine {
         true
     }
 
+    // A peer took a slot, so there is room for others on the way to it.
+    #[tactic(auto, using(crate::proofs::Again::desk_same))]
+    fn hear(&mut self, from: NodeId, slot: u64)
+        ensures { self.new ≡ self.old }
+    {
+        self.resend.hear(from, slot);
+    }
+
+    // Takes one order and logs it. Answers whether there was one. The log is asked first, so that a crash that is due comes
+    // though no order can.
+    #[tactic(auto, using(crate::proofs::Again::desk_same))]
+    fn take_order<R: Wait>(&mut self, rt: &R) -> bool
+        ensures same { IsSameEngine self.old self.new }
+        ensures idle { IsFalse result → HasSameBoxes self.old self.new }
+        ensures few { DoesFew 0 1 0 0 self.old self.new }
+    {
+        if !self.journal.may_log() || self.no_orders {
+            return false;
+        }
+        let Some(order) = next_order(rt, &mut self.desk) else {
+            return false;
+        };
+        self.journal.order(order);
+        self.resend.given();
+        true
+    }
+
     // Sends a slot that is due, to the next peer in cyclic order that has not ended and to which one is. Answers whether it did.
     #[tactic(auto, using(crate::proofs::Again::desk_same))]
-    fn resend<R: Wait>(&mut self, rt: &R, board: &Board) -> bool
+    fn resend_due<R: Wait>(&mut self, rt: &R, board: &Board) -> bool
         ensures same { IsSameEngine self.old self.new }
         ensures few { DoesFew 0 0 1 0 self.old self.new }
         ensures idle { IsFalse result → HasSameBoxes self.old self.new }
     {
         self.next_turn();
         self.send_due(rt, board)
+    }
+
+    // What was sent long ago is due again.
+    #[tactic(auto, using(crate::proofs::Again::desk_same))]
+    fn next_turn(&mut self)
+        ensures { self.new ≡ self.old }
+    {
+        self.resend.next_turn(self.journal.node());
     }
 
     // Sends the slot that is due next. Answers whether there was one.
@@ -392,14 +431,6 @@ impl Engine {
         true
     }
 
-    // What was sent long ago is due again.
-    #[tactic(auto, using(crate::proofs::Again::desk_same))]
-    fn next_turn(&mut self)
-        ensures { self.new ≡ self.old }
-    {
-        self.resend.next_turn(self.journal.node());
-    }
-
     // For each client, puts the next notice of its feed, where the tray has room; none once the engine has ended. Answers whether
     // one was put.
     #[tactic(auto, using(crate::proofs::Again::desk_same))]
@@ -417,59 +448,59 @@ impl Engine {
         }
     }
 
-    // Whether the engine may go on: its log and its clock are not full, and no crash is due, which is logged here.
+    // Notes, where no job is left, whether the desk was empty and each client's next notice found its tray full.
     #[tactic(auto, using(crate::proofs::Again::desk_same))]
-    fn may_go_on(&mut self) -> bool
-        ensures same { IsSameEngine self.old self.new }
-        ensures boxes { HasSameBoxes self.old self.new }
+    fn note_served(&mut self, jobs_ended: bool, ordered: bool, told: bool)
+        ensures { self.new ≡ self.old }
     {
-        self.journal.may_log()
+        self.no_orders = jobs_ended && !ordered;
+        self.trays_full = jobs_ended
+            && !told
+            && self.places.iter().all(|place| place.waiting.is_some());
     }
 
-    // Ends, as all engines are quiet or no turn is left. The log is asked first: the slot sent last may have filled it, or made a
-    // crash due.
-    #[tactic(auto, using(crate::proofs::Again::desk_same))]
-    fn end(&mut self, end: EngineEnd)
-        requires { IsChosen end }
-        ensures same { IsSameEngine self.old self.new }
-        ensures boxes { HasSameBoxes self.old self.new }
-    {
-        if self.journal.may_log() {
-            self.journal.end(end);
-        }
-    }
-
-    // Counts the turn. Answers whether there was one left.
-    #[tactic(auto, using(crate::proofs::Again::desk_same))]
-    fn count_turn(&mut self) -> bool
-        ensures same { IsSameEngine self.old self.new }
-        ensures boxes { HasSameBoxes self.old self.new }
-    {
-        if self.turns == 0 {
+    // Whether no parcel waits and nothing is owed to an engine that has not ended.
+    fn is_settled(&self, board: &Board) -> bool {
+        if self.held.is_some() {
             return false;
         }
-        self.turns -= 1;
+        for peer in 0..board.len() {
+            if owes(self.journal.node(), peer) && !board.has_ended(peer) {
+                return false;
+            }
+        }
         true
     }
+}
 
-    // Takes one order and logs it. Answers whether there was one. The log is asked first, so that a crash that is due comes
-    // though no order can.
-    #[tactic(auto, using(crate::proofs::Again::desk_same))]
-    fn take_order<R: Wait>(&mut self, rt: &R) -> bool
-        ensures same { IsSameEngine self.old self.new }
-        ensures idle { IsFalse result → HasSameBoxes self.old self.new }
-        ensures few { DoesFew 0 1 0 0 self.old self.new }
-    {
-        if !self.journal.may_log() || self.no_orders {
-            return false;
+/// Runs an engine until it ends, or the run is given up, and says so on the board.
+pub fn run_engine<G: Gate + Drop, R: Wait>(
+    rt: &R,
+    mut engine: Engine,
+    mut gate: G,
+    board: &Board,
+    mut quiet: Quiet,
+) -> Engine
+    ensures { IsSameEngine engine result }
+{
+    let mut waiting = Waiting::new(PATIENCE);
+    let mut all_quiet = false;
+    for _ in rt.forever() {
+        if board.is_abandoned() {
+            break;
         }
-        let Some(order) = take_order(rt, &mut self.desk) else {
-            return false;
-        };
-        self.journal.order(order);
-        self.resend.given();
-        true
+        match engine.turn(rt, &mut gate, board, &mut quiet) {
+            Turn::Moved => waiting.found(),
+            Turn::Idle => waiting.wait(rt),
+            Turn::Stopped => {
+                all_quiet = true;
+                break;
+            }
+            Turn::Ended => break,
+        }
     }
+    quiet.end(board, all_quiet);
+    engine
 }
 
 // Tells the gate how many messages were delivered in these entries, where there are any.
@@ -529,38 +560,6 @@ fn log_arrival(journal: &mut Journal, parcel: &Parcel) -> Received
     }
 }
 
-/// Runs an engine until it ends, and says so on the board.
-pub fn run_engine<G: Gate + Drop, R: Wait>(
-    rt: &R,
-    mut engine: Engine,
-    mut gate: G,
-    board: &Board,
-    mut quiet: Quiet,
-) -> Engine
-    ensures { IsSameEngine engine result }
-{
-    let mut waiting = Waiting::new(PATIENCE);
-    for _ in rt.forever() {
-        if board.is_stopped() {
-            quiet.end(board, false);
-            return engine;
-        }
-        match engine.turn(rt, &mut gate, board, &mut quiet) {
-            Turn::Moved => waiting.found(),
-            Turn::Idle => waiting.wait(rt),
-            Turn::Stopped => {
-                quiet.end(board, true);
-                return engine;
-            }
-            Turn::Ended => {
-                quiet.end(board, false);
-                return engine;
-            }
-        }
-    }
-    unreachable!()
-}
-
 // What a frame that arrived has brought.
 fn brought_by(frame: &Frame) -> Received {
     let from = frame.from;
@@ -595,7 +594,7 @@ fn hand<R: Wait>(
 
 // Takes an order from the desk, where there is one.
 #[tactic(auto, using(crate::proofs::Again::desk_same))]
-fn take_order<R: Wait>(rt: &R, desk: &mut Option<Desk>) -> Option<OrderIn>
+fn next_order<R: Wait>(rt: &R, desk: &mut Option<Desk>) -> Option<OrderIn>
     ensures same { IsSameDesk desk.old desk.new }
     ensures taken { TakesOrder desk.old result desk.new }
 {

@@ -1,5 +1,5 @@
-//! Engines: the owner of a node, with its log, its clock and the ends of its boxes, turn by turn. The engines of a group tell one
-//! another on a board when they are quiet, and pass a gate in each turn.
+//! Engines: the owner of a node, with its log, its clock and the ends of its boxes, turn by turn. The engines of a group tell
+//! one another on a board when they are quiet, and pass a gate in each turn that is counted.
 #![tactic(auto)]
 
 mod engine;

@@ -1,5 +1,5 @@
 //! What an engine tells the others of its quiet, by its word on the stop board. No contract speaks of it.
-use cast_carrier::Board;
+use cast_carrier::{Board, QuietWord};
 use std::alloc::{AllocError, Global};
 
 /// What an engine knows of its own word on the board.
@@ -11,7 +11,7 @@ pub struct Quiet {
     // Its inbox may hold the last frames of an engine that has ended.
     unread: bool,
     // The words as they were read last.
-    seen: Vec<u64>,
+    seen: Vec<QuietWord>,
 }
 
 impl Quiet {
@@ -19,7 +19,7 @@ impl Quiet {
     pub fn new(alloc: Global, node: usize, engines: usize) -> Result<Quiet, AllocError> {
         let mut seen = Vec::new(alloc);
         for _engine in 0..engines {
-            seen.push(0)?;
+            seen.push(QuietWord::BUSY)?;
         }
         Ok(Quiet {
             node,
@@ -30,8 +30,9 @@ impl Quiet {
         })
     }
 
-    /// Notes, before the engine looks into its inbox, whether the last frames of one that has ended may lie there. Until the inbox
-    /// was found empty the engine is not quiet: it says so first, so that no word of before stands once it is not marked any more.
+    /// Notes, before the engine looks into its inbox, whether the last frames of one that has ended may lie there. Until the
+    /// inbox was found empty the engine is not quiet: it says so first, so that no word of before stands once it is not marked
+    /// any more.
     pub fn look(&mut self, board: &Board) {
         if board.is_unread(self.node) {
             self.unread = true;
@@ -51,10 +52,7 @@ impl Quiet {
         if quiet != self.quiet {
             self.changes = self.changes.wrapping_add(1);
             self.quiet = quiet;
-            board.write(
-                self.node,
-                self.changes.wrapping_mul(2).wrapping_add(u64::from(quiet)),
-            );
+            board.write(self.node, QuietWord::new(self.changes, quiet));
         }
     }
 
@@ -63,19 +61,20 @@ impl Quiet {
         board.has_no_job(self.node)
     }
 
-    /// Whether two readings of all words in succession were equal, and each engine is quiet, or has ended and its last frames were
-    /// put.
+    /// Whether two readings of all words in succession were equal, and each engine is quiet, or has ended and its last frames
+    /// were put.
     pub fn may_stop(&mut self, board: &Board) -> bool {
         if !self.quiet {
             return false;
         }
-        let mut all_quiet = true;
         for engine in 0..self.seen.len() {
             let word = board.read(engine);
+            if !word.is_quiet() {
+                return false;
+            }
             self.seen[engine] = word;
-            all_quiet = all_quiet && word % 2 == 1;
         }
-        all_quiet && self.is_seen_again(board)
+        self.is_seen_again(board)
     }
 
     /// Notes that the engine has ended, and whether all were quiet then.

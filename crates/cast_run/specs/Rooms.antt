@@ -3,7 +3,7 @@
 --     HasRoom n k room           and for what is gathered of k jobs
 use Rattle.std.specs.Prelude.{ℕ}
 use Rattle.cast_carrier.specs.Lists.{IsRoomFor}
-use Rattle.cast_run.specs.declared.ending.EndRoom.{EndRoom}
+use Rattle.cast_run.specs.declared.room.EndRoom.{EndRoom}
 use Rattle.cast_run.specs.declared.room.Room.{Room}
 
 pub record HasEndRoom (n : ℕ) (room : EndRoom) : Type 0 where

@@ -9,7 +9,7 @@ ghost use Rattle.cast_job.specs.Jobs.{IsCount, IsFresh};
 ghost use Rattle.cast_job.specs.Seats.{seat_job, seat_client};
 ghost use Rattle.cast_run.specs.Reports.{AreNewRows, AreSeated};
 
-use crate::make::make_running;
+use crate::make::make_group;
 use crate::reports::{Row, make_rows};
 use crate::started::Group;
 use cast_carrier::Board;
@@ -59,7 +59,7 @@ pub fn prepare<J: Drop>(
     let board = make_board(alloc, counts)?;
     let (desks, waiting) = make_desks(alloc, config.box_size(), counts)?;
     let seats = Vec::with_capacity(alloc, jobs.len())?;
-    let group = make_running(alloc, config, faults, turns, desks)?;
+    let group = make_group(alloc, config, faults, turns, desks)?;
     let seats = seat_jobs(jobs, waiting, seats);
     Ok(Prepared {
         group,

@@ -2,8 +2,11 @@
 ghost use Rattle.std.specs.Prelude.{IfOk};
 ghost use Rattle.cast_run.specs.Rooms.{HasEndRoom, HasRoom};
 
-use crate::ending::EndRoom;
 use crate::reports::{ClientReport, Draft, LeftCounts};
+use cast_box::Taker;
+use cast_carrier::Parcel;
+use cast_desk::Desk;
+use cast_report::NodeReport;
 use std::alloc::{AllocError, Global};
 
 /// Empty lists, with room for what is gathered.
@@ -14,6 +17,15 @@ pub struct Room<J> {
     pub drafts: Vec<Draft>,
     pub left: Vec<LeftCounts>,
     pub clients: Vec<ClientReport>,
+}
+
+/// Lists with room for what engines leave, and for each node whether all jobs of its clients are done.
+#[derive(Drop)]
+pub struct EndRoom {
+    pub takers: Vec<Taker<Parcel>>,
+    pub reports: Vec<NodeReport>,
+    pub desks: Vec<Option<Desk>>,
+    pub dones: Vec<bool>,
 }
 
 impl EndRoom {

@@ -114,7 +114,7 @@ impl<J: ClientJob + Send + Drop + 'static> Running<J> {
         let jobs_back = Vec::with_capacity(alloc, seats.len())?;
         let mut threads = Running::new(alloc, group.engines.len(), seats.len())?;
         if let Err(fault) = threads.start(rt, alloc, &board, group, seats, gates, turns) {
-            board.stop();
+            board.abandon();
             threads.abandon(&rt);
             return Err(fault);
         }

@@ -15,8 +15,8 @@ make_desks-requires g c = record {
   few = λ p k at. (c.requires.counted.1 p k at).1;
 }
 
-pub make_running-requires : goal.make_running-requires
-make_running-requires g c = let d = c.in_ok-desks in record { many = d.ensures.0 ∙ c.requires.counted.0; desks = desks_unused c.box_size.result _ d.desks.items d.waiting.items d.ensures }
+pub make_group-requires : goal.make_group-requires
+make_group-requires g c = let d = c.in_ok-desks in record { many = d.ensures.0 ∙ c.requires.counted.0; desks = desks_unused c.box_size.result _ d.desks.items d.waiting.items d.ensures }
 
 pub returns-clause-seated : goal.returns-clause-seated
 returns-clause-seated g c =

@@ -3,7 +3,7 @@ use Rattle.cast_box.specs.Ends.{PutterEnd, AreSamePutters}
 use Rattle.cast_box.proofs.Same.{putters_same}
 use Rattle.cast_desk.specs.declared.notice.Notice.{Notice}
 use Rattle.cast_engine.proofs.Again.{desk_used}
-use Rattle.cast_engine.proofs.engine.take_order.Goals as goal
+use Rattle.cast_engine.proofs.engine.next_order.Goals as goal
 
 pub returns-in-Some-clause-same : goal.returns-in-Some-clause-same
 returns-in-Some-clause-same g c =
