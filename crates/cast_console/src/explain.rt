@@ -2,9 +2,10 @@
 //! the fixed text was written, from the input once more; where there is no memory for it, nothing more is said.
 mod stream;
 
-use crate::source::{Failure, Source};
+use crate::source::{Failure, Source, StreamName};
 use cast_explain::{Explanation, group_words, head_words, script_words, verdict_words};
 use cast_text::{INPUT_LIMIT, TextFault};
+use std::alloc::Global;
 use std::rt::Runtime;
 use stream::{failure_words, stream_name};
 
@@ -18,13 +19,7 @@ pub fn explain_fault<R: Runtime + AllocGlobal>(
     if !source.explains() {
         return;
     }
-    let words = match fault {
-        TextFault::Read => failure_words(rt.alloc(), source.failure()),
-        TextFault::Write => failure_words(rt.alloc(), output),
-        TextFault::Memory => Ok(None),
-        fault => words_on_input(rt, fault, source),
-    };
-    tell(rt, words);
+    tell(rt, fault_words(rt, fault, source, output));
 }
 
 /// Explains the fault of an output, where the input was read without one.
@@ -42,37 +37,53 @@ pub fn explain_verdict<R: Runtime + AllocGlobal>(
     if !source.explains() {
         return;
     }
-    let name = stream_name(rt.alloc(), source.name());
-    let words = match (name, source.into_bytes(rt)) {
-        (Ok(name), Some(bytes)) => {
-            verdict_words(rt.alloc(), name.as_str(), bytes.as_slice(), line, rule)
-        }
-        _ => Ok(None),
-    };
+    let words = on_input(rt, source, |alloc, name, bytes| {
+        verdict_words(alloc, name, bytes, line, rule)
+    });
     tell(rt, words);
 }
 
-// What is wrong with an input that was read.
-fn words_on_input<R: Runtime + AllocGlobal>(
+// What is wrong: with a stream that failed, or with the input, which is had once more.
+fn fault_words<R: Runtime + AllocGlobal>(
     rt: &R,
     fault: TextFault,
     source: Source<'_, R::File, R::Reader>,
+    output: Failure<'_>,
 ) -> Explanation {
-    let alloc = rt.alloc();
-    let name = stream_name(alloc, source.name())?;
-    if let TextFault::TooLong = fault {
-        return Ok(Some(format!(in alloc;
-            "{name}: more than the {INPUT_LIMIT} bytes that are read"
-        )?));
-    }
-    let Some(bytes) = source.into_bytes(rt) else {
-        return Ok(None);
-    };
     match fault {
-        TextFault::Script(fault) => script_words(alloc, name.as_str(), bytes.as_slice(), fault),
-        TextFault::Live(fault) => group_words(alloc, name.as_str(), bytes.as_slice(), fault),
-        TextFault::NotV1 => head_words(alloc, name.as_str(), bytes.as_slice()),
-        TextFault::Read | TextFault::TooLong | TextFault::Write | TextFault::Memory => Ok(None),
+        TextFault::Read => failure_words(rt.alloc(), source.failure()),
+        TextFault::Write => failure_words(rt.alloc(), output),
+        TextFault::Memory => Ok(None),
+        TextFault::TooLong => length_words(rt.alloc(), source.name()),
+        TextFault::Script(why) => on_input(rt, source, |alloc, name, bytes| {
+            script_words(alloc, name, bytes, why)
+        }),
+        TextFault::Live(why) => on_input(rt, source, |alloc, name, bytes| {
+            group_words(alloc, name, bytes, why)
+        }),
+        TextFault::NotV1 => on_input(rt, source, |alloc, name, bytes| {
+            head_words(alloc, name, bytes)
+        }),
+    }
+}
+
+fn length_words(alloc: Global, name: StreamName<'_>) -> Explanation {
+    let name = stream_name(alloc, name)?;
+    Ok(Some(format!(in alloc; "{name}: more than the {INPUT_LIMIT} bytes that are read")?))
+}
+
+// What these words say of an input by its name and its bytes, where they can be had once more.
+fn on_input<R: Runtime + AllocGlobal, F: FnOnce(Global, &str, &[u8]) -> Explanation>(
+    rt: &R,
+    source: Source<'_, R::File, R::Reader>,
+    words: F,
+) -> Explanation
+    requires { F.IsAlwaysCallable words }
+{
+    let name = stream_name(rt.alloc(), source.name())?;
+    match source.into_bytes(rt) {
+        Some(bytes) => words(rt.alloc(), name.as_str(), bytes.as_slice()),
+        None => Ok(None),
     }
 }
 

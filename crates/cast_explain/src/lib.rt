@@ -1,5 +1,5 @@
-//! Why a script or a record was refused, in words, for the line that `--explain` adds. Each call reads the bytes once more and
-//! asks the call that refused them: where that answers otherwise now, nothing is said.
+//! Why a script, a group, a head or a record was refused, in words, for the line that `--explain` adds. Each call reads the
+//! bytes once more and asks the call that refused them: where that answers otherwise now, nothing is said.
 #![tactic(auto)]
 
 mod element;
