@@ -192,10 +192,11 @@ module _ (client : ℕ) where
 
 -- The log tells of the steps that made the stream of its node.
 pub tells_numbers : TellsNumbers
-tells_numbers config past world p client report trail got stands same is begins i ticket number at =
-    let there = subst (λ all. slice_get all i ≡ Some (Reply ticket (Ok number))) (sym begins.1) (at_front got begins.0 i (Reply ticket (Ok number)) at) in
-    let it = numbered client 0 report.log i ticket number there in
-    let node = subst (NodeStands config p (steps_of past p)) same (stands.nodes p is.stands.place) in
-    let all = ap items_in is.tells ∙ items_taken config p trail is.accepted ∙ sym is.stands.stream ∙ node.stream ∙ own_items-steps_of past p in
+tells_numbers config past world p client got stands has i ticket number at =
+    let is = has.tells in
+    let there = subst (λ all. slice_get all i ≡ Some (Reply ticket (Ok number))) (sym has.begins.1) (at_front got has.begins.0 i (Reply ticket (Ok number)) at) in
+    let it = numbered client 0 has.report.log i ticket number there in
+    let node = subst (NodeStands config p (steps_of past p)) has.same (stands.nodes p is.stands.place) in
+    let all = ap items_in is.tells ∙ items_taken config p has.trail is.accepted ∙ sym is.stands.stream ∙ node.stream ∙ own_items-steps_of past p in
     let here : number ≡ it.place = (let n = it.number_is in omega (arith, n)) in
     (it.item, it.ordered, ap (slice_get (stream past p)) here ∙ ap (λ items. slice_get items it.place) (sym all) ∙ it.at)

@@ -1,18 +1,25 @@
--- What clients are told of what a group broadcasts.
+-- What clients are told of what a group broadcasts and decides.
+--     HasGot config world p c got  client c of node p got these notices: they begin the feed of the log of that node of the world
 --     told notices                what these notices say was delivered, in order
 --     of_sender s messages        the messages of s among these
---     TellsPrefixes               what the client of a node got, which begins the feed of its log, tells of each sender a prefix of
---                                 what that sender broadcast
+--     values_told j notices       the values that these notices say were decided in instance j, in order
+--     TellsPrefixes               what a client got tells of each sender a prefix of what that sender broadcast
 --     TellsNumbers                where it got a number in reply, the item that it ordered has that number in its node's stream
-use Rattle.std.specs.Prelude.{◌≡◌, ℕ, ◌<◌, List, map, slice_get, Option, Some, None, Ok}
-use Rattle.std.specs.List.{filter, filter_map}
+--     TellsDecisions              of each instance it tells nothing, or the value that the node decided, once
+--     TellsProposals              each value was proposed in its instance
+--     TellsFewValues              all clients together are told at most k values, where the faults are fewer than k
+use Rattle.std.specs.Prelude.{◌≡◌, ℕ, ◌<◌, ◌≤◌, nat_eq, List, [], length, map, slice_get, Option, Some, None, Ok}
+use Rattle.std.specs.List.{filter, filter_map, cons_option, All, Contains, IsDistinct}
 use Rattle.cast_message.specs.declared.config.Config.{Config}
 use Rattle.cast_message.specs.declared.event.Event.TheVariants.{Order}
 use Rattle.cast_message.specs.declared.event.Outcome.{Outcome}
 use Rattle.cast_message.specs.declared.message.Item.{Item}
+use Rattle.cast_message.specs.declared.message.Item.TheVariants.{Propose}
 use Rattle.cast_message.specs.declared.message.Message.{Message}
+use Rattle.cast_message.specs.declared.message.Decision.{Decision}
 use Rattle.cast_model.specs.History.{History, stream}
-use Rattle.cast_model.specs.Replies.{IsPrefixOf, is_from}
+use Rattle.cast_model.specs.Delivery.{decision}
+use Rattle.cast_model.specs.Replies.{IsPrefixOf, is_from, value_for}
 use Rattle.cast_model.specs.Shown.{item_of}
 use Rattle.cast_box.specs.Lists.{StartsWith}
 use Rattle.cast_node.specs.declared.entry.Entry.{Entry}
@@ -35,12 +42,26 @@ told notices = filter_map message_told notices
 abbrev pub of_sender : ℕ → List Message → List Message
 of_sender s messages = filter (is_from s) messages
 
--- node p, whose log tells of these steps, is that of a world that stands for the history; client c got what begins its feed
+abbrev pub decision_told : Notice → Option Decision
+decision_told (Decided decision) = Some decision
+decision_told (Reply ticket outcome) = None
+decision_told (Delivered message) = None
+
+abbrev pub values_told : ℕ → List Notice → List ℕ
+values_told j notices = filter_map (value_for j) (filter_map decision_told notices)
+
+-- client c of node p got these notices, with which the feed of a log begins that is the log of that node of the world
+pub record HasGot (config : Config) (world : State) (p c : ℕ) (got : List Notice) : Type 0 where
+  pub report : NodeReport
+  pub trail : Trail
+  pub same : node_at world p ≡ report.node
+  pub tells : IsLogOf config p trail report.log report.node
+  pub begins : StartsWith (feed report.log c) got
+
 abbrev pub TellsPrefixes : Type 0
 TellsPrefixes =
-    (config : Config) (past : History) (world : State) (p s c : ℕ) (report : NodeReport) (trail : Trail) (got : List Notice)
-    → Stands config past world → node_at world p ≡ report.node → IsLogOf config p trail report.log report.node
-    → StartsWith (feed report.log c) got → s < config.nodes
+    (config : Config) (past : History) (world : State) (p s c : ℕ) (got : List Notice)
+    → Stands config past world → HasGot config world p c got → s < config.nodes
     → IsPrefixOf (map item_of (of_sender s (told got))) (stream past s)
 
 -- the log has the step by which the client's order of this item was taken
@@ -52,11 +73,41 @@ pub record HasOrdered (log : List Entry) (client ticket : ℕ) (item : Item) : T
   pub outcome : Outcome
   pub kind : entry.kind ≡ StepEntry (Order node item) (Some (record { client = client; ticket = ticket })) outcome
 
--- of the same node and log: where the reply to an order is a number, that is the item's number in the stream of its node
+-- where the reply to an order is a number, that is the item's number in the stream of its node
 abbrev pub TellsNumbers : Type 0
 TellsNumbers =
-    (config : Config) (past : History) (world : State) (p c : ℕ) (report : NodeReport) (trail : Trail) (got : List Notice)
-    → Stands config past world → node_at world p ≡ report.node → IsLogOf config p trail report.log report.node
-    → StartsWith (feed report.log c) got
+    (config : Config) (past : History) (world : State) (p c : ℕ) (got : List Notice)
+    → Stands config past world → (has : HasGot config world p c got)
     → (i ticket number : ℕ) → slice_get got i ≡ Some (Reply ticket (Ok number))
-    → (item : Item) × HasOrdered report.log c ticket item × (slice_get (stream past p) number ≡ Some item)
+    → (item : Item) × HasOrdered has.report.log c ticket item × (slice_get (stream past p) number ≡ Some item)
+
+-- of an instance a client is told nothing, or the value that its node decided there, once
+abbrev pub TellsDecisions : Type 0
+TellsDecisions =
+    (config : Config) (past : History) (world : State) (p c : ℕ) (got : List Notice)
+    → Stands config past world → HasGot config world p c got
+    → (j : ℕ) → IsPrefixOf (values_told j got) (cons_option (decision config past p j) [])
+
+-- a value that it is told was proposed in the instance, by a node of the group
+abbrev pub TellsProposals : Type 0
+TellsProposals =
+    (config : Config) (past : History) (world : State) (p c : ℕ) (got : List Notice)
+    → Stands config past world → HasGot config world p c got
+    → (j v : ℕ) → Contains (values_told j got) v
+    → (s : ℕ) × (s < config.nodes) × Contains (stream past s) (Propose j v)
+
+-- some client of some node is told that the value was decided in instance j
+pub record IsValueTold (config : Config) (world : State) (j v : ℕ) : Type 0 where
+  pub node : ℕ
+  pub client : ℕ
+  pub got : List Notice
+  pub has : HasGot config world node client got
+  pub there : Contains (values_told j got) v
+
+-- at most k pairwise different values of an instance are told, where the faults are fewer than k
+abbrev pub TellsFewValues : Type 0
+TellsFewValues =
+    (config : Config) (past : History) (world : State)
+    → Stands config past world → config.faults < config.choices
+    → (j : ℕ) (values : List ℕ) → IsDistinct nat_eq values
+    → All (IsValueTold config world j) values → length values ≤ config.choices

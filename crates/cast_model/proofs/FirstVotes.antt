@@ -45,6 +45,17 @@ first_from_once j seen message v once e = not_from_false _ (false_from_ne_true _
     let h = once s in
     omega (arith, old, total, one, h)))
 
+-- with one message more
+pub first_votes-last : (j : ℕ) (seen xs : List Message) (m : Message) →
+    first_votes j seen (xs ++ m ∷ []) ≡ first_votes j seen xs ++ cond (is_first_vote j (seen ++ xs) m.sender) (votes j (m ∷ [])) []
+unfolding first_votes
+first_votes-last j seen [] m = append-nil _ ∙ ap (λ all. cond (is_first_vote j all m.sender) (votes j (m ∷ [])) []) (sym (append-nil seen))
+first_votes-last j seen (x ∷ xs) m =
+    let first : List ℕ = cond (is_first_vote j seen x.sender) (votes j (x ∷ [])) [] in
+    ap (λ rest. first ++ rest)
+    (first_votes-last j (seen ++ x ∷ []) xs m ∙ ap (λ all. first_votes j (seen ++ x ∷ []) xs ++ cond (is_first_vote j all m.sender) (votes j (m ∷ [])) []) (append_assoc seen (x ∷ []) xs))
+    ∙ sym (append_assoc first (first_votes j (seen ++ x ∷ []) xs) (cond (is_first_vote j (seen ++ x ∷ xs) m.sender) (votes j (m ∷ [])) []))
+
 pub first_votes-all : (j : ℕ) (seen messages : List Message) → VotesOnce j (seen ++ messages) → first_votes j seen messages ≡ votes j messages
 unfolding first_votes votes
 first_votes-all j seen [] once = refl

@@ -1,5 +1,5 @@
 -- What the replies to any list of events say that a node decided is what it shows as decided, each value once.
-use Rattle.std.proofs.Common.{◌≡◌, ℕ, ◌+◌, ◌-◌, ◌<◌, refl, sym, ◌∙◌, ap, Bool, true, false, cond, List, [], ◌∷◌, ◌++◌, length, take, Option, Some, None, inl, inr, arith, append_assoc, length-append}
+use Rattle.std.proofs.Common.{◌≡◌, ℕ, ◌+◌, ◌-◌, ◌<◌, refl, sym, ◌∙◌, ap, subst, Bool, true, false, cond, List, [], ◌∷◌, ◌++◌, length, take, Option, Some, None, inl, inr, arith, append_assoc, length-append}
 use Rattle.std.specs.Prelude.{◌==◌, nat_le, if◌then◌else◌, slice_get}
 use Rattle.std.specs.List.{filter_map, cons_option}
 use Rattle.std.proofs.lemmas.List.{append-nil, take_all, take-append-le}
@@ -15,10 +15,12 @@ use Rattle.cast_message.specs.declared.message.Message.{Message}
 use Rattle.cast_message.specs.declared.message.Decision.{Decision}
 use Rattle.cast_message.specs.declared.message.Frame.{Frame}
 use Rattle.cast_model.specs.History.{History, frames}
-use Rattle.cast_model.specs.Delivery.{concerned, concerned_by, turns_of, deliveries, delivery_log, value_in, votes, least, decision, decision_by, decision_on, decisions_of, log_of, outcome}
-use Rattle.cast_model.specs.Replies.{fault, answer, reply, reply_by, after, history_from, history, replies_from, replies, deliveries_at, deliveries_for, decisions_at, decisions_for, value_for, decided_at, target_of}
-use Rattle.cast_model.proofs.Answered.{delivery_log-after}
-use Rattle.cast_model.proofs.Votes.{votes-append}
+use Rattle.cast_model.specs.Delivery.{concerned, concerned_by, turns_of, deliveries, delivery_log, value_in, votes, least, decision, decision_by, decisions_of, log_of, outcome}
+use Rattle.cast_model.specs.Steps.{Steps}
+use Rattle.cast_model.specs.OwnSteps.{is_first_vote, first_votes, own_decision_on, own_decisions_of, own_log, own_decision}
+use Rattle.cast_model.specs.Replies.{IsAccepted, fault, answer, reply, reply_by, after, history_from, history, replies_from, replies, deliveries_at, deliveries_for, decisions_at, decisions_for, value_for, decided_at, target_of}
+use Rattle.cast_model.proofs.Answered.{IsAccepted-history_from, delivery_log-after}
+use Rattle.cast_model.proofs.FirstVotes.{VotesOnce, once_front, first_votes-last, first_votes-all, own_decisions-all, log_votes_once}
 
 -- what so many votes settle, where an instance asks for k
 abbrev settled : ℕ → List ℕ → Option ℕ
@@ -75,58 +77,98 @@ module _ (config : Config) (j : ℕ) (log : List Message) (message : Message) wh
   abbrev k : ℕ
   k = config.nodes - config.faults
 
+  abbrev first : List Message → List ℕ
+  first seen = first_votes j [] seen
+
   abbrev onto : List Message
   onto = log ++ message ∷ []
 
-  votes_onto : (o : Option ℕ) → value_in j message.item ≡ o → votes j onto ≡ votes j log ++ cons_option o []
+  abbrev is_first : Bool
+  is_first = is_first_vote j log message.sender
+
+  first_onto : (o : Option ℕ) → value_in j message.item ≡ o → first onto ≡ first log ++ cond is_first (cons_option o []) []
   unfolding votes
-  votes_onto o e = votes-append j log (message ∷ []) ∙ ap (λ o. votes j log ++ cons_option o []) e
+  first_onto o e = first_votes-last j [] log message ∙ ap (λ o. first log ++ cond is_first (cons_option o []) []) e
 
-  no_vote : value_in j message.item ≡ None → (news : List Decision) → values j news ≡ [] →
-      cons_option (settled k (votes j onto)) [] ≡ cons_option (settled k (votes j log)) [] ++ values j news
+  no_vote : first onto ≡ first log ++ [] → (news : List Decision) → values j news ≡ [] →
+      cons_option (settled k (first onto)) [] ≡ cons_option (settled k (first log)) [] ++ values j news
   no_vote e news none =
-      ap (λ vs. cons_option (settled k vs) []) (votes_onto None e ∙ append-nil (votes j log))
-      ∙ sym (append-nil (cons_option (settled k (votes j log)) []))
-      ∙ ap (λ l. cons_option (settled k (votes j log)) [] ++ l) (sym none)
+      ap (λ vs. cons_option (settled k vs) []) (e ∙ append-nil (first log))
+      ∙ sym (append-nil (cons_option (settled k (first log)) []))
+      ∙ ap (λ l. cons_option (settled k (first log)) [] ++ l) (sym none)
 
-  one_more : cons_option (settled k (votes j onto)) [] ≡ cons_option (settled k (votes j log)) [] ++ values j (decision_on config onto message.item)
+  no_value : value_in j message.item ≡ None → first onto ≡ first log ++ []
+  no_value e = first_onto None e ∙ ap (λ vs. first log ++ vs) (either is_first)
+    where
+      either : (b : Bool) → ◌≡◌ {A = List ℕ} (cond b [] []) []
+      either true = refl
+      either false = refl
+
+  -- a decision of another instance
+  elsewhere : (b : Bool) (i : ℕ) (vs : List ℕ) → (i == j) ≡ false → values j (cond b (decision_by config i vs) []) ≡ []
+  elsewhere true i vs apart = told_elsewhere (length vs == k) j i (least vs) apart
+  elsewhere false i vs apart = refl
+
+  one_more : cons_option (settled k (first onto)) [] ≡ cons_option (settled k (first log)) [] ++ values j (own_decision_on config log message message.item)
   one_more = by_item message.item refl
     where
-      by_item : (item : Item) → message.item ≡ item → cons_option (settled k (votes j onto)) [] ≡ cons_option (settled k (votes j log)) [] ++ values j (decision_on config onto item)
-      by_item (Data bytes) e = no_vote (ap (value_in j) e) [] refl
-      by_item Close e = no_vote (ap (value_in j) e) [] refl
+      -- a proposal in this instance
+      here : (v : ℕ) → value_in j message.item ≡ Some v → (b : Bool) → is_first ≡ b →
+          cons_option (settled k (first onto)) [] ≡ cons_option (settled k (first log)) [] ++ values j (cond b (decision_by config j (first onto)) [])
+      here v e false again = no_vote (first_onto (Some v) e ∙ ap (λ b. first log ++ cond b (v ∷ []) []) again) [] refl
+      here v e true new =
+          let is : first onto ≡ first log ++ v ∷ [] = first_onto (Some v) e ∙ ap (λ b. first log ++ cond b (v ∷ []) []) new in
+          ap (λ vs. cons_option (settled k vs) []) is
+          ∙ vote_more k (first log) v
+          ∙ ap (λ l. cons_option (settled k (first log)) [] ++ l) (sym (
+          ap (λ vs. values j (decision_by config j vs)) is
+          ∙ told_here (length (first log ++ v ∷ []) == k) j (least (first log ++ v ∷ []))))
+
+      by_item : (item : Item) → message.item ≡ item → cons_option (settled k (first onto)) [] ≡ cons_option (settled k (first log)) [] ++ values j (own_decision_on config log message item)
+      by_item (Data bytes) e = no_vote (no_value (ap (value_in j) e)) [] refl
+      by_item Close e = no_vote (no_value (ap (value_in j) e)) [] refl
       by_item (Propose instance value) e = elim (cases_eq instance j) [
         | inl same ↦
-            (let is : votes j onto ≡ votes j log ++ value ∷ [] = votes_onto (Some value) (ap (value_in j) e ∙ cond-true (instance == j) (Some value) None (eq-eqb instance j same)) in
-            ap (λ vs. cons_option (settled k vs) []) is
-            ∙ vote_more k (votes j log) value
-            ∙ ap (λ l. cons_option (settled k (votes j log)) [] ++ l) (sym (
-            ap (λ i. values j (decision_by config i (votes i onto))) same
-            ∙ ap (λ vs. values j (decision_by config j vs)) is
-            ∙ told_here (length (votes j log ++ value ∷ []) == k) j (least (votes j log ++ value ∷ [])))))
+            here value (ap (value_in j) e ∙ cond-true (instance == j) (Some value) None (eq-eqb instance j same)) is_first refl
+            ∙ ap (λ i. cons_option (settled k (first log)) [] ++ values j (cond (is_first_vote i log message.sender) (decision_by config i (first_votes i [] onto)) [])) (sym same)
         | inr differs ↦
             (let apart : (instance == j) ≡ false = ne_eqb instance j differs in
-            no_vote (ap (value_in j) e ∙ ap (λ b. cond b (Some value) None) apart) (decision_by config instance (votes instance onto))
-            (told_elsewhere (length (votes instance onto) == k) j instance (least (votes instance onto)) apart))
+            no_vote (no_value (ap (value_in j) e ∙ ap (λ b. cond b (Some value) None) apart)) _
+            (elsewhere (is_first_vote instance log message.sender) instance (first_votes instance [] onto) apart))
       ]
 
--- so many deliveries more
+-- So many deliveries more. This holds of any deliveries: of a sender that proposes twice the first counts.
 module _ (config : Config) (j : ℕ) where
   abbrev shown : List Message → List ℕ
-  shown log = cons_option (settled (config.nodes - config.faults) (votes j log)) []
+  shown log = cons_option (settled (config.nodes - config.faults) (first_votes j [] log)) []
 
-  more : (log news : List Message) → shown (log ++ news) ≡ shown log ++ values j (decisions_of config log news)
-  unfolding decisions_of
+  more : (log news : List Message) → shown (log ++ news) ≡ shown log ++ values j (own_decisions_of config log news)
+  unfolding own_decisions_of
   more log [] = ap shown (append-nil log) ∙ sym (append-nil (shown log))
   more log (message ∷ messages) =
       let onto = log ++ message ∷ [] in
-      let now = decision_on config onto message.item in
-      let later = decisions_of config onto messages in
+      let now = own_decision_on config log message message.item in
+      let later = own_decisions_of config onto messages in
       ap shown (sym (append_assoc log (message ∷ []) messages))
       ∙ more onto messages
       ∙ ap (λ front. front ++ values j later) (one_more config j log message)
       ∙ append_assoc (shown log) (values j now) (values j later)
       ∙ ap (λ l. shown log ++ l) (sym (filter_map-append (value_for j) now later))
+
+  -- with no deliveries
+  shown-nil : shown [] ≡ []
+  unfolding first_votes
+  shown-nil =
+      let few : 0 < config.nodes - config.faults = (let f = config.faults_in_range in omega (arith, f)) in
+      ap (λ b. cons_option (cond b (Some (least (take (config.nodes - config.faults) []))) None) []) (lt-leb (config.nodes - config.faults) 0 few)
+
+  -- what a node decides by its deliveries, one after another, is what it shows, once, or nothing
+  pub own_decisions-shown : (me : ℕ) (steps : Steps) →
+      filter_map (value_for j) (own_decisions_of config [] (own_log config me steps)) ≡ cons_option (own_decision config me steps j) []
+  unfolding own_decision
+  own_decisions-shown me steps =
+      let log = own_log config me steps in
+      sym (more [] log ∙ ap (λ front. front ++ values j (own_decisions_of config [] log)) shown-nil)
 
 -- at a node that is q, or is another
 at_node : (config : Config) (past : History) (q : ℕ) (b : Bool) (p : ℕ) (news : List Message) → (b ≡ true → p ≡ q) →
@@ -164,29 +206,38 @@ decided_by_reply config past event q = by_fault (fault config past event)
     by_fault None = decided_by_answer config past event q
     by_fault (Some refusal) = refl
 
-decision-after : (config : Config) (past : History) (event : Event) (q j : ℕ) →
+-- where no sender has two votes, all are counted
+shown-votes : (config : Config) (j : ℕ) (log : List Message) → VotesOnce j log → cons_option (settled (config.nodes - config.faults) (votes j log)) [] ≡ shown config j log
+shown-votes config j log once = ap (λ vs. cons_option (settled (config.nodes - config.faults) vs) []) (sym (first_votes-all j [] log once))
+
+decision-after : (config : Config) (past : History) (event : Event) → IsAccepted config past → IsAccepted config (after config past event) → (q j : ℕ) →
     cons_option (decision config (after config past event) q j) [] ≡ cons_option (decision config past q j) [] ++ values j (decisions_for q event (reply config past event))
 unfolding decision
-decision-after config past event q j =
+decision-after config past event accepted later q j =
+    let k = config.nodes - config.faults in
     let log = delivery_log config past q in
-    ap (shown config j) (delivery_log-after config past event q)
-    ∙ more config j log (deliveries_for q event (reply config past event))
-    ∙ ap (λ news. shown config j log ++ values j news) (sym (decided_by_reply config past event q))
+    let news = deliveries_for q event (reply config past event) in
+    let log_is = delivery_log-after config past event q in
+    let once : (i : ℕ) → VotesOnce i (log ++ news) = λ i. subst (VotesOnce i) log_is (log_votes_once config (after config past event) later q i) in
+    ap (λ l. cons_option (settled k (votes j l)) []) log_is
+    ∙ shown-votes config j (log ++ news) (once j)
+    ∙ more config j log news
+    ∙ (λ i. sym (shown-votes config j log (once_front j log news (once j))) i ++ values j (own_decisions-all config log news once i))
+    ∙ ap (λ all. cons_option (settled k (votes j log)) [] ++ values j all) (sym (decided_by_reply config past event q))
 
-decided_since : (config : Config) (past : History) (events : List Event) (q j : ℕ) →
+decided_since : (config : Config) (past : History) (events : List Event) → IsAccepted config past → (q j : ℕ) →
     cons_option (decision config (history_from config past events) q j) [] ≡ cons_option (decision config past q j) [] ++ decided_at events (replies_from config past events) q j
 unfolding history_from replies_from decided_at
-decided_since config past [] q j = sym (append-nil (cons_option (decision config past q j) []))
-decided_since config past (event ∷ events) q j =
+decided_since config past [] accepted q j = sym (append-nil (cons_option (decision config past q j) []))
+decided_since config past (event ∷ events) accepted q j =
+    let later = IsAccepted-history_from config past (event ∷ []) accepted in
     let rest = decided_at events (replies_from config (after config past event) events) q j in
-    decided_since config (after config past event) events q j
-    ∙ ap (λ front. front ++ rest) (decision-after config past event q j)
+    decided_since config (after config past event) events later q j
+    ∙ ap (λ front. front ++ rest) (decision-after config past event accepted later q j)
     ∙ append_assoc (cons_option (decision config past q j) []) (values j (decisions_for q event (reply config past event))) rest
 
 -- whatever list of events a group takes, the replies say that q decided in instance j the value that it shows, once, or nothing
 pub answered-decided : (config : Config) (events : List Event) (q j : ℕ) → decided_at events (replies config events) q j ≡ cons_option (decision config (history config events) q j) []
-unfolding decision delivery_log votes
+unfolding decision delivery_log votes first_votes IsAccepted
 answered-decided config events q j =
-    let few : 0 < config.nodes - config.faults = (let f = config.faults_in_range in omega (arith, f)) in
-    let none : cons_option (decision config [] q j) [] ≡ [] = ap (λ b. cons_option (cond b (Some (least (take (config.nodes - config.faults) []))) None) []) (lt-leb (config.nodes - config.faults) 0 few) in
-    sym (decided_since config [] events q j ∙ ap (λ front. front ++ decided_at events (replies config events) q j) none)
+    sym (decided_since config [] events tt q j ∙ ap (λ front. front ++ decided_at events (replies config events) q j) (shown-nil config j))

@@ -13,6 +13,7 @@ use Rattle.cast_message.specs.declared.message.Message.{Message}
 use Rattle.cast_message.specs.declared.message.Decision.{Decision}
 use Rattle.cast_model.specs.Delivery.{value_in, votes, least, decision_by}
 use Rattle.cast_model.specs.OwnSteps.{is_first_vote, first_votes, own_decision_on, own_decisions_of}
+use Rattle.cast_model.proofs.FirstVotes.{first_votes-last}
 use Rattle.cast_agree.specs.Counted.{decision as decision_counted, decision_by as decision_counted_by}
 use Rattle.cast_agree.specs.Proposals.{has_proposed, with_item, proposals, counted_of, values, least as least_of}
 use Rattle.cast_agree.proofs.Law.{decides_least, values-push, length-values, proposed-push}
@@ -38,15 +39,6 @@ module _ (j : ℕ) where
   abbrev voted : List Message → ℕ → Bool
   voted seen sender = list_any (λ message. message.sender == sender && is_some (value_in j message.item)) seen
 
-  -- with one message more
-  first_votes-last : (seen xs : List Message) (m : Message) → first_votes j seen (xs ++ m ∷ []) ≡ first_votes j seen xs ++ (if is_first_vote j (seen ++ xs) m.sender then votes j (m ∷ []) else [])
-  unfolding first_votes
-  first_votes-last seen [] m = append-nil _ ∙ ap (λ all. if is_first_vote j all m.sender then votes j (m ∷ []) else []) (sym (append-nil seen))
-  first_votes-last seen (x ∷ xs) m =
-      ap (λ rest. (if is_first_vote j seen x.sender then votes j (x ∷ []) else []) ++ rest)
-      (first_votes-last (seen ++ x ∷ []) xs m ∙ ap (λ all. first_votes j (seen ++ x ∷ []) xs ++ (if is_first_vote j all m.sender then votes j (m ∷ []) else [])) (append_assoc seen (x ∷ []) xs))
-      ∙ sym (append_assoc (if is_first_vote j seen x.sender then votes j (x ∷ []) else []) (first_votes j (seen ++ x ∷ []) xs) (if is_first_vote j (seen ++ x ∷ xs) m.sender then votes j (m ∷ []) else []))
-
   -- proposals counted are the first votes of what was delivered
   pub record CountsVotes (before : List (ℕ × Item)) (seen : List Message) : Type 0 where
     pub proposed : (s : ℕ) → has_proposed (proposals j before) s ≡ voted seen s
@@ -70,7 +62,7 @@ module _ (j : ℕ) where
         votes_are =
             ap values (ap (with_item j ps m.sender) e ∙ same)
             ∙ h.votes_are
-            ∙ sym (first_votes-last [] seen m ∙ ap (λ xs. first_votes j [] seen ++ xs) (ap (λ o. if is_first_vote j seen m.sender then cons_option o [] else []) (ap (value_in j) e ∙ none) ∙ either (is_first_vote j seen m.sender)) ∙ append-nil (first_votes j [] seen));
+            ∙ sym (first_votes-last j [] seen m ∙ ap (λ xs. first_votes j [] seen ++ xs) (ap (λ o. if is_first_vote j seen m.sender then cons_option o [] else []) (ap (value_in j) e ∙ none) ∙ either (is_first_vote j seen m.sender)) ∙ append-nil (first_votes j [] seen));
       }
         where
           either : (b : Bool) → ◌≡◌ {A = List ℕ} (if b then [] else []) []
@@ -80,7 +72,7 @@ module _ (j : ℕ) where
       proposing : (v : ℕ) → value_in j m.item ≡ Some v → (b : Bool) → has_proposed ps m.sender ≡ b → with_item j ps m.sender m.item ≡ (if not b then ps ++ (m.sender, v) ∷ [] else ps) → CountsVotes ((m.sender, m.item) ∷ before) (seen ++ m ∷ [])
       proposing v e true old is = record {
         proposed = λ s. ap (λ qs. has_proposed qs s) is ∙ h.proposed s ∙ sym (list_any-append _ seen (m ∷ []) ∙ ap (λ o. voted seen s || ((m.sender == s && is_some o) || false)) e ∙ again s);
-        votes_are = ap values is ∙ h.votes_are ∙ sym (first_votes-last [] seen m ∙ ap (λ b. first_votes j [] seen ++ (if not b then votes j (m ∷ []) else [])) (sym (h.proposed m.sender) ∙ old) ∙ append-nil (first_votes j [] seen));
+        votes_are = ap values is ∙ h.votes_are ∙ sym (first_votes-last j [] seen m ∙ ap (λ b. first_votes j [] seen ++ (if not b then votes j (m ∷ []) else [])) (sym (h.proposed m.sender) ∙ old) ∙ append-nil (first_votes j [] seen));
       }
         where
           again : (s : ℕ) → (voted seen s || ((m.sender == s && true) || false)) ≡ voted seen s
@@ -92,7 +84,7 @@ module _ (j : ℕ) where
         proposed = λ s. ap (λ qs. has_proposed qs s) is ∙ proposed-push ps m.sender v s ∙ ap (λ b. (s == m.sender) || b) (h.proposed s) ∙ or_comm (s == m.sender) (voted seen s) ∙ ap (λ b. voted seen s || b) (sym (or_false _ ∙ and_true (s == m.sender))) ∙ ap (λ b. voted seen s || ((b && true) || false)) (flip s m.sender)
             ∙ sym (list_any-append _ seen (m ∷ []) ∙ ap (λ o. voted seen s || ((m.sender == s && is_some o) || false)) e);
         votes_are = ap values is ∙ values-push ps m.sender v ∙ ap (λ xs. xs ++ v ∷ []) h.votes_are
-            ∙ sym (first_votes-last [] seen m ∙ ap (λ b. first_votes j [] seen ++ (if not b then votes j (m ∷ []) else [])) (sym (h.proposed m.sender) ∙ new) ∙ ap (λ o. first_votes j [] seen ++ cons_option o []) e);
+            ∙ sym (first_votes-last j [] seen m ∙ ap (λ b. first_votes j [] seen ++ (if not b then votes j (m ∷ []) else [])) (sym (h.proposed m.sender) ∙ new) ∙ ap (λ o. first_votes j [] seen ++ cons_option o []) e);
       }
         where
           flip : (a b : ℕ) → (a == b) ≡ (b == a)

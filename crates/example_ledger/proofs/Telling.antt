@@ -12,7 +12,7 @@ use Rattle.cast_job.specs.Jobs.{told_job}
 use Rattle.cast_run.specs.Serves.{AreServed, IsServed}
 use Rattle.cast_world.specs.Group.{State, Stands, node_at}
 use Rattle.example_ledger.specs.declared.teller.Teller.{Teller}
-use Rattle.cast_merge.specs.Told.{of_sender}
+use Rattle.cast_merge.specs.Told.{HasGot, of_sender}
 use Rattle.example_ledger.specs.Tellers.{IsNewTeller, TellerFact, AreNewTellers, TellersApplyPrefixes, TellersKeepSheets}
 use Rattle.cast_merge.proofs.Told.{tells_prefixes}
 
@@ -50,6 +50,7 @@ module _ (config : Config) (handed : List (ℕ × Teller)) (reports : List NodeR
       let found = served_at i teller at in
       let client = found.0 in
       let is = found.1 in
+      let has : HasGot config world client.node client.client is.got =
+      record { report = is.report; trail = is.trail; same = nodes client.node is.report is.report_at; tells = is.tells; begins = is.notices } in
       subst (λ journal. IsPrefixOf (map item_of (of_sender s journal)) (stream past s)) (sym is.holds.book.applied)
-      (tells_prefixes config past world client.node s client.client is.report is.trail is.got
-      stands (nodes client.node is.report is.report_at) is.tells is.notices sender)
+      (tells_prefixes config past world client.node s client.client is.got stands has sender)
