@@ -6,8 +6,8 @@ use Rattle.std.proofs.lemmas.Bool.{lt-ltb}
 use Rattle.cast_message.specs.declared.message.Item.{Item}
 use Rattle.cast_message.specs.declared.message.Item.TheVariants.{Close}
 use Rattle.cast_record.specs.declared.front.Delivery.{Delivery}
-use Rattle.cast_judge.specs.declared.kept.Place.{Place}
-use Rattle.cast_judge.specs.declared.kept.Place.TheVariants.{Body}
+use Rattle.cast_judge.specs.declared.kept.Stage.{Stage}
+use Rattle.cast_judge.specs.declared.kept.Stage.TheVariants.{Body}
 use Rattle.cast_judge.specs.declared.kept.Kept.{Kept}
 use Rattle.cast_record.specs.Fronts.{SaysDelivery}
 use Rattle.cast_judge.specs.Kept.{node_at, is_same, has_item, is_out_at, delivered_as, IsDue, IsTaken}
@@ -15,15 +15,15 @@ use Rattle.cast_judge.specs.Judges.{IsTakenOff}
 use Rattle.cast_judge.specs.ItemList.{BeginsWithWord}
 use Rattle.cast_judge.proofs.ItemLemmas.{item_itself}
 
-in_body : (place : Place) (n : ℕ) (d : Delivery) (item : Item) → place ≡ Body → d.node < n → d.sender < n → is_out_at place n (delivered_as d item) ≡ false
-in_body place n d item a b c = rw (a, lt-ltb d.node n b, lt-ltb d.sender n c) refl
+in_body : (stage : Stage) (n : ℕ) (d : Delivery) (item : Item) → stage ≡ Body → d.node < n → d.sender < n → is_out_at stage n (delivered_as d item) ≡ false
+in_body stage n d item a b c = rw (a, lt-ltb d.node n b, lt-ltb d.sender n c) refl
 
 prefix_kept : (number count : ℕ) (b : Bool) → number ≡ count → b ≡ true → (not (nat_eq number count) || not b) ≡ false
 prefix_kept number count b e f = let same : nat_eq number count ≡ true = grind (arith, nat_tests) in rw (same, f) refl
 
-pub due : (k : Kept) (d : Delivery) (end : ℕ) → k.place ≡ Body → d.node < length k.nodes.items → d.sender < length k.nodes.items → (node_at k.nodes.items d.node).crashed ≡ false
+pub due : (k : Kept) (d : Delivery) (end : ℕ) → k.stage ≡ Body → d.node < length k.nodes.items → d.sender < length k.nodes.items → (node_at k.nodes.items d.node).crashed ≡ false
     → d.number ≡ slice_index (node_at k.nodes.items d.node).delivered d.sender → BeginsWithWord (node_at k.nodes.items d.sender).items d.number d.rest.now end → IsDue k d end
-due k d end place node sender crashed number begins =
+due k d end stage node sender crashed number begins =
     let items = (node_at k.nodes.items d.sender).items in
     let item = get_or items d.number Close in
     let got = slice_get-get_or items d.number Close begins.is_at.within in
@@ -35,8 +35,8 @@ due k d end place node sender crashed number begins =
       ends = begins.ends;
       item = item;
       spells = sym begins.is_at.spells ∙ got;
-      sound = (λ i. cond (in_body k.place (length k.nodes.items) d item place node sender i) (Some 0) (cond (prefix_kept d.number (slice_index (node_at k.nodes.items d.node).delivered d.sender) (has_item items d.number item) number here i) (Some 1) (cond (crashed i) (Some 5) None)));
-      body = place;
+      sound = (λ i. cond (in_body k.stage (length k.nodes.items) d item stage node sender i) (Some 0) (cond (prefix_kept d.number (slice_index (node_at k.nodes.items d.node).delivered d.sender) (has_item items d.number item) number here i) (Some 1) (cond (crashed i) (Some 5) None)));
+      body = stage;
     }
 
 -- ---- a line `d` at the front of a text

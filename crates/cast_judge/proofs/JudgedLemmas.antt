@@ -1,5 +1,5 @@
 -- What a judging stands for, as it takes lines and parts of lines.
-use Rattle.std.proofs.Common.{◌≡◌, ℕ, ◌+◌, ◌^◌, ◌<◌, ◌&&◌, Bool, true, false, cond, nat_eq, List, [], ◌∷◌, ◌++◌, append_assoc, append-nil, length, length-append, Option, Some, None, inl, inr, refl, sym, ap, subst, ◌∙◌, arith}
+use Rattle.std.proofs.Common.{◌≡◌, ℕ, ◌+◌, ◌^◌, ◌<◌, ◌&&◌, Bool, true, false, cond, nat_eq, List, [], ◌∷◌, ◌++◌, append_assoc, append-nil, length, length-append, Option, Some, None, refl, sym, ap, subst, ◌∙◌, arith}
 use Rattle.std.specs.Prelude.{if◌then◌else◌, Result, Ok, Err, OnOk, is_ok}
 use Rattle.std.proofs.lemmas.List.Elements.{All-nil}
 use Rattle.cast_record.specs.declared.line.Line.{Line}
@@ -8,23 +8,27 @@ use Rattle.cast_record.specs.Reading.{line_of}
 use Rattle.cast_record.specs.Rules.{is_end, is_ended}
 use Rattle.cast_record.specs.Verdicts.{with_line, kept_by, verdict}
 use Rattle.cast_record.proofs.ReadLemmas.{line_takes_text}
-use Rattle.cast_record.proofs.WordLemmas.{line_without_feed}
 use Rattle.cast_judge.specs.declared.judging.State.{State}
 use Rattle.cast_judge.specs.declared.judging.State.TheVariants.{Reading, Offended}
 use Rattle.cast_judge.specs.declared.kept.Kept.{Kept}
-use Rattle.cast_judge.specs.declared.kept.Place.TheVariants.{Body, Ended}
+use Rattle.cast_judge.specs.declared.kept.Stage.TheVariants.{Body, Ended}
 use Rattle.cast_judge.specs.Kept.{is_ended_at, rule_by, Keeps, IsNew}
-use Rattle.cast_judge.specs.Stands.{StandsFor, place_of}
+use Rattle.cast_judge.specs.Stands.{StandsFor, stage_of}
+use Rattle.cast_judge.specs.FitLines.{HasNone, IsFit, IsCutAfter}
 use Rattle.cast_judge.specs.Judges.{IsKept, IsRefused, Judges, IsTakenOff}
-use Rattle.cast_judge.specs.Judged.{HasNone, verdict_of, IsReading, Offends, HasOffended, StandsAs, is_reading_state, is_refused_state, state_with, lines_with}
+use Rattle.cast_judge.specs.Judged.{verdict_of, IsReading, Offends, HasOffended, StandsAs, is_reading_state, is_refused_state, state_with, lines_with}
 use Rattle.cast_judge.proofs.RuleLemmas.{rule_same}
 use Rattle.cast_judge.proofs.StandingLemmas.{stands_on, stands_for_none}
-use Rattle.cast_judge.proofs.TextLemmas.{line_goes, line_offends, at_end, ended_offends, long_offends, clean_both}
+use Rattle.cast_judge.proofs.FitLemmas.{line_clean, goes_past}
+use Rattle.cast_judge.proofs.TextLemmas.{line_offends, at_end, ended_offends, long_offends, clean_both}
 
 -- ---- one line
 
 pub judges_broken : (past : List Line) (bytes : List ℕ) (line : Line) (rule : ℕ) (kept : Kept) → StandsFor past kept → line_of bytes ≡ Some line → rule_by kept line ≡ Some rule → IsRefused past bytes rule kept
 judges_broken past bytes line rule kept s read e = record { breaks = ap (with_line past) read ∙ ap (kept_by past line) (sym (rule_same past kept line s) ∙ e); stands = s }
+
+pub line_fits : (past : List Line) (bytes : List ℕ) (line : Line) (kept : Kept) → StandsFor past kept → line_of bytes ≡ Some line → rule_by kept line ≡ None → IsFit past bytes
+line_fits past bytes line kept s read e = (line, ap (with_line past) read ∙ ap (kept_by past line) (sym (rule_same past kept line s) ∙ e))
 
 pub judges_kept : (past : List Line) (bytes : List ℕ) (line : Line) (old new : Kept) → StandsFor past old → length past < 2 ^ 63 → line_of bytes ≡ Some line → rule_by old line ≡ None → Keeps old new line → IsKept past bytes new
 judges_kept past bytes line old new s short read e w =
@@ -56,13 +60,20 @@ was_reading state text kept tail lines e h = absurd (cc)
 -- ---- a text with more of it
 
 pub started : (kept : Kept) → IsNew kept → IsReading [] kept [] 0
-unfolding verdict
-started kept new = record { past = []; stands = stands_for_none kept new; count = refl; clean = All-nil (λ b. nat_eq b 10 ≡ false); unfinished = record { whole = []; cut = refl; ends = inl refl }; same = λ more. refl }
+started kept new = record { past = []; stands = stands_for_none kept new; count = refl; clean = All-nil (λ b. nat_eq b 10 ≡ false); cut = record { front = []; cut = refl; fit = refl } }
 
 -- bytes that grew where the call answered
 pub grown : {X E : Type 0} (r : Result X E) (new old more : List ℕ) → new ≡ (if is_ok r then old ++ more else old) → OnOk r (new ≡ old ++ more)
 grown (Ok x) new old more e = e
 grown (Err x) new old more e = tt
+
+-- whatever follows the text, the verdict is that on the unfinished line and what follows
+goes_from : (text tail : List ℕ) (kept : Kept) (lines : ℕ) → (h : IsReading text kept tail lines) → (more : List ℕ) → verdict (text ++ more) ≡ verdict_of h.past (tail ++ more)
+goes_from text tail kept lines h more = ap (λ t. verdict (t ++ more)) h.cut.cut ∙ ap verdict (append_assoc h.cut.front tail more) ∙ goes_past h.past h.cut.front h.cut.fit (tail ++ more)
+
+-- more of the text comes
+pub cut_on : (text tail more : List ℕ) (past : List Line) → IsCutAfter text past tail → IsCutAfter (text ++ more) past (tail ++ more)
+cut_on text tail more past cut = record { front = cut.front; cut = ap (λ t. t ++ more) cut.cut ∙ append_assoc cut.front tail more; fit = cut.fit }
 
 -- more of the unfinished line comes
 pub line_goes_on : (text tail part : List ℕ) (kept : Kept) (lines : ℕ) → IsReading text kept tail lines → HasNone 10 part → IsReading (text ++ part) kept (tail ++ part) lines
@@ -71,8 +82,7 @@ line_goes_on text tail part kept lines h clean = record {
   stands = h.stands;
   count = h.count;
   clean = clean_both tail part h.clean clean;
-  unfinished = record { whole = h.unfinished.whole; cut = ap (λ t. t ++ part) h.unfinished.cut ∙ append_assoc h.unfinished.whole tail part; ends = h.unfinished.ends };
-  same = λ more. ap verdict (append_assoc text part more) ∙ h.same (part ++ more) ∙ ap (verdict_of h.past) (sym (append_assoc tail part more));
+  cut = cut_on text tail part h.past h.cut;
 }
 
 -- a line feed comes, after the rest of a line
@@ -86,11 +96,15 @@ line_counted text tail part old new lines None h clean short judges =
       stands = kept.stands;
       count = omega (arith, h.count);
       clean = All-nil (λ b. nat_eq b 10 ≡ false);
-      unfinished = record { whole = text ++ (part ++ 10 ∷ []); cut = sym (append-nil (text ++ (part ++ 10 ∷ []))); ends = inr (text ++ part, sym (append_assoc text part (10 ∷ []))) };
-      same = λ more. ap verdict (append_assoc text (part ++ 10 ∷ []) more) ∙ h.same ((part ++ 10 ∷ []) ++ more)
-          ∙ ap (verdict_of h.past) (ap (λ r. tail ++ r) (append_assoc part (10 ∷ []) more) ∙ sym (append_assoc tail part (10 ∷ more)))
-          ∙ line_goes h.past (kept.line ∷ h.past) (tail ++ part) more (clean_both tail part h.clean clean) kept.goes;
+      cut = record {
+        front = text ++ (part ++ 10 ∷ []);
+        cut = sym (append-nil (text ++ (part ++ 10 ∷ [])));
+        fit = (h.cut.front, (h.cut.fit, record { last = tail ++ part; cut = whole h.cut.front h.cut.cut; fit = kept.goes }));
+      };
     }
+  where
+    whole : (front : List ℕ) → text ≡ front ++ tail → text ++ (part ++ 10 ∷ []) ≡ front ++ ((tail ++ part) ++ 10 ∷ [])
+    whole front cut = ap (λ t. t ++ (part ++ 10 ∷ [])) cut ∙ append_assoc front tail (part ++ 10 ∷ []) ∙ ap (λ r. front ++ r) (sym (append_assoc tail part (10 ∷ [])))
 line_counted text tail part old new lines (Some rule) h clean short judges =
     let refused = judges h.past h.stands (omega (arith, h.count)) in
     record {
@@ -98,21 +112,17 @@ line_counted text tail part old new lines (Some rule) h clean short judges =
       stands = refused.stands;
       count = h.count;
       empty = refl;
-      offends = λ more. ap verdict (append_assoc text (part ++ 10 ∷ []) more) ∙ h.same ((part ++ 10 ∷ []) ++ more)
+      offends = λ more. ap verdict (append_assoc text (part ++ 10 ∷ []) more) ∙ goes_from text tail old lines h ((part ++ 10 ∷ []) ++ more)
           ∙ ap (verdict_of h.past) (ap (λ r. tail ++ r) (append_assoc part (10 ∷ []) more) ∙ sym (append_assoc tail part (10 ∷ more)))
           ∙ line_offends h.past rule (tail ++ part) more (clean_both tail part h.clean clean) refused.breaks
           ∙ ap (λ n. Bad (n + 1) rule) h.count;
     }
 
--- a line that was taken off has no line feed
-taken_clean : (front : List ℕ) (line : Line) → line_of front ≡ Some line → HasNone 10 front
-taken_clean front line read = let is = line_takes_text front line read in subst (HasNone 10) is.1 (line_without_feed line is.0)
-
 -- a line was taken off, where none is unfinished
 pub taken_counted : (text bytes after : List ℕ) (old new : Kept) (lines : ℕ) → IsReading text old [] lines → lines < 2 ^ 63 → (taken : IsTakenOff bytes after old new)
     → StandsAs Reading (text ++ (taken.front ++ 10 ∷ [])) new [] (lines + 1)
 taken_counted text bytes after old new lines h short taken =
-    line_counted text [] taken.front old new lines None h (taken_clean taken.front taken.line taken.read) short
+    line_counted text [] taken.front old new lines None h (line_clean taken.front taken.line taken.read) short
     (λ past s few. judges_kept past taken.front taken.line old new s few taken.read taken.sound taken.keeps)
 
 -- the unfinished line offends
@@ -122,33 +132,33 @@ let_go text more tail kept lines rule h offends = record { past = h.past; stands
 -- an unfinished line is too long, whatever follows
 pub too_long : (text tail part rest : List ℕ) (kept : Kept) (lines : ℕ) → IsReading text kept tail lines → HasNone 10 part → 4096 < length tail + length part → Offends (text ++ (part ++ rest)) lines 0
 too_long text tail part rest kept lines h clean long = λ more.
-    ap verdict (append_assoc text (part ++ rest) more) ∙ h.same ((part ++ rest) ++ more)
+    ap verdict (append_assoc text (part ++ rest) more) ∙ goes_from text tail kept lines h ((part ++ rest) ++ more)
     ∙ ap (verdict_of h.past) (ap (λ r. tail ++ r) (append_assoc part rest more) ∙ sym (append_assoc tail part (rest ++ more)))
     ∙ long_offends h.past (tail ++ part) (rest ++ more) (clean_both tail part h.clean clean) (omega (arith, length-append tail part))
     ∙ ap (λ n. Bad (n + 1) 0) h.count
 
-ended_place : (past : List Line) → is_ended_at (place_of past) ≡ is_ended past
-ended_place [] = refl
-ended_place (last ∷ past) = go (is_end last)
+pub ended_stage : (past : List Line) → is_ended_at (stage_of past) ≡ is_ended past
+ended_stage [] = refl
+ended_stage (last ∷ past) = go (is_end last)
   where
     go : (b : Bool) → is_ended_at (cond b Ended Body) ≡ b
     go true = refl
     go false = refl
 
 -- a byte after the end
-pub after_end : (text tail part : List ℕ) (kept : Kept) (lines : ℕ) → IsReading text kept tail lines → HasNone 10 part → 0 < length part → is_ended_at kept.place ≡ true → Offends (text ++ part) lines 0
+pub after_end : (text tail part : List ℕ) (kept : Kept) (lines : ℕ) → IsReading text kept tail lines → HasNone 10 part → 0 < length part → is_ended_at kept.stage ≡ true → Offends (text ++ part) lines 0
 after_end text tail part kept lines h clean some ended = λ more.
-    ap verdict (append_assoc text part more) ∙ h.same (part ++ more)
+    ap verdict (append_assoc text part more) ∙ goes_from text tail kept lines h (part ++ more)
     ∙ ap (verdict_of h.past) (sym (append_assoc tail part more))
-    ∙ ended_offends h.past (tail ++ part) more (clean_both tail part h.clean clean) (omega (arith, length-append tail part)) (sym (ended_place h.past) ∙ ap is_ended_at (sym h.stands.place) ∙ ended)
+    ∙ ended_offends h.past (tail ++ part) more (clean_both tail part h.clean clean) (omega (arith, length-append tail part)) (sym (ended_stage h.past) ∙ ap is_ended_at (sym h.stands.stage) ∙ ended)
     ∙ ap (λ n. Bad (n + 1) 0) h.count
 
 -- the end of the text
-pub finished : (text tail : List ℕ) (kept : Kept) (lines : ℕ) → IsReading text kept tail lines → verdict text ≡ cond (is_ended_at kept.place && nat_eq (length tail) 0) Good (Bad (lines + 1) 0)
+pub finished : (text tail : List ℕ) (kept : Kept) (lines : ℕ) → IsReading text kept tail lines → verdict text ≡ cond (is_ended_at kept.stage && nat_eq (length tail) 0) Good (Bad (lines + 1) 0)
 finished text tail kept lines h =
-    ap verdict (sym (append-nil text)) ∙ h.same [] ∙ ap (verdict_of h.past) (append-nil tail) ∙ at_end h.past tail h.clean
-    ∙ ap (λ b. cond (b && nat_eq (length tail) 0) Good (Bad (length h.past + 1) 0)) (sym (ended_place h.past) ∙ ap is_ended_at (sym h.stands.place))
-    ∙ ap (λ n. cond (is_ended_at kept.place && nat_eq (length tail) 0) Good (Bad (n + 1) 0)) h.count
+    ap verdict (sym (append-nil text)) ∙ goes_from text tail kept lines h [] ∙ ap (verdict_of h.past) (append-nil tail) ∙ at_end h.past tail h.clean
+    ∙ ap (λ b. cond (b && nat_eq (length tail) 0) Good (Bad (length h.past + 1) 0)) (sym (ended_stage h.past) ∙ ap is_ended_at (sym h.stands.stage))
+    ∙ ap (λ n. cond (is_ended_at kept.stage && nat_eq (length tail) 0) Good (Bad (n + 1) 0)) h.count
 
 -- a line offended
 pub offended_said : (state : State) (text : List ℕ) (kept : Kept) (tail : List ℕ) (lines rule : ℕ) → state ≡ Offended rule → StandsAs state text kept tail lines → verdict text ≡ Bad (lines + 1) rule

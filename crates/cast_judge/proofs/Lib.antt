@@ -4,8 +4,10 @@ pub mod NodeLemmas
 pub mod RuleLemmas
 pub mod StandingLemmas
 pub mod TextLemmas
+pub mod FitLemmas
 pub mod JudgedLemmas
 pub mod PieceLemmas
 pub mod ItemLemmas
 pub mod FindLemmas
 pub mod DueLemmas
+pub mod WantLemmas

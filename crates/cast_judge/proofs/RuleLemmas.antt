@@ -11,7 +11,7 @@ use Rattle.cast_record.specs.declared.line.Line.TheVariants.{Head, Head2, Broadc
 use Rattle.cast_record.specs.Rules as said
 use Rattle.cast_record.proofs.ReadLemmas.{or_false}
 use Rattle.cast_record.proofs.VerdictLemmas.{least_of}
-use Rattle.cast_judge.specs.declared.kept.Place.TheVariants.{Body, Ended}
+use Rattle.cast_judge.specs.declared.kept.Stage.TheVariants.{Body, Ended}
 use Rattle.cast_judge.specs.declared.kept.Kept.{Kept}
 use Rattle.cast_judge.specs.Kept as kept
 use Rattle.cast_judge.specs.Candidates.{is_decided, count_decided}
@@ -61,9 +61,9 @@ out_at true h n line = refl
 out_at false h n line = refl
 
 place_same : (past : List Line) (k : Kept) (line : Line) → StandsFor past k → kept.is_out_of_place k line ≡ said.is_out_of_place past line
-place_same [] k line s = ap (λ place. kept.is_out_at place (length k.nodes.items) line) s.place
+place_same [] k line s = ap (λ stage. kept.is_out_at stage (length k.nodes.items) line) s.stage
 place_same (last ∷ past) k line s =
-    ap (λ place. kept.is_out_at place (length k.nodes.items) line) s.place
+    ap (λ stage. kept.is_out_at stage (length k.nodes.items) line) s.stage
     ∙ out_at (said.is_end last) (said.is_head line) (length k.nodes.items) line
     ∙ ap (λ n. said.is_end last || said.is_head line || not (said.names_below n line)) s.size
 

@@ -21,7 +21,7 @@ use Rattle.cast_record.specs.Rules as said
 use Rattle.cast_judge.specs.Candidates.{is_for, is_decided, count_decided}
 use Rattle.cast_judge.specs.declared.instances.Instance.{Instance}
 use Rattle.cast_judge.specs.declared.instances.Addition.TheVariants as adds
-use Rattle.cast_judge.specs.declared.sender.Sender.{Sender}
+use Rattle.cast_judge.specs.declared.kept_node.KeptNode.{KeptNode}
 use Rattle.cast_judge.specs.declared.kept.Kept.{Kept}
 use Rattle.cast_judge.specs.Kept as kept
 use Rattle.cast_judge.specs.Stands.{items_in, items_of, StandsFor, StandsForNode, StandsForInstance}
@@ -35,7 +35,7 @@ abbrev counts_in : Line → ℕ → List ℕ → List ℕ
 counts_in (Delivered q m) p counts = cond (nat_eq q p) (slice_set counts m.sender (kept.one_more (slice_index counts m.sender))) counts
 counts_in line p counts = counts
 
-abbrev added : Line → ℕ → Sender → Sender
+abbrev added : Line → ℕ → KeptNode → KeptNode
 added line p node = record {
   items = node.items ++ items_in line p;
   closed = said.is_broadcast (λ m. nat_eq m.sender p && is_close m.item) line || node.closed;
@@ -43,15 +43,15 @@ added line p node = record {
   delivered = counts_in line p node.delivered;
 }
 
-set_here : (nodes : List Sender) (p : ℕ) (node : Sender) → p < length nodes → kept.node_at (slice_set nodes p node) p ≡ node
+set_here : (nodes : List KeptNode) (p : ℕ) (node : KeptNode) → p < length nodes → kept.node_at (slice_set nodes p node) p ≡ node
 set_here nodes p node within = grind (arith, common_steps)
 
-set_there : (nodes : List Sender) (q p : ℕ) (node : Sender) → nat_eq q p ≡ false → kept.node_at (slice_set nodes q node) p ≡ kept.node_at nodes p
+set_there : (nodes : List KeptNode) (q p : ℕ) (node : KeptNode) → nat_eq q p ≡ false → kept.node_at (slice_set nodes q node) p ≡ kept.node_at nodes p
 set_there nodes q p node e = let other : p ≢ q = (λ h. other_number q p e (sym h)) in get_or-set_other nodes q p node kept.nobody other
 
 -- the node at p, where the node at q was written
-set_at : (nodes : List Sender) (q p : ℕ) (f : Sender → Sender) (g : Bool → Sender → Sender) → p < length nodes
-    → ((node : Sender) → f node ≡ g true node) → ((node : Sender) → node ≡ g false node)
+set_at : (nodes : List KeptNode) (q p : ℕ) (f : KeptNode → KeptNode) (g : Bool → KeptNode → KeptNode) → p < length nodes
+    → ((node : KeptNode) → f node ≡ g true node) → ((node : KeptNode) → node ≡ g false node)
     → kept.node_at (slice_set nodes q (f (kept.node_at nodes q))) p ≡ g (nat_eq q p) (kept.node_at nodes p)
 set_at nodes q p f g within here there = go (nat_eq q p) refl
   where
@@ -61,10 +61,10 @@ set_at nodes q p f g within here there = go (nat_eq q p) refl
         ap (λ r. kept.node_at (slice_set nodes r (f (kept.node_at nodes r))) p) same ∙ set_here nodes p (f (kept.node_at nodes p)) within ∙ here (kept.node_at nodes p)
     go false e = set_there nodes q p (f (kept.node_at nodes q)) e ∙ there (kept.node_at nodes p)
 
-with_nothing : (node : Sender) → node ≡ record node { items = node.items ++ [] }
+with_nothing : (node : KeptNode) → node ≡ record node { items = node.items ++ [] }
 with_nothing node = λ i. record node { items = sym (append-nil node.items) i }
 
-pub node_added : (nodes : List Sender) (line : Line) (p : ℕ) → said.is_head line ≡ false → p < length nodes → kept.node_at (kept.nodes_after nodes line) p ≡ added line p (kept.node_at nodes p)
+pub node_added : (nodes : List KeptNode) (line : Line) (p : ℕ) → said.is_head line ≡ false → p < length nodes → kept.node_at (kept.nodes_after nodes line) p ≡ added line p (kept.node_at nodes p)
 node_added nodes (Head n f k) p e within = absurd (cc)
 node_added nodes (Head2 n f k mode) p e within = absurd (cc)
 node_added nodes (Broadcast m) p e within =
@@ -122,7 +122,7 @@ room_added (Delivered q m) p counts room = go (nat_eq q p)
     go false = room
 room_added line p counts room = room
 
-pub node_on : (past : List Line) (line : Line) (p : ℕ) (node : Sender) → length past < 2 ^ 63 → StandsForNode past p node → StandsForNode (line ∷ past) p (added line p node)
+pub node_on : (past : List Line) (line : Line) (p : ℕ) (node : KeptNode) → length past < 2 ^ 63 → StandsForNode past p node → StandsForNode (line ∷ past) p (added line p node)
 unfolding items_of said.has_closed said.has_crashed
 node_on past line p node short h = record {
   items = ap (λ items. items ++ items_in line p) h.items;
@@ -293,7 +293,7 @@ faults_on faults = for_body (λ line. kept.faults_after faults line ≡ faults) 
 choices_on : (choices : ℕ) (line : Line) → said.is_head line ≡ false → kept.choices_after choices line ≡ choices
 choices_on choices = for_body (λ line. kept.choices_after choices line ≡ choices) (λ m. refl) (λ q m. refl) (λ q d. refl) (λ q. refl) (λ i c. refl) refl
 
-size_on : (nodes : List Sender) (line : Line) → said.is_head line ≡ false → length (kept.nodes_after nodes line) ≡ length nodes
+size_on : (nodes : List KeptNode) (line : Line) → said.is_head line ≡ false → length (kept.nodes_after nodes line) ≡ length nodes
 size_on nodes = for_body (λ line. length (kept.nodes_after nodes line) ≡ length nodes)
     (λ m. length-set nodes m.sender (kept.with_item (kept.node_at nodes m.sender) m.item))
     (λ q m. length-set nodes q (kept.with_delivery (kept.node_at nodes q) m.sender))
@@ -305,7 +305,7 @@ size_on nodes = for_body (λ line. length (kept.nodes_after nodes line) ≡ leng
 -- a line that is no head
 pub body_on : (past : List Line) (line : Line) (old new : Kept) → said.is_head line ≡ false → length past < 2 ^ 63 → said.breaks_prefix past line ≡ false → said.is_not_proposed past line ≡ false → StandsFor past old → kept.Keeps old new line → StandsFor (line ∷ past) new
 body_on past line old new plain short sound proposed h k = record {
-  place = k.place;
+  stage = k.stage;
   faults = k.faults ∙ faults_on old.faults line plain ∙ h.faults ∙ ap (λ (g : said.Group). g.faults) (sym (group_on past line plain));
   choices = k.choices ∙ choices_on old.choices line plain ∙ h.choices ∙ ap (λ (g : said.Group). g.choices) (sym (group_on past line plain));
   size = same_size ∙ h.size ∙ ap (λ (g : said.Group). g.nodes) (sym (group_on past line plain));
@@ -342,13 +342,13 @@ pub record IsHeadOf (head : Line) (n f k : ℕ) : Type 0 where
   pub proposed : said.is_not_proposed [] head ≡ false
   pub group : said.group_of (head ∷ []) ≡ record { nodes = n; faults = f; choices = k }
   pub few : n ≤ 64
-  pub nodes : (nodes : List Sender) → kept.nodes_after nodes head ≡ replicate n kept.nobody
+  pub nodes : (nodes : List KeptNode) → kept.nodes_after nodes head ≡ replicate n kept.nobody
   pub faults : (faults : ℕ) → kept.faults_after faults head ≡ f
   pub choices : (choices : ℕ) → kept.choices_after choices head ≡ k
 
 opened : (head : Line) (n f k : ℕ) (old new : Kept) → IsHeadOf head n f k → StandsFor [] old → kept.Keeps old new head → StandsFor (head ∷ []) new
 opened head n f k old new h s w = record {
-  place = w.place;
+  stage = w.stage;
   faults = w.faults ∙ h.faults old.faults ∙ ap (λ (g : said.Group). g.faults) (sym h.group);
   choices = w.choices ∙ h.choices old.choices ∙ ap (λ (g : said.Group). g.choices) (sym h.group);
   size = size ∙ ap (λ (g : said.Group). g.nodes) (sym h.group);
@@ -406,7 +406,7 @@ stands_on past line old new s short within sound w = go (said.is_head line) refl
 pub stands_for_none : (k : Kept) → kept.IsNew k → StandsFor [] k
 unfolding said.group_of said.has_broadcast items_of said.has_proposed said.is_proposed said.values_in
 stands_for_none k h = record {
-  place = h.place;
+  stage = h.stage;
   faults = h.faults;
   choices = h.choices;
   size = ap length h.nodes;

@@ -22,7 +22,8 @@ use Rattle.cast_record.proofs.PartLemmas.{has_first}
 use Rattle.cast_record.proofs.VerdictLemmas.{goes_by, offends_by}
 use Rattle.cast_words.proofs.UnhexLemmas.{length-hex}
 use Rattle.cast_record.proofs.ReadLemmas.{line_takes_text}
-use Rattle.cast_judge.specs.Judged.{HasNone, verdict_of}
+use Rattle.cast_judge.specs.FitLines.{HasNone}
+use Rattle.cast_judge.specs.Judged.{verdict_of}
 
 abbrev feeds : List ℕ → List (List ℕ)
 feeds bytes = slice_split (λ b. nat_eq b 10) bytes

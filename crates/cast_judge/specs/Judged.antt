@@ -1,9 +1,10 @@
 -- What a judging stands for: the text that was fed.
---     Stands text judging     the judging is that of this text
---     EndsWith text tail      the text ends with this beginning of a line
---     IsSkipped old new       nothing was kept of a piece
-use Rattle.std.specs.Prelude.{◌≡◌, ◌⊎◌, ℕ, ◌+◌, ◌≤◌, ◌==◌, Bool, true, false, List, [], ◌∷◌, ◌++◌, length, Option, Some, None}
-use Rattle.std.specs.List.{slice_split, All}
+--     Stands text judging           the judging is that of this text
+--     verdict_of past text          the verdict on a text, where these lines stood before it
+--     IsSkipped old new             nothing was kept of a piece
+--     WantedMemory text old new     memory was wanted for a line in the last piece of the text, and none before it offends
+use Rattle.std.specs.Prelude.{◌≡◌, ◌⊎◌, ℕ, ◌+◌, ◌<◌, ◌≤◌, ◌==◌, Bool, true, false, List, [], ◌∷◌, ◌++◌, length, Option, Some, None}
+use Rattle.std.specs.List.{slice_split}
 use Rattle.cast_record.specs.declared.line.Line.{Line}
 use Rattle.cast_record.specs.declared.verdict.Verdict.{Verdict}
 use Rattle.cast_record.specs.declared.verdict.Verdict.TheVariants.{Bad}
@@ -13,6 +14,7 @@ use Rattle.cast_judge.specs.declared.judging.State.TheVariants.{Reading, Offende
 use Rattle.cast_judge.specs.declared.judging.Judging.{Judging}
 use Rattle.cast_judge.specs.declared.kept.Kept.{Kept}
 use Rattle.cast_judge.specs.Stands.{StandsFor}
+use Rattle.cast_judge.specs.FitLines.{HasNone, IsCutAfter, BeginsWell}
 
 abbrev pub is_reading_state : State → Bool
 is_reading_state Reading = true
@@ -45,29 +47,17 @@ abbrev pub state_with : Option ℕ → State → State
 state_with None state = state
 state_with (Some rule) state = Offended rule
 
--- the byte stands nowhere in the bytes
-abbrev pub HasNone : ℕ → List ℕ → Type 0
-HasNone byte bytes = All (λ b. (b == byte) ≡ false) bytes
-
 -- the verdict on a text, where these lines stood before it
 abbrev pub verdict_of : List Line → List ℕ → Verdict
 verdict_of past text = verdict_after past (slice_split (λ b. b == 10) text)
 
--- the bytes are what stands behind the last line feed of the text, if they have none
-pub record EndsWith (text tail : List ℕ) : Type 0 where
-  pub whole : List ℕ
-  pub cut : text ≡ whole ++ tail
-  pub ends : (whole ≡ []) ⊎ ((lines : List ℕ) × (whole ≡ lines ++ 10 ∷ []))
-
--- The lines of the text broke no rule, and their beginnings stand in what is kept: whatever follows, the verdict is that on
--- the unfinished line, which is the end of the text, and what follows, after those lines.
+-- The text is lines that break no rule, and then the unfinished line. What is kept stands for those lines.
 pub record IsReading (text : List ℕ) (kept : Kept) (tail : List ℕ) (lines : ℕ) : Type 0 where
   pub past : List Line
   pub stands : StandsFor past kept
   pub count : length past ≡ lines
   pub clean : HasNone 10 tail
-  pub unfinished : EndsWith text tail
-  pub same : (more : List ℕ) → verdict (text ++ more) ≡ verdict_of past (tail ++ more)
+  pub cut : IsCutAfter text past tail
 
 -- whatever follows, the text offends there
 abbrev pub Offends : List ℕ → ℕ → ℕ → Type 0
@@ -96,6 +86,7 @@ pub record IsLineTaken (bytes after : List ℕ) (old new : Judging) : Type 0 whe
   pub cut : bytes ≡ line ++ 10 ∷ after
   pub lines : new.lines ≤ old.lines + 1
   pub going : is_refused new ≡ false
+  pub emptied : new.tail.items ≡ []
   pub stands : (text : List ℕ) → Stands text old → Stands (text ++ (line ++ 10 ∷ [])) new
 
 -- a line was taken off the front of the bytes, and this follows it, or nothing changed
@@ -114,3 +105,24 @@ pub record IsSkipped (old new : Judging) : Type 0 where
   pub kept : new.kept ≡ old.kept
   pub lines : new.lines ≡ old.lines
   pub tail : new.tail ≡ old.tail
+
+-- a line had begun in an earlier piece, and none was taken since
+abbrev pub HadBegun : Judging → Judging → Type 0
+HadBegun old new = (0 < length old.tail.items) × (new.lines ≡ old.lines)
+
+-- the bytes begin with that line, and its line feed, and it is not too long to be judged
+pub record EndsBegun (bytes : List ℕ) (old new : Judging) : Type 0 where
+  pub begun : HadBegun old new
+  pub line : List ℕ
+  pub after : List ℕ
+  pub cut : bytes ≡ line ++ 10 ∷ after
+  pub short : length line ≤ 4096
+
+-- The text is the lines that were counted, of which none offends, and then the line for which memory was wanted. That one does
+-- not offend either, unless it had begun in an earlier piece: its parts are joined before it is judged.
+pub record WantedMemory (text : List ℕ) (old new : Judging) : Type 0 where
+  pub past : List Line
+  pub rest : List ℕ
+  pub count : length past ≡ new.lines
+  pub cut : IsCutAfter text past rest
+  pub well : BeginsWell past rest ⊎ EndsBegun rest old new

@@ -21,9 +21,9 @@ use Rattle.cast_judge.specs.declared.instances.Instance.{Instance}
 use Rattle.cast_judge.specs.declared.instances.Instances.{Instances}
 use Rattle.cast_judge.specs.declared.instances.Addition.{Addition}
 use Rattle.cast_judge.specs.declared.instances.Addition.TheVariants as adds
-use Rattle.cast_judge.specs.declared.kept.Place.{Place}
-use Rattle.cast_judge.specs.declared.kept.Place.TheVariants.{Start, Body, Ended}
-use Rattle.cast_judge.specs.declared.sender.Sender.{Sender}
+use Rattle.cast_judge.specs.declared.kept.Stage.{Stage}
+use Rattle.cast_judge.specs.declared.kept.Stage.TheVariants.{Start, Body, Ended}
+use Rattle.cast_judge.specs.declared.kept_node.KeptNode.{KeptNode}
 use Rattle.cast_judge.specs.declared.kept.Kept.{Kept}
 
 -- ---- instances
@@ -67,10 +67,10 @@ instance_after line q instance = instance
 
 -- ---- nodes
 
-abbrev pub nobody : Sender
+abbrev pub nobody : KeptNode
 nobody = record { items = []; closed = false; crashed = false; delivered = replicate 64 0 }
 
-abbrev pub node_at : List Sender → ℕ → Sender
+abbrev pub node_at : List KeptNode → ℕ → KeptNode
 node_at nodes p = slice_index_or nodes p nobody
 
 abbrev pub is_same : Option Item → Item → Bool
@@ -81,20 +81,20 @@ is_same (Some other) item = said.is_item other item
 abbrev pub has_item : List Item → ℕ → Item → Bool
 has_item items number item = is_same (slice_get items number) item
 
-abbrev pub with_item : Sender → Item → Sender
+abbrev pub with_item : KeptNode → Item → KeptNode
 with_item node item = record node { items = node.items ++ item ∷ []; closed = is_close item || node.closed }
 
 -- one more, up to the greatest number of 64 bits
 abbrev pub one_more : ℕ → ℕ
 one_more count = min (count + 1) 18446744073709551615
 
-abbrev pub with_delivery : Sender → ℕ → Sender
+abbrev pub with_delivery : KeptNode → ℕ → KeptNode
 with_delivery node s = record node { delivered = slice_set node.delivered s (one_more (slice_index node.delivered s)) }
 
-abbrev pub with_crash : Sender → Sender
+abbrev pub with_crash : KeptNode → KeptNode
 with_crash node = record node { crashed = true }
 
-abbrev pub nodes_after : List Sender → Line → List Sender
+abbrev pub nodes_after : List KeptNode → Line → List KeptNode
 nodes_after nodes (Head n f k) = replicate n nobody
 nodes_after nodes (Head2 n f k mode) = replicate n nobody
 nodes_after nodes (Broadcast message) = slice_set nodes message.sender (with_item (node_at nodes message.sender) message.item)
@@ -104,8 +104,8 @@ nodes_after nodes line = nodes
 
 -- ---- what is kept after a line
 
-abbrev pub place_after : Line → Place
-place_after line = if said.is_end line then Ended else Body
+abbrev pub stage_after : Line → Stage
+stage_after line = if said.is_end line then Ended else Body
 
 abbrev pub faults_after : ℕ → Line → ℕ
 faults_after faults (Head n f k) = f
@@ -118,7 +118,7 @@ choices_after choices (Head2 n f k mode) = k
 choices_after choices line = choices
 
 pub record Keeps (old new : Kept) (line : Line) : Type 0 where
-  pub place : new.place ≡ place_after line
+  pub stage : new.stage ≡ stage_after line
   pub faults : new.faults ≡ faults_after old.faults line
   pub choices : new.choices ≡ choices_after old.choices line
   pub nodes : new.nodes.items ≡ nodes_after old.nodes.items line
@@ -126,7 +126,7 @@ pub record Keeps (old new : Kept) (line : Line) : Type 0 where
 
 -- nothing is kept
 pub record IsNew (kept : Kept) : Type 0 where
-  pub place : kept.place ≡ Start
+  pub stage : kept.stage ≡ Start
   pub faults : kept.faults ≡ 0
   pub choices : kept.choices ≡ 0
   pub nodes : kept.nodes.items ≡ []
@@ -134,17 +134,17 @@ pub record IsNew (kept : Kept) : Type 0 where
 
 -- ---- the rules
 
-abbrev pub is_ended_at : Place → Bool
+abbrev pub is_ended_at : Stage → Bool
 is_ended_at Ended = true
 is_ended_at _ = false
 
-abbrev pub is_out_at : Place → ℕ → Line → Bool
+abbrev pub is_out_at : Stage → ℕ → Line → Bool
 is_out_at Start n line = not (said.is_head line)
 is_out_at Body n line = said.is_head line || not (said.names_below n line)
 is_out_at Ended n line = true
 
 abbrev pub is_out_of_place : Kept → Line → Bool
-is_out_of_place kept line = is_out_at kept.place (length kept.nodes.items) line
+is_out_of_place kept line = is_out_at kept.stage (length kept.nodes.items) line
 
 abbrev pub breaks_prefix : Kept → Line → Bool
 breaks_prefix kept (Broadcast m) = not (m.number == length (node_at kept.nodes.items m.sender).items)
@@ -194,8 +194,8 @@ rule_by kept line = said.first_broken 0 (rules_by kept line)
 abbrev pub delivered_as : Delivery → Item → Line
 delivered_as d item = Delivered d.node (record { sender = d.sender; number = d.number; item = item })
 
--- The rest of the line begins with a word and a line feed, which end there. The word spells an item, and the line with that item
--- breaks no rule.
+-- The rest of the line begins with a word and a line feed, which end there. The word spells an item, and the line with that
+-- item breaks no rule.
 pub record IsDue (kept : Kept) (d : Delivery) (end : ℕ) : Type 0 where
   pub word : List ℕ
   pub after : List ℕ
@@ -204,7 +204,7 @@ pub record IsDue (kept : Kept) (d : Delivery) (end : ℕ) : Type 0 where
   pub item : Item
   pub spells : item_of word ≡ Some item
   pub sound : rule_by kept (delivered_as d item) ≡ None
-  pub body : kept.place ≡ Body
+  pub body : kept.stage ≡ Body
 
 pub record IsTaken (old new : Kept) (d : Delivery) (end : ℕ) : Type 0 where
   pub due : IsDue old d end

@@ -4,3 +4,4 @@ pub mod Stands
 pub mod Judges
 pub mod Judged
 pub mod ItemList
+pub mod FitLines

@@ -8,16 +8,16 @@ use Rattle.cast_record.specs.declared.line.Line.{Line}
 use Rattle.cast_record.specs.declared.line.Line.TheVariants.{Broadcast}
 use Rattle.cast_record.specs.Rules.{is_end, group_of, has_broadcast, has_closed, has_crashed, deliveries_of, has_proposed, is_proposed, values_in, different}
 use Rattle.cast_judge.specs.declared.instances.Instance.{Instance}
-use Rattle.cast_judge.specs.declared.kept.Place.{Place}
-use Rattle.cast_judge.specs.declared.kept.Place.TheVariants.{Start, Body, Ended}
-use Rattle.cast_judge.specs.declared.sender.Sender.{Sender}
+use Rattle.cast_judge.specs.declared.kept.Stage.{Stage}
+use Rattle.cast_judge.specs.declared.kept.Stage.TheVariants.{Start, Body, Ended}
+use Rattle.cast_judge.specs.declared.kept_node.KeptNode.{KeptNode}
 use Rattle.cast_judge.specs.declared.kept.Kept.{Kept}
 use Rattle.cast_judge.specs.Kept.{node_at, instance_at, has_item, has_value}
 use Rattle.cast_judge.specs.Candidates.{is_for, is_decided, count_decided}
 
-abbrev pub place_of : List Line → Place
-place_of [] = Start
-place_of (line ∷ past) = if is_end line then Ended else Body
+abbrev pub stage_of : List Line → Stage
+stage_of [] = Start
+stage_of (line ∷ past) = if is_end line then Ended else Body
 
 abbrev pub items_in : Line → ℕ → List Item
 items_in (Broadcast message) p = if message.sender == p then message.item ∷ [] else []
@@ -28,7 +28,7 @@ unfoldable pub items_of : List Line → ℕ → List Item
 items_of [] p = []
 items_of (line ∷ past) p = items_of past p ++ items_in line p
 
-pub record StandsForNode (past : List Line) (p : ℕ) (node : Sender) : Type 0 where
+pub record StandsForNode (past : List Line) (p : ℕ) (node : KeptNode) : Type 0 where
   pub items : node.items ≡ items_of past p
   pub closed : node.closed ≡ has_closed past p
   pub crashed : node.crashed ≡ has_crashed past p
@@ -42,7 +42,7 @@ pub record StandsForInstance (past : List Line) (j : ℕ) (instance : Instance) 
   pub count : count_decided instance.candidates ≡ length (different (values_in past j))
 
 pub record StandsFor (past : List Line) (kept : Kept) : Type 0 where
-  pub place : kept.place ≡ place_of past
+  pub stage : kept.stage ≡ stage_of past
   pub faults : kept.faults ≡ (group_of past).faults
   pub choices : kept.choices ≡ (group_of past).choices
   pub size : length kept.nodes.items ≡ (group_of past).nodes

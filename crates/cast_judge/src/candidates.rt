@@ -1,6 +1,6 @@
 //! The values that were proposed in an instance.
 ghost use Rattle.std.specs.Prelude.{◌≡◌, [], position, length, OnOk};
-ghost use Rattle.std.specs.List.{list_any, filter};
+ghost use Rattle.std.specs.List.{list_any};
 ghost use Rattle.cast_judge.specs.Candidates.{is_for, is_decided, count_decided, with_candidate, with_decision};
 
 use std::alloc::{AllocError, Global};
@@ -43,17 +43,14 @@ impl Candidates {
     pub fn len(&self) -> usize
         ensures { result ≡ length self.now }
     {
-        self.all.as_slice().len()
+        self.all.len()
     }
 
     /// Whether the value was proposed.
     pub fn has(&self, value: u64) -> bool
         ensures { result ≡ list_any (is_for value) self.now }
     {
-        self.all
-            .as_slice()
-            .iter()
-            .any(|candidate| candidate.value == value)
+        self.all.iter().any(|candidate| candidate.value == value)
     }
 
     /// Whether the value is decided.
@@ -71,7 +68,6 @@ impl Candidates {
         ensures { result ≡ count_decided self.now }
     {
         self.all
-            .as_slice()
             .iter()
             .filter(|candidate| candidate.decided)
             .count()
@@ -108,7 +104,6 @@ impl Candidates {
         ensures { result ≡ position (is_for value) self.now }
     {
         self.all
-            .as_slice()
             .iter()
             .position(|candidate| candidate.value == value)
     }

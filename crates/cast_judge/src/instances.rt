@@ -1,7 +1,7 @@
 //! What was proposed and decided, by instance.
 ghost use Rattle.std.specs.Prelude.{◌≡◌, ◌≢◌, ℕ, nat_lt, OnOk, MatchOption};
 ghost use Rattle.std.specs.List.{list_any};
-ghost use Rattle.cast_judge.specs.Candidates.{is_for, is_decided, count_decided};
+ghost use Rattle.cast_judge.specs.Candidates.{is_for};
 ghost use Rattle.cast_judge.specs.Kept.{changed, changed_at, with_proposal, instance_at, other_at, count_with, has_value, no_instance};
 
 use crate::candidates::Candidates;
@@ -96,8 +96,8 @@ impl Instance {
     }
 }
 
-/// What was proposed and decided, by the numbers of the instances. Where those begin at 0 and come in order they stand in a row,
-/// and a look-up takes the same time however many there are.
+/// What was proposed and decided, by the numbers of the instances. Where those begin at 0 and come in order they stand in a
+/// row, and a look-up takes the same time however many there are.
 #[derive(Debug, Drop)]
 pub struct Instances {
     /// The instances from 0 on.

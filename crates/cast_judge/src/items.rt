@@ -43,7 +43,7 @@ impl Items {
     pub fn len(&self) -> usize
         ensures { result ≡ length self.now }
     {
-        self.ends.as_slice().len()
+        self.ends.len()
     }
 
     /// The word of the item at this place.

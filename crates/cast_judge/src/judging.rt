@@ -1,6 +1,7 @@
 //! Reading a text piece by piece.
 ghost use Rattle.std.specs.Prelude.{◌≡◌, ℕ, ◌+◌, ◌^◌, ◌<◌, ◌≤◌, ◌++◌, [], ◌∷◌, List, length, nat_lt, option_map, true, false, Some, IfOk, OnOk, OnErr, IsOk, IsErr};
 ghost use Rattle.cast_record.specs.Verdicts.{verdict};
+ghost use Rattle.cast_judge.specs.FitLines.{HasNone, BeginsWell};
 
 use crate::kept::Kept;
 use crate::lines::{find_line_feed, judge_line, take_delivery};
@@ -42,9 +43,11 @@ pub struct Judging {
     ghost within: { fed < 2 ^ 63 },
 }
 
-/// The verdict on the text, or want of memory.
+/// The verdict on the text, or want of memory. A text whose first line offends wants none.
 pub fn judge(alloc: Global, text: &[u8]) -> Result<Verdict, AllocError>
-    ensures { IfOk result (λ said. said ≡ verdict text.now) }
+    ensures said { IfOk result (λ said. said ≡ verdict text.now) }
+    ensures some { OnErr result (0 < length text.now) }
+    ensures first { OnErr result (BeginsWell [] text.now) }
 {
     let mut judging = Judging::new(alloc);
     judging.feed(text)?;
@@ -52,7 +55,7 @@ pub fn judge(alloc: Global, text: &[u8]) -> Result<Verdict, AllocError>
 }
 
 impl Judging {
-    ghost use Rattle.cast_judge.specs.Judged.{Stands, IsSkipped, TakesDelivery, TakesLine, HasNone, lines_with, state_with, is_reading, is_offended, is_refused};
+    ghost use Rattle.cast_judge.specs.Judged.{Stands, IsSkipped, TakesDelivery, TakesLine, lines_with, state_with, is_reading, is_offended, is_refused, WantedMemory};
 
     /// Nothing was fed. It takes no memory.
     pub fn new(alloc: Global) -> Judging
@@ -70,8 +73,9 @@ impl Judging {
         }
     }
 
-    /// Takes the next piece of the text. All pieces together have fewer than 2^63 bytes. After the first line that offends
-    /// the rest is skipped, and takes no memory. Once a piece was refused, every later one is, and so is the verdict.
+    /// Takes the next piece of the text. All pieces together have fewer than 2^63 bytes. A line that offends takes no memory,
+    /// but to join its parts where it came in several pieces. After it the rest is skipped, and takes none. Once a piece was
+    /// refused, every later one is, and so is the verdict.
     pub fn feed(&mut self, piece: &[u8]) -> Result<(), AllocError>
         requires { self.old.fed + length piece.now < 2 ^ 63 }
         ensures fed { self.new.fed ≡ self.old.fed + length piece.now }
@@ -80,6 +84,9 @@ impl Judging {
         ensures refused { is_refused self.old ≡ true → IsErr result }
         ensures skipped { is_offended self.old ≡ true → IsOk result }
         ensures unchanged { is_reading self.old ≡ false → IsSkipped self.old self.new }
+        ensures some { is_reading self.old ≡ true → OnErr result (0 < length piece.now) }
+        ensures wants { (text : List ℕ) → Stands text self.old → is_reading self.old ≡ true →
+            OnErr result (WantedMemory (text ++ piece.now) self.old self.new) }
         ensures err { OnErr result (is_refused self.new ≡ true) }
         ensures ok { OnOk result (is_refused self.new ≡ false) }
     {
@@ -138,6 +145,9 @@ impl Judging {
         ensures stands { (text : List ℕ) → Stands text self.old →
             OnOk result (Stands (text ++ piece.now) self.new) }
         ensures ok { OnOk result (is_refused self.new ≡ false) }
+        ensures some { OnErr result (0 < length piece.now) }
+        ensures wants { (text : List ℕ) → Stands text self.old →
+            OnErr result (WantedMemory (text ++ piece.now) self.old self.new) }
     {
         let mut rest = piece;
         while let Some(after) = self.take_line(rest)? {
@@ -157,6 +167,9 @@ impl Judging {
         ensures fed { self.new.fed ≡ self.old.fed }
         ensures taken { IfOk result (λ after. TakesLine bytes.now self.old self.new
             (option_map (λ rest. rest.now) after)) }
+        ensures some { OnErr result (0 < length bytes.now) }
+        ensures wants { (text : List ℕ) → Stands text self.old →
+            OnErr result (WantedMemory (text ++ bytes.now) self.old self.new) }
     {
         if let Some(after) = self.take_delivery(bytes) {
             return Ok(Some(after));
@@ -168,8 +181,8 @@ impl Judging {
         Ok(Some(&bytes[at + 1..]))
     }
 
-    // Takes a line `d` that breaks no rule, where no line is unfinished, before its end is looked for: most lines are such ones.
-    // None changes nothing.
+    // Takes a line `d` that breaks no rule, where no line is unfinished, before its end is looked for: most lines are such
+    // ones. None changes nothing.
     fn take_delivery<'a>(&mut self, bytes: &'a [u8]) -> Option<&'a [u8]>
         requires reading { is_reading self.old ≡ true }
         requires room { self.old.lines + length bytes.now ≤ self.old.fed }
@@ -201,6 +214,9 @@ impl Judging {
         ensures stands { (text : List ℕ) → Stands text self.old →
             OnOk result (Stands (text ++ (part.now ++ 10 ∷ [])) self.new) }
         ensures ok { OnOk result (is_refused self.new ≡ false) }
+        ensures emptied { OnOk result (self.new.tail.items ≡ []) }
+        ensures wants { (text after : List ℕ) → Stands text self.old →
+            OnErr result (WantedMemory (text ++ (part.now ++ 10 ∷ after)) self.old self.new) }
     {
         if self.tail.is_empty() {
             let broken = judge_line(&mut self.kept, part)?;
@@ -262,6 +278,9 @@ impl Judging {
         ensures stands { (text : List ℕ) → Stands text self.old →
             OnOk result (Stands (text ++ part.now) self.new) }
         ensures ok { OnOk result (is_refused self.new ≡ false) }
+        ensures some { OnErr result (0 < length part.now) }
+        ensures wants { (text : List ℕ) → Stands text self.old →
+            OnErr result (WantedMemory (text ++ part.now) self.old self.new) }
     {
         if part.is_empty() {
             return Ok(());

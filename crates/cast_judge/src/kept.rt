@@ -5,29 +5,33 @@ ghost use Rattle.cast_judge.specs.Kept.{is_ended_at};
 ghost use Rattle.cast_judge.specs.Kept.{Delivers, IsDue, node_at, has_item, nobody, instance_at, item_changes, with_item, Keeps, IsNew};
 
 use crate::instances::{Addition, Instances, Proposal};
-use crate::sender::{Sender, new_nodes, put_crash, put_delivery, put_item};
+use crate::kept_node::{KeptNode, new_nodes, put_crash, put_delivery, put_item};
 use cast_message::NodeId;
 use cast_record::{Delivery, ItemWord, WordLine};
 use std::alloc::{AllocError, Global};
 
-/// Where the lines read so far end.
+/// How far the lines read so far go.
 #[derive(Clone, Copy, Debug)]
-pub enum Place {
+pub enum Stage {
     /// There is none.
     Start,
-    /// At a line that others may follow.
+    /// To a line that others may follow.
     Body,
-    /// At the end line.
+    /// To the end line.
     Ended,
 }
+
 /// What is kept of the lines read so far.
 #[derive(Debug, Drop)]
 pub struct Kept {
     pub alloc: Global,
-    pub place: Place,
+    pub stage: Stage,
+    /// How many nodes may crash, as the head tells.
     pub faults: u64,
+    /// How many values may be decided in an instance, as the head tells.
     pub choices: u64,
-    pub nodes: Vec<Sender>,
+    /// What is kept of each node of the group, by its number.
+    pub nodes: Vec<KeptNode>,
     pub instances: Instances,
 }
 
@@ -38,7 +42,7 @@ impl Kept {
     {
         Kept {
             alloc,
-            place: Place::Start,
+            stage: Stage::Start,
             faults: 0,
             choices: 0,
             nodes: Vec::new(alloc),
@@ -48,23 +52,23 @@ impl Kept {
 
     /// Whether the last line that was read is the end.
     pub fn is_ended(&self) -> bool
-        ensures { result ≡ is_ended_at self.now.place }
+        ensures { result ≡ is_ended_at self.now.stage }
     {
-        matches!(self.place, Place::Ended)
+        matches!(self.stage, Stage::Ended)
     }
 
     /// Takes a line that breaks no rule.
     pub fn keep(&mut self, line: &WordLine<'_>) -> Result<(), AllocError>
         ensures { OnOk result (Keeps self.old self.new (line_said line.now)) }
     {
-        self.place = Place::Body;
+        self.stage = Stage::Body;
         match line {
             WordLine::Head {
                 nodes,
                 faults,
                 choices,
-            } => self.open(*nodes, *faults, *choices),
-            WordLine::Head2 {
+            }
+            | WordLine::Head2 {
                 nodes,
                 faults,
                 choices,
@@ -86,7 +90,7 @@ impl Kept {
             }
             WordLine::Refused { .. } => Ok(()),
             WordLine::End => {
-                self.place = Place::Ended;
+                self.stage = Stage::Ended;
                 Ok(())
             }
         }
@@ -106,7 +110,7 @@ impl Kept {
     fn end_of_due(&self, delivery: &Delivery<'_>) -> Option<usize>
         ensures { IfSome result (IsDue self.now delivery.now) }
     {
-        let Place::Body = self.place else {
+        let Stage::Body = self.stage else {
             return None;
         };
         let node = self.node(delivery.node)?;
@@ -117,8 +121,9 @@ impl Kept {
             .end_of_word(delivery.number, delivery.rest)
     }
 
+    // Takes the numbers of a head: of its nodes nothing was said.
     fn open(&mut self, nodes: u64, faults: u64, choices: u64) -> Result<(), AllocError>
-        ensures place { self.new.place ≡ self.old.place }
+        ensures stage { self.new.stage ≡ self.old.stage }
         ensures faults { OnOk result (self.new.faults ≡ faults) }
         ensures choices { OnOk result (self.new.choices ≡ choices) }
         ensures nodes { OnOk result (self.new.nodes.items ≡ replicate nodes nobody) }
@@ -130,8 +135,9 @@ impl Kept {
         Ok(())
     }
 
+    // Takes an item that a node broadcast, and what it proposes, if it is a proposal.
     fn keep_broadcast(&mut self, sender: NodeId, item: &ItemWord<'_>) -> Result<(), AllocError>
-        ensures place { self.new.place ≡ self.old.place }
+        ensures stage { self.new.stage ≡ self.old.stage }
         ensures faults { self.new.faults ≡ self.old.faults }
         ensures choices { self.new.choices ≡ self.old.choices }
         ensures nodes { OnOk result
@@ -152,7 +158,8 @@ impl Kept {
         put_item(&mut self.nodes, sender, item)
     }
 
-    pub fn node(&self, node: NodeId) -> Option<&Sender>
+    /// What is kept of the node, if it is one of the group.
+    pub fn node(&self, node: NodeId) -> Option<&KeptNode>
         ensures { MatchOption result (length self.now.nodes.items ≤ node)
             (λ found. (node < length self.now.nodes.items)
             × (found.now ≡ node_at self.now.nodes.items node)) }
@@ -160,6 +167,7 @@ impl Kept {
         self.nodes.get(usize::from(node.0))
     }
 
+    /// Whether the node crashed. One outside the group did not.
     pub fn has_crashed(&self, node: NodeId) -> bool
         ensures { result ≡ (node_at self.now.nodes.items node).crashed }
     {
@@ -169,6 +177,7 @@ impl Kept {
         }
     }
 
+    /// How many items the node broadcast, which is the number of its next one.
     pub fn item_count(&self, node: NodeId) -> u64
         ensures { result ≡ length (node_at self.now.nodes.items node).items }
     {
@@ -178,6 +187,7 @@ impl Kept {
         }
     }
 
+    /// How many items of the sender the node delivered, which is the number of the next one that it may deliver.
     pub fn delivered(&self, node: NodeId, sender: NodeId) -> u64
         ensures { result ≡ slice_index (node_at self.now.nodes.items node).delivered sender }
     {
@@ -187,6 +197,7 @@ impl Kept {
         }
     }
 
+    /// Whether the sender broadcast this item as the one of this number.
     pub fn has_item(&self, sender: NodeId, number: u64, item: &ItemWord<'_>) -> bool
         ensures { result ≡ has_item (node_at self.now.nodes.items sender).items number item.now }
     {

@@ -9,9 +9,9 @@ mod instances;
 mod items;
 mod judging;
 mod kept;
+mod kept_node;
 mod lines;
 mod rules;
-mod sender;
 
 pub use cast_record::Verdict;
 pub use judging::{Judging, judge};

@@ -1,8 +1,9 @@
 //! One line of a text.
-ghost use Rattle.std.specs.Prelude.{◌≡◌, ◌^◌, ◌<◌, ◌==◌, List, length, position, option_map, IfOk};
+ghost use Rattle.std.specs.Prelude.{◌≡◌, ◌^◌, ◌<◌, ◌==◌, List, length, position, option_map, IfOk, OnErr};
 ghost use Rattle.cast_record.specs.declared.line.Line.{Line as Said};
 ghost use Rattle.cast_judge.specs.Stands.{StandsFor};
 ghost use Rattle.cast_judge.specs.Judges.{Judges, Takes};
+ghost use Rattle.cast_judge.specs.FitLines.{IsFit};
 
 use crate::kept::Kept;
 use crate::rules::broken_rule;
@@ -22,6 +23,7 @@ pub fn find_line_feed(bytes: &[u8]) -> Option<usize>
 pub fn take_delivery<'a>(kept: &mut Kept, bytes: &'a [u8]) -> Option<&'a [u8]>
     ensures { Takes bytes.now kept.old kept.new (option_map (λ after. after.now) result) }
 {
+    // The borrow checker does not cover `?` here.
     let Some(delivery) = read_delivery(bytes) else {
         return None;
     };
@@ -29,10 +31,12 @@ pub fn take_delivery<'a>(kept: &mut Kept, bytes: &'a [u8]) -> Option<&'a [u8]>
     Some(&delivery.rest[end..])
 }
 
-/// Takes the line that these bytes spell, or tells the least rule that it breaks.
+/// Takes the line that these bytes spell, or tells the least rule that it breaks. A line that breaks one takes no memory.
 pub fn judge_line(kept: &mut Kept, bytes: &[u8]) -> Result<Option<u64>, AllocError>
-    ensures { (past : List Said) → StandsFor past kept.old → length past < 2 ^ 63 →
+    ensures judged { (past : List Said) → StandsFor past kept.old → length past < 2 ^ 63 →
         IfOk result (λ broken. Judges past bytes.now broken kept.new) }
+    ensures wants { (past : List Said) → StandsFor past kept.old →
+        OnErr result (IsFit past bytes.now) }
 {
     let Some(line) = read_words(bytes) else {
         return Ok(Some(0));

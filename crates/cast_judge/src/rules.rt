@@ -5,7 +5,7 @@ ghost use Rattle.cast_record.specs.WordLines.{line_said};
 ghost use Rattle.cast_judge.specs.Kept.{rule_by, is_out_of_place, breaks_prefix, is_after_close, is_not_proposed, is_of_too_many, is_after_crash, is_proposed_twice, is_second_proposal};
 ghost use Rattle.cast_judge.specs.Kept.{count_with, instance_at};
 
-use crate::kept::{Kept, Place};
+use crate::kept::{Kept, Stage};
 use cast_message::{Decision, NodeId};
 use cast_record::{ItemWord, WordLine};
 
@@ -35,10 +35,10 @@ pub fn broken_rule(kept: &Kept, line: &WordLine<'_>) -> Option<u64>
 fn is_out_of_place(kept: &Kept, line: &WordLine<'_>) -> bool
     ensures { result ≡ is_out_of_place kept.now (line_said line.now) }
 {
-    match kept.place {
-        Place::Start => !is_head(line),
-        Place::Body => is_head(line) || !names_below(kept.nodes.len() as u64, line),
-        Place::Ended => true,
+    match kept.stage {
+        Stage::Start => !is_head(line),
+        Stage::Body => is_head(line) || !names_below(kept.nodes.len() as u64, line),
+        Stage::Ended => true,
     }
 }
 
@@ -97,9 +97,9 @@ fn is_after_crash(kept: &Kept, line: &WordLine<'_>) -> bool
 {
     match line {
         WordLine::Broadcast { sender, .. } => kept.has_crashed(*sender),
-        WordLine::Delivered { node, .. } => kept.has_crashed(*node),
-        WordLine::Decided { node, .. } => kept.has_crashed(*node),
-        WordLine::Crashed { node } => kept.has_crashed(*node),
+        WordLine::Delivered { node, .. }
+        | WordLine::Decided { node, .. }
+        | WordLine::Crashed { node } => kept.has_crashed(*node),
         _ => false,
     }
 }
@@ -150,8 +150,7 @@ fn names_below(nodes: u64, line: &WordLine<'_>) -> bool
         WordLine::Delivered { node, sender, .. } => {
             u64::from(node.0) < nodes && u64::from(sender.0) < nodes
         }
-        WordLine::Decided { node, .. } => u64::from(node.0) < nodes,
-        WordLine::Crashed { node } => u64::from(node.0) < nodes,
+        WordLine::Decided { node, .. } | WordLine::Crashed { node } => u64::from(node.0) < nodes,
         _ => true,
     }
 }

@@ -19,6 +19,7 @@ returns-clause-taken c =
       cut = taken.cut;
       lines = omega (arith, c.count.ensures.lines);
       going = ap is_refused_state state;
+      emptied = ap (λ t. t.items) c.count.ensures.tail ∙ none;
       stands = λ text st.
           let h = subst (λ (tail : List ℕ). IsReading text self.kept tail self.lines) none (was_reading self.state text self.kept self.tail.items self.lines c.requires.reading st) in
           moved Reading new.state (text ++ (taken.front ++ 10 ∷ [])) c.take_delivery.new.kept new.kept [] new.tail.items (self.lines + 1) new.lines

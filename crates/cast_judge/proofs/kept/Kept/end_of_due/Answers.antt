@@ -3,7 +3,7 @@ use Rattle.std.proofs.lemmas.Bool.Decides.{nat_tests}
 use Rattle.std.proofs.lemmas.Grind.{common_steps}
 use Rattle.std.proofs.lemmas.Option.{IfSome_then}
 use Rattle.cast_judge.specs.ItemList.{BeginsWithWord}
-use Rattle.cast_judge.specs.declared.sender.Sender.{Sender}
+use Rattle.cast_judge.specs.declared.kept_node.KeptNode.{KeptNode}
 use Rattle.cast_judge.proofs.DueLemmas.{due}
 use Rattle.cast_judge.proofs.kept.Kept.end_of_due.Goals as goal
 
@@ -13,6 +13,6 @@ returns c =
     let same : c.args.delivery.now.number ≡ c.count_from.result = grind (arith, nat_tests, common_steps) in
     IfSome_then c.end_of_word.result c.end_of_word.ensures (λ end begins.
     due c.args.self.now d end c.in-Body.is c.in_ok-node.ensures.0 c.in_ok-node-2.ensures.0
-    (ap (λ (s : Sender). s.crashed) (sym c.in_ok-node.ensures.1) ∙ c.if-node.false)
-    (same ∙ c.count_from.ensures ∙ ap (λ (s : Sender). slice_index s.delivered d.sender) c.in_ok-node.ensures.1)
-    (subst (λ (s : Sender). BeginsWithWord s.items d.number d.rest.now end) c.in_ok-node-2.ensures.1 begins))
+    (ap (λ (s : KeptNode). s.crashed) (sym c.in_ok-node.ensures.1) ∙ c.if-node.false)
+    (same ∙ c.count_from.ensures ∙ ap (λ (s : KeptNode). slice_index s.delivered d.sender) c.in_ok-node.ensures.1)
+    (subst (λ (s : KeptNode). BeginsWithWord s.items d.number d.rest.now end) c.in_ok-node-2.ensures.1 begins))

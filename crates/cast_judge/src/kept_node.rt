@@ -10,20 +10,22 @@ use std::alloc::{AllocError, Global};
 
 /// What is kept of a node.
 #[derive(Debug, Drop)]
-pub struct Sender {
+pub struct KeptNode {
     /// The items that it broadcast, in order.
     pub items: Items,
+    /// Whether one of them closed its stream.
     pub closed: bool,
     pub crashed: bool,
     /// How many items it delivered, by their sender.
     pub delivered: [u64; MOST_NODES as usize],
 }
 
-impl Sender {
-    pub fn new(alloc: Global) -> Sender
+impl KeptNode {
+    /// Nothing was said of it. It takes no memory.
+    pub fn new(alloc: Global) -> KeptNode
         ensures { result ≡ nobody }
     {
-        Sender {
+        KeptNode {
             items: Items::new(alloc),
             closed: false,
             crashed: false,
@@ -31,6 +33,7 @@ impl Sender {
         }
     }
 
+    /// How many items of this sender it delivered. Of a sender past the most nodes there are none.
     pub fn count_from(&self, sender: NodeId) -> u64
         ensures { result ≡ slice_index self.now.delivered sender }
     {
@@ -40,6 +43,7 @@ impl Sender {
         }
     }
 
+    /// Whether it broadcast this item as the one of this number.
     pub fn has_item(&self, number: u64, item: &ItemWord<'_>) -> bool
         ensures { result ≡ has_item self.now.items number item.now }
     {
@@ -49,7 +53,7 @@ impl Sender {
         }
     }
 
-    // Where the bytes begin with the word that is kept of the item of this number, and a line feed: the place behind these.
+    /// Where the bytes begin with the word that is kept of the item of this number, and a line feed: the place behind these.
     pub fn end_of_word(&self, number: u64, bytes: &[u8]) -> Option<usize>
         ensures { IfSome result (BeginsWithWord self.now.items number bytes.now) }
     {
@@ -61,6 +65,7 @@ impl Sender {
         None
     }
 
+    /// Takes an item that it broadcast.
     pub fn put_item(&mut self, item: &ItemWord<'_>) -> Result<(), AllocError>
         ensures { OnOk result (self.new ≡ with_item self.old item.now) }
     {
@@ -70,6 +75,7 @@ impl Sender {
         self.items.push(item)
     }
 
+    /// Counts a delivery from this sender.
     pub fn put_delivery(&mut self, sender: NodeId)
         ensures { self.new ≡ with_delivery self.old sender }
     {
@@ -81,18 +87,20 @@ impl Sender {
     }
 }
 
-pub fn new_nodes(alloc: Global, count: u64) -> Result<Vec<Sender>, AllocError>
+/// So many nodes, of which nothing was said.
+pub fn new_nodes(alloc: Global, count: u64) -> Result<Vec<KeptNode>, AllocError>
     ensures { IfOk result (λ nodes. nodes.items ≡ replicate count nobody) }
 {
     let mut nodes = Vec::new(alloc);
     for _ in 0..count {
-        nodes.push(Sender::new(alloc))?;
+        nodes.push(KeptNode::new(alloc))?;
     }
     Ok(nodes)
 }
 
+/// Takes an item that the node broadcast. A node past the last one changes nothing.
 pub fn put_item(
-    nodes: &mut Vec<Sender>,
+    nodes: &mut Vec<KeptNode>,
     node: NodeId,
     item: &ItemWord<'_>,
 ) -> Result<(), AllocError>
@@ -106,7 +114,8 @@ pub fn put_item(
     Ok(())
 }
 
-pub fn put_delivery(nodes: &mut Vec<Sender>, node: NodeId, sender: NodeId)
+/// Counts a delivery of the node from this sender. A node past the last one changes nothing.
+pub fn put_delivery(nodes: &mut Vec<KeptNode>, node: NodeId, sender: NodeId)
     ensures { nodes.new.items ≡ slice_set nodes.old.items node
         (with_delivery (node_at nodes.old.items node) sender) }
 {
@@ -116,7 +125,8 @@ pub fn put_delivery(nodes: &mut Vec<Sender>, node: NodeId, sender: NodeId)
     }
 }
 
-pub fn put_crash(nodes: &mut Vec<Sender>, node: NodeId)
+/// Takes the crash of the node. A node past the last one changes nothing.
+pub fn put_crash(nodes: &mut Vec<KeptNode>, node: NodeId)
     ensures { nodes.new.items ≡ slice_set nodes.old.items node
         (with_crash (node_at nodes.old.items node)) }
 {

@@ -1,7 +1,7 @@
 use Rattle.std.proofs.Common.{◌+◌, length, drop, refl, sym, ◌∙◌}
 use Rattle.cast_record.proofs.ReadLemmas.{text_same}
 use Rattle.cast_judge.proofs.ItemLemmas.{after_feed}
-use Rattle.cast_judge.proofs.sender.Sender.end_of_word.Goals as goal
+use Rattle.cast_judge.proofs.kept_node.KeptNode.end_of_word.Goals as goal
 
 pub returns-then-eq : goal.returns-then-eq
 returns-then-eq c =
