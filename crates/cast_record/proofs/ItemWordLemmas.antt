@@ -1,13 +1,17 @@
 -- What a word of an item says of it.
-use Rattle.std.proofs.Common.{◌≡◌, ℕ, ◌-◌, ◌%◌, ◌&&◌, Bool, true, false, cond, nat_lt, List, [], ◌∷◌, length, take, drop, Option, Some, None, option_map, refl, sym, ap, ◌∙◌, arith}
+use Rattle.std.proofs.Common.{◌≡◌, ℕ, ◌-◌, ◌%◌, ◌≤◌, ◌&&◌, Bool, true, false, cond, nat_eq, nat_lt, List, [], ◌∷◌, length, take, drop, codes, Option, Some, None, option_map, option_and_then, refl, sym, ap, subst, ◌∙◌, arith}
 use Rattle.std.specs.Prelude.{unwrap_or}
-use Rattle.std.specs.List.{list_all}
+use Rattle.std.specs.Bool.{then_some}
+use Rattle.std.specs.List.{list_all, slice_split}
+use Rattle.std.specs.Str.{bytes_eq}
+use Rattle.std.proofs.lemmas.Bool.Decides.{nat_tests}
 use Rattle.std.proofs.lemmas.Grind.{common_steps}
 use Rattle.std.proofs.lemmas.List.{take-append-drop}
 use Rattle.std.proofs.lemmas.List.Folds.{list_all-append}
 use Rattle.cast_message.specs.declared.message.Item.{Item}
 use Rattle.cast_message.specs.declared.message.Item.TheVariants as items
-use Rattle.cast_record.specs.Reading.{data_of, item_of, HasData}
+use Rattle.cast_words.specs.Numbers.{number_of}
+use Rattle.cast_record.specs.Reading.{data_of, item_of, two_of, proposal_by, proposal_of, HasData}
 use Rattle.cast_words.specs.Unhex.{unhex, digit_of, byte_of, before}
 use Rattle.cast_record.specs.declared.item_word.ItemKind.{ItemKind}
 use Rattle.cast_record.specs.declared.item_word.ItemKind.TheVariants.{Data}
@@ -43,27 +47,61 @@ odd_digits (h ∷ []) e = refl
 odd_digits (h ∷ l ∷ rest) e =
     two_more h l rest ∙ ap (λ b. is_hex_digit h && is_hex_digit l && b) (odd_digits rest (omega arith)) ∙ and_false (is_hex_digit h) (is_hex_digit l)
 
-unhexed : (o : Option (List ℕ)) → option_map kind_of (option_map items.Data o) ≡ cond (is_known o) (Some Data) None
+unhexed : (o : Option (List ℕ)) → option_map kind_of (option_map items.Data o) ≡ then_some (is_known o) Data
 unhexed None = refl
 unhexed (Some bytes) = refl
 
-pub data_kind : (digits : List ℕ) (b : Bool) → nat_lt 2048 (length digits) ≡ false → is_hex digits ≡ b → option_map kind_of (data_of digits) ≡ cond b (Some Data) None
-data_kind digits b short e = rw short (unhexed (unhex digits) ∙ ap (λ b. cond b (Some Data) None) e)
+pub data_kind : (digits : List ℕ) (b : Bool) → nat_lt 2048 (length digits) ≡ false → is_hex digits ≡ b → option_map kind_of (data_of digits) ≡ then_some b Data
+data_kind digits b short e = rw short (unhexed (unhex digits) ∙ ap (λ b. then_some b Data) e)
 
--- digits that stand for bytes are data, others are none
-pub no_data : (digits : List ℕ) → nat_lt 2048 (length digits) ≡ false → is_hex digits ≡ false → None ≡ data_of digits
-no_data digits short e = rw short (by_bytes (unhex digits) e)
-  where
-    by_bytes : (o : Option (List ℕ)) → is_known o ≡ false → None ≡ option_map items.Data o
-    by_bytes None e = refl
-    by_bytes (Some bytes) e = absurd (cc)
+-- after the five letters of `data:` the word has the digits of bytes, and the item is those bytes
+pub record SpellsData (word : List ℕ) : Type 0 where
+  pub long : 5 ≤ length word
+  pub bytes : List ℕ
+  pub digits : unhex (drop 5 word) ≡ Some bytes
+  pub is : item_of word ≡ Some (items.Data bytes)
 
-pub some_data : (digits : List ℕ) → nat_lt 2048 (length digits) ≡ false → is_hex digits ≡ true → HasData (data_of digits)
-some_data digits short e = rw short (by_bytes (unhex digits) e)
+-- what two words after `prop:` spell is no data
+no_proposal : (o : Option (List ℕ × List ℕ)) → HasData (option_and_then proposal_by o) → ⊥
+no_proposal None h = h
+no_proposal (Some words) h = by_numbers (number_of words.0) (number_of words.1) h
   where
-    by_bytes : (o : Option (List ℕ)) → is_known o ≡ true → HasData (option_map items.Data o)
-    by_bytes None e = absurd (cc)
-    by_bytes (Some bytes) e = refl
+    by_numbers : (j v : Option ℕ) → HasData (option_and_then (λ j. option_and_then (λ v. Some (items.Propose j v)) v) j) → ⊥
+    by_numbers None v h = h
+    by_numbers (Some j) None h = h
+    by_numbers (Some j) (Some v) h = absurd (cc)
+
+-- the item of a word, by what is asked of the word
+abbrev item_by : (is_close is_short is_data is_proposed is_long : Bool) → Option (List ℕ) → Option Item → Option Item
+item_by is_close is_short is_data is_proposed is_long o p =
+    cond is_close (Some items.Close) (cond is_short None (cond is_data (cond is_long None (option_map items.Data o)) (cond is_proposed p None)))
+
+only_data : (a b c d e : Bool) (o : Option (List ℕ)) (p : Option Item) → (HasData p → ⊥) → HasData (item_by a b c d e o p)
+    → (b ≡ false) × (bytes : List ℕ) × (o ≡ Some bytes) × (item_by a b c d e o p ≡ Some (items.Data bytes))
+only_data true b c d e o p none h = absurd (cc)
+only_data false true c d e o p none h = absurd h
+only_data false false true d true o p none h = absurd h
+only_data false false true d false None p none h = absurd h
+only_data false false true d false (Some bytes) p none h = (refl, bytes, refl, refl)
+only_data false false false true e o p none h = absurd (none h)
+only_data false false false false e o p none h = absurd h
+
+pub spells_data : (word : List ℕ) → HasData (item_of word) → SpellsData word
+spells_data word h =
+    let rest = drop 5 word in
+    let told = only_data (bytes_eq word (codes "close")) (nat_lt (length word) 5) (bytes_eq (take 5 word) (codes "data:")) (bytes_eq (take 5 word) (codes "prop:")) (nat_lt 2048 (length rest)) (unhex rest) (proposal_of rest)
+    (no_proposal (two_of (slice_split (λ b. nat_eq b 58) rest))) h in
+    let short : nat_lt (length word) 5 ≡ false = told.0 in
+    record { long = grind (arith, nat_tests); bytes = told.1; digits = told.2; is = told.3 }
+
+-- a word of this kind spells data
+pub has_data : (word : List ℕ) (kind : ItemKind) → SpellsItem word kind → kind ≡ Data → HasData (item_of word)
+has_data word kind told e = subst HasData (sym told.spells) (by_item (unwrap_or (item_of word) items.Close) (sym told.is ∙ e))
+  where
+    by_item : (item : Item) → kind_of item ≡ Data → HasData (Some item)
+    by_item (items.Data payload) e = refl
+    by_item (items.Propose j v) e = absurd (cc)
+    by_item items.Close e = absurd (cc)
 
 pub no_item : (o : Option Item) → None ≡ option_map kind_of o → None ≡ o
 no_item None e = refl

@@ -1,5 +1,7 @@
 -- The verdict does not tell the two heads apart.
-use Rattle.std.proofs.Common.{◌≡◌, ℕ, ◌+◌, ◌≤◌, ◌&&◌, ◌||◌, not, Bool, true, false, cond, nat_eq, nat_lt, List, [], ◌∷◌, ◌++◌, append_assoc, length, length-append, get_or, decimal, codes, Option, Some, None, option_and_then, is_some, refl, sym, ap, ◌∙◌, arith}
+use Rattle.std.proofs.Common.{◌≡◌, ℕ, ◌+◌, ◌≤◌, ◌&&◌, ◌||◌, not, Bool, true, false, cond, nat_eq, nat_lt, List, [], ◌∷◌, ◌++◌, append_assoc, length, length-append, get_or, decimal, codes, Option, Some, None, option_and_then, is_some, refl, sym, ap, subst, ◌∙◌, arith}
+use Rattle.std.specs.Prelude.{Result, Ok, Err, IfOk, IsErrAnd, MatchResult}
+use Rattle.std.specs.Global.{Vec}
 use Rattle.std.specs.List.{slice_split, list_any, filter, cons_option, join_with_byte}
 use Rattle.std.specs.Str.{bytes_eq}
 use Rattle.std.proofs.lemmas.List.Splits.{slice_split_at, join_with_byte-slice_split}
@@ -12,7 +14,9 @@ use Rattle.cast_message.specs.Items.{is_close, proposes_in}
 use Rattle.cast_record.specs.declared.line.Line.{Line}
 use Rattle.cast_record.specs.declared.line.Line.TheVariants.{Head, Head2, Broadcast, Delivered, Decided, Crashed, Refused, End}
 use Rattle.cast_record.specs.declared.verdict.Verdict.TheVariants.{Good, Bad}
-use Rattle.cast_record.specs.Migration.{IsHeadIn, IsNoHead, IsMigrated, HasHead, HasNoHead, new_text}
+use Rattle.cast_record.specs.declared.migration.MigrateFault.{MigrateFault}
+use Rattle.cast_record.specs.declared.migration.MigrateFault.TheVariants.{Memory}
+use Rattle.cast_record.specs.Migration.{IsHeadIn, IsNoHead, IsMigrated, HasHead, HasNoHead, Migrates, new_text}
 use Rattle.cast_record.specs.Ranges.{IsWithin}
 use Rattle.cast_record.specs.Reading as read
 use Rattle.cast_record.specs.Reading.{line_of}
@@ -168,7 +172,7 @@ new_within n f k h = ((h.0, wider n h.1, h.2, h.3, h.4), tt)
     wider n small = omega arith
 
 -- the verdict on a migrated text is that on the text before
-pub migrated_verdict : (text new : List ℕ) → IsMigrated text new → verdict new ≡ verdict text
+migrated_verdict : (text new : List ℕ) → IsMigrated text new → verdict new ≡ verdict text
 migrated_verdict text new h =
     ap verdict h.after ∙ first_kept (Head2 h.head.nodes h.head.faults h.head.choices Basic) h.head.rest (new_within h.head.nodes h.head.faults h.head.choices h.head.within) (head2_sound h.head.nodes h.head.faults h.head.choices)
     ∙ sym (verdict_same h.head.nodes h.head.faults h.head.choices [] (slice_split (λ b. nat_eq b 10) h.head.rest))
@@ -190,7 +194,7 @@ cut_text text first rest cut =
     sym (join_with_byte-slice_split 10 text) ∙ ap (join_with_byte 10) (cut ∙ ap (λ ps. first ∷ ps) parts.2)
     ∙ ap (λ bytes. first ++ 10 ∷ bytes) (ap (join_with_byte 10) (sym parts.2) ∙ join_with_byte-slice_split 10 rest)
 
-pub has_head : (text first rest : List ℕ) → slice_split (λ b. nat_eq b 10) text ≡ first ∷ slice_split (λ b. nat_eq b 10) rest → IsHeadIn first → HasHead text
+has_head : (text first rest : List ℕ) → slice_split (λ b. nat_eq b 10) text ≡ first ∷ slice_split (λ b. nat_eq b 10) rest → IsHeadIn first → HasHead text
 has_head text first rest cut h = record {
   nodes = h.nodes;
   faults = h.faults;
@@ -200,9 +204,20 @@ has_head text first rest cut h = record {
   same = cut_text text first rest cut ∙ ap (λ bytes. bytes ++ 10 ∷ rest) (sym h.same);
 }
 
-pub is_migrated : (text first rest new : List ℕ) → slice_split (λ b. nat_eq b 10) text ≡ first ∷ slice_split (λ b. nat_eq b 10) rest → IsHeadIn first → new ≡ new_text first rest → IsMigrated text new
+is_migrated : (text first rest new : List ℕ) → slice_split (λ b. nat_eq b 10) text ≡ first ∷ slice_split (λ b. nat_eq b 10) rest → IsHeadIn first → new ≡ new_text first rest → IsMigrated text new
 unfolding has_head
 is_migrated text first rest new cut h e = record { head = has_head text first rest cut h; after = e ∙ new_head h.nodes h.faults h.choices first rest h.same }
+
+-- the new text, or want of memory
+pub migrates_so : {E : Type 0} (P : E → MigrateFault → Type 0) (text first rest : List ℕ) (made : Result (Vec ℕ) E) (result : Result (Vec ℕ) MigrateFault) → slice_split (λ b. nat_eq b 10) text ≡ first ∷ slice_split (λ b. nat_eq b 10) rest → IsHeadIn first
+    → ((e : E) (fault : MigrateFault) → P e fault → fault ≡ Memory) → IfOk made (λ new. new.items ≡ new_text first rest) → MatchResult made (λ new. result ≡ Ok new) (λ e. IsErrAnd result (P e)) → Migrates text result
+migrates_so P text first rest (Ok new) result cut h only e is = subst (Migrates text) (sym is) (is_migrated text first rest new.items cut h e)
+migrates_so P text first rest (Err error) (Ok new) cut h only e is = absurd is
+migrates_so P text first rest (Err error) (Err fault) cut h only e is = subst (λ fault. Migrates text (Err fault)) (sym (only error fault is)) (has_head text first rest cut h)
+
+pub same_verdict : (text : List ℕ) (result : Result (Vec ℕ) MigrateFault) → Migrates text result → IfOk result (λ new. verdict new.items ≡ verdict text)
+same_verdict text (Ok new) h = migrated_verdict text new.items h
+same_verdict text (Err fault) h = tt
 
 pub long_enough : (first : List ℕ) → IsHeadIn first → 6 ≤ length first
 long_enough first h = let e = ap length h.same in omega (arith, e)

@@ -29,7 +29,6 @@ use Rattle.cast_words.proofs.UnhexLemmas.{unhex_again, unhex_takes, length-hex}
 use Rattle.cast_record.proofs.PartLemmas.{has_first}
 use Rattle.cast_record.proofs.WordLemmas.{split_join, decimal_without_colon, split_line}
 
--- what holds anyway holds where a call failed
 -- ---- what came of two in turn
 
 pub record Both {A B : Type 0} (o : Option A) (f : A → Option B) (y : B) : Type 0 where
@@ -223,9 +222,6 @@ message_takes p i word m e =
 pub record IsLineIn (words : List (List ℕ)) (line : Line) : Type 0 where
   pub same : line_words line ≡ words
   pub within : IsWithin line
-
-named : (name text : List ℕ) (ws others : List (List ℕ)) → bytes_eq name text ≡ true → others ≡ ws → text ∷ others ≡ name ∷ ws
-named name text ws others test same = let e = text_same name text test in cc
 
 delivered_takes : (ws : read.Words) (line : Line) → option_and_then read.delivered_by (read.four_of ws) ≡ Some line → IsLineIn (codes "d" ∷ ws) line
 delivered_takes ws line e =

@@ -2,7 +2,7 @@
 --     item_of word     the item that a word spells, if it spells one
 --     line_of bytes    the line that the bytes spell without a line feed, if they spell one
 --     IsReadOf bytes o     o is the line within its ranges whose text the bytes are, or none where there is none
---     HasData item     there is an item, and it is data; `MessageHasData` and `LineHasData` are of what brings one
+--     HasData item     there is an item, and it is data; `LineHasData` says the same of a line that brings one
 use Rattle.std.specs.Prelude.{◌≡◌, ℕ, ◌-◌, ◌==◌, ◌||◌, nat_lt, nat_le, if◌then◌else◌, IsSomeAnd, List, [], ◌∷◌, length, take, drop, codes, Bool, true, false, Option, Some, None, option_map, option_and_then}
 use Rattle.std.specs.Str.{bytes_eq}
 use Rattle.std.specs.List.{slice_split}
@@ -180,9 +180,6 @@ IsReadOf bytes None = (line : Line) → IsWithin line → line_text line ≡ byt
 
 abbrev pub HasData : Option Item → Type 0
 HasData item = IsSomeAnd item (λ item. has_payload item ≡ true)
-
-abbrev pub MessageHasData : Option Message → Type 0
-MessageHasData message = IsSomeAnd message (λ message. has_payload message.item ≡ true)
 
 abbrev pub brings_data : Line → Bool
 brings_data (Broadcast message) = has_payload message.item

@@ -1,6 +1,5 @@
 -- What a line says whose item stands as its word.
 --     line_said line     the line
-use Rattle.std.specs.Prelude.{Option, Some, None}
 use Rattle.cast_record.specs.declared.line.Line.{Line}
 use Rattle.cast_record.specs.declared.line.Line.TheVariants.{Head, Head2, Broadcast, Delivered, Decided, Crashed, Refused, End}
 use Rattle.cast_record.specs.declared.word_line.WordLine.{WordLine}
@@ -15,9 +14,3 @@ line_said (words.Decided node decision) = Decided node decision
 line_said (words.Crashed node) = Crashed node
 line_said (words.Refused index code) = Refused index code
 line_said words.End = End
-
--- the line, if it has no item
-abbrev pub short_of : Line → Option Line
-short_of (Broadcast message) = None
-short_of (Delivered node message) = None
-short_of line = Some line

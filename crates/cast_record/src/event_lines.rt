@@ -1,10 +1,11 @@
-//! Writing the lines that an event and its reply leave in a record, from the two of them: no line is made, and no message copied.
+//! Writing the lines that an event and its reply leave in a record, from the two of them: no line is made, and no message is
+//! copied.
 ghost use Rattle.std.specs.Prelude.{◌≡◌, ◌∷◌, [], false};
 ghost use Rattle.cast_words.specs.Written.{Puts};
 ghost use Rattle.cast_record.specs.Lines.{answer_lines, lines_for, outcome_lines};
 ghost use Rattle.cast_record.specs.Text.{record_text};
 
-use crate::line::Line;
+use crate::line::{Line, MOST_CODE};
 use crate::writing::{write_broadcast, write_decided, write_delivered, write_line};
 use cast_message::{Answer, Event, NodeId, Outcome, Reply};
 use cast_words::{Meter, Written};
@@ -27,7 +28,7 @@ pub fn write_lines_of<W: Write>(
         Ok(answer) => write_answer(event, answer, writer),
         Err(fault) => {
             let code = fault.code();
-            if code <= 12 {
+            if code <= MOST_CODE {
                 return write_alone(&Line::Refused { index, code }, writer);
             }
             Ok(())

@@ -1,17 +1,22 @@
 //! Items as the words that spell them.
-ghost use Rattle.std.specs.Prelude.{◌≡◌, Some, option_map};
+ghost use Rattle.std.specs.Prelude.{◌≡◌, true, Some, option_map, IfOk, OnErr};
 ghost use Rattle.std.specs.List.{list_all};
-ghost use Rattle.cast_record.specs.Reading.{item_of, item_named, data_of, proposal_of};
-ghost use Rattle.cast_message.specs.Items.{is_close};
+ghost use Rattle.cast_record.specs.Reading.{item_of, item_named, data_of, proposal_of, HasData};
+ghost use Rattle.cast_message.specs.Items.{is_close, has_payload};
 ghost use Rattle.cast_record.specs.ItemWords.{kind_of, is_hex, is_hex_digit, proposal_in};
 
 use crate::parts::two_parts;
-use cast_message::PAYLOAD_LIMIT;
-use cast_words::number;
+use bytes::Bytes;
+use cast_message::{Item, PAYLOAD_LIMIT, Payload};
+use cast_words::{bytes_of, number};
+use std::alloc::{AllocError, Global};
 use std::marker::Model;
 
 /// The most hexadecimal digits of a payload.
-pub const MOST_DIGITS: usize = 2 * PAYLOAD_LIMIT;
+const MOST_DIGITS: usize = 2 * PAYLOAD_LIMIT;
+
+/// How long the name is that stands before the value of an item, `data:` or `prop:`.
+const NAME: usize = 5;
 
 /// How many digits are looked at before the first of them that is none may end it.
 const BLOCK: usize = 64;
@@ -48,10 +53,10 @@ impl<'a> ItemWord<'a> {
     pub fn read(word: &'a [u8]) -> Option<ItemWord<'a>>
         ensures { result ≡ item_of word.now }
     {
-        match kind(word) {
-            Some(kind) => Some(ItemWord { word, kind }),
-            None => None,
-        }
+        Some(ItemWord {
+            word,
+            kind: kind(word)?,
+        })
     }
 
     /// The word.
@@ -77,6 +82,29 @@ impl<'a> ItemWord<'a> {
             _ => None,
         }
     }
+
+    /// The item. Memory is taken only where it is data.
+    pub fn to_item(&self, alloc: Global) -> Result<Item, AllocError>
+        ensures exact { IfOk result (λ item. item ≡ self.now) }
+        ensures err { OnErr result (has_payload self.now ≡ true) }
+    {
+        match self.kind {
+            ItemKind::Data => data_item(alloc, self.word),
+            ItemKind::Propose { instance, value } => Ok(Item::Propose { instance, value }),
+            ItemKind::Close => Ok(Item::Close),
+        }
+    }
+}
+
+// The item of a word that spells data.
+fn data_item(alloc: Global, word: &[u8]) -> Result<Item, AllocError>
+    requires { HasData (item_of word.now) }
+    ensures { IfOk result (λ item. item_of word.now ≡ Some item) }
+{
+    match bytes_of(alloc, &word[NAME..])? {
+        Some(bytes) => Ok(Item::Data(Payload::new(Bytes::from_vec(bytes)?))),
+        None => unreachable!(),
+    }
 }
 
 fn kind(word: &[u8]) -> Option<ItemKind>
@@ -85,10 +113,10 @@ fn kind(word: &[u8]) -> Option<ItemKind>
     if word == b"close".as_slice() {
         return Some(ItemKind::Close);
     }
-    if word.len() < 5 {
+    if word.len() < NAME {
         return None;
     }
-    kind_named(&word[..5], &word[5..])
+    kind_named(&word[..NAME], &word[NAME..])
 }
 
 fn kind_named(name: &[u8], rest: &[u8]) -> Option<ItemKind>
@@ -109,11 +137,7 @@ fn data(digits: &[u8]) -> Option<ItemKind>
     if digits.len() > MOST_DIGITS {
         return None;
     }
-    if is_hex(digits) {
-        Some(ItemKind::Data)
-    } else {
-        None
-    }
+    is_hex(digits).then_some(ItemKind::Data)
 }
 
 fn proposal(word: &[u8]) -> Option<ItemKind>
@@ -126,8 +150,8 @@ fn proposal(word: &[u8]) -> Option<ItemKind>
     })
 }
 
-/// Whether the digits stand for bytes, two digits a byte.
-pub fn is_hex(digits: &[u8]) -> bool
+// Whether the digits stand for bytes, two digits a byte.
+fn is_hex(digits: &[u8]) -> bool
     ensures { result ≡ is_hex digits.now }
 {
     if digits.len() % 2 != 0 {

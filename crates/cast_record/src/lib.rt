@@ -19,7 +19,7 @@ mod writing;
 
 pub use event_lines::write_lines_of;
 pub use front::{Delivery, read_delivery};
-pub use item_word::{ItemKind, ItemWord};
+pub use item_word::ItemWord;
 pub use laws::has_text_of_its_own;
 pub use line::Line;
 pub use lines::lines_of;
@@ -28,6 +28,3 @@ pub use reading::read_line;
 pub use verdict::{Verdict, write_verdict};
 pub use word_line::{WordLine, read_words};
 pub use writing::{write_line, write_record};
-
-// What the writers here take, and what they answer.
-pub use cast_words::{Failed, Meter, WriteFault, Written};

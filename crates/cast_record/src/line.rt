@@ -6,6 +6,9 @@ use cast_message::{Config, Decision, Message, Mode, NodeId};
 /// The most nodes in the group of a record `cast/1`.
 pub const FIRST_MOST_NODES: u64 = 16;
 
+/// The greatest code of a refusal in a record. That of want of memory is greater: it ends a record, and has no line.
+pub const MOST_CODE: u64 = 12;
+
 /// A line of a record.
 #[derive(Debug, Drop, PartialEq)]
 pub enum Line {

@@ -3,7 +3,7 @@ ghost use Rattle.std.specs.Prelude.{◌≡◌, ◌<◌, ◌++◌, length, IfOk, 
 ghost use Rattle.cast_message.specs.StepCode.{step_code};
 ghost use Rattle.cast_record.specs.Lines.{answer_lines, lines_for, outcome_lines, refusal_lines};
 
-use crate::line::Line;
+use crate::line::{Line, MOST_CODE};
 use cast_message::{Answer, Event, List, Message, NodeId, Outcome, Reply, StepFault};
 use std::alloc::{AllocError, Global};
 
@@ -54,7 +54,7 @@ fn put_refusal(lines: &mut List<Line>, index: u64, fault: StepFault) -> Result<(
     ensures err { OnErr result (0 < length (refusal_lines index (step_code fault))) }
 {
     let code = fault.code();
-    if code <= 12 {
+    if code <= MOST_CODE {
         lines.push(Line::Refused { index, code })?;
     }
     Ok(())

@@ -3,7 +3,7 @@ ghost use Rattle.std.specs.Prelude.{◌≡◌, ◌≤◌, length, true, false, I
 ghost use Rattle.cast_record.specs.Migration.{Migrates, IsHeadIn, IsNoHead, new_text};
 ghost use Rattle.cast_record.specs.Verdicts.{verdict};
 
-use crate::parts::split_part;
+use crate::parts::{BLANK, split_part};
 use crate::reading::head;
 use std::alloc::{AllocError, Global};
 use thiserror::Error;
@@ -32,10 +32,7 @@ pub fn migrate(alloc: Global, text: &[u8]) -> Result<Vec<u8>, MigrateFault>
     if !is_head(first) {
         return Err(MigrateFault::NotV1);
     }
-    match with_new_head(alloc, first, rest) {
-        Ok(migrated) => Ok(migrated),
-        Err(_) => Err(MigrateFault::Memory),
-    }
+    with_new_head(alloc, first, rest).map_err(|_| MigrateFault::Memory)
 }
 
 // Whether the bytes spell a head `cast/1` within its ranges.
@@ -43,7 +40,7 @@ fn is_head(bytes: &[u8]) -> bool
     ensures yes { result ≡ true → IsHeadIn bytes.now }
     ensures no { result ≡ false → IsNoHead bytes.now }
 {
-    let (name, rest) = split_part(bytes, b' ');
+    let (name, rest) = split_part(bytes, BLANK);
     match rest {
         Some(rest) => name == b"cast/1".as_slice() && head(rest).is_some(),
         None => false,

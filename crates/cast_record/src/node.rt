@@ -1,5 +1,5 @@
 //! Words that spell the numbers of nodes.
-ghost use Rattle.std.specs.Prelude.{◌≡◌, ◌<◌};
+ghost use Rattle.std.specs.Prelude.{◌≡◌};
 ghost use Rattle.cast_record.specs.Nodes.{node_of, byte_sized};
 
 use cast_message::NodeId;

@@ -1,21 +1,17 @@
-//! Reading a line, the inverse of writing it.
-ghost use Rattle.std.specs.Prelude.{◌≡◌, ◌==◌, IfOk, OnErr, option_and_then};
+//! Reading a line, the inverse of writing it; and the lines that have no item, by their words.
+ghost use Rattle.std.specs.Prelude.{◌≡◌, ◌==◌, IfOk, OnErr, option_map, option_and_then};
 ghost use Rattle.std.specs.List.{slice_split};
-ghost use Rattle.cast_record.specs.Reading.{IsReadOf, line_of, line_named, item_of, item_named, data_of, proposal_of, message_of};
-ghost use Rattle.cast_record.specs.Reading.{broadcast_by, delivered_by, decided_by, crashed_by, refused_by, refusal_within, head_by, head_within, is_outside, head2_by, head2_within, mode_of, is_mode_outside};
-ghost use Rattle.cast_record.specs.Reading.{one_of, two_of, three_of, four_of, end_named, short_line_named, pair_of, HasData, MessageHasData, LineHasData};
+ghost use Rattle.cast_record.specs.Reading.{IsReadOf, LineHasData, line_of, end_named, short_line_named, pair_of, one_of, two_of, three_of, four_of};
+ghost use Rattle.cast_record.specs.Reading.{decided_by, crashed_by, refused_by, refusal_within, head_by, head_within, is_outside, head2_by, head2_within, mode_of, is_mode_outside};
+ghost use Rattle.cast_record.specs.WordLines.{line_said};
 
-use crate::item_word::{MOST_DIGITS, is_hex};
-use crate::line::{FIRST_MOST_NODES, Line};
+use crate::line::{FIRST_MOST_NODES, Line, MOST_CODE};
 use crate::node::node;
-use crate::parts::{four_parts, one_part, split_part, three_parts, two_parts};
-use bytes::Bytes;
-use cast_message::{Decision, Item, MOST_NODES, Message, Mode, NodeId, Payload};
-use cast_words::{bytes_of, number};
+use crate::parts::{BLANK, four_parts, one_part, three_parts, two_parts};
+use crate::word_line::{WordLine, read_words};
+use cast_message::{Decision, MOST_NODES, Mode, NodeId};
+use cast_words::number;
 use std::alloc::{AllocError, Global};
-
-/// The byte between words.
-const BLANK: u8 = b' ';
 
 /// The line within its ranges whose text these bytes are, without its line feed; none where there is none. A node is a
 /// number below 256, whatever group the line stands in, and a head has its own ranges. Memory is taken only where they are a
@@ -25,31 +21,16 @@ pub fn read_line(alloc: Global, bytes: &[u8]) -> Result<Option<Line>, AllocError
     ensures value { IfOk result (λ line. line ≡ line_of bytes.now) }
     ensures err { OnErr result (LineHasData (line_of bytes.now)) }
 {
-    let (name, rest) = split_part(bytes, BLANK);
-    match rest {
-        Some(rest) => line(alloc, name, rest),
-        None => Ok(end(name)),
+    match read_words(bytes) {
+        Some(line) => Ok(Some(line.into_line(alloc)?)),
+        None => Ok(None),
     }
 }
 
-// The line of this name whose other words stand in the rest.
-fn line(alloc: Global, name: &[u8], rest: &[u8]) -> Result<Option<Line>, AllocError>
-    ensures value { IfOk result (λ line.
-        line ≡ line_named name.now (slice_split (λ b. b == 32) rest.now)) }
-    ensures err { OnErr result
-        (LineHasData (line_named name.now (slice_split (λ b. b == 32) rest.now))) }
-{
-    if name == b"d".as_slice() {
-        delivered(alloc, rest)
-    } else if name == b"b".as_slice() {
-        broadcast(alloc, rest)
-    } else {
-        Ok(short_line(name, rest))
-    }
-}
-
-pub fn short_line(name: &[u8], rest: &[u8]) -> Option<Line>
-    ensures { result ≡ short_line_named name.now (slice_split (λ b. b == 32) rest.now) }
+/// The line of this name whose other words stand in the rest, if it is one that has no item.
+pub fn short_line<'a>(name: &[u8], rest: &[u8]) -> Option<WordLine<'a>>
+    ensures { option_map line_said result
+        ≡ short_line_named name.now (slice_split (λ b. b == 32) rest.now) }
 {
     if name == b"v".as_slice() {
         decided(rest)
@@ -66,70 +47,14 @@ pub fn short_line(name: &[u8], rest: &[u8]) -> Option<Line>
     }
 }
 
-pub fn end(name: &[u8]) -> Option<Line>
-    ensures { result ≡ end_named name.now }
+/// The line of one word, if this is its name.
+pub fn end<'a>(name: &[u8]) -> Option<WordLine<'a>>
+    ensures { option_map line_said result ≡ end_named name.now }
 {
-    if name == b"end".as_slice() {
-        Some(Line::End)
-    } else {
-        None
-    }
+    (name == b"end".as_slice()).then_some(WordLine::End)
 }
 
-fn delivered(alloc: Global, rest: &[u8]) -> Result<Option<Line>, AllocError>
-    ensures value { IfOk result (λ line.
-        line ≡ option_and_then delivered_by (four_of (slice_split (λ b. b == 32) rest.now))) }
-    ensures err { OnErr result
-        (LineHasData (option_and_then delivered_by
-        (four_of (slice_split (λ b. b == 32) rest.now)))) }
-{
-    let Some((receiver, sender, place, word)) = four_parts(rest, BLANK) else {
-        return Ok(None);
-    };
-    let Some(receiver) = node(receiver) else {
-        return Ok(None);
-    };
-    let message = message(alloc, sender, place, word)?;
-    Ok(message.map(|message| Line::Delivered {
-        node: receiver,
-        message,
-    }))
-}
-
-fn broadcast(alloc: Global, rest: &[u8]) -> Result<Option<Line>, AllocError>
-    ensures value { IfOk result (λ line.
-        line ≡ option_and_then broadcast_by (three_of (slice_split (λ b. b == 32) rest.now))) }
-    ensures err { OnErr result
-        (LineHasData (option_and_then broadcast_by
-        (three_of (slice_split (λ b. b == 32) rest.now)))) }
-{
-    let Some((sender, place, word)) = three_parts(rest, BLANK) else {
-        return Ok(None);
-    };
-    let message = message(alloc, sender, place, word)?;
-    Ok(message.map(|message| Line::Broadcast(message)))
-}
-
-fn message(
-    alloc: Global,
-    sender: &[u8],
-    place: &[u8],
-    word: &[u8],
-) -> Result<Option<Message>, AllocError>
-    ensures value { IfOk result (λ message. message ≡ message_of sender.now place.now word.now) }
-    ensures err { OnErr result (MessageHasData (message_of sender.now place.now word.now)) }
-{
-    let Some((sender, number)) = pair(sender, place) else {
-        return Ok(None);
-    };
-    let item = item(alloc, word)?;
-    Ok(item.map(|item| Message {
-        sender,
-        number,
-        item,
-    }))
-}
-
+/// The sender and the number of a message, by the words that spell them.
 pub fn pair(sender: &[u8], place: &[u8]) -> Option<(NodeId, u64)>
     ensures { result ≡ pair_of sender.now place.now }
 {
@@ -138,64 +63,9 @@ pub fn pair(sender: &[u8], place: &[u8]) -> Option<(NodeId, u64)>
     Some((sender, number))
 }
 
-fn item(alloc: Global, word: &[u8]) -> Result<Option<Item>, AllocError>
-    ensures value { IfOk result (λ item. item ≡ item_of word.now) }
-    ensures err { OnErr result (HasData (item_of word.now)) }
-{
-    if word == b"close".as_slice() {
-        return Ok(Some(Item::Close));
-    }
-    if word.len() < 5 {
-        return Ok(None);
-    }
-    item_named(alloc, &word[..5], &word[5..])
-}
-
-fn item_named(alloc: Global, name: &[u8], rest: &[u8]) -> Result<Option<Item>, AllocError>
-    ensures value { IfOk result (λ item. item ≡ item_named name.now rest.now) }
-    ensures err { OnErr result (HasData (item_named name.now rest.now)) }
-{
-    if name == b"data:".as_slice() {
-        data(alloc, rest)
-    } else if name == b"prop:".as_slice() {
-        Ok(proposal(rest))
-    } else {
-        Ok(None)
-    }
-}
-
-fn data(alloc: Global, digits: &[u8]) -> Result<Option<Item>, AllocError>
-    ensures value { IfOk result (λ item. item ≡ data_of digits.now) }
-    ensures err { OnErr result (HasData (data_of digits.now)) }
-{
-    if digits.len() > MOST_DIGITS {
-        return Ok(None);
-    }
-    // What is no data is told before memory is asked for.
-    if !is_hex(digits) {
-        return Ok(None);
-    }
-    match bytes_of(alloc, digits)? {
-        Some(bytes) => {
-            let payload = Payload::new(Bytes::from_vec(bytes)?);
-            Ok(Some(Item::Data(payload)))
-        }
-        None => Ok(None),
-    }
-}
-
-fn proposal(word: &[u8]) -> Option<Item>
-    ensures { result ≡ proposal_of word.now }
-{
-    let (instance, value) = two_parts(word, b':')?;
-    Some(Item::Propose {
-        instance: number(instance)?,
-        value: number(value)?,
-    })
-}
-
-fn decided(rest: &[u8]) -> Option<Line>
-    ensures { result ≡ option_and_then decided_by (three_of (slice_split (λ b. b == 32) rest.now)) }
+fn decided<'a>(rest: &[u8]) -> Option<WordLine<'a>>
+    ensures { option_map line_said result
+        ≡ option_and_then decided_by (three_of (slice_split (λ b. b == 32) rest.now)) }
 {
     let (who, instance, value) = three_parts(rest, BLANK)?;
     let who = node(who)?;
@@ -203,21 +73,23 @@ fn decided(rest: &[u8]) -> Option<Line>
         instance: number(instance)?,
         value: number(value)?,
     };
-    Some(Line::Decided {
+    Some(WordLine::Decided {
         node: who,
         decision,
     })
 }
 
-fn crashed(rest: &[u8]) -> Option<Line>
-    ensures { result ≡ option_and_then crashed_by (one_of (slice_split (λ b. b == 32) rest.now)) }
+fn crashed<'a>(rest: &[u8]) -> Option<WordLine<'a>>
+    ensures { option_map line_said result
+        ≡ option_and_then crashed_by (one_of (slice_split (λ b. b == 32) rest.now)) }
 {
     let who = node(one_part(rest, BLANK)?)?;
-    Some(Line::Crashed { node: who })
+    Some(WordLine::Crashed { node: who })
 }
 
-fn refused(rest: &[u8]) -> Option<Line>
-    ensures { result ≡ option_and_then refused_by (two_of (slice_split (λ b. b == 32) rest.now)) }
+fn refused<'a>(rest: &[u8]) -> Option<WordLine<'a>>
+    ensures { option_map line_said result
+        ≡ option_and_then refused_by (two_of (slice_split (λ b. b == 32) rest.now)) }
 {
     let (index, code) = two_parts(rest, BLANK)?;
     let index = number(index)?;
@@ -225,17 +97,19 @@ fn refused(rest: &[u8]) -> Option<Line>
     refusal_within(index, code)
 }
 
-fn refusal_within(index: u64, code: u64) -> Option<Line>
-    ensures { result ≡ refusal_within index code }
+fn refusal_within<'a>(index: u64, code: u64) -> Option<WordLine<'a>>
+    ensures { option_map line_said result ≡ refusal_within index code }
 {
-    if code < 1 || code > 12 {
+    if code < 1 || code > MOST_CODE {
         return None;
     }
-    Some(Line::Refused { index, code })
+    Some(WordLine::Refused { index, code })
 }
 
-pub fn head(rest: &[u8]) -> Option<Line>
-    ensures { result ≡ option_and_then head_by (three_of (slice_split (λ b. b == 32) rest.now)) }
+/// The head of a record `cast/1` with these words after its name, where its numbers are within their ranges.
+pub fn head<'a>(rest: &[u8]) -> Option<WordLine<'a>>
+    ensures { option_map line_said result
+        ≡ option_and_then head_by (three_of (slice_split (λ b. b == 32) rest.now)) }
 {
     let (nodes, faults, choices) = three_parts(rest, BLANK)?;
     let nodes = number(nodes)?;
@@ -244,13 +118,13 @@ pub fn head(rest: &[u8]) -> Option<Line>
     head_within(nodes, faults, choices)
 }
 
-fn head_within(nodes: u64, faults: u64, choices: u64) -> Option<Line>
-    ensures { result ≡ head_within nodes faults choices }
+fn head_within<'a>(nodes: u64, faults: u64, choices: u64) -> Option<WordLine<'a>>
+    ensures { option_map line_said result ≡ head_within nodes faults choices }
 {
     if is_outside(FIRST_MOST_NODES, nodes, faults, choices) {
         return None;
     }
-    Some(Line::Head {
+    Some(WordLine::Head {
         nodes,
         faults,
         choices,
@@ -263,8 +137,9 @@ fn is_outside(most: u64, nodes: u64, faults: u64, choices: u64) -> bool
     nodes < 1 || nodes > most || faults >= nodes || choices < 1 || choices > nodes
 }
 
-fn head2(rest: &[u8]) -> Option<Line>
-    ensures { result ≡ option_and_then head2_by (four_of (slice_split (λ b. b == 32) rest.now)) }
+fn head2<'a>(rest: &[u8]) -> Option<WordLine<'a>>
+    ensures { option_map line_said result
+        ≡ option_and_then head2_by (four_of (slice_split (λ b. b == 32) rest.now)) }
 {
     let (nodes, faults, choices, name) = four_parts(rest, BLANK)?;
     let nodes = number(nodes)?;
@@ -274,13 +149,13 @@ fn head2(rest: &[u8]) -> Option<Line>
     head2_within(nodes, faults, choices, mode)
 }
 
-fn head2_within(nodes: u64, faults: u64, choices: u64, mode: Mode) -> Option<Line>
-    ensures { result ≡ head2_within nodes faults choices mode }
+fn head2_within<'a>(nodes: u64, faults: u64, choices: u64, mode: Mode) -> Option<WordLine<'a>>
+    ensures { option_map line_said result ≡ head2_within nodes faults choices mode }
 {
     if is_outside(MOST_NODES, nodes, faults, choices) || is_mode_outside(mode, nodes, faults) {
         return None;
     }
-    Some(Line::Head2 {
+    Some(WordLine::Head2 {
         nodes,
         faults,
         choices,

@@ -1,16 +1,19 @@
 //! Lines whose items stand as the words that spell them, read without memory.
-ghost use Rattle.std.specs.Prelude.{◌≡◌, ◌==◌, option_map, option_and_then};
+ghost use Rattle.std.specs.Prelude.{◌≡◌, ◌==◌, true, IfOk, OnErr, option_map, option_and_then};
 ghost use Rattle.std.specs.List.{slice_split};
-ghost use Rattle.cast_record.specs.Reading.{line_of, line_named, short_line_named, end_named, broadcast_by, delivered_by, three_of, four_of};
-ghost use Rattle.cast_record.specs.WordLines.{line_said, short_of};
+ghost use Rattle.cast_message.specs.Items.{has_payload};
+ghost use Rattle.cast_record.specs.Reading.{line_of, line_named, broadcast_by, delivered_by, three_of, four_of, brings_data};
+ghost use Rattle.cast_record.specs.WordLines.{line_said};
+ghost use Rattle.cast_record.specs.declared.line.Line.TheVariants.{Head2};
 
-use crate::front::{BLANK, frequent_line};
+use crate::front::frequent_line;
 use crate::item_word::ItemWord;
 use crate::line::Line;
 use crate::node::node;
-use crate::parts::{four_parts, split_part, three_parts};
+use crate::parts::{BLANK, four_parts, split_part, three_parts};
 use crate::reading::{end, pair, short_line};
-use cast_message::{Decision, Mode, NodeId};
+use cast_message::{Decision, Message, Mode, NodeId};
+use std::alloc::{AllocError, Global};
 
 /// A line of a record, with the word of its item in place of the item.
 #[derive(Debug, Drop)]
@@ -51,14 +54,85 @@ pub enum WordLine<'a> {
     End,
 }
 
+impl<'a> WordLine<'a> {
+    /// The line with its item in place of the word. Memory is taken only where the item is data.
+    pub fn into_line(self, alloc: Global) -> Result<Line, AllocError>
+        ensures exact { IfOk result (λ line. line ≡ line_said self.entry) }
+        ensures err { OnErr result (brings_data (line_said self.entry) ≡ true) }
+    {
+        match self {
+            WordLine::Head {
+                nodes,
+                faults,
+                choices,
+            } => Ok(Line::Head {
+                nodes,
+                faults,
+                choices,
+            }),
+            WordLine::Head2 {
+                nodes,
+                faults,
+                choices,
+                mode,
+            } => Ok(head2(nodes, faults, choices, mode)),
+            WordLine::Broadcast {
+                sender,
+                number,
+                item,
+            } => Ok(Line::Broadcast(message(alloc, sender, number, &item)?)),
+            WordLine::Delivered {
+                node,
+                sender,
+                number,
+                item,
+            } => Ok(Line::Delivered {
+                node,
+                message: message(alloc, sender, number, &item)?,
+            }),
+            WordLine::Decided { node, decision } => Ok(Line::Decided { node, decision }),
+            WordLine::Crashed { node } => Ok(Line::Crashed { node }),
+            WordLine::Refused { index, code } => Ok(Line::Refused { index, code }),
+            WordLine::End => Ok(Line::End),
+        }
+    }
+}
+
+// The first line of a record `cast/2`.
+fn head2(nodes: u64, faults: u64, choices: u64, mode: Mode) -> Line
+    ensures { result ≡ Head2 nodes faults choices mode }
+{
+    Line::Head2 {
+        nodes,
+        faults,
+        choices,
+        mode,
+    }
+}
+
+fn message(
+    alloc: Global,
+    sender: NodeId,
+    number: u64,
+    item: &ItemWord<'_>,
+) -> Result<Message, AllocError>
+    ensures exact { IfOk result (λ message.
+        message ≡ record { sender = sender; number = number; item = item.now }) }
+    ensures err { OnErr result (has_payload item.now ≡ true) }
+{
+    let item = item.to_item(alloc)?;
+    Ok(Message {
+        sender,
+        number,
+        item,
+    })
+}
+
 /// The line that these bytes spell without their line feed, if they spell one.
 pub fn read_words<'a>(bytes: &'a [u8]) -> Option<WordLine<'a>>
     ensures { option_map line_said result ≡ line_of bytes.now }
 {
-    match frequent_line(bytes) {
-        Some(line) => Some(line),
-        None => any_line(bytes),
-    }
+    frequent_line(bytes).or_else(|| any_line(bytes))
 }
 
 fn any_line<'a>(bytes: &'a [u8]) -> Option<WordLine<'a>>
@@ -67,7 +141,7 @@ fn any_line<'a>(bytes: &'a [u8]) -> Option<WordLine<'a>>
     let (name, rest) = split_part(bytes, BLANK);
     match rest {
         Some(rest) => words(name, rest),
-        None => end_word(name),
+        None => end(name),
     }
 }
 
@@ -81,7 +155,7 @@ fn words<'a>(name: &[u8], rest: &'a [u8]) -> Option<WordLine<'a>>
     } else if name == b"b".as_slice() {
         broadcast(rest)
     } else {
-        short_words(name, rest)
+        short_line(name, rest)
     }
 }
 
@@ -113,56 +187,4 @@ fn broadcast<'a>(rest: &'a [u8]) -> Option<WordLine<'a>>
         number,
         item,
     })
-}
-
-fn short_words<'a>(name: &[u8], rest: &[u8]) -> Option<WordLine<'a>>
-    ensures { option_map line_said result
-        ≡ short_line_named name.now (slice_split (λ b. b == 32) rest.now) }
-{
-    match short_line(name, rest) {
-        Some(line) => short(line),
-        None => None,
-    }
-}
-
-fn end_word<'a>(name: &[u8]) -> Option<WordLine<'a>>
-    ensures { option_map line_said result ≡ end_named name.now }
-{
-    match end(name) {
-        Some(line) => short(line),
-        None => None,
-    }
-}
-
-// A line that has no item.
-fn short<'a>(line: Line) -> Option<WordLine<'a>>
-    ensures { option_map line_said result ≡ short_of line }
-{
-    match line {
-        Line::Head {
-            nodes,
-            faults,
-            choices,
-        } => Some(WordLine::Head {
-            nodes,
-            faults,
-            choices,
-        }),
-        Line::Head2 {
-            nodes,
-            faults,
-            choices,
-            mode,
-        } => Some(WordLine::Head2 {
-            nodes,
-            faults,
-            choices,
-            mode,
-        }),
-        Line::Decided { node, decision } => Some(WordLine::Decided { node, decision }),
-        Line::Crashed { node } => Some(WordLine::Crashed { node }),
-        Line::Refused { index, code } => Some(WordLine::Refused { index, code }),
-        Line::End => Some(WordLine::End),
-        Line::Broadcast(_) | Line::Delivered { .. } => None,
-    }
 }

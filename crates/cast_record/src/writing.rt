@@ -115,7 +115,7 @@ pub fn write_decided<W: Write>(node: NodeId, decision: &Decision, writer: &mut M
     write_words(b"v", &words, writer)
 }
 
-// Writes the name and the words, parted by one blank, and a line feed.
+/// Writes the name and the words, parted by one blank, and a line feed.
 pub fn write_words<W: Write>(name: &[u8], words: &[Word<'_>], writer: &mut Meter<W>) -> Written
     requires { writer.old.failed ≡ false }
     ensures { Puts W.contents writer.old writer.new result

@@ -11,4 +11,4 @@ returns-in-Some c =
 pub returns-in-None : goal.returns-in-None
 returns-in-None c =
     let cut = c.split_part.ensures ∙ ap (λ rest. c.split_part.result.0.now ∷ parts_of 32 (option_map (λ r. r.now) rest)) c.in-None.is in
-    c.end_word.ensures ∙ line_by_one_part c.args.bytes.now c.split_part.result.0.now cut
+    c.end.ensures ∙ line_by_one_part c.args.bytes.now c.split_part.result.0.now cut
