@@ -38,7 +38,7 @@ run_breaks input old new read_failed failed faults.TooLong said = inl (cut_kept 
 run_breaks input old new read_failed failed (faults.Script why) said = inl (cut_kept old new said.1)
 run_breaks input old new read_failed failed (faults.Live why) said = inl (cut_kept old new said.1)
 run_breaks input old new read_failed failed faults.Write said = inr (_, (said.script, said.read, refl), cut_front old new _ said.breaks.1)
-run_breaks input old new read_failed failed faults.Memory (inl kept) = inl (cut_kept old new kept)
+run_breaks input old new read_failed failed faults.Memory (inl said) = inl (cut_kept old new said.1)
 run_breaks input old new read_failed failed faults.Memory (inr said) = inr (_, (said.script, said.read, refl), cut_front old new _ said.breaks.1)
 run_breaks input old new read_failed failed faults.NotV1 said = inl (cut_kept old new said.1)
 

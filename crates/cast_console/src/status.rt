@@ -1,4 +1,7 @@
 //! How the program ends: its statuses, and what it says of each fault.
+ghost use Rattle.std.specs.Prelude.{◌≡◌, Some, slice_get};
+ghost use Rattle.cast_console.specs.Statuses.{statuses, status_for};
+
 use cast_script::{LiveFault, ScriptFault};
 use cast_text::TextFault;
 
@@ -23,7 +26,9 @@ pub enum Status {
 
 impl Status {
     /// The number with which the process ends.
-    pub fn code(self) -> u8 {
+    pub fn code(self) -> u8
+        ensures { slice_get statuses result ≡ Some self }
+    {
         match self {
             Status::Good => 0,
             Status::Usage => 1,
@@ -36,8 +41,10 @@ impl Status {
     }
 }
 
-/// Says on standard error why nothing more was done.
-pub fn refuse<R: Eprint>(rt: &R, fault: TextFault) -> Status {
+/// Says on standard error why nothing more was done, and answers the status for it.
+pub fn refuse<R: Eprint>(rt: &R, fault: TextFault) -> Status
+    ensures { result ≡ status_for fault }
+{
     let said = match fault {
         TextFault::Read => eprintln!(rt; "castgroup: read fault"),
         TextFault::Write => eprintln!(rt; "castgroup: write fault"),
@@ -65,7 +72,9 @@ pub fn refuse<R: Eprint>(rt: &R, fault: TextFault) -> Status {
     status_of(fault)
 }
 
-fn status_of(fault: TextFault) -> Status {
+fn status_of(fault: TextFault) -> Status
+    ensures { result ≡ status_for fault }
+{
     match fault {
         TextFault::Read | TextFault::Write => Status::Io,
         TextFault::Memory

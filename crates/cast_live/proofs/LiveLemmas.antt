@@ -1,6 +1,8 @@
 -- Running the group of a script, and what its faults mean.
-use Rattle.std.proofs.Common.{◌≡◌, ℕ, zero, suc, ◌==◌, ◌<◌, ◌≤◌, Bool, true, false, cond, List, [], ◌∷◌, ◌++◌, length, map, Option, Err, slice_get, Some, refl, sym, ap, subst, ◌∙◌, arith, append_assoc}
+use Rattle.std.proofs.Common.{◌≡◌, ℕ, zero, suc, ◌==◌, ◌<◌, ◌≤◌, Bool, true, false, cond, List, [], ◌∷◌, ◌++◌, length, map, Option, Result, Err, slice_get, Some, refl, sym, ap, subst, ◌∙◌, arith, append_assoc}
+use Rattle.std.specs.Result.{IsErrAnd}
 use Rattle.std.proofs.lemmas.List.{map-append}
+use Rattle.std.proofs.lemmas.Result.{err_from_is_err_and}
 use Rattle.std.specs.Io.KnownBytes.{Appends}
 use Rattle.std.proofs.KnownBytes.{Keeps-refl}
 use Rattle.cast_model.specs.Replies.{history}
@@ -20,6 +22,7 @@ use Rattle.cast_live.specs.declared.summary.Summary.{Summary}
 use Rattle.cast_text.specs.declared.fault.TextFault.{TextFault}
 use Rattle.cast_text.specs.declared.fault.TextFault.TheVariants as faults
 use Rattle.cast_text.specs.Text.{IsScriptIn, WroteFront, fault_of_live}
+use Rattle.cast_text.proofs.Whole.{script_takes_bytes}
 use Rattle.cast_live.specs.Live.{IsNewJob, AreNewJobs, items_of, IsFinished, IsMergedRun, IsRunOf, IsOfRunning, IsSummaryOf, Summarized, WritesSummary, SummaryBreaksOff, Summarizes, ends_of, summary_text}
 
 pub new_more : (all : List (ℕ × SubmitAll)) (x : ℕ × SubmitAll) → AreNewJobs all → IsNewJob x.1 → AreNewJobs (all ++ x ∷ [])
@@ -83,9 +86,18 @@ module _ (script : Script) (handed : List (ℕ × SubmitAll)) (same : map items_
 
 -- ---- what is told of a run
 
+-- memory was wanted of a script that was read
+memory_wanted : (input old : Option (List ℕ)) (read_failed failed : Bool) (script : Script) → IsScriptIn input script → Summarizes input read_failed old old failed (Err faults.Memory)
+memory_wanted input old read_failed failed script read = (script_takes_bytes input script read, Keeps-refl old)
+
+pub memory_answered : (input old : Option (List ℕ)) (read_failed failed : Bool) (script : Script) (result : Result Summary TextFault) → IsErrAnd result (λ fault. fault ≡ faults.Memory) → IsScriptIn input script → Summarizes input read_failed old old failed result
+memory_answered input old read_failed failed script result answered read =
+    let p = err_from_is_err_and result answered in
+    rw (p.1, p.2) (memory_wanted input old read_failed failed script read)
+
 pub run_fails : (input old : Option (List ℕ)) (read_failed failed : Bool) (script : Script) (fault : TextFault) → IsScriptIn input script → IsOfRunning script fault → Summarizes input read_failed old old failed (Err fault)
 run_fails input old read_failed failed script (faults.Live why) read is = (record { script = script; read = read; cause = is }, Keeps-refl old)
-run_fails input old read_failed failed script faults.Memory read is = (tt, Keeps-refl old)
+run_fails input old read_failed failed script faults.Memory read is = memory_wanted input old read_failed failed script read
 run_fails input old read_failed failed script faults.Read read is = absurd is
 run_fails input old read_failed failed script faults.TooLong read is = absurd is
 run_fails input old read_failed failed script (faults.Script why) read is = absurd is

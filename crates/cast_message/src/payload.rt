@@ -1,5 +1,5 @@
 //! The bytes of a data item.
-ghost use Rattle.std.specs.Prelude.{◌≡◌, IfOk};
+ghost use Rattle.std.specs.Prelude.{◌≡◌, ◌<◌, length, IfOk, OnErr};
 
 use bytes::Bytes;
 use std::alloc::AllocError;
@@ -36,11 +36,12 @@ impl Payload {
         self.bytes.as_slice()
     }
 
-    /// An equal payload over the same bytes, or want of memory.
+    /// An equal payload over the same bytes, or want of memory, which no bytes never want.
     pub fn copy(&self) -> Result<Payload, AllocError>
-        ensures { IfOk result (λ copy. copy ≡ self.now) }
+        ensures ok { IfOk result (λ copy. copy ≡ self.now) }
+        ensures err { OnErr result (0 < length self.now) }
     {
-        let bytes = self.bytes.clone()?;
+        let bytes = self.bytes.slice(..)?;
         Ok(Payload { bytes })
     }
 }

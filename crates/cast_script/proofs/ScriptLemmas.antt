@@ -1,6 +1,9 @@
 -- A part of a script that is refused.
-use Rattle.std.proofs.Common.{◌≡◌, ℕ, ◌+◌, List, length, Option, Some, None, Result, Ok, Err, refl, sym, ap, ◌∙◌, subst}
+use Rattle.std.proofs.Common.{◌≡◌, ℕ, ◌+◌, ◌<◌, List, [], ◌∷◌, length, Option, Some, None, Result, Ok, Err, refl, sym, ap, ◌∙◌, subst, arith}
+use Rattle.json.specs.Json.{value}
+use Rattle.json.specs.Lex.{lex, punctuate}
 use Rattle.serde_json.specs.Data.{Data}
+use Rattle.serde_json.specs.Read.{read}
 use Rattle.cast_message.specs.Limits.{config_causes, first_config_fault}
 use Rattle.cast_message.specs.declared.config.ConfigFault.{ConfigFault}
 use Rattle.cast_message.specs.declared.message.Item.{Item}
@@ -11,7 +14,7 @@ use Rattle.cast_script.specs.declared.script.ScriptFault.{ScriptFault}
 use Rattle.cast_script.specs.declared.script.ScriptFault.TheVariants.{NotJson, Shape, Config, Memory}
 use Rattle.cast_script.specs.Faults.{◌>>=◌, elements_from, Refuses}
 use Rattle.cast_script.specs.Element.{event_of, fault_of, job_of}
-use Rattle.cast_script.specs.Script.{unless, checked, script_in}
+use Rattle.cast_script.specs.Script.{unless, checked, script_in, IsValue}
 
 -- the fault of a part is that of the whole
 part_refused : {A B : Type 0} (fault : ScriptFault) (part : Result A ScriptFault) (next : A → Result B ScriptFault) → Refuses fault part → Refuses fault (part >>= next)
@@ -52,3 +55,12 @@ config_refused settings es fs js events faults jobs m n fault first_fault first_
     let faults_read' = rw first_fault at faults_read in
     let jobs_read' = rw first_job at jobs_read in
     rw (events_read, faults_read', jobs_read') (part_refused fault _ _ refused)
+
+-- nothing is read of an empty text
+nothing_read : read [] ≡ None
+unfolding lex punctuate value
+nothing_read = refl
+
+pub value_takes_bytes : (bytes : List ℕ) (d : Data) → IsValue bytes d → 0 < length bytes
+value_takes_bytes [] d is = let same : None ≡ Some d = sym nothing_read ∙ is.1 in absurd (cc)
+value_takes_bytes (x ∷ xs) d is = omega arith

@@ -2,7 +2,7 @@
 --     script_of d            what the value d says as a script, or the fault
 --     said script            what a script says
 --     Reads result bytes     the result is what the bytes say
-use Rattle.std.specs.Prelude.{◌≡◌, ℕ, ◌+◌, List, length, codes, if◌then◌else◌, Option, Some, None, Result, Ok, Err, IsUtf8}
+use Rattle.std.specs.Prelude.{◌≡◌, ℕ, ◌+◌, ◌<◌, List, length, codes, if◌then◌else◌, Option, Some, None, Result, Ok, Err, IsUtf8}
 use Rattle.serde_json.specs.Data.{Data}
 use Rattle.serde_json.specs.Read.{read}
 use Rattle.cast_message.specs.Limits.{config_causes, first_config_fault}
@@ -88,10 +88,10 @@ script_of d = if has_known_members d then (do
 abbrev pub IsValue : List ℕ → Data → Type 0
 IsValue bytes d = IsUtf8 bytes × (read bytes ≡ Some d)
 
--- what the bytes say; want of memory may come whatever they say
+-- what the bytes say; want of memory may come whatever they say, where there are any
 abbrev pub Reads : Result Script ScriptFault → List ℕ → Type 0
 Reads (Ok script) bytes = (d : Data) × IsValue bytes d × (script_of d ≡ Ok (said script))
 Reads (Err NotJson) bytes = (d : Data) → IsValue bytes d → ⊥
 Reads (Err (Shape index)) bytes = (d : Data) × IsValue bytes d × (script_of d ≡ Err (Shape index))
 Reads (Err (Config fault)) bytes = (d : Data) × IsValue bytes d × (script_of d ≡ Err (Config fault))
-Reads (Err Memory) bytes = Unit {0}
+Reads (Err Memory) bytes = 0 < length bytes

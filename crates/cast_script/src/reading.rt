@@ -19,6 +19,10 @@ use std::alloc::Global;
 pub fn read_script(alloc: Global, bytes: &[u8]) -> Result<Script, ScriptFault>
     ensures { Reads result bytes.now }
 {
+    // Nothing is read of an empty text, so nothing wants memory.
+    if bytes.is_empty() {
+        return Err(ScriptFault::NotJson);
+    }
     match read_plain(alloc, bytes) {
         Ok(script) => Ok(script),
         Err(Unread::Shape) => read_value(alloc, bytes),
@@ -28,17 +32,13 @@ pub fn read_script(alloc: Global, bytes: &[u8]) -> Result<Script, ScriptFault>
 
 // The same by the value that the bytes say.
 fn read_value(alloc: Global, bytes: &[u8]) -> Result<Script, ScriptFault>
+    requires { 0 < length bytes.now }
     ensures { Reads result bytes.now }
 {
     let value = match Value::from_slice(alloc, bytes) {
         Ok(value) => value,
-        Err(error) => {
-            return Err(if error.is_memory() {
-                ScriptFault::Memory
-            } else {
-                ScriptFault::NotJson
-            });
-        }
+        Err(error) if error.is_memory() => return Err(ScriptFault::Memory),
+        Err(_) => return Err(ScriptFault::NotJson),
     };
     script_from(alloc, &value)
 }
@@ -93,7 +93,7 @@ pub fn check(settings: &Settings) -> Result<Config, ScriptFault>
     ensures { TellsBy (λ config. settings_in config settings.now.turns) result
         (checked settings.now) }
 {
-    match Config::check(
+    Config::check(
         settings.nodes,
         settings.faults,
         settings.choices,
@@ -102,8 +102,6 @@ pub fn check(settings: &Settings) -> Result<Config, ScriptFault>
         settings.box_size,
         settings.first_stamp,
         settings.mode,
-    ) {
-        Ok(config) => Ok(config),
-        Err(fault) => Err(ScriptFault::Config(fault)),
-    }
+    )
+    .map_err(ScriptFault::Config)
 }

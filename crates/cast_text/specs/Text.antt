@@ -75,17 +75,16 @@ IsOfInput input read_failed faults.TooLong = IfSome input (λ bytes. input_limit
 IsOfInput input read_failed faults.Memory = IfSome input (λ bytes. 0 < length bytes)
 IsOfInput input read_failed fault = ⊥
 
--- the same of reading a script, but that memory may be wanted of any bytes
+-- the same of reading a script
 abbrev pub IsOfScript : Option (List ℕ) → Bool → TextFault → Type 0
 IsOfScript input read_failed (faults.Script fault) = IfSome input (λ bytes. (length bytes ≤ input_limit) × Reads (Err fault) bytes)
-IsOfScript input read_failed faults.Memory = Unit {0}
 IsOfScript input read_failed fault = IsOfInput input read_failed fault
 
 -- The record was written, or a fault has its cause, and nothing was written but where the record broke off.
 abbrev pub Records : Option (List ℕ) → Bool → Option (List ℕ) → Option (List ℕ) → Bool → Result (Unit {0}) TextFault → Type 0
 Records input read_failed old new failed (Ok done) = WritesRecord input old new
 Records input read_failed old new failed (Err faults.Write) = RecordBreaksOff faults.Write input old new failed
-Records input read_failed old new failed (Err faults.Memory) = Keeps old new ⊎ RecordBreaksOff faults.Memory input old new failed
+Records input read_failed old new failed (Err faults.Memory) = (IsOfScript input read_failed faults.Memory × Keeps old new) ⊎ RecordBreaksOff faults.Memory input old new failed
 Records input read_failed old new failed (Err fault) = IsOfScript input read_failed fault × Keeps old new
 
 -- What failed is told, and nothing else is: a fault names the stream that failed, and no other did; want of memory is `Memory` alone.

@@ -1,6 +1,14 @@
 use Rattle.std.proofs.lemmas.Result.{err_from_is_err_and}
-use Rattle.cast_live.proofs.LiveLemmas.{run_fails, summary_done, summary_breaks}
+use Rattle.cast_live.proofs.LiveLemmas.{memory_answered, run_fails, summary_done, summary_breaks}
 use Rattle.cast_live.proofs.live.live_text.Goals as goal
+
+pub returns-in_err-progress-clause-exact : goal.returns-in_err-progress-clause-exact
+returns-in_err-progress-clause-exact g c =
+    memory_answered _ _ c.read_script_text.new.reader.failed c.args.writer.now.failed c.in_ok-script.script _ c.from_residual-in_err-progress.ensures.1 c.in_ok-script.ensures.ok
+
+pub returns-in_err-summary-clause-exact : goal.returns-in_err-summary-clause-exact
+returns-in_err-summary-clause-exact g c =
+    memory_answered _ _ c.read_script_text.new.reader.failed c.args.writer.now.failed c.in_ok-script.script _ c.from_residual-in_err-summary.ensures.1 c.in_ok-script.ensures.ok
 
 pub returns-in_err-run-clause-exact : goal.returns-in_err-run-clause-exact
 returns-in_err-run-clause-exact g c =

@@ -1,0 +1,24 @@
+-- What the program ends with.
+--     statuses               the statuses in the order of their numbers
+--     status_for fault       the status of a fault
+use Rattle.std.specs.Prelude.{List, [], ◌∷◌}
+use Rattle.cast_script.specs.declared.script.ScriptFault.TheVariants as scripts
+use Rattle.cast_script.specs.declared.live_fault.LiveFault.TheVariants as lives
+use Rattle.cast_text.specs.declared.fault.TextFault.{TextFault}
+use Rattle.cast_text.specs.declared.fault.TextFault.TheVariants as faults
+use Rattle.cast_console.specs.declared.status.Status.{Status}
+use Rattle.cast_console.specs.declared.status.Status.TheVariants.{Good, Usage, Refused, Bad, Restless, Resources, Io}
+
+-- the statuses in the order of their numbers, from 0 on
+abbrev pub statuses : List Status
+statuses = Good ∷ Usage ∷ Refused ∷ Bad ∷ Restless ∷ Resources ∷ Io ∷ []
+
+-- a stream that failed, want of memory or of threads, and else an input that is refused
+abbrev pub status_for : TextFault → Status
+status_for faults.Read = Io
+status_for faults.Write = Io
+status_for faults.Memory = Resources
+status_for (faults.Script scripts.Memory) = Resources
+status_for (faults.Live lives.Memory) = Resources
+status_for (faults.Live lives.Threads) = Resources
+status_for fault = Refused
