@@ -4,7 +4,7 @@ use Rattle.std.specs.List.{list_any}
 use Rattle.std.specs.Ordering.{nat_cmp}
 use Rattle.std.specs.FinSet as set
 use Rattle.std.specs.FinMap as finite
-use Rattle.std.proofs.Common.{sym, ap, ◌∙◌, subst, arith, true≢false, is_some, length-append}
+use Rattle.std.proofs.Common.{sym, ap, ◌∙◌, subst, arith, true≢false, length-append}
 use Rattle.std.proofs.Math.ListN.{length-set}
 use Rattle.std.proofs.lemmas.Bool.{and_parts, ltb-true}
 use Rattle.std.proofs.lemmas.Bool.Decides.{nat_tests}
@@ -78,15 +78,6 @@ unfolding kept_fault
 send_fine kept to slot e =
     let causes = kept_causes kept (Sent to slot) in
     (is_below to kept.config.nodes (no_cause _ causes e here), above kept.frames 1048576 (no_cause _ causes e (there (there (there (there (there here)))))))
-
--- the slot is owed
-pub send_owed : (kept : Kept) (to slot : ℕ) → kept_fault kept (Sent to slot) ≡ None → not (finite.contains_key (link_to kept to).owed slot) ≡ false
-unfolding kept_fault
-send_owed kept to slot e = no_cause _ (kept_causes kept (Sent to slot)) e (there (there (there (there here))))
-
--- so its message is found
-pub owed_found : (kept : Kept) (to slot : ℕ) → kept_fault kept (Sent to slot) ≡ None → finite.get (link_to kept to).owed slot ≢ None
-owed_found kept to slot e none = true≢false (sym (ap (λ o. not (is_some o)) none) ∙ send_owed kept to slot e)
 
 pub ack_fine : (kept : Kept) (to slot : ℕ) → kept_fault kept (Acknowledged to slot) ≡ None → kept.frames < 1048576
 unfolding kept_fault

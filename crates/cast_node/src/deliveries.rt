@@ -1,7 +1,8 @@
 //! What a node keeps of the pairs that it holds: which nodes are known to hold them too, what waits for its turn, and what was
 //! delivered and decided.
-ghost use Rattle.std.specs.Prelude.{◌≡◌, ◌+◌, ◌-◌, ◌<◌, ◌≤◌, ◌++◌, true, false, suc, length, vec_len, vec_capacity, slice_get, option_map, IsTrue, IsFalse, IfOk, OnOk, OnErr};
+ghost use Rattle.std.specs.Prelude.{◌≡◌, ◌+◌, ◌-◌, ◌<◌, ◌≤◌, ◌++◌, true, suc, length, vec_len, vec_capacity, slice_get, option_map, IsTrue, IsFalse, IfOk, OnOk, OnErr};
 ghost use Rattle.std.specs.List.{All};
+ghost use Rattle.std.specs.FinSet as set;
 ghost use Rattle.std.specs.Map.{keys_of};
 ghost use Rattle.cast_model.specs.OwnSteps.{nothing};
 ghost use Rattle.cast_fifo.specs.Held.{held_of, came, known_items};
@@ -89,14 +90,25 @@ impl Deliveries {
     }
 
     /// The nodes known to hold a pair. The sender is a node.
-    pub fn members(&self, sender: NodeId, number: u64) -> GroupSet
+    pub fn knowers(&self, sender: NodeId, number: u64) -> GroupSet
         requires { sender < length self.now.hold_back }
         ensures { result ≡ knowers_in self.now.knowers sender number }
     {
         match self.knowers[usize::from(sender.0)].get(number as usize) {
-            Some(members) => members.copy(),
+            Some(knowers) => knowers.copy(),
             None => GroupSet::new(),
         }
+    }
+
+    /// The nodes known to hold a pair, and this one. The sender is a node.
+    pub fn knowers_with(&self, sender: NodeId, number: u64, node: NodeId) -> GroupSet
+        requires sender { sender < length self.now.hold_back }
+        requires node { node < 64 }
+        ensures { result ≡ set.insert (knowers_in self.now.knowers sender number) node }
+    {
+        let mut knowers = self.knowers(sender, number);
+        knowers.insert(node);
+        knowers
     }
 
     /// The items delivered of a sender, in order, where it is a node.

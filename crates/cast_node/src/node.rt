@@ -14,19 +14,18 @@ ghost use Rattle.cast_link.specs.Links.{IsLeastFrom};
 ghost use Rattle.cast_relay.specs.Held.{holds};
 ghost use Rattle.cast_node.specs.Giving.{OwesNoneOf};
 ghost use Rattle.cast_node.specs.Kept.{nothing_kept, link_to, knowers_of};
-ghost use Rattle.cast_node.specs.Turns.{Gives, kept_fault, kept_view, carry_of, took_of, message_owed, ordered, arrived_body, is_awaited, may_arrive};
-ghost use Rattle.cast_model.specs.Refusals.{no_node, self_link, crashed, first_fault, is_too_long, is_second_proposal};
+ghost use Rattle.cast_node.specs.Turns.{Gives, kept_fault, carry_of, took_of, message_owed, ordered, arrived_body, is_awaited, may_arrive};
 ghost use Rattle.cast_node.specs.Taking.{with_proposal, without_proposal};
 ghost use Rattle.cast_node.specs.Calls.{is_peer, may_carry, carry_slot, carried_frame, took_frame, ordered_reply, sent_reply, number_reply, numbered_reply, arrived_reply, silent_reply, crashed_reply};
+
+mod faults;
 
 use crate::deliveries::{Deliveries, no_news};
 use crate::outgoing::Outgoing;
 use crate::slot::NoSlot;
 use crate::taking::{Fresh, first_members, take_up_carried, take_up_own};
 use cast_link::LinkIn;
-use cast_message::{
-    Config, FRAME_LIMIT, Frame, FrameBody, Item, Message, NodeId, Outcome, PAYLOAD_LIMIT, StepFault,
-};
+use cast_message::{Config, Frame, FrameBody, Item, Message, NodeId, Outcome, StepFault};
 use cast_relay::Relay;
 use cast_sets::{GroupSet, NumberSet};
 use std::alloc::{AllocError, Global};
@@ -138,13 +137,7 @@ impl Node {
         ensures payload { OnErr result (kept_fault self.old (Sent to slot) ≡ None →
             has_payload (message_owed self.old to slot).item ≡ true) }
     {
-        if let Some(refusal) = self.send_fault(to, slot) {
-            return Err(refusal);
-        }
-        let Some(owed) = self.outgoing.message(to, slot) else {
-            return Err(StepFault::Memory);
-        };
-        let message = owed.copy()?;
+        let message = self.message_to_send(to, slot)?.copy()?;
         Ok(self.make_frame(to, FrameBody::Carry { slot, message }))
     }
 
@@ -173,12 +166,7 @@ impl Node {
         ensures small { IfOk result (λ sent. sent.number < 4096) }
         ensures refused { IfErr result (λ fault. kept_fault self.old (Sent to slot) ≡ Some fault) }
     {
-        if let Some(refusal) = self.send_fault(to, slot) {
-            return Err(refusal);
-        }
-        let Some(message) = self.outgoing.message(to, slot) else {
-            return Err(StepFault::Memory);
-        };
+        let message = self.message_to_send(to, slot)?;
         let sender = message.sender;
         let number = message.number;
         let seq = self.count_frame();
@@ -406,40 +394,7 @@ impl Node {
         if u64::from(sender.0) >= self.config.nodes() {
             return 0;
         }
-        self.deliveries.members(sender, number).len()
-    }
-
-    // Whether a number is another node's.
-    fn is_peer(&self, node: NodeId) -> bool
-        ensures { result ≡ is_peer self.now node }
-    {
-        u64::from(node.0) < self.config.nodes() && node.0 != self.me.0
-    }
-
-    // Whether some node of a group could have made the frame for this one.
-    #[tactic(auto, using(std::proofs::lemmas::Bool::Decides::nat_tests))]
-    fn may_arrive(&self, frame: &Frame) -> bool
-        ensures { result ≡ may_arrive self.now frame.now }
-    {
-        if !self.is_peer(frame.from) {
-            return false;
-        }
-        match &frame.body {
-            FrameBody::Carry { slot, message } => {
-                self.may_carry(*slot, message.sender, message.number)
-            }
-            FrameBody::Took { slot } => *slot < self.outgoing.given(frame.from),
-        }
-    }
-
-    // Whether a peer could carry this message in this slot.
-    #[tactic(auto, using(std::proofs::lemmas::Bool::Decides::nat_tests))]
-    fn may_carry(&self, slot: u64, sender: NodeId, number: u64) -> bool
-        ensures { result ≡ may_carry self.now slot sender number }
-    {
-        self.is_peer(sender)
-            && number < self.config.item_limit()
-            && slot < self.config.nodes() * self.config.item_limit()
+        self.deliveries.knowers(sender, number).len()
     }
 
     // Takes a slot of a peer with the message in it.
@@ -500,10 +455,9 @@ impl Node {
             (is_awaited self.old from (carry_slot slot sender number item) ≡ true) }
     {
         let place = usize::from(from.0);
-        let mut members = self.deliveries.members(sender, number);
-        members.insert(from);
+        let knowers = self.deliveries.knowers_with(sender, number, from);
         self.deliveries
-            .tell(sender, number, members, &mut self.incoming[place], slot)
+            .tell(sender, number, knowers, &mut self.incoming[place], slot)
     }
 
     // Takes a peer's word that it took a slot.
@@ -520,11 +474,10 @@ impl Node {
         };
         let sender = message.sender;
         let number = message.number;
-        let mut members = self.deliveries.members(sender, number);
-        members.insert(from);
+        let knowers = self.deliveries.knowers_with(sender, number, from);
         let outcome = self
             .deliveries
-            .tell(sender, number, members, &mut NoSlot, 0)?;
+            .tell(sender, number, knowers, &mut NoSlot, 0)?;
         self.outgoing.acknowledge(from, slot);
         Ok(outcome)
     }
@@ -542,12 +495,11 @@ impl Node {
         ensures not { IsFalse result → self.new ≡ self.old }
     {
         let place = usize::from(from.0);
-        let mut members = self.deliveries.members(sender, number);
-        members.insert(from);
+        let knowers = self.deliveries.knowers_with(sender, number, from);
         let link = &mut self.incoming[place];
         let Ok(silent) = self
             .deliveries
-            .tell_silently(sender, number, &members, link, slot)
+            .tell_silently(sender, number, &knowers, link, slot)
         else {
             return false;
         };
@@ -567,11 +519,10 @@ impl Node {
         };
         let sender = message.sender;
         let number = message.number;
-        let mut members = self.deliveries.members(sender, number);
-        members.insert(from);
+        let knowers = self.deliveries.knowers_with(sender, number, from);
         let Ok(silent) = self
             .deliveries
-            .tell_silently(sender, number, &members, &mut NoSlot, 0)
+            .tell_silently(sender, number, &knowers, &mut NoSlot, 0)
         else {
             return false;
         };
@@ -634,108 +585,6 @@ impl Node {
         }
     }
 
-    /// Why an order of this item is refused, if it is, want of memory aside. It takes no memory.
-    #[tactic(auto, using(std::proofs::lemmas::Bool::Decides::nat_tests), unfolding(cast_model::specs::Refusals::first_fault, crate::specs::Turns::kept_fault))]
-    pub fn order_fault(&self, item: &Item) -> Option<StepFault>
-        ensures { result ≡ kept_fault self.now (Ordered item.now) }
-    {
-        if !self.live {
-            return Some(StepFault::Crashed);
-        }
-        if self.closed {
-            return Some(StepFault::Closed);
-        }
-        if is_too_long(item) {
-            return Some(StepFault::TooLong);
-        }
-        if self.has_proposed(item) {
-            return Some(StepFault::AlreadyProposed);
-        }
-        if !item.is_close() && self.config.item_limit() - 1 <= self.stream.len() as u64 {
-            return Some(StepFault::StreamFull);
-        }
-        None
-    }
-
-    // Why any frame for a peer is refused, if it is.
-    #[tactic(auto, using(std::proofs::lemmas::Bool::Decides::nat_tests), unfolding(cast_model::specs::Refusals::first_fault))]
-    fn peer_fault(&self, to: NodeId) -> Option<StepFault>
-        ensures { result
-            ≡ first_fault (no_node self.now.config to
-            ∷ self_link self.now.me to
-            ∷ crashed (kept_view self.now)
-            ∷ []) }
-    {
-        if u64::from(to.0) >= self.config.nodes() {
-            return Some(StepFault::NoNode);
-        }
-        if self.me.0 == to.0 {
-            return Some(StepFault::SelfLink);
-        }
-        if !self.live {
-            return Some(StepFault::Crashed);
-        }
-        None
-    }
-
-    /// Why a send of this slot to a peer is refused, if it is, want of memory aside. It takes no memory.
-    #[tactic(auto, using(std::proofs::lemmas::Bool::Decides::nat_tests), unfolding(cast_model::specs::Refusals::first_fault, crate::specs::Turns::kept_fault))]
-    pub fn send_fault(&self, to: NodeId, slot: u64) -> Option<StepFault>
-        ensures { result ≡ kept_fault self.now (Sent to slot) }
-    {
-        if let Some(fault) = self.peer_fault(to) {
-            return Some(fault);
-        }
-        if self.outgoing.given(to) <= slot {
-            return Some(StepFault::NoSlot);
-        }
-        if self.outgoing.message(to, slot).is_none() {
-            return Some(StepFault::Acked);
-        }
-        if self.frames >= FRAME_LIMIT {
-            return Some(StepFault::FramesFull);
-        }
-        None
-    }
-
-    /// Why an acknowledgement of this slot of a peer is refused, if it is, want of memory aside. It takes no memory.
-    #[tactic(auto, using(std::proofs::lemmas::Bool::Decides::nat_tests), unfolding(cast_model::specs::Refusals::first_fault, crate::specs::Turns::kept_fault))]
-    pub fn ack_fault(&self, to: NodeId, slot: u64) -> Option<StepFault>
-        ensures { result ≡ kept_fault self.now (Acknowledged to slot) }
-    {
-        if let Some(fault) = self.peer_fault(to) {
-            return Some(fault);
-        }
-        if !self.incoming[usize::from(to.0)].may_ack(slot) {
-            return Some(StepFault::NotTaken);
-        }
-        if self.frames >= FRAME_LIMIT {
-            return Some(StepFault::FramesFull);
-        }
-        None
-    }
-
-    /// Why the arrival of a frame is refused, if it is, want of memory aside. It takes no memory.
-    #[tactic(auto, using(std::proofs::lemmas::Bool::Decides::nat_tests), unfolding(cast_model::specs::Refusals::first_fault, crate::specs::Turns::kept_fault))]
-    pub fn arrive_fault(&self) -> Option<StepFault>
-        ensures { (frame : Arriving) → result ≡ kept_fault self.now (Arrived frame) }
-    {
-        if self.live {
-            return None;
-        }
-        Some(StepFault::Crashed)
-    }
-
-    // Whether an item proposes in an instance in which the node proposed before.
-    fn has_proposed(&self, item: &Item) -> bool
-        ensures { result ≡ is_second_proposal self.now.stream item.now }
-    {
-        match item {
-            Item::Propose { instance, .. } => self.proposed.contains(*instance),
-            _ => false,
-        }
-    }
-
     // Takes up an item of the node's own, which is not refused.
     fn take_own(&mut self, item: Item) -> Result<Outcome, AllocError>
         requires { kept_fault self.old (Ordered item) ≡ None }
@@ -763,15 +612,6 @@ impl Node {
                 Err(refused)
             }
         }
-    }
-}
-
-fn is_too_long(item: &Item) -> bool
-    ensures { result ≡ is_too_long item.now }
-{
-    match item {
-        Item::Data(payload) => payload.as_slice().len() > PAYLOAD_LIMIT,
-        _ => false,
     }
 }
 
