@@ -1,8 +1,9 @@
 //! The slots taken from a peer, as a base, bits for the slots from the base on, and an ordered set for those farther away.
-ghost use Rattle.std.specs.Prelude.{◌≡◌, ◌-◌, ◌<◌, false, not, IfOk, OnOk, OnErr};
+ghost use Rattle.std.specs.Prelude.{◌≡◌, false, not, IfOk, OnOk, OnErr};
 ghost use Rattle.std.specs.FinSet as set;
 
-use crate::bits::{REACH, advance, bit_of, has_bit, make_room, set_bit};
+use crate::bits::{bit_of, has_bit, make_room, set_bit};
+use crate::window::{REACH, advance};
 use std::alloc::{AllocError, Global};
 use std::collections::{BTreeSet, VecDeque};
 use std::marker::Model;

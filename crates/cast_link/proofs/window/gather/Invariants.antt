@@ -1,7 +1,7 @@
 use Rattle.std.proofs.Common.{◌≡◌, ◌≤◌, ◌<◌, ℕ, length}
 use Rattle.std.specs.VecDeque.{deque_capacity}
 use Rattle.cast_link.specs.Taken.{is_marked}
-use Rattle.cast_link.proofs.bits.gather.Given as goal
+use Rattle.cast_link.proofs.window.gather.Given as goal
 
 abbrev pub invariant-loop-first : goal.invariant-loop-first
 invariant-loop-first l =

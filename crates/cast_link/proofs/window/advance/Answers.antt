@@ -1,8 +1,8 @@
 use Rattle.std.proofs.Common.{◌-◌, ◌/◌, ℕ, List, drop, ap, ◌∙◌, arith}
 use Rattle.cast_link.specs.Taken.{is_marked}
 use Rattle.cast_link.proofs.Slots.{Moves, moved_window, moved_set}
-use Rattle.cast_link.proofs.bits.advance.Goals as goal
-use Rattle.cast_link.proofs.bits.advance.Goals.{After-gather}
+use Rattle.cast_link.proofs.window.advance.Goals as goal
+use Rattle.cast_link.proofs.window.advance.Goals.{After-gather}
 
 moves : (c : After-gather) → Moves c.args.base.now c.args.words.now.items c.args.far.now.keys c.first_free-next.result c.gather.new.words.items c.gather.new.far.keys
 moves c =

@@ -1,6 +1,6 @@
 use Rattle.std.proofs.Common.{ℕ, List, length, slice_index, ap, ◌∙◌, arith, length-append, ◌∷◌, []}
 use Rattle.cast_sets.proofs.Numbers.{padded}
-use Rattle.cast_link.proofs.bits.add_words.Goals as goal
+use Rattle.cast_link.proofs.window.add_words.Goals as goal
 
 pub push_back_reserved-requires : goal.push_back_reserved-requires
 push_back_reserved-requires c =

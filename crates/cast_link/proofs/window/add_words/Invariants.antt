@@ -1,6 +1,6 @@
 use Rattle.std.proofs.Common.{◌≡◌, ◌≤◌, ℕ, length, slice_index}
 use Rattle.std.specs.VecDeque.{deque_capacity}
-use Rattle.cast_link.proofs.bits.add_words.Given as goal
+use Rattle.cast_link.proofs.window.add_words.Given as goal
 
 abbrev pub invariant-loop-word : goal.invariant-loop-word
 invariant-loop-word l =

@@ -1,0 +1,129 @@
+//! The slots taken from a peer as a window: a base, bits for the slots within reach of it, and a set for those farther away. As the
+//! base goes on, slots move from the set to the bits.
+ghost use Rattle.std.specs.Prelude.{◌≡◌, ◌+◌, ◌≤◌, ◌<◌, ◌∷◌, ◌||◌, ℕ, ◌^◌, OnErr, IsTrue, false, nat_eq, length, slice_index, OnOk};
+ghost use Rattle.std.specs.List.{All};
+ghost use Rattle.std.specs.FinSet as set;
+ghost use Rattle.std.specs.VecDeque.{deque_capacity};
+ghost use Rattle.cast_sets.specs.Bits.{is_set};
+ghost use Rattle.cast_link.specs.Taken.{bit_of, is_marked, MarksTheSame, taken_set, IsWindow};
+
+use crate::bits::{bit_of, drop_front, has_bit, set_bit};
+use std::alloc::AllocError;
+use std::collections::{BTreeSet, VecDeque};
+
+/// How many slots from the base on have bits.
+pub const REACH: u64 = 262_144;
+
+// Words for that many bits, wherever in its word the base is.
+const WORDS: usize = 4097;
+
+/// Takes the base: the next slot that was not taken becomes the base, and what comes within reach gets a bit.
+pub fn advance(
+    base: &mut u64,
+    words: &mut VecDeque<u64>,
+    far: &mut BTreeSet<u64>,
+) -> Result<(), AllocError>
+    requires more { base.old + 1 < 2 ^ 64 }
+    requires window { IsWindow base.old words.old.items far.old.keys }
+    ensures window { IsWindow base.new words.new.items far.new.keys }
+    ensures ok { OnOk result (taken_set base.new words.new.items far.new.keys
+        ≡ set.insert (taken_set base.old words.old.items far.old.keys) base.old) }
+    ensures err { OnErr result (taken_set base.new words.new.items far.new.keys
+        ≡ taken_set base.old words.old.items far.old.keys) }
+{
+    let next = first_free(*base, words, far, *base + 1);
+    make_reach(words, far)?;
+    drop_front(words, next / 64 - *base / 64);
+    *base = next;
+    gather(next, words, far);
+    Ok(())
+}
+
+// The first slot from one on that neither has a bit nor is far, or the greatest slot there is.
+fn first_free(base: u64, words: &VecDeque<u64>, far: &BTreeSet<u64>, from: u64) -> u64
+    ensures least { from ≤ result }
+    ensures taken { (slot : ℕ) → from ≤ slot → slot < result →
+        IsTrue (is_marked base words.now.items far.now.keys slot) }
+    ensures free { result + 1 < 2 ^ 64 →
+        is_marked base words.now.items far.now.keys result ≡ false }
+{
+    for slot in from..u64::MAX {
+        if !has_bit(words, bit_of(base, slot)) && !far.contains(&slot) {
+            return slot;
+        }
+    }
+    u64::MAX
+}
+
+// Room for all bits, where slots are farther away that they may reach in time.
+fn make_reach(words: &mut VecDeque<u64>, far: &BTreeSet<u64>) -> Result<(), AllocError>
+    requires { length words.old.items ≤ 4097 }
+    ensures same { words.new.items ≡ words.old.items }
+    ensures ok { OnOk result (0 < length far.now.keys → 4097 ≤ deque_capacity words.new) }
+{
+    if far.is_empty() {
+        return Ok(());
+    }
+    words.reserve(WORDS - words.len())
+}
+
+// Gives bits to the far slots that a base reaches.
+fn gather(base: u64, words: &mut VecDeque<u64>, far: &mut BTreeSet<u64>)
+    requires short { length words.old.items ≤ 4097 }
+    requires room { 0 < length far.old.keys → 4097 ≤ deque_capacity words.old }
+    ensures short { length words.new.items ≤ 4097 }
+    ensures same { MarksTheSame base words.old.items far.old.keys words.new.items far.new.keys }
+    ensures beyond { All (λ slot. base + 262144 ≤ slot) far.new.keys }
+{
+    while let Some(first) = far.first() {
+        if first.saturating_sub(base) >= REACH {
+            break;
+        }
+        let slot = take_first(far);
+        give_bit(base, words, slot);
+    }
+}
+
+// The first slot goes.
+fn take_first(far: &mut BTreeSet<u64>) -> u64
+    requires { 0 < length far.old.keys }
+    ensures { far.old.keys ≡ result ∷ far.new.keys }
+{
+    match far.pop_first() {
+        Some(slot) => slot,
+        None => unreachable!(),
+    }
+}
+
+// Gives a bit to a slot, unless it is below the base.
+fn give_bit(base: u64, words: &mut VecDeque<u64>, slot: u64)
+    requires reach { slot < base + 262144 }
+    requires short { length words.old.items ≤ 4097 }
+    requires room { 4097 ≤ deque_capacity words.old }
+    ensures short { length words.new.items ≤ 4097 }
+    ensures room { deque_capacity words.new ≡ deque_capacity words.old }
+    ensures bits { (other : ℕ) → base ≤ other → is_set words.new.items (bit_of base other)
+        ≡ (nat_eq other slot || is_set words.old.items (bit_of base other)) }
+{
+    if slot < base {
+        return;
+    }
+    let bit = bit_of(base, slot);
+    add_words(words, (bit / 64) as usize);
+    set_bit(words, bit);
+}
+
+// Words up to a place, the new ones with no bit set.
+fn add_words(words: &mut VecDeque<u64>, place: usize)
+    requires place { place < 4097 }
+    requires short { length words.old.items ≤ 4097 }
+    requires room { 4097 ≤ deque_capacity words.old }
+    ensures ok { place < length words.new.items }
+    ensures short { length words.new.items ≤ 4097 }
+    ensures room { deque_capacity words.new ≡ deque_capacity words.old }
+    ensures same { (k : ℕ) → slice_index words.new.items k ≡ slice_index words.old.items k }
+{
+    for _word in words.len()..place + 1 {
+        words.push_back_reserved(0);
+    }
+}
