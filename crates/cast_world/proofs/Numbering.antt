@@ -1,8 +1,7 @@
 -- The frames of a plan are numbered on.
-use Rattle.std.proofs.Common.{◌≡◌, ℕ, zero, suc, ◌+◌, ◌<◌, ◌≤◌, refl, sym, ◌∙◌, ap, subst, cond, List, [], ◌∷◌, ◌++◌, length, take, drop, replicate, inl, inr, arith, append_assoc, append-nil}
+use Rattle.std.proofs.Common.{◌≡◌, ℕ, zero, suc, ◌+◌, ◌<◌, ◌≤◌, refl, sym, ◌∙◌, ap, subst, cond, List, [], ◌∷◌, ◌++◌, length, replicate, inl, inr, arith, append_assoc, append-nil}
 use Rattle.std.specs.Prelude.{◌==◌, ◌||◌, ◌^◌, slice_index_or}
 use Rattle.std.proofs.lemmas.Bool.{cases_lt}
-use Rattle.std.proofs.lemmas.List.{take_all, drop_all}
 use Rattle.std.proofs.lemmas.List.Sums.{count_by-le-length}
 use Rattle.cast_message.specs.declared.config.Config.{Config}
 use Rattle.cast_message.specs.declared.event.Event.{Event}
@@ -46,29 +45,18 @@ unfolding plan_from
 plan_none past events none = none
 
 -- they are no more than the slots
-counted_few : (ds : List Due) (made : List ℕ) → length ds < 2 ^ 63 → AreCounted ds made → (p : ℕ) → slice_index_or made p 0 < 2 ^ 63
+pub counted_few : (ds : List Due) (made : List ℕ) → length ds < 2 ^ 63 → AreCounted ds made → (p : ℕ) → slice_index_or made p 0 < 2 ^ 63
 unfolding frames_for
 counted_few ds made few count p = elim (cases_lt p 256) [
   | inl l ↦ (let h = count.counted p l in let k = count_by-le-length (λ d. d.from == p || d.to == p) ds in omega (arith, h, k, few))
   | inr l ↦ (let h = none_past made p (let size = count.size in omega (arith, l, size)) in omega (arith, h))
 ]
 
--- nor as a slice of the counts shows them
-pub seen_few : (ds : List Due) (made seen : List ℕ) → length ds < 2 ^ 63 → AreCounted ds made → seen ≡ made → (p : ℕ) → slice_index_or seen p 0 < 2 ^ 63
-seen_few ds made seen few count same p = subst (λ counts. slice_index_or counts p 0 < 2 ^ 63) (sym same) (counted_few ds made few count p)
-
 pub counted_more : (ds : List Due) (d : Due) (made new : List ℕ) → AreCounted ds made → length new ≡ 256 → ((p : ℕ) → p < 256 → slice_index_or new p 0 ≡ slice_index_or made p 0 + cond (d.from == p || d.to == p) 1 0) → AreCounted (ds ++ d ∷ []) new
 counted_more ds d made new count size one = record {
   size = size;
   counted = λ p l. one p l ∙ ap (λ n. n + cond (d.from == p || d.to == p) 1 0) (count.counted p l) ∙ sym (frames_for-push ds d p);
 }
-
--- the numbers written through a slice of all of them
-pub written_back : (new old : List ℕ) (len : ℕ) → length new ≡ 256 → length old ≡ 256 → len ≡ 256 → take len (new ++ drop (length new) old) ≡ new
-written_back new old len size same all =
-    ap (λ rest. take len (new ++ rest)) (drop_all (length new) old (omega (arith, size, same)))
-    ∙ ap (take len) (append-nil new)
-    ∙ take_all len new (omega (arith, size, all))
 
 -- a plan of one more slot
 plan_push : (past : History) (before ds : List Due) (d : Due) → plan_from past before (ds ++ d ∷ []) ≡ plan_from past before ds ++ events_for past (before ++ ds) d

@@ -2,7 +2,8 @@
 --     live_at world              the nodes that have not crashed; AreLive world nodes: these are they
 --     owed_slots link            the slots of a link that are owed, ascending; owed_below n link: those below n
 --     due_at world               the slots that live nodes owe live nodes, by the giver, then the taker
---     events_from world d        the events that settle one slot from here
+--     events_of d carry took     the events that settle a slot, whose two frames have these numbers
+--     events_from world d        those that settle one slot from here
 use Rattle.std.specs.Prelude.{◌≡◌, ◌≢◌, ℕ, false, ◌^◌, ◌<◌, ◌≤◌, ◌==◌, nat_lt, ◌&&◌, if◌then◌else◌, List, [], ◌∷◌, length, map}
 use Rattle.std.specs.List.{filter, flat_map, range_with_len}
 use Rattle.std.specs.Ordering.{nat_cmp}
@@ -52,11 +53,15 @@ due_between_at world p q =
 abbrev pub due_at : State → List Due
 due_at world = flat_map (λ p. flat_map (due_between_at world p) (live_at world)) (live_at world)
 
+-- the events that settle a slot, whose two frames have these numbers
+abbrev pub events_of : Due → ℕ → ℕ → List Event
+events_of d carry took =
+    Send d.from d.to d.slot
+    ∷ Arrive d.from carry
+    ∷ Ack d.to d.from d.slot
+    ∷ Arrive d.to took
+    ∷ []
+
 -- the events that settle one slot from here
 abbrev pub events_from : State → Due → List Event
-events_from world d =
-    Send d.from d.to d.slot
-    ∷ Arrive d.from (length (marks_at world d.from))
-    ∷ Ack d.to d.from d.slot
-    ∷ Arrive d.to (length (marks_at world d.to))
-    ∷ []
+events_from world d = events_of d (length (marks_at world d.from)) (length (marks_at world d.to))

@@ -10,7 +10,6 @@ use Rattle.std.specs.Prelude.{◌≡◌, ◌≢◌, ℕ, IsTrue, ◌-◌, ◌+�
 use Rattle.std.specs.List.{count_by}
 use Rattle.cast_message.specs.declared.config.Config.{Config}
 use Rattle.cast_message.specs.declared.event.Event.{Event}
-use Rattle.cast_message.specs.declared.event.Event.TheVariants.{Send, Ack, Arrive}
 use Rattle.cast_message.specs.declared.event.StepFault.{StepFault}
 use Rattle.cast_message.specs.declared.event.StepFault.TheVariants.{FramesFull, Memory}
 use Rattle.cast_model.specs.History.{History, is_live, broadcast, has_pair, first}
@@ -18,6 +17,7 @@ use Rattle.cast_model.specs.Delivery.{delivered, decision}
 use Rattle.cast_model.specs.Replies.{IsRefused, IsPrefixOf, fault, history_from}
 use Rattle.cast_model.specs.Rounds.{owed, Rest, Due, Live, AreAccepted, makes_frame, plan, after_round, proposers}
 use Rattle.cast_world.specs.Group.{State, Stands, marks_at}
+use Rattle.cast_world.specs.Plans.{events_of}
 
 -- these were taken, and the next one was refused
 pub record Stops (config : Config) (past : History) (events : List Event)
@@ -104,8 +104,5 @@ HaveWhatAnyDelivered config past = (p q s : ℕ) → Live config past p →
 -- the events for one slot, where the nodes made so many frames besides those of the world
 abbrev pub events_after : State → List ℕ → Due → List Event
 events_after world made d =
-    Send d.from d.to d.slot
-    ∷ Arrive d.from (length (marks_at world d.from) + slice_index_or made d.from 0)
-    ∷ Ack d.to d.from d.slot
-    ∷ Arrive d.to (length (marks_at world d.to) + slice_index_or made d.to 0)
-    ∷ []
+    events_of d (length (marks_at world d.from) + slice_index_or made d.from 0)
+    (length (marks_at world d.to) + slice_index_or made d.to 0)

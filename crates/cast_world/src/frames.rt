@@ -138,8 +138,8 @@ pub fn arrive_silently(node: &mut Node, from: NodeId, mark: &Mark) -> bool
         (silent_reply mark.now.to) node.new }
     ensures not { IsFalse result → node.new ≡ node.old }
 {
-    if is_word(mark) {
-        return arrive_word(node, from, mark);
+    if is_acknowledgement(mark) {
+        return arrive_acknowledgement(node, from, mark);
     }
     if is_held(node, mark) {
         return arrive_again(node, from, mark);
@@ -148,14 +148,14 @@ pub fn arrive_silently(node: &mut Node, from: NodeId, mark: &Mark) -> bool
 }
 
 // Whether a mark is that of an acknowledgement.
-fn is_word(mark: &Mark) -> bool
+fn is_acknowledgement(mark: &Mark) -> bool
     ensures { result ≡ (mark.now.sender == 255) }
 {
     mark.sender.0 == NOBODY
 }
 
 // An acknowledgement arrives.
-fn arrive_word(node: &mut Node, from: NodeId, mark: &Mark) -> bool
+fn arrive_acknowledgement(node: &mut Node, from: NodeId, mark: &Mark) -> bool
     requires word { (mark.now.sender == 255) ≡ true }
     requires target { mark.now.to ≡ node.old.me }
     ensures took { (config : Settings) (nodes : List Kept) (seq : ℕ) → IsTrue result →
@@ -210,7 +210,7 @@ pub fn carries_held(node: &Node, mark: &Mark) -> bool
     ensures { result ≡ (not (mark.now.sender == 255)
         && holds node.now.relay mark.now.sender mark.now.number) }
 {
-    !is_word(mark) && is_held(node, mark)
+    !is_acknowledgement(mark) && is_held(node, mark)
 }
 
 /// The frame of a mark arrives at its target, which holds its message: so its item is not sought in its sender's stream.

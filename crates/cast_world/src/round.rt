@@ -31,11 +31,11 @@ impl World {
         }
         let mut due = self.due()?;
         // By the node, how many frames the events so far make.
-        let mut made = vec![in alloc; 0; NODE_IDS]?;
+        let mut made = [0; NODE_IDS];
         let mut events = Vec::with_capacity(alloc, 4 * due.len() as usize)?;
         'slots: while let Some(slot) = due.pop_front() {
-            self.add_events(slot, made.as_slice(), &mut events)?;
-            count_frames(slot, made.as_mut_slice());
+            self.add_events(slot, &made, &mut events)?;
+            count_frames(slot, &mut made);
         }
         Ok(List::from_vec(events))
     }

@@ -1,5 +1,5 @@
 //! The group as one value: events go in, replies come out.
-ghost use Rattle.std.specs.Prelude.{◌≡◌, ◌≢◌, ◌<◌, ◌^◌, ◌∷◌, IsTrue, IsFalse, IfOk, IfSome, IfNone, OnErr, [], Some, None, length, option_map, nat_lt, ◌&&◌, Err};
+ghost use Rattle.std.specs.Prelude.{◌≡◌, ◌≢◌, ◌<◌, ◌^◌, ◌∷◌, IsTrue, IsFalse, IfOk, IfSome, IfNone, OnErr, [], length, option_map, nat_lt, ◌&&◌, Err};
 ghost use Rattle.cast_message.specs.declared.event.StepFault.TheVariants.{Memory};
 ghost use Rattle.cast_model.specs.History.{is_live};
 ghost use Rattle.cast_model.specs.Replies.{reply};
@@ -93,7 +93,7 @@ impl World {
 
     /// Takes one event, where it is a send, an acknowledgement, or an arrival at which nothing is delivered or decided, and is
     /// accepted. Says whether it did. It may always say that it did not: then nothing changed, and `step` says what becomes of
-    /// the event. It tries sends, acknowledgements, and arrivals of words and of held messages. Most events are so, and for them
+    /// the event. It tries sends, acknowledgements, and arrivals of acknowledgements and of held messages. Most events are so, and for them
     /// it is faster than `step`.
     pub fn step_if_silent(&mut self, event: &Event) -> bool
         ensures took { IsTrue result → StandingFor self.old (λ config past.
@@ -196,7 +196,7 @@ impl World {
         ensures { StandingFor self.now (λ config past.
             ShowsDelivered config past node sender (option_map (λ items. items.now) result)) }
     {
-        self.find(node)?.delivered(sender)
+        self.node(node)?.delivered(sender)
     }
 
     /// The items that node `node` broadcast, in order, where it is a node. It takes no memory.
@@ -204,7 +204,7 @@ impl World {
         ensures { StandingFor self.now (λ config past.
             ShowsStream config past node (option_map (λ items. items.now) result)) }
     {
-        Some(self.find(node)?.stream())
+        Some(self.node(node)?.stream())
     }
 
     /// The value that node `node` decided in the instance, if it did. It takes no memory.
@@ -212,7 +212,7 @@ impl World {
         ensures { StandingFor self.now (λ config past.
             result ≡ decision config past node instance) }
     {
-        self.find(node)?.decision(instance)
+        self.node(node)?.decision(instance)
     }
 
     /// How many slots of what `from` gives `to` are not acknowledged, where both are nodes and not the same. It takes no
@@ -220,14 +220,14 @@ impl World {
     pub fn owed(&self, from: NodeId, to: NodeId) -> Option<u64>
         ensures { StandingFor self.now (λ config past. ShowsOwed config past from to result) }
     {
-        self.find(from)?.owed(to)
+        self.node(from)?.owed(to)
     }
 
     /// The node of this number, where it is one. It takes no memory.
     pub fn node(&self, node: NodeId) -> Option<&Node>
         ensures { FindsNode self.now node (option_map (λ found. found.now) result) }
     {
-        self.find(node)
+        self.nodes.get(usize::from(node.0))
     }
 
     /// Whether node `node` is one of the group and has not crashed. It takes no memory.
@@ -235,7 +235,7 @@ impl World {
         ensures { StandingFor self.now (λ config past.
             result ≡ (nat_lt node config.nodes && is_live past node)) }
     {
-        match self.find(node) {
+        match self.node(node) {
             Some(found) => found.live(),
             None => false,
         }
@@ -283,20 +283,11 @@ impl World {
     {
         &self.nodes[usize::from(node.0)]
     }
-
-    fn find(&self, node: NodeId) -> Option<&Node>
-        ensures { FindsNode self.now node (option_map (λ found. found.now) result) }
-    {
-        self.nodes.get(usize::from(node.0))
-    }
 }
 
 // The reply to an event that makes a frame, by the frame's number.
 fn sent(made: Result<u64, StepFault>) -> Reply
     ensures { result ≡ number_reply made }
 {
-    match made {
-        Ok(seq) => Ok(Answer::Sent { seq }),
-        Err(fault) => Err(fault),
-    }
+    Ok(Answer::Sent { seq: made? })
 }

@@ -3,10 +3,10 @@ use Rattle.cast_agree.specs.Counted.{decision}
 use Rattle.cast_world.proofs.Showing.{decision_shown, decision_nowhere}
 use Rattle.cast_world.proofs.world.World.decision.Goals as goal
 
-pub returns-in_err-find : goal.returns-in_err-find
-returns-in_err-find c config past st = c.from_residual.ensures ∙ decision_nowhere config past c.args.self.now st c.args.node c.args.instance c.in_err-find.ensures
+pub returns-in_err-node : goal.returns-in_err-node
+returns-in_err-node c config past st = c.from_residual.ensures ∙ decision_nowhere config past c.args.self.now st c.args.node c.args.instance c.in_err-node.ensures
 
 pub returns : goal.returns
 returns c config past st =
-    c.decision.ensures ∙ ap (λ node. decision node.agree c.args.instance) c.in_ok-find.ensures.1
-    ∙ decision_shown config past c.args.self.now st c.args.node c.args.instance (subst (λ n. c.args.node < n) st.size c.in_ok-find.ensures.0)
+    c.decision.ensures ∙ ap (λ node. decision node.agree c.args.instance) c.in_ok-node.ensures.1
+    ∙ decision_shown config past c.args.self.now st c.args.node c.args.instance (subst (λ n. c.args.node < n) st.size c.in_ok-node.ensures.0)

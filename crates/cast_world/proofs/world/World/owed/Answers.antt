@@ -9,5 +9,5 @@ use Rattle.cast_world.proofs.world.World.owed.Goals as goal
 
 pub returns : goal.returns
 returns c config past st =
-    subst (ShowsOwed config past c.args.from c.args.to) (sym (c.owed.ensures ∙ ap (λ node. if is_peer node c.args.to then Some (finite.len (link_to node c.args.to).owed) else None) c.in_ok-find.ensures.1))
-    (shown_owed config past c.args.self.now st c.args.from c.args.to c.in_ok-find.ensures.0)
+    subst (ShowsOwed config past c.args.from c.args.to) (sym (c.owed.ensures ∙ ap (λ node. if is_peer node c.args.to then Some (finite.len (link_to node c.args.to).owed) else None) c.in_ok-node.ensures.1))
+    (shown_owed config past c.args.self.now st c.args.from c.args.to c.in_ok-node.ensures.0)

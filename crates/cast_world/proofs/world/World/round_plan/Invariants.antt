@@ -11,7 +11,7 @@ use Rattle.cast_world.proofs.world.World.round_plan.Given as goal
 abbrev pub invariant-slots : goal.invariant-slots
 invariant-slots l = record {
   before : List Due;
-  counted : AreCounted before l.made.items;
+  counted : AreCounted before l.made;
   few : length before + length l.due ≤ 2 ^ 61;
   plan : (config : Config) (past : History) → Stands config past l.self → (before ++ l.due ≡ due config past) × (l.events.items ≡ plan_from past [] before);
 }

@@ -3,7 +3,7 @@ use Rattle.cast_model.specs.Steps.{Arrived}
 use Rattle.cast_node.specs.Calls.{took_frame, silent_reply}
 use Rattle.cast_node.specs.Turns.{Gives}
 use Rattle.cast_world.proofs.Marks.{gives_word}
-use Rattle.cast_world.proofs.frames.arrive_word.Goals as goal
+use Rattle.cast_world.proofs.frames.arrive_acknowledgement.Goals as goal
 
 pub returns-clause-took : goal.returns-clause-took
 returns-clause-took c config nodes seq silent =
