@@ -1,5 +1,5 @@
 //! The text of a picture as it grows.
-ghost use Rattle.std.specs.Prelude.{◌≡◌, ◌<◌, ◌++◌, [], OnOk, decimal};
+ghost use Rattle.std.specs.Prelude.{◌≡◌, ◌++◌, [], OnOk, decimal};
 ghost use Rattle.cast_record.specs.Text.{item_word};
 ghost use Rattle.cast_words.specs.Hex.{hex};
 ghost use Rattle.cast_draw.specs.Pieces.{piece_text, place_text, text_of};

@@ -1,8 +1,8 @@
 //! What each node gives each peer, slot by slot: which message a frame carries that is made for a slot.
-ghost use Rattle.std.specs.Prelude.{◌≡◌, ◌+◌, ◌≤◌, ◌++◌, ◌∷◌, [], IfOk, OnOk, OnErr, false, if◌then◌else◌, length, not, slice_get};
+ghost use Rattle.std.specs.Prelude.{◌≡◌, ◌+◌, ◌≤◌, ◌++◌, ◌∷◌, [], IfOk, OnOk, OnErr, false, if◌then◌else◌, length, not};
 ghost use Rattle.cast_draw.specs.Gifts.{holding, slot_of, nothing_given, given_on, goes_on, is_held, with_held};
 
-use cast_message::NodeId;
+use cast_message::{List, NodeId};
 use cast_sets::NumberSet;
 use std::alloc::{AllocError, Global};
 use std::marker::Model;
@@ -23,7 +23,7 @@ pub struct Links {
     // By the sender, the numbers that are held.
     held: Vec<NumberSet>,
     // By the peer, what stands in each slot.
-    given: Vec<Row>,
+    given: Vec<List<Pair>>,
 }
 
 impl Model for Links {
@@ -54,7 +54,7 @@ impl Links {
         let mut given = Vec::new(alloc);
         for _node in 0..nodes {
             held.push(NumberSet::new(alloc))?;
-            given.push(Row::new(alloc))?;
+            given.push(List::new(alloc))?;
         }
         Ok(Links { me, held, given })
     }
@@ -67,7 +67,7 @@ impl Links {
         if place >= self.given.len() {
             return None;
         }
-        self.given[place].get(slot)
+        self.given[place].as_slice().get(slot as usize).copied()
     }
 
     /// Holds a message that came from this peer, or is the node's own. One that was not held goes on to all but its sender
@@ -79,44 +79,6 @@ impl Links {
         if add(self.held.as_mut_slice(), pair)? {
             return give_on(self.given.as_mut_slice(), self.me, &pair, source, 0);
         }
-        Ok(())
-    }
-}
-
-/// What stands in the slots of a peer. Contracts see it in order.
-#[derive(Debug, Drop)]
-struct Row {
-    pairs: Vec<Pair>,
-}
-
-impl Model for Row {
-    ghost use Rattle.std.specs.Prelude.{List};
-    ghost use Rattle.cast_draw.specs.declared.links.Pair.{Pair};
-
-    ghost Value = { List Pair };
-
-    ghost view = { λ row. row.pairs.items };
-}
-
-impl Row {
-    fn new(alloc: Global) -> Row
-        ensures { result ≡ [] }
-    {
-        Row {
-            pairs: Vec::new(alloc),
-        }
-    }
-
-    fn get(&self, slot: u64) -> Option<Pair>
-        ensures { result ≡ slice_get self.now slot }
-    {
-        self.pairs.get(slot as usize).copied()
-    }
-
-    fn push(&mut self, pair: Pair) -> Result<(), AllocError>
-        ensures { OnOk result (self.new ≡ self.old ++ pair ∷ []) }
-    {
-        self.pairs.push(pair)?;
         Ok(())
     }
 }
@@ -136,7 +98,7 @@ fn add(held: &mut [NumberSet], pair: Pair) -> Result<bool, AllocError>
 
 // Gives the message to each of these peers to which it goes. The first of them has the number `peer`.
 fn give_on(
-    rows: &mut [Row],
+    rows: &mut [List<Pair>],
     me: NodeId,
     pair: &Pair,
     source: NodeId,
@@ -152,7 +114,7 @@ fn give_on(
     give_on(rest, me, pair, source, peer + 1)
 }
 
-fn give(row: &mut Row, goes: bool, pair: &Pair) -> Result<(), AllocError>
+fn give(row: &mut List<Pair>, goes: bool, pair: &Pair) -> Result<(), AllocError>
     ensures { OnOk result (row.new ≡ (if goes then row.old ++ pair.now ∷ [] else row.old)) }
 {
     if goes { row.push(*pair) } else { Ok(()) }

@@ -1,5 +1,4 @@
 pub mod WritingLemmas
-pub mod DigitLemmas
 pub mod HexLemmas
 pub mod UnhexLemmas
 pub mod NumberLemmas

@@ -3,7 +3,6 @@
 //! explained.
 #![tactic(auto)]
 
-mod digits;
 mod hex;
 mod meter;
 mod mode;

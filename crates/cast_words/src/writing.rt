@@ -1,11 +1,11 @@
 //! Writing words: without memory, each whole or a prefix of it.
-ghost use Rattle.std.specs.Prelude.{◌≡◌, ◌<◌, false, decimal};
+ghost use Rattle.std.specs.Prelude.{◌≡◌, false, decimal};
 ghost use Rattle.cast_words.specs.Hex.{hex};
 ghost use Rattle.cast_words.specs.Written.{Puts};
 
-use crate::digits::Digits;
 use crate::hex::put_hex;
 use crate::meter::Meter;
+use itoa::Buffer;
 use std::io::Write;
 use thiserror::Error;
 
@@ -27,7 +27,7 @@ pub fn write_number<W: Write>(number: u64, writer: &mut Meter<W>) -> Written
     requires { writer.old.failed ≡ false }
     ensures { Puts W.contents writer.old writer.new result (decimal number) }
 {
-    write_bytes(Digits::new(number).as_slice(), writer)
+    write_bytes(Buffer::new().format(number).as_bytes(), writer)
 }
 
 /// Writes each byte as two digits. It takes no memory; a refusal comes as in `write_bytes`.
