@@ -1,5 +1,5 @@
 //! The making of a desk with its clients, and its end.
-ghost use Rattle.std.specs.Prelude.{◌≡◌, ◌<◌, ◌≤◌, ◌∷◌, ◌++◌, [], ℕ, length, map, slice_get, Some, IfOk, IfErr};
+ghost use Rattle.std.specs.Prelude.{◌≡◌, ◌≤◌, ◌∷◌, ◌++◌, [], ℕ, length, map, slice_get, Some, IfOk, IfErr};
 ghost use Rattle.cast_box.specs.Lists.{of, StartsWith, IsFair};
 ghost use Rattle.cast_box.specs.Ends.{PutterEnd, AreAllEnds, AreNew, IsSize};
 ghost use Rattle.cast_desk.specs.declared.notice.Notice.{Notice};

@@ -7,7 +7,7 @@
 --     AreReceived taken run            the frame of each arrival came in a parcel with a smaller stamp
 --     arrivals_in trail                the frames that arrived
 --     made_of x                        the frame of a parcel, with the stamp of the step that made it
-use Rattle.std.specs.Prelude.{◌≡◌, ℕ, ◌<◌, ◌≤◌, Bool, true, false, List, [], ◌∷◌, ◌++◌, map, slice_get, Option, Some, None}
+use Rattle.std.specs.Prelude.{◌≡◌, ℕ, ◌<◌, ◌≤◌, Bool, true, false, List, [], ◌∷◌, ◌++◌, map, Option, Some, None}
 use Rattle.std.specs.List.{count_by}
 use Rattle.std.specs.Option.{option_to_list}
 use Rattle.cast_message.specs.declared.config.Config.{Config}

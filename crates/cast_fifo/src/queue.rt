@@ -1,6 +1,6 @@
 //! What is held back of one sender: a ring of places for the numbers from the next on (`ring`), and an ordered map for those
 //! farther away (`far`).
-ghost use Rattle.std.specs.Prelude.{◌≡◌, ◌≢◌, ℕ, ◌+◌, ◌-◌, ◌*◌, ◌<◌, ◌≤◌, ◌^◌, ◌∷◌, ◌++◌, ◌||◌, length, [], drop, true, false, None, Some, is_some, IsSome, IfOk, OnOk, OnErr, vec_len, vec_capacity, ◌⊎◌, nat_eq, nat_lt, IsTrue};
+ghost use Rattle.std.specs.Prelude.{◌≡◌, ◌≢◌, ℕ, ◌+◌, ◌<◌, ◌≤◌, ◌^◌, ◌∷◌, ◌++◌, ◌||◌, length, [], drop, true, false, is_some, IsSome, IfOk, OnOk, OnErr, vec_len, vec_capacity, ◌⊎◌, nat_eq, nat_lt, IsTrue};
 ghost use Rattle.std.specs.Option.{option_copied};
 ghost use Rattle.std.specs.List.{All};
 ghost use Rattle.std.specs.Map.{keys_of};

@@ -1,6 +1,6 @@
 //! The jobs of clients, each in a thread of its own.
-ghost use Rattle.std.specs.Prelude.{◌≡◌, ◌+◌, ◌<◌, ◌≤◌, ℕ, true, false, length, map, slice_get, slice_index_or, Some, IfOk, OnOk, IfSome, OnSome, IfNone, vec_len};
-ghost use Rattle.cast_box.specs.Lists.{of};
+ghost use Rattle.std.specs.Prelude.{◌≡◌, ◌≤◌, ℕ, true, false, length, map, slice_get, slice_index_or, Some, IfOk, OnOk, IfSome, OnSome, IfNone, vec_len};
+ghost use Rattle.cast_box.specs.Lists.{};
 ghost use Rattle.cast_job.specs.declared.jobs.Seat.{Seat};
 ghost use Rattle.cast_job.specs.declared.jobs.Ended.{Ended};
 ghost use Rattle.cast_job.specs.Faults.{JobsFit};

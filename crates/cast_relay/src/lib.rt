@@ -3,7 +3,7 @@
 //! but its sender and the peer that brought it.
 #![tactic(auto)]
 
-ghost use Rattle.std.specs.Prelude.{◌≡◌, ◌≢◌, ◌+◌, ◌-◌, ◌<◌, false, ◌≤◌, ◌^◌, length, replicate, IfOk, OnOk, OnErr};
+ghost use Rattle.std.specs.Prelude.{◌≡◌, ◌≢◌, ◌+◌, ◌<◌, false, ◌≤◌, ◌^◌, length, replicate, IfOk, OnOk, OnErr};
 ghost use Rattle.std.specs.FinSet as set;
 ghost use Rattle.cast_relay.specs.Held.{by_sender, holds, with_pair, without_pair, with_own, without_own, relays_to};
 ghost use Rattle.cast_relay.specs.Answers.{taken_of};

@@ -1,7 +1,7 @@
 //! Plans of what goes wrong.
 ghost use Rattle.std.specs.Prelude.{◌≡◌, ◌++◌, ◌∷◌, [], IfOk, OnOk};
 ghost use Rattle.std.specs.List.{flat_map};
-ghost use Rattle.cast_message.specs.declared.message.FrameKind.TheVariants.{Carry, Took};
+ghost use Rattle.cast_message.specs.declared.message.FrameKind.TheVariants.{};
 ghost use Rattle.run_setup.specs.Plans.{frames_on, links_from, all_links, lost_every};
 
 use cast_message::{List, NodeId};
