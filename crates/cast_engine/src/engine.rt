@@ -518,9 +518,9 @@ fn tell_gate<G: Gate>(gate: &mut G, entries: &[Entry]) {
 
 // Whether a node owes a peer.
 fn owes(node: &Node, peer: usize) -> bool {
-    match u8::try_from(peer) {
-        Ok(peer) => node.owed(NodeId(peer)).unwrap_or(0) > 0,
-        Err(_) => false,
+    match NodeId::from_number(peer as u64) {
+        Some(peer) => node.owed(peer).unwrap_or(0) > 0,
+        None => false,
     }
 }
 

@@ -1,6 +1,6 @@
 //! What nodes broadcast, and the frames that carry it between them.
 ghost use Rattle.std.specs.Prelude.{◌≡◌, true, IfOk, OnErr};
-ghost use Rattle.cast_message.specs.Items.{is_close, has_payload, kind_of, carries_payload};
+ghost use Rattle.cast_message.specs.Items.{byte_sized, is_close, has_bytes, kind_of, carries_bytes};
 
 use crate::payload::Payload;
 use std::alloc::AllocError;
@@ -18,6 +18,19 @@ impl Model for NodeId {
     ghost view = { λ node. node.0 };
 
     ghost inverse = { λ number. record { 0 = number } };
+}
+
+impl NodeId {
+    /// The node of this number, where a byte has room for it.
+    pub fn from_number(number: u64) -> Option<NodeId>
+        ensures { result ≡ byte_sized number }
+    {
+        if number < 256 {
+            Some(NodeId(number as u8))
+        } else {
+            None
+        }
+    }
 }
 
 /// What a node puts into its stream.
@@ -42,7 +55,7 @@ impl Item {
     /// An equal item, or want of memory, which only a payload takes: its bytes are shared, not copied, and counted.
     pub fn copy(&self) -> Result<Item, AllocError>
         ensures ok { IfOk result (λ copy. copy ≡ self.now) }
-        ensures err { OnErr result (has_payload self.now ≡ true) }
+        ensures err { OnErr result (has_bytes self.now ≡ true) }
     {
         match self {
             Item::Data(payload) => Ok(Item::Data(payload.copy()?)),
@@ -67,7 +80,7 @@ impl Message {
     /// An equal message, or want of memory, which only a payload takes.
     pub fn copy(&self) -> Result<Message, AllocError>
         ensures ok { IfOk result (λ copy. copy ≡ self.now) }
-        ensures err { OnErr result (has_payload self.now.item ≡ true) }
+        ensures err { OnErr result (has_bytes self.now.item ≡ true) }
     {
         let item = self.item.copy()?;
         Ok(Message {
@@ -129,7 +142,7 @@ impl Frame {
     /// An equal frame, or want of memory, which only a payload takes.
     pub fn copy(&self) -> Result<Frame, AllocError>
         ensures ok { IfOk result (λ copy. copy ≡ self.now) }
-        ensures err { OnErr result (carries_payload self.now.body ≡ true) }
+        ensures err { OnErr result (carries_bytes self.now.body ≡ true) }
     {
         let body = match &self.body {
             FrameBody::Carry { slot, message } => FrameBody::Carry {

@@ -11,7 +11,8 @@ use Rattle.std.proofs.lemmas.Grind.{common_steps}
 use Rattle.std.proofs.lemmas.List.{take-append-drop}
 use Rattle.std.proofs.lemmas.List.Splits.{slice_split_at}
 use Rattle.std.proofs.lemmas.List.Elements.{All-nil, All-cons}
-use Rattle.cast_record.specs.Nodes.{node_of, byte_sized}
+use Rattle.cast_message.specs.Items.{byte_sized}
+use Rattle.cast_record.specs.Nodes.{node_of}
 use Rattle.cast_words.specs.Numbers.{read_on, number_of}
 use Rattle.cast_record.specs.Reading as read
 use Rattle.cast_record.specs.Fronts.{BeginsWithLine, BeginsWithNode, BeginsWithNumber, IsNumberSoFar}

@@ -15,11 +15,12 @@ use Rattle.cast_message.specs.declared.message.Decision.{Decision}
 use Rattle.cast_record.specs.declared.line.Line.{Line}
 use Rattle.cast_record.specs.declared.line.Line.TheVariants.{Head, Head2, Broadcast, Delivered, Decided, Crashed, Refused, End}
 use Rattle.cast_words.specs.Hex.{hex}
-use Rattle.cast_words.specs.Modes.{mode_word}
+use Rattle.cast_words.specs.Modes.{mode_word, mode_named}
 use Rattle.cast_record.specs.Text.{item_word, message_words, line_words, line_text}
 use Rattle.cast_words.specs.Hex.{AreBytes}
 use Rattle.cast_record.specs.Ranges.{IsItemWithin, IsMessageWithin, IsGroupWithin, IsModeWithin, IsWithin}
-use Rattle.cast_record.specs.Nodes.{node_of, byte_sized}
+use Rattle.cast_message.specs.Items.{byte_sized}
+use Rattle.cast_record.specs.Nodes.{node_of}
 use Rattle.cast_words.specs.Numbers.{number_of}
 use Rattle.cast_words.specs.Unhex.{unhex}
 use Rattle.cast_record.specs.Reading as read
@@ -314,7 +315,7 @@ head_takes ws line e =
     go n f k same true test h = absurd (cc)
     go n f k same false test h = let is : Head n f k ≡ line = cc in subst (IsLineIn (codes "cast/1" ∷ ws)) is (record { same = same; within = group_takes 16 n f k test })
 
-mode_takes : (word : List ℕ) (mode : Mode) → read.mode_of word ≡ Some mode → mode_word mode ≡ word
+mode_takes : (word : List ℕ) (mode : Mode) → mode_named word ≡ Some mode → mode_word mode ≡ word
 mode_takes word mode e = by_basic (bytes_eq word (codes "basic")) refl e
   where
     by_uniform : (b : Bool) → bytes_eq word (codes "uniform") ≡ b → cond b (Some Uniform) None ≡ Some mode → mode_word mode ≡ word
@@ -342,10 +343,10 @@ head2_takes ws line e =
     let words = both (read.four_of ws) read.head2_by line e in
     let row = four_takes ws words.first words.was in
     let t = words.first in
-    let n = both (number_of t.0) (λ n. option_and_then (λ f. option_and_then (λ k. option_and_then (λ m. read.head2_within n f k m) (read.mode_of t.3)) (number_of t.2)) (number_of t.1)) line words.next in
-    let f = both (number_of t.1) (λ f. option_and_then (λ k. option_and_then (λ m. read.head2_within n.first f k m) (read.mode_of t.3)) (number_of t.2)) line n.next in
-    let k = both (number_of t.2) (λ k. option_and_then (λ m. read.head2_within n.first f.first k m) (read.mode_of t.3)) line f.next in
-    let m = both (read.mode_of t.3) (λ m. read.head2_within n.first f.first k.first m) line k.next in
+    let n = both (number_of t.0) (λ n. option_and_then (λ f. option_and_then (λ k. option_and_then (λ m. read.head2_within n f k m) (mode_named t.3)) (number_of t.2)) (number_of t.1)) line words.next in
+    let f = both (number_of t.1) (λ f. option_and_then (λ k. option_and_then (λ m. read.head2_within n.first f k m) (mode_named t.3)) (number_of t.2)) line n.next in
+    let k = both (number_of t.2) (λ k. option_and_then (λ m. read.head2_within n.first f.first k m) (mode_named t.3)) line f.next in
+    let m = both (mode_named t.3) (λ m. read.head2_within n.first f.first k.first m) line k.next in
     let same : codes "cast/2" ∷ decimal n.first ∷ decimal f.first ∷ decimal k.first ∷ mode_word m.first ∷ [] ≡ codes "cast/2" ∷ ws = ap (λ x. codes "cast/2" ∷ x ∷ decimal f.first ∷ decimal k.first ∷ mode_word m.first ∷ []) (sym (number_takes t.0 n.first n.was).0) ∙ ap (λ x. codes "cast/2" ∷ t.0 ∷ x ∷ decimal k.first ∷ mode_word m.first ∷ []) (sym (number_takes t.1 f.first f.was).0) ∙ ap (λ x. codes "cast/2" ∷ t.0 ∷ t.1 ∷ x ∷ mode_word m.first ∷ []) (sym (number_takes t.2 k.first k.was).0) ∙ ap (λ x. codes "cast/2" ∷ t.0 ∷ t.1 ∷ t.2 ∷ x ∷ []) (mode_takes t.3 m.first m.was) ∙ ap (λ r. codes "cast/2" ∷ r) (sym row) in
     go n.first f.first k.first m.first same (read.is_outside 64 n.first f.first k.first || read.is_mode_outside m.first n.first f.first) refl m.next
   where

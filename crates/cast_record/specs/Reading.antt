@@ -11,11 +11,11 @@ use Rattle.cast_message.specs.declared.config.Mode.TheVariants.{Basic, Uniform}
 use Rattle.cast_message.specs.declared.message.Item.{Item}
 use Rattle.cast_message.specs.declared.message.Item.TheVariants.{Data, Propose, Close}
 use Rattle.cast_message.specs.declared.message.Message.{Message}
-use Rattle.cast_message.specs.Items.{has_payload}
 use Rattle.cast_record.specs.declared.line.Line.{Line}
 use Rattle.cast_record.specs.declared.line.Line.TheVariants.{Head, Head2, Broadcast, Delivered, Decided, Crashed, Refused, End}
 use Rattle.cast_record.specs.Nodes.{node_of}
 use Rattle.cast_words.specs.Numbers.{number_of}
+use Rattle.cast_words.specs.Modes.{mode_named}
 use Rattle.cast_words.specs.Options.{◌>>=◌}
 use Rattle.cast_words.specs.Unhex.{unhex}
 use Rattle.cast_record.specs.Ranges.{IsWithin}
@@ -124,9 +124,6 @@ head_by words = do
   choices ← number_of words.2
   head_within nodes faults choices
 
-abbrev pub mode_of : List ℕ → Option Mode
-mode_of word = if bytes_eq word (codes "basic") then Some Basic else (if bytes_eq word (codes "uniform") then Some Uniform else None)
-
 -- uniform mode is for groups of which fewer than half may crash
 abbrev pub is_mode_outside : Mode → ℕ → ℕ → Bool
 is_mode_outside Basic nodes faults = false
@@ -140,7 +137,7 @@ head2_by words = do
   nodes ← number_of words.0
   faults ← number_of words.1
   choices ← number_of words.2
-  mode ← mode_of words.3
+  mode ← mode_named words.3
   head2_within nodes faults choices mode
 
 -- a line that has no item
@@ -178,12 +175,16 @@ IsReadOf bytes None = (line : Line) → IsWithin line → line_text line ≡ byt
 
 -- ---- data, for which alone memory is taken
 
+abbrev pub is_data : Item → Bool
+is_data (Data payload) = true
+is_data _ = false
+
 abbrev pub HasData : Option Item → Type 0
-HasData item = IsSomeAnd item (λ item. has_payload item ≡ true)
+HasData item = IsSomeAnd item (λ item. is_data item ≡ true)
 
 abbrev pub brings_data : Line → Bool
-brings_data (Broadcast message) = has_payload message.item
-brings_data (Delivered node message) = has_payload message.item
+brings_data (Broadcast message) = is_data message.item
+brings_data (Delivered node message) = is_data message.item
 brings_data _ = false
 
 abbrev pub LineHasData : Option Line → Type 0

@@ -1,8 +1,8 @@
 //! Items as the words that spell them.
 ghost use Rattle.std.specs.Prelude.{◌≡◌, true, Some, option_map, IfOk, OnErr};
 ghost use Rattle.std.specs.List.{list_all};
-ghost use Rattle.cast_record.specs.Reading.{item_of, item_named, data_of, proposal_of, HasData};
-ghost use Rattle.cast_message.specs.Items.{is_close, has_payload};
+ghost use Rattle.cast_record.specs.Reading.{item_of, item_named, data_of, proposal_of, is_data, HasData};
+ghost use Rattle.cast_message.specs.Items.{is_close};
 ghost use Rattle.cast_record.specs.ItemWords.{kind_of, is_hex, is_hex_digit, proposal_in};
 
 use crate::parts::two_parts;
@@ -86,7 +86,7 @@ impl<'a> ItemWord<'a> {
     /// The item. Memory is taken only where it is data.
     pub fn to_item(&self, alloc: Global) -> Result<Item, AllocError>
         ensures exact { IfOk result (λ item. item ≡ self.now) }
-        ensures err { OnErr result (has_payload self.now ≡ true) }
+        ensures err { OnErr result (is_data self.now ≡ true) }
     {
         match self.kind {
             ItemKind::Data => data_item(alloc, self.word),

@@ -1,6 +1,6 @@
 //! Words that spell the numbers of nodes.
 ghost use Rattle.std.specs.Prelude.{◌≡◌};
-ghost use Rattle.cast_record.specs.Nodes.{node_of, byte_sized};
+ghost use Rattle.cast_record.specs.Nodes.{node_of};
 
 use cast_message::NodeId;
 use cast_words::number;
@@ -9,16 +9,5 @@ use cast_words::number;
 pub fn node(word: &[u8]) -> Option<NodeId>
     ensures { result ≡ node_of word.now }
 {
-    byte_sized(number(word)?)
-}
-
-// The node of this number, 0 to 255.
-fn byte_sized(number: u64) -> Option<NodeId>
-    ensures { result ≡ byte_sized number }
-{
-    if number < 256 {
-        Some(NodeId(number as u8))
-    } else {
-        None
-    }
+    NodeId::from_number(number(word)?)
 }

@@ -2,7 +2,7 @@
 ghost use Rattle.std.specs.Prelude.{◌≡◌, ◌==◌, IfOk, OnErr, option_map, option_and_then};
 ghost use Rattle.std.specs.List.{slice_split};
 ghost use Rattle.cast_record.specs.Reading.{IsReadOf, LineHasData, line_of, end_named, short_line_named, pair_of, one_of, two_of, three_of, four_of};
-ghost use Rattle.cast_record.specs.Reading.{decided_by, crashed_by, refused_by, refusal_within, head_by, head_within, is_outside, head2_by, head2_within, mode_of, is_mode_outside};
+ghost use Rattle.cast_record.specs.Reading.{decided_by, crashed_by, refused_by, refusal_within, head_by, head_within, is_outside, head2_by, head2_within, is_mode_outside};
 ghost use Rattle.cast_record.specs.WordLines.{line_said};
 
 use crate::line::{FIRST_MOST_NODES, Line, MOST_CODE};
@@ -10,7 +10,7 @@ use crate::node::node;
 use crate::parts::{BLANK, four_parts, one_part, three_parts, two_parts};
 use crate::word_line::{WordLine, read_words};
 use cast_message::{Decision, MOST_NODES, Mode, NodeId};
-use cast_words::number;
+use cast_words::{mode_named, number};
 use std::alloc::{AllocError, Global};
 
 /// The line within its ranges whose text these bytes are, without its line feed; none where there is none. A node is a
@@ -145,7 +145,7 @@ fn head2<'a>(rest: &[u8]) -> Option<WordLine<'a>>
     let nodes = number(nodes)?;
     let faults = number(faults)?;
     let choices = number(choices)?;
-    let mode = mode(name)?;
+    let mode = mode_named(name)?;
     head2_within(nodes, faults, choices, mode)
 }
 
@@ -169,17 +169,5 @@ fn is_mode_outside(mode: Mode, nodes: u64, faults: u64) -> bool
     match mode {
         Mode::Basic => false,
         Mode::Uniform => faults >= nodes.saturating_sub(faults),
-    }
-}
-
-fn mode(word: &[u8]) -> Option<Mode>
-    ensures { result ≡ mode_of word.now }
-{
-    if word == b"basic".as_slice() {
-        Some(Mode::Basic)
-    } else if word == b"uniform".as_slice() {
-        Some(Mode::Uniform)
-    } else {
-        None
     }
 }

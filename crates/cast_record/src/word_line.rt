@@ -1,8 +1,7 @@
 //! Lines whose items stand as the words that spell them, read without memory.
 ghost use Rattle.std.specs.Prelude.{◌≡◌, ◌==◌, true, IfOk, OnErr, option_map, option_and_then};
 ghost use Rattle.std.specs.List.{slice_split};
-ghost use Rattle.cast_message.specs.Items.{has_payload};
-ghost use Rattle.cast_record.specs.Reading.{line_of, line_named, broadcast_by, delivered_by, three_of, four_of, brings_data};
+ghost use Rattle.cast_record.specs.Reading.{line_of, line_named, broadcast_by, delivered_by, three_of, four_of, is_data, brings_data};
 ghost use Rattle.cast_record.specs.WordLines.{line_said};
 ghost use Rattle.cast_record.specs.declared.line.Line.TheVariants.{Head2};
 
@@ -118,7 +117,7 @@ fn message(
 ) -> Result<Message, AllocError>
     ensures exact { IfOk result (λ message.
         message ≡ record { sender = sender; number = number; item = item.now }) }
-    ensures err { OnErr result (has_payload item.now ≡ true) }
+    ensures err { OnErr result (is_data item.now ≡ true) }
 {
     let item = item.to_item(alloc)?;
     Ok(Message {

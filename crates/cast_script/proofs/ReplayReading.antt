@@ -23,14 +23,14 @@ use Rattle.cast_message.specs.declared.event.Event.TheVariants.{Order, Send, Ack
 use Rattle.cast_message.specs.declared.message.Item.TheVariants.{Data as Bytes, Propose, Close}
 use Rattle.cast_words.specs.Hex.{hex, hex_digit}
 use Rattle.cast_words.specs.Hex.{AreBytes}
-use Rattle.cast_words.specs.Modes.{mode_word}
+use Rattle.cast_words.specs.Modes.{mode_word, mode_named}
 use Rattle.cast_script.specs.declared.script.ScriptEvent.TheVariants.{Core}
 use Rattle.cast_script.specs.declared.script.ScriptFault.TheVariants.{NotJson, Shape, Config, Memory}
 use Rattle.cast_words.proofs.UnhexLemmas.{unhex_again}
 use Rattle.cast_script.specs.Places.{places}
 use Rattle.cast_script.specs.Faults.{elements_from}
 use Rattle.cast_script.specs.Element.{event_of}
-use Rattle.cast_script.specs.Members.{settings_of, mode_named}
+use Rattle.cast_script.specs.Members.{settings_of}
 use Rattle.cast_script.specs.Script.{settings_in, checked, script_in, script_of, said}
 use Rattle.cast_script.specs.Replay.{Atom, word, number, digits, word_text, atom_text, event_atoms, event_text, others_text, events_text, members, member_text, members_text, script_text, replay, SaysReplay, IsReplayIn}
 use Rattle.cast_script.specs.ReplayRanges.{IsAtomWithin, AreAtomsWithin, AreMembersWithin, IsEventWithin}
@@ -184,7 +184,7 @@ text_utf8 config events small within =
 
 -- ---- the script that the value is
 
-node_small : (p : ℕ) → p < 256 → nat_lt 255 p ≡ false
+node_small : (p : ℕ) → p < 256 → nat_lt p 256 ≡ true
 node_small p small = grind (arith, nat_tests)
 
 event_again : (event : Event) → IsEventWithin event → event_of (value.array (atoms_data (event_atoms event))) ≡ Some (Core event)

@@ -3,7 +3,7 @@
 --     event_of d         ["order",p,ITEM..], ["send",p,q,slot], ["ack",p,q,slot], ["arrive",from,seq], ["crash",p], ["settle"]
 --     fault_of d         ["lose",KIND,p,q,o,m], ["repeat",KIND,p,q,o,m], ["delay",KIND,p,q,o,m,c], ["crash",p,e]
 --     job_of d           [p,[[ITEM..],[ITEM..],..]]
-use Rattle.std.specs.Prelude.{ℕ, List, [], ◌∷◌, codes, nat_lt, if◌then◌else◌, Option, Some, None, option_map, option_and_then}
+use Rattle.std.specs.Prelude.{ℕ, List, [], ◌∷◌, codes, if◌then◌else◌, Option, Some, None, option_map, option_and_then}
 use Rattle.std.specs.Str.{bytes_eq}
 use Rattle.serde_json.specs.Data.{Data}
 use Rattle.serde_json.specs.Find.{as_number, as_u64, as_str, as_array}
@@ -19,6 +19,7 @@ use Rattle.cast_script.specs.declared.script.Frames.{Frames}
 use Rattle.cast_script.specs.declared.script.Fault.TheVariants.{Lose, Repeat, Delay, Crash}
 use Rattle.cast_message.specs.declared.message.FrameKind.{FrameKind}
 use Rattle.cast_message.specs.declared.message.FrameKind.TheVariants.{Carry, Took}
+use Rattle.cast_message.specs.Items.{byte_sized}
 use Rattle.cast_words.specs.Options.{◌>>=◌}
 use Rattle.cast_words.specs.Unhex.{unhex}
 use Rattle.cast_script.specs.Places.{places}
@@ -33,7 +34,7 @@ number_of d = option_and_then as_u64 (as_number d)
 
 -- a number from 0 to 255
 abbrev pub node_of : Data → Option ℕ
-node_of d = option_and_then (λ n. if nat_lt 255 n then None else Some n) (number_of d)
+node_of d = option_and_then byte_sized (number_of d)
 
 -- what the first reader of this name makes of the places
 abbrev pub among : {A : Type 0} → List (List ℕ × (List Data → Option A)) → List ℕ → List Data → Option A

@@ -9,6 +9,7 @@ use Rattle.serde_json.specs.Find.{get, as_object, as_str}
 use Rattle.cast_message.specs.declared.config.Mode.{Mode}
 use Rattle.cast_message.specs.declared.config.Mode.TheVariants.{Basic, Uniform}
 use Rattle.cast_script.specs.declared.script.Settings.{Settings}
+use Rattle.cast_words.specs.Modes.{mode_named}
 use Rattle.cast_words.specs.Options.{◌>>=◌}
 use Rattle.cast_script.specs.Element.{number_of, places_of}
 
@@ -43,11 +44,6 @@ or_number absent (Some d) = number_of d
 -- a number with what stands for it where it is absent
 abbrev pub number_else : List ℕ → ℕ → Data → Option ℕ
 number_else name absent d = or_number absent (get name d)
-
-abbrev pub mode_named : List ℕ → Option Mode
-mode_named name =
-    if bytes_eq name (codes "basic") then Some Basic
-    else (if bytes_eq name (codes "uniform") then Some Uniform else None)
 
 abbrev pub or_basic : Option Data → Option Mode
 or_basic None = Some Basic

@@ -91,9 +91,5 @@ pub fn places(value: &Value) -> Option<&[Value]>
 pub fn node(value: &Value) -> Option<NodeId>
     ensures { result ≡ node_of (view value.now) }
 {
-    let number = value.as_u64()?;
-    if number > 255 {
-        return None;
-    }
-    Some(NodeId(number as u8))
+    NodeId::from_number(value.as_u64()?)
 }

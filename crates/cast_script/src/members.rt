@@ -3,11 +3,12 @@ ghost use Rattle.std.specs.Prelude.{◌≡◌, map, option_map, string_bytes};
 ghost use Rattle.std.specs.List.{list_all};
 ghost use Rattle.std.specs.BTreeMap.{keys};
 ghost use Rattle.serde_json.specs.View.{view};
-ghost use Rattle.cast_script.specs.Members.{is_member, has_known_members, needed, number_else, mode_named, mode_of, settings_of, list_of};
+ghost use Rattle.cast_script.specs.Members.{is_member, has_known_members, needed, number_else, mode_of, settings_of, list_of};
 
 use crate::element::places;
 use crate::script::Settings;
 use cast_message::{MOST_ENTRIES, MOST_ITEMS, Mode};
+use cast_words::mode_named;
 use serde_json::{Map, Value};
 
 /// Whether the value is an object and has no other members than a script's.
@@ -94,17 +95,7 @@ fn mode(value: &Value) -> Option<Mode>
     ensures { result ≡ mode_of (view value.now) }
 {
     match value.get("mode") {
-        Some(mode) => mode_by(mode.as_str()?),
+        Some(mode) => mode_named(mode.as_str()?.as_bytes()),
         None => Some(Mode::Basic),
-    }
-}
-
-fn mode_by(name: &str) -> Option<Mode>
-    ensures { result ≡ mode_named name.now }
-{
-    match name {
-        "basic" => Some(Mode::Basic),
-        "uniform" => Some(Mode::Uniform),
-        _ => None,
     }
 }

@@ -278,11 +278,7 @@ fn node(reader: &mut Reader<'_>) -> Result<NodeId, Unread>
     ensures { IfOk result (λ node. (d : Data)
         × IsCell reader.old d reader.new × (node_of d ≡ Some node)) }
 {
-    let number = number(reader)?;
-    if number > 255 {
-        return Err(Unread::Shape);
-    }
-    Ok(NodeId(number as u8))
+    NodeId::from_number(number(reader)?).ok_or(Unread::Shape)
 }
 
 fn number(reader: &mut Reader<'_>) -> Result<u64, Unread>

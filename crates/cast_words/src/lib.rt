@@ -1,5 +1,5 @@
 //! The words that records, scripts and pictures share: numbers as decimal digits, bytes as two digits each, which are written,
-//! without memory, to a writer that may fail, and read back; and the word of a mode. And bytes as they are shown where a fault is
+//! without memory, to a writer that may fail, and read back; and the words of modes. And bytes as they are shown where a fault is
 //! explained.
 #![tactic(auto)]
 
@@ -13,7 +13,7 @@ mod writing;
 
 pub use hex::hex_digit;
 pub use meter::{Failed, Meter};
-pub use mode::mode_name;
+pub use mode::{mode_name, mode_named};
 pub use numbers::number;
 pub use shown::{escaped, prefix};
 pub use unhex::bytes_of;
