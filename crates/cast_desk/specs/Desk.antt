@@ -1,5 +1,5 @@
 -- Clients and desks, as contracts see them.
-use Rattle.std.specs.Prelude.{◌≡◌, ℕ, ◌+◌, ◌<◌, ◌≤◌, ◌^◌, List, [], ◌∷◌, ◌++◌, length, map, slice_get, slice_set, Some, Result, MatchResult}
+use Rattle.std.specs.Prelude.{◌≡◌, ℕ, ◌+◌, ◌-◌, ◌<◌, ◌≤◌, ◌^◌, min, List, [], ◌∷◌, ◌++◌, length, map, slice_get, slice_set, Some, Result, MatchResult}
 use Rattle.cast_box.specs.declared.opening.BoxFault.{BoxFault}
 use Rattle.cast_box.specs.declared.ends.Full.{Full as Refused}
 use Rattle.cast_box.specs.Ends.{PutterEnd, TakerEnd, IsSamePutter, IsSameTaker, AreAllEnds, WasFull, FilledItAlone, IsSize, IsFirstFault}
@@ -28,6 +28,10 @@ AreInTurn client first orders = (i : ℕ) (o : OrderIn) → slice_get orders i �
 -- the ticket that the client gives next
 abbrev pub next_ticket : ClientState → ℕ
 next_ticket c = c.first_ticket + length c.orders.put
+
+-- how many notices there are, as far as a 64-bit number counts
+abbrev pub counted : List (ℕ × Notice) → ℕ
+counted taken = min (length taken) (2 ^ 64 - 1)
 
 -- why the item was handed back: the desk's box was full, or the ticket to come is 2^64 - 1, which is never given; only
 -- where it isn't is the box tried

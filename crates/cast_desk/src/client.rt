@@ -1,7 +1,7 @@
 //! The ends of a node's client.
 ghost use Rattle.std.specs.Prelude.{◌≡◌, ◌+◌, ◌^◌, ◌<◌, ◌++◌, ◌∷◌, [], ℕ, length, IfOk, IfErr, IfNone, OnErr, MatchOption};
 ghost use Rattle.cast_box.specs.Lists.{HasTakenOfEnded};
-ghost use Rattle.cast_desk.specs.Desk.{ClientState, IsSameClient, IsRefusal, AreInTurn, next_ticket};
+ghost use Rattle.cast_desk.specs.Desk.{ClientState, IsSameClient, IsRefusal, AreInTurn, counted, next_ticket};
 
 use crate::desk::OrderIn;
 use crate::notice::Notice;
@@ -34,11 +34,13 @@ pub struct Client {
     pub orders: Putter<OrderIn>,
     /// The taker of its tray.
     pub tray: Taker<Notice>,
+    // How many notices it has taken, as far as a `u64` counts.
+    pub(crate) taken: u64,
 }
 
 impl Model for Client {
     ghost use Rattle.std.specs.Prelude.{◌≡◌, ◌+◌, length};
-    ghost use Rattle.cast_desk.specs.Desk.{ClientState, AreInTurn};
+    ghost use Rattle.cast_desk.specs.Desk.{ClientState, AreInTurn, counted};
 
     ghost Value = { ClientState };
 
@@ -50,7 +52,8 @@ impl Model for Client {
     } };
 
     ghost invariant = { λ c. (c.next_ticket ≡ c.first_ticket + length c.orders.put)
-        × AreInTurn c.number c.first_ticket c.orders.put };
+        × AreInTurn c.number c.first_ticket c.orders.put
+        × (c.taken ≡ counted c.tray.taken) };
 }
 
 impl Client {
@@ -60,7 +63,8 @@ impl Client {
         orders: Putter<OrderIn>,
         tray: Taker<Notice>,
     ) -> Client
-        requires { orders.put ≡ [] }
+        requires orders { orders.put ≡ [] }
+        requires tray { tray.taken ≡ [] }
         ensures { result ≡ record {
           number = number;
           first_ticket = first_ticket;
@@ -74,6 +78,7 @@ impl Client {
             next_ticket: first_ticket,
             orders,
             tray,
+            taken: 0,
         }
     }
 
@@ -120,7 +125,11 @@ impl Client {
             × (self.new.tray.taken ≡ self.old.tray.taken ++ (from, notice) ∷ [])) }
         ensures empty { IfNone result (HasTakenOfEnded self.old.tray.ended self.old.tray.taken) }
     {
-        self.tray.take(rt)
+        let notice = self.tray.take(rt);
+        if notice.is_some() {
+            self.taken = self.taken.saturating_add(1);
+        }
+        notice
     }
 
     /// How many orders the client has submitted.
@@ -129,6 +138,13 @@ impl Client {
         ensures turn { AreInTurn self.now.number self.now.first_ticket self.now.orders.put }
     {
         self.next_ticket - self.first_ticket
+    }
+
+    /// How many notices the client has taken, or 2^64 - 1 where they are more.
+    pub fn taken(&self) -> u64
+        ensures { result ≡ counted self.now.tray.taken }
+    {
+        self.taken
     }
 
     /// The ends, where the client ends.

@@ -12,7 +12,7 @@ ghost use Rattle.cast_job.specs.Seats.{IsSeating, IsEndedAs};
 use crate::desks::FreeClients;
 use crate::fault::StartFault;
 use crate::job::ClientJob;
-use cast_carrier::Board;
+use cast_carrier::{Board, Waiting};
 use cast_desk::{Client, MOST_CLIENTS};
 use cast_message::{MOST_NODES, NodeId};
 use std::alloc::Global;
@@ -56,6 +56,41 @@ impl<J: ClientJob> Promise<Ended<J>> for JobBack<J> {
 /// The thread of a job, which gives the job back.
 pub type JobThread<J> = PromisedHandle<Ended<J>, JobBack<J>>;
 
+// A call in which its client put an order or took a notice a job follows up at once, so many times in succession.
+const MORE_CALLS: u64 = 7;
+
+// So often in succession a job whose client puts and takes nothing gives up the processor.
+const PATIENCE: u64 = 8;
+
+// How a job's thread lets others run between calls.
+#[derive(Drop)]
+struct Pace {
+    waiting: Waiting,
+    // How many more such calls may be made before the processor is given up.
+    more: u64,
+}
+
+impl Pace {
+    // Gives up the processor, or sleeps, where the client put and took nothing since the last call, or has done so in enough
+    // calls.
+    fn rest<R: Wait>(&mut self, rt: &R, client: &mut Client)
+        ensures { client.new ≡ client.old }
+    {
+        if !client.has_moved() {
+            self.more = MORE_CALLS;
+            self.waiting.wait(rt);
+            return;
+        }
+        self.waiting.found();
+        if self.more > 0 {
+            self.more -= 1;
+            return;
+        }
+        self.more = MORE_CALLS;
+        thread::yield_now();
+    }
+}
+
 // Calls `turn` until it answers false, `turns` calls were made, or the engine has ended and one more call was made.
 fn run_job<J: ClientJob, R: Wait>(rt: &R, board: &Board, seat: Seat<J>, turns: u64) -> Ended<J>
     requires { J.fact seat.job seat.job (submitted seat.client) (got seat.client) false }
@@ -66,6 +101,10 @@ fn run_job<J: ClientJob, R: Wait>(rt: &R, board: &Board, seat: Seat<J>, turns: u
         mut job,
         mut client,
     } = seat;
+    let mut pace = Pace {
+        waiting: Waiting::new(PATIENCE),
+        more: MORE_CALLS,
+    };
     for _ in 0..turns {
         let over = board.has_ended(node.0 as usize);
         let done = !job.turn(rt, &mut client);
@@ -77,7 +116,7 @@ fn run_job<J: ClientJob, R: Wait>(rt: &R, board: &Board, seat: Seat<J>, turns: u
                 done,
             };
         }
-        thread::yield_now();
+        pace.rest(rt, &mut client);
     }
     Ended {
         node,

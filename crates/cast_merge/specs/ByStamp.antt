@@ -8,9 +8,13 @@
 use Rattle.std.specs.Prelude.{◌≡◌, ℕ, nat_lt, if◌then◌else◌, List, [], ◌∷◌, ◌++◌, map}
 use Rattle.cast_message.specs.declared.event.Event.{Event}
 use Rattle.cast_node.specs.declared.entry.Entry.{Entry}
-use Rattle.cast_merge.specs.declared.merge.LoggedStep.{LoggedStep}
 use Rattle.cast_report.specs.declared.report.NodeReport.{NodeReport}
 use Rattle.cast_report.specs.Linked.{Taken, taken}
+
+-- a step of a log, without its outcome
+pub record LoggedStep : Type 0 where
+  pub stamp : ℕ
+  pub event : Event
 
 module _ {X : Type 0} where
   unfoldable pub before : (X → ℕ) → ℕ → List X → List X

@@ -5,8 +5,8 @@ use Rattle.cast_box.proofs.Closing.{get_middle, no_length}
 use Rattle.cast_desk.proofs.Making.{made_more, made_as, made_all}
 use Rattle.cast_desk.proofs.make.open.Goals as goal
 
-pub new-requires : goal.new-requires
-new-requires c =
+pub new-requires-clause-orders : goal.new-requires-clause-orders
+new-requires-clause-orders c =
     let seen = c.loop-putter.yielded in
     let whole = sym c.into_iter-putter-iterator.ensures.into_iter_gives.0 ∙ c.loop-putter.invariant.2 ∙ ap (λ l. seen ++ l) c.in-Some.ensures.steps.0 in
     (c.in-Ok.ensures.ends.1.0 (length seen) c.in-Some.putter (ap (λ l. slice_get l (length seen)) whole ∙ get_middle seen c.in-Some.putter _)).2
