@@ -1,5 +1,5 @@
 //! Lists of values, which contracts see as lists.
-ghost use Rattle.std.specs.Prelude.{◌≡◌, ◌++◌, ◌∷◌, [], OnOk, OnErr};
+ghost use Rattle.std.specs.Prelude.{◌≡◌, ◌++◌, ◌∷◌, [], IfOk, OnOk, OnErr};
 
 use std::alloc::{AllocError, Global};
 use std::marker::Model;
@@ -26,6 +26,14 @@ impl<T> List<T> {
         List {
             elements: Vec::new(alloc),
         }
+    }
+
+    /// The empty list with room for so many elements, or want of memory.
+    pub fn with_capacity(alloc: Global, capacity: usize) -> Result<List<T>, AllocError>
+        ensures { IfOk result (λ list. list ≡ []) }
+    {
+        let elements = Vec::with_capacity(alloc, capacity)?;
+        Ok(List { elements })
     }
 
     /// The elements in order.

@@ -26,7 +26,7 @@ pub fn run_events(
     ensures few { IfOk result (λ run. DecidesFewValues config run.1) }
 {
     let mut world = World::new(alloc, config)?;
-    let mut replies = List::new(alloc);
+    let mut replies = List::with_capacity(alloc, events.len())?;
     for event in events {
         let reply = world.step(event);
         if is_want_of_memory(&reply) {

@@ -11,7 +11,7 @@ use Rattle.cast_world.proofs.Running.{run_begun, settled, replies_more, history_
 use Rattle.cast_world.proofs.run.run_events.Goals as goal
 
 pub loop-event-init : goal.loop-event-init
-loop-event-init c = run_begun c.args.config c.in_ok-world.world c.new-replies.result c.new-replies.ensures c.in_ok-world.ensures
+loop-event-init c = run_begun c.args.config c.in_ok-world.world c.in_ok-replies.replies c.in_ok-replies.ensures c.in_ok-world.ensures
 
 pub loop-event-preserved : goal.loop-event-preserved
 loop-event-preserved c =
