@@ -34,11 +34,6 @@ few_worked a b c d f g work = few_again 0 0 0 0 1 1 3 1 a c d (few_same 0 0 0 0 
 
 -- ---- one tray among others
 
-set_here : {A : Type 0} (xs : List A) (i : ℕ) (was a : A) → slice_get xs i ≡ Some was → slice_get (slice_set xs i a) i ≡ Some a
-set_here [] i was a e = absurd cc
-set_here (x ∷ xs) zero was a e = refl
-set_here (x ∷ xs) (suc i) was a e = set_here xs i was a e
-
 pub set_elsewhere : {A : Type 0} (xs : List A) (i j : ℕ) (a : A) → j ≢ i → slice_get (slice_set xs i a) j ≡ slice_get xs j
 set_elsewhere [] i j a other = refl
 set_elsewhere (x ∷ xs) zero zero a other = absurd (other refl)
@@ -50,21 +45,6 @@ set_again : {A : Type 0} (xs : List A) (i : ℕ) (was : A) → slice_get xs i �
 set_again [] i was e = refl
 set_again (x ∷ xs) zero was e = let same : x ≡ was = cc in ap (λ y. y ∷ xs) (sym same)
 set_again (x ∷ xs) (suc i) was e = ap (λ ys. x ∷ ys) (set_again xs i was e)
-
-pub tells_none : (trays : List (PutterEnd Notice)) → TellEach 1 trays trays
-tells_none trays c = omega arith
-
--- a notice was put into the tray of a client
-pub tells_one : (trays new : List (PutterEnd Notice)) (client : ℕ) (was now : PutterEnd Notice) (notice : Notice) → slice_get trays client ≡ Some was → new ≡ slice_set trays client now → now.put ≡ was.put ++ notice ∷ [] → TellEach 1 trays new
-tells_one trays new client was now notice at set put c = elim (cases_eq c client) [
-  | inl here ↦
-      let before : length (put_into (slice_get trays c)) ≡ length was.put = ap (λ k. length (put_into (slice_get trays k))) here ∙ ap (λ o. length (put_into o)) at in
-      let after : length (put_into (slice_get new c)) ≡ length now.put =
-      ap (λ (l : List (PutterEnd Notice)). length (put_into (slice_get l c))) set ∙ ap (λ k. length (put_into (slice_get (slice_set trays client now) k))) here ∙ ap (λ o. length (put_into o)) (set_here trays client was now at) in
-      omega (arith, before, after, ap length put, length-append was.put (notice ∷ []))
-  | inr other ↦
-      omega (arith, ap (λ (l : List (PutterEnd Notice)). length (put_into (slice_get l c))) set, ap (λ o. length (put_into o)) (set_elsewhere trays client c now other))
-]
 
 -- the tray was full
 pub tells_nothing : (trays new : List (PutterEnd Notice)) (client : ℕ) (was now : PutterEnd Notice) → slice_get trays client ≡ Some was → new ≡ slice_set trays client now → IsSamePutter was now → now.put ≡ was.put → new ≡ trays

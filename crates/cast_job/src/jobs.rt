@@ -12,7 +12,7 @@ ghost use Rattle.cast_job.specs.Seats.{IsSeating, IsEndedAs};
 use crate::desks::FreeClients;
 use crate::fault::StartFault;
 use crate::job::ClientJob;
-use cast_carrier::{Board, Waiting};
+use cast_carrier::Board;
 use cast_desk::{Client, MOST_CLIENTS};
 use cast_message::{MOST_NODES, NodeId};
 use std::alloc::Global;
@@ -56,40 +56,8 @@ impl<J: ClientJob> Promise<Ended<J>> for JobBack<J> {
 /// The thread of a job, which gives the job back.
 pub type JobThread<J> = PromisedHandle<Ended<J>, JobBack<J>>;
 
-// A call in which its client put an order or took a notice a job follows up at once, so many times in succession.
-const MORE_CALLS: u64 = 7;
-
-// So often in succession a job whose client puts and takes nothing gives up the processor.
-const PATIENCE: u64 = 8;
-
-// How a job's thread lets others run between calls.
-#[derive(Drop)]
-struct Pace {
-    waiting: Waiting,
-    // How many more such calls may be made before the processor is given up.
-    more: u64,
-}
-
-impl Pace {
-    // Gives up the processor, or sleeps, where the client put and took nothing since the last call, or has done so in enough
-    // calls.
-    fn rest<R: Wait>(&mut self, rt: &R, client: &mut Client)
-        ensures { client.new ≡ client.old }
-    {
-        if !client.has_moved() {
-            self.more = MORE_CALLS;
-            self.waiting.wait(rt);
-            return;
-        }
-        self.waiting.found();
-        if self.more > 0 {
-            self.more -= 1;
-            return;
-        }
-        self.more = MORE_CALLS;
-        thread::yield_now();
-    }
-}
+// Calls in which its client puts an order or takes a notice a job makes so many in succession before it gives up the processor.
+const MOST_CALLS: u64 = 8;
 
 // Calls `turn` until it answers false, `turns` calls were made, or the engine has ended and one more call was made.
 fn run_job<J: ClientJob, R: Wait>(rt: &R, board: &Board, seat: Seat<J>, turns: u64) -> Ended<J>
@@ -101,12 +69,10 @@ fn run_job<J: ClientJob, R: Wait>(rt: &R, board: &Board, seat: Seat<J>, turns: u
         mut job,
         mut client,
     } = seat;
-    let mut pace = Pace {
-        waiting: Waiting::new(PATIENCE),
-        more: MORE_CALLS,
-    };
+    let mut left = MOST_CALLS;
     for _ in 0..turns {
         let over = board.has_ended(node.0 as usize);
+        let before = exchanged(&client);
         let done = !job.turn(rt, &mut client);
         if done || over {
             return Ended {
@@ -116,7 +82,11 @@ fn run_job<J: ClientJob, R: Wait>(rt: &R, board: &Board, seat: Seat<J>, turns: u
                 done,
             };
         }
-        pace.rest(rt, &mut client);
+        left = left.saturating_sub(1);
+        if left == 0 || exchanged(&client) == before {
+            left = MOST_CALLS;
+            thread::yield_now();
+        }
     }
     Ended {
         node,
@@ -124,6 +94,11 @@ fn run_job<J: ClientJob, R: Wait>(rt: &R, board: &Board, seat: Seat<J>, turns: u
         client,
         done: false,
     }
+}
+
+// How many orders a client has put, and how many notices it has taken.
+fn exchanged(client: &Client) -> (u64, u64) {
+    (client.submitted(), client.taken())
 }
 
 fn start_job<J: ClientJob + Send + Drop + 'static, R: Threads + Wait + Copy + Send + 'static>(

@@ -62,10 +62,20 @@ fn knows_a_close(rt: HostRuntime) -> Result<(), Fail> {
 
 #[test]
 fn a_payload_is_its_bytes(rt: HostRuntime) -> Result<(), Fail> {
-    let payload = Payload::new(Bytes::copy_from_slice(rt.alloc(), b"abc")?);
-    assert!(rt; payload.as_slice() == &b"abc"[..]);
-    assert!(rt; payload.copy()? == payload);
+    let bytes = [7; 48];
+    for count in [0, 1, 45, 46, 47, 48] {
+        let payload = Payload::new(Bytes::copy_from_slice(rt.alloc(), &bytes[..count])?);
+        assert!(rt; payload.as_slice() == &bytes[..count], "{count}");
+        assert!(rt; payload.copy()? == payload, "{count}");
+        assert!(rt; payload.copy()?.as_slice() == &bytes[..count], "{count}");
+    }
     Ok(())
+}
+
+#[test]
+fn a_number_is_a_nodes_where_a_byte_has_room_for_it(rt: HostRuntime) {
+    assert_eq!(rt; NodeId::from_number(255), Some(NodeId(255)));
+    assert_eq!(rt; NodeId::from_number(256), None);
 }
 
 /// What the check says of eight values, the stamp left out.

@@ -48,6 +48,7 @@ fn desk_of_one(rt: HostRuntime) -> Result<(), Fail> {
     let told = clients[0].next(&rt);
     assert!(&rt; matches!(&told, Some(notice) if is_reply(notice)));
     assert!(&rt; clients[0].next(&rt).is_none());
+    assert_eq!(&rt; clients[0].taken(), 1);
     Ok(())
 }
 
