@@ -7,7 +7,7 @@ use Rattle.std.specs.Str.{bytes_eq}
 use Rattle.serde_json.specs.Data.{Data, Members, no_members, member}
 use Rattle.serde_json.specs.Find.{get, as_object, as_str}
 use Rattle.cast_message.specs.declared.config.Mode.{Mode}
-use Rattle.cast_message.specs.declared.config.Mode.TheVariants.{Basic, Uniform}
+use Rattle.cast_message.specs.declared.config.Mode.TheVariants.{Basic}
 use Rattle.cast_script.specs.declared.script.Settings.{Settings}
 use Rattle.cast_words.specs.Modes.{mode_named}
 use Rattle.cast_words.specs.Options.{◌>>=◌}
