@@ -20,7 +20,8 @@ use std::marker::Model;
 use std::sync::Wait;
 
 // So often in succession an engine that finds nothing to do gives up the processor. What it owes it sends again in less, so
-// after so many turns nothing is owed, or the outbox stays full or memory is wanting, and it waits for others alone.
+// after so many turns nothing is owed but to engines that have ended, or the outbox stays full or memory is wanting, and it waits
+// for others alone.
 const PATIENCE: u64 = 2 * LAST_SENT as u64;
 
 /// What came of a turn.

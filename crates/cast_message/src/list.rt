@@ -28,7 +28,7 @@ impl<T> List<T> {
         }
     }
 
-    /// The empty list with room for so many elements, or want of memory.
+    /// The empty list, or want of memory. Room for so many elements is made at once, which no contract shows.
     pub fn with_capacity(alloc: Global, capacity: usize) -> Result<List<T>, AllocError>
         ensures { IfOk result (λ list. list ≡ []) }
     {

@@ -1,17 +1,17 @@
 //! Bytes that are written as two digits each.
-ghost use Rattle.std.specs.Prelude.{◌≡◌, ◌*◌, ◌%◌, if◌then◌else◌, length, IfOk, OnErr, Some, None, option_map, unwrap_or};
+ghost use Rattle.std.specs.Prelude.{◌≡◌, ◌*◌, ◌%◌, ◌<◌, if◌then◌else◌, length, IfOk, OnErr, Some, None, option_map, unwrap_or};
 ghost use Rattle.cast_words.specs.Unhex.{unhex, digit_of, AreDigitsOf};
 
 use std::alloc::{AllocError, Global};
 
 /// The bytes that the digits stand for, two digits a byte, if they stand for bytes. So the digits of bytes are read back as those
-/// bytes, and nothing else is read as bytes. Memory is taken only where the digits come in pairs.
+/// bytes, and nothing else is read as bytes. Memory is taken only where there are digits that come in pairs.
 #[tactic(auto, using(crate::proofs::UnhexLemmas::are_digits))]
 pub fn bytes_of(alloc: Global, digits: &[u8]) -> Result<Option<Vec<u8>>, AllocError>
     ensures exact { IfOk result (λ o. option_map (λ bytes. bytes.items) o ≡ unhex digits.now) }
     ensures digits { IfOk result (λ o.
         AreDigitsOf (option_map (λ bytes. bytes.items) o) digits.now) }
-    ensures err { OnErr result (length digits.now % 2 ≡ 0) }
+    ensures err { OnErr result ((length digits.now % 2 ≡ 0) × (0 < length digits.now)) }
 {
     let bytes = unhexed(alloc, digits)?;
     Ok(bytes)
@@ -19,11 +19,14 @@ pub fn bytes_of(alloc: Global, digits: &[u8]) -> Result<Option<Vec<u8>>, AllocEr
 
 fn unhexed(alloc: Global, digits: &[u8]) -> Result<Option<Vec<u8>>, AllocError>
     ensures exact { IfOk result (λ o. option_map (λ bytes. bytes.items) o ≡ unhex digits.now) }
-    ensures err { OnErr result (length digits.now % 2 ≡ 0) }
+    ensures err { OnErr result ((length digits.now % 2 ≡ 0) × (0 < length digits.now)) }
 {
     if digits.len() % 2 != 0 {
         return Ok(None);
     }
+    let [_, ..] = digits else {
+        return Ok(Some(Vec::new(alloc)));
+    };
     let mut bytes = vec![in alloc; 0u8; digits.len() / 2]?;
     if put_bytes(digits, bytes.as_mut_slice()) {
         Ok(Some(bytes))

@@ -1,8 +1,9 @@
 //! The two ends of a link by hand: rows of the worked examples, and the edges of both windows.
 ghost use Rattle.std.specs.Prelude.{◌≡◌, ◌+◌, ◌<◌, ◌^◌, OnOk};
 
+use bytes::Bytes;
 use cast_link::{LinkFault, LinkIn, LinkOut};
-use cast_message::{Item, Message, NodeId};
+use cast_message::{Item, Message, NodeId, Payload};
 use std::alloc::AllocError;
 use std::test::Fail;
 
@@ -12,6 +13,20 @@ fn message(number: u64) -> Message {
         number,
         item: Item::Close,
     }
+}
+
+#[test]
+fn carries_shared_bytes(rt: HostRuntime) -> Result<(), Fail> {
+    let bytes = Bytes::copy_from_slice(rt.alloc(), &[7; 47])?;
+    let message = Message {
+        sender: NodeId(1),
+        number: 0,
+        item: Item::Data(Payload::new(bytes)),
+    };
+    let mut link = LinkOut::new(rt.alloc());
+    link.give(message.copy()?)?;
+    assert!(rt; link.carry(0) == Ok(message));
+    Ok(())
 }
 
 #[test]

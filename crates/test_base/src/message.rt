@@ -36,6 +36,8 @@ fn expect_copies(rt: &impl Abort, item: Item) -> Result<(), Fail> {
 #[test]
 fn copies_are_equal(rt: HostRuntime) -> Result<(), Fail> {
     expect_copies(&rt, data(rt.alloc(), b"a")?)?;
+    // (more than stand in a payload, so that their copies are shared)
+    expect_copies(&rt, data(rt.alloc(), &[7; 47])?)?;
     let proposal = Item::Propose {
         instance: 7,
         value: 4,
