@@ -100,6 +100,8 @@ impl PartialEq for Payload {
 
 impl fmt::Debug for Payload {
     fn fmt<W: fmt::Write>(&self, f: &mut fmt::Formatter<W>) -> fmt::Result {
-        f.debug_struct("Payload").field("bytes", &self.as_slice()).finish()
+        f.debug_struct("Payload")
+            .field("bytes", &self.as_slice())
+            .finish()
     }
 }

@@ -1,5 +1,5 @@
 -- How a text that is written in parts comes together.
-use Rattle.std.proofs.Common.{◌≡◌, ℕ, List, [], ◌++◌, append-nil, ◌+◌, subst, Ok, Err, append_assoc, ap, sym, ◌∙◌, refl, Bool, false, Option, Result, IsErrAnd, take, drop}
+use Rattle.std.proofs.Common.{◌≡◌, ℕ, List, [], ◌++◌, append-nil, subst, Ok, Err, append_assoc, ap, sym, ◌∙◌, refl, Bool, false, Option, Result, IsErrAnd, take, drop}
 use Rattle.std.specs.Io.KnownBytes.{Appends}
 use Rattle.std.proofs.KnownBytes.{Appends-nil, Appends-trans}
 use Rattle.std.proofs.lemmas.List.{take-append-drop}
