@@ -2,9 +2,9 @@
 --     byte_sized n            the number, where a byte has room for it
 --     is_close item           it is the last of a stream
 --     proposes_in j item      it proposes in instance j
---     has_shared_bytes item        it is data of more than a few bytes; a copy takes memory for those alone, as they are counted
+--     has_bytes item          it is data of some bytes; a copy takes memory for those alone, as they are shared and counted
 --     kind_of body            the kind of a frame
---     carries_shared_bytes body    the frame carries a message with such an item
+--     carries_bytes body      the frame carries a message with such an item
 use Rattle.std.specs.Prelude.{ℕ, ◌==◌, Bool, true, false, nat_lt, length, if◌then◌else◌, Option, Some, None}
 use Rattle.cast_message.specs.declared.message.Item.{Item}
 use Rattle.cast_message.specs.declared.message.Item.TheVariants.{Data, Propose, Close}
@@ -12,7 +12,6 @@ use Rattle.cast_message.specs.declared.message.FrameBody.{FrameBody}
 use Rattle.cast_message.specs.declared.message.FrameBody.TheVariants as bodies
 use Rattle.cast_message.specs.declared.message.FrameKind.{FrameKind}
 use Rattle.cast_message.specs.declared.message.FrameKind.TheVariants.{Carry, Took}
-use Rattle.cast_message.specs.Payloads.{few}
 
 abbrev pub byte_sized : ℕ → Option ℕ
 byte_sized n = if nat_lt n 256 then Some n else None
@@ -25,14 +24,14 @@ abbrev pub proposes_in : ℕ → Item → Bool
 proposes_in j (Propose instance value) = instance == j
 proposes_in j _ = false
 
-abbrev pub has_shared_bytes : Item → Bool
-has_shared_bytes (Data payload) = nat_lt few (length payload)
-has_shared_bytes _ = false
+abbrev pub has_bytes : Item → Bool
+has_bytes (Data payload) = nat_lt 0 (length payload)
+has_bytes _ = false
 
 abbrev pub kind_of : FrameBody → FrameKind
 kind_of (bodies.Carry slot message) = Carry
 kind_of (bodies.Took slot) = Took
 
-abbrev pub carries_shared_bytes : FrameBody → Bool
-carries_shared_bytes (bodies.Carry slot message) = has_shared_bytes message.item
-carries_shared_bytes (bodies.Took slot) = false
+abbrev pub carries_bytes : FrameBody → Bool
+carries_bytes (bodies.Carry slot message) = has_bytes message.item
+carries_bytes (bodies.Took slot) = false

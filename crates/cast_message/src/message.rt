@@ -1,6 +1,6 @@
 //! What nodes broadcast, and the frames that carry it between them.
 ghost use Rattle.std.specs.Prelude.{◌≡◌, true, IfOk, OnErr};
-ghost use Rattle.cast_message.specs.Items.{byte_sized, is_close, has_shared_bytes, kind_of, carries_shared_bytes};
+ghost use Rattle.cast_message.specs.Items.{byte_sized, is_close, has_bytes, kind_of, carries_bytes};
 
 use crate::payload::Payload;
 use std::alloc::AllocError;
@@ -52,10 +52,10 @@ impl Item {
         matches!(self, Item::Close)
     }
 
-    /// An equal item, or want of memory, which only a payload of more than a few bytes takes: they are shared, not copied, and counted.
+    /// An equal item, or want of memory, which only bytes take: they are shared, not copied, and counted.
     pub fn copy(&self) -> Result<Item, AllocError>
         ensures ok { IfOk result (λ copy. copy ≡ self.now) }
-        ensures err { OnErr result (has_shared_bytes self.now ≡ true) }
+        ensures err { OnErr result (has_bytes self.now ≡ true) }
     {
         match self {
             Item::Data(payload) => Ok(Item::Data(payload.copy()?)),
@@ -77,10 +77,10 @@ pub struct Message {
 }
 
 impl Message {
-    /// An equal message, or want of memory, which only such a payload takes.
+    /// An equal message, or want of memory, which only bytes take.
     pub fn copy(&self) -> Result<Message, AllocError>
         ensures ok { IfOk result (λ copy. copy ≡ self.now) }
-        ensures err { OnErr result (has_shared_bytes self.now.item ≡ true) }
+        ensures err { OnErr result (has_bytes self.now.item ≡ true) }
     {
         let item = self.item.copy()?;
         Ok(Message {
@@ -139,10 +139,10 @@ pub enum FrameKind {
 }
 
 impl Frame {
-    /// An equal frame, or want of memory, which only such a payload takes.
+    /// An equal frame, or want of memory, which only bytes take.
     pub fn copy(&self) -> Result<Frame, AllocError>
         ensures ok { IfOk result (λ copy. copy ≡ self.now) }
-        ensures err { OnErr result (carries_shared_bytes self.now.body ≡ true) }
+        ensures err { OnErr result (carries_bytes self.now.body ≡ true) }
     {
         let body = match &self.body {
             FrameBody::Carry { slot, message } => FrameBody::Carry {

