@@ -1,9 +1,9 @@
--- A frame that arrived before: its target awaits nothing of it.
+-- A frame that arrived before, or whose slot was taken or acknowledged before: its target awaits nothing of it.
 use Rattle.std.proofs.Common.{◌≡◌, ℕ, zero, suc, ◌<◌, refl, sym, ◌∙◌, ap, subst, Bool, true, false, not, cond, ◌&&◌, ◌||◌, List, [], ◌∷◌, ◌++◌, length, Option, Some, None, inl, inr, Result, Ok, Err, true≢false, arith}
 use Rattle.std.specs.Prelude.{◌==◌, nat_lt, slice_get, option_map, if◌then◌else◌, OnErr}
-use Rattle.std.specs.List.{list_any, Contains}
+use Rattle.std.specs.List.{list_any}
 use Rattle.std.specs.FinSet as set
-use Rattle.std.proofs.lemmas.Bool.{and_from, cases_eq, eq-eqb, lt-ltb, ne_eqb, not-false, or_right}
+use Rattle.std.proofs.lemmas.Bool.{and_from, and_parts, cases_eq, eq-eqb, eqb-true, lt-ltb, ne_eqb, not-false, or_right}
 use Rattle.cast_message.specs.declared.config.Config.{Config}
 use Rattle.cast_message.specs.declared.event.Event.{Event}
 use Rattle.cast_message.specs.declared.event.Event.TheVariants.{Arrive}
@@ -21,19 +21,19 @@ use Rattle.cast_model.specs.Replies.{IsAccepted, IsRefused, causes, causes_of_ar
 use Rattle.cast_model.specs.Steps.{Arrived, steps_of}
 use Rattle.cast_model.specs.OwnSteps.{own_copies, own_given, own_given_copies, own_knows, own_acked, own_is_ready, message_in, takes}
 use Rattle.cast_model.proofs.Accepted.{no_cause}
-use Rattle.cast_model.proofs.Members.{Member, here, there, Member-uncons, Member-append_left, Member-append_right, Member-slice_get, list_any-Member, Contains-Member}
+use Rattle.cast_model.proofs.Members.{Member, here, there, Member-uncons, Member-append_left, Member-append_right, Member-slice_get, Member-list_any, list_any-Member, Contains-Member}
 use Rattle.cast_model.proofs.Growth.{made, arriving, frames-more, arrivals-more}
-use Rattle.cast_model.proofs.Sound.{sound, HeldAt, BodyOk}
+use Rattle.cast_model.proofs.Sound.{sound, HeldAt, BodyOk, CarryOk}
 use Rattle.cast_model.proofs.Projected.{frames_in-steps_of, held-steps_of}
 use Rattle.cast_model.proofs.OwnHeld.{own_taken-steps_of, own_acked-steps_of}
 use Rattle.cast_model.proofs.OwnReplies.{own_fault-steps_of, frame_ends}
 use Rattle.cast_model.proofs.Agreement.{node_in as node_in_group}
 use Rattle.cast_node.specs.Kept.{Kept, taken_from, knowers_of, is_enough, is_enough_in}
-use Rattle.cast_node.specs.Turns.{is_turn, is_word_awaited, is_awaited, kept_view, kept_causes, kept_fault}
+use Rattle.cast_node.specs.Turns.{came_so, is_turn, is_word_awaited, is_awaited, kept_view, kept_causes, kept_fault}
 use Rattle.cast_node.specs.Stands.{Stands as NodeStands}
 use Rattle.cast_node.proofs.HolderSets.{enough-is}
 use Rattle.cast_node.proofs.Refusals.{faults_are}
-use Rattle.cast_world.specs.Group.{State, node_at, marks_at, mark_by, mark_of, body_in, Stands, Continues}
+use Rattle.cast_world.specs.Group.{State, node_at, marks_at, mark_by, mark_of, body_in, Stands, Continues, BringsNoNews, TakesNoMemory}
 use Rattle.cast_world.specs.Moves.{IsAwaited}
 use Rattle.cast_world.proofs.Stepping.{body_again, made_all, mark_at}
 
@@ -78,11 +78,32 @@ came config (event ∷ past) accepted from seq m = elim (Member-uncons (Arrive f
   | inr earlier ↦ came_earlier event past from seq (came config past accepted.0 from seq earlier)
 ]
 
-module _ (config : Config) (past : History) (world : State) (st : Stands config past world) (frame : Frame) (from : ℕ) (maker : frame.from ≡ from)
-    (inside : from < config.nodes) (target : frame.to < config.nodes) (apart : from ≡ frame.to → ⊥) (arrived : Member frame (arrivals past frame.to)) where
-  abbrev me : ℕ
-  me = frame.to
+-- a slot's message, in a frame that arrived
+record Heard (past : History) (from me slot : ℕ) : Type 0 where
+  frame : Frame
+  message : Message
+  arrived : Member frame (arrivals past me)
+  maker : frame.from ≡ from
+  body : frame.body ≡ Carry slot message
 
+heard : (past : History) (from me slot : ℕ) → taken past from me slot ≡ true → Heard past from me slot
+unfolding taken
+heard past from me slot e =
+    let told = Member-list_any (λ f. f.from == from && is_carry_of slot f.body) (arrivals past me) e in
+    by_body told.0 told.1 (eqb-true _ _ (and_parts _ _ told.2).0) told.0.body refl (and_parts _ _ told.2).1
+  where
+    by_body : (frame : Frame) → Member frame (arrivals past me) → frame.from ≡ from → (body : FrameBody) → frame.body ≡ body → is_carry_of slot body ≡ true → Heard past from me slot
+    by_body frame arrived maker (Carry place message) is same = record { frame = frame; message = message; arrived = arrived; maker = maker; body = subst (λ x. frame.body ≡ Carry x message) (eqb-true place slot same) is }
+    by_body frame arrived maker (Took place) is same = absurd (true≢false (sym same))
+
+-- of a frame that arrived, the slot was taken, or acknowledged
+again : (past : History) (frame : Frame) (from me : ℕ) → frame.from ≡ from → Member frame (arrivals past me) → (body : FrameBody) → frame.body ≡ body → BringsNoNews past from me body
+unfolding taken acked
+again past frame from me maker arrived (Carry slot message) body = list_any-Member _ frame (arrivals past me) arrived (and_from _ _ (eq-eqb _ _ maker) (ap (is_carry_of slot) body ∙ eq-eqb slot slot refl))
+again past frame from me maker arrived (Took slot) body = list_any-Member _ frame (arrivals past me) arrived (and_from _ _ (eq-eqb _ _ maker) (ap (is_took_of slot) body ∙ eq-eqb slot slot refl))
+
+module _ (config : Config) (past : History) (world : State) (st : Stands config past world) (from me : ℕ)
+    (inside : from < config.nodes) (target : me < config.nodes) (apart : from ≡ me → ⊥) where
   abbrev kept : Kept
   kept = node_at world me
 
@@ -90,7 +111,8 @@ module _ (config : Config) (past : History) (world : State) (st : Stands config 
   b = st.nodes me target
 
   -- of a message, where it is held
-  module _ (slot : ℕ) (message : Message) (body : frame.body ≡ Carry slot message) (sender : message.sender < config.nodes) where
+  module _ (frame : Frame) (maker : frame.from ≡ from) (arrived : Member frame (arrivals past me))
+      (slot : ℕ) (message : Message) (body : frame.body ≡ Carry slot message) (sender : message.sender < config.nodes) where
     abbrev s : ℕ
     s = message.sender
 
@@ -107,10 +129,7 @@ module _ (config : Config) (past : History) (world : State) (st : Stands config 
         ∙ or_right _ _ (list_any-Member _ frame (arrivals past me) arrived (and_from _ _ (eq-eqb _ _ maker) (ap (tells_of (own_given_copies me (steps_of past me) from) s i) body ∙ and_from _ _ (eq-eqb s s refl) (eq-eqb i i refl))))
 
     took : set.contains (taken_from kept from) slot ≡ true
-    unfolding taken
-    took =
-        b.taken from slot inside ∙ own_taken-steps_of past me from slot
-        ∙ list_any-Member _ frame (arrivals past me) arrived (and_from _ _ (eq-eqb _ _ maker) (ap (is_carry_of slot) body ∙ eq-eqb slot slot refl))
+    took = b.taken from slot inside ∙ own_taken-steps_of past me from slot ∙ again past frame from me maker arrived (Carry slot message) body
 
     known : set.contains (knowers_of kept s i) from ≡ true
     known = b.knows s i from sender ∙ and_from _ _ pair (and_from _ _ (lt-ltb from config.nodes inside) told)
@@ -131,26 +150,27 @@ module _ (config : Config) (past : History) (world : State) (st : Stands config 
     carried = ap (λ came. not came || is_turn kept s i) (and_from _ _ (and_from _ _ (b.relay_holds s i sender ∙ pair) took) known) ∙ no_turn (is_enough kept s i) _ refl (b.holds_back s sender).stops
 
   -- of a word that a slot was taken
-  word : (slot : ℕ) → frame.body ≡ Took slot → is_awaited kept from (Took slot) ≡ false
-  unfolding acked
-  word slot body = ap (is_word_awaited kept from) ((b.out from inside apart).owed slot) ∙ by_test (nat_lt slot (length (own_given me (steps_of past me) from))) (own_acked (steps_of past me) from slot) acknowledged
+  word : (slot : ℕ) → acked past me from slot ≡ true → is_awaited kept from (Took slot) ≡ false
+  word slot heard = ap (is_word_awaited kept from) ((b.out from inside apart).owed slot) ∙ by_test (nat_lt slot (length (own_given me (steps_of past me) from))) (own_acked (steps_of past me) from slot) (own_acked-steps_of past me from slot ∙ heard)
     where
-      acknowledged : own_acked (steps_of past me) from slot ≡ true
-      acknowledged =
-          own_acked-steps_of past me from slot
-          ∙ list_any-Member _ frame (arrivals past me) arrived (and_from _ _ (eq-eqb _ _ maker) (ap (is_took_of slot) body ∙ eq-eqb slot slot refl))
-
       by_test : (given heard : Bool) → heard ≡ true → is_word_awaited kept from (if given && not heard then Some (message_in (own_given me (steps_of past me) from) slot) else None) ≡ false
       by_test true true e = refl
       by_test false heard e = refl
       by_test true false e = absurd (true≢false (sym e))
 
-  not_awaited : (body : FrameBody) → frame.body ≡ body → is_awaited kept from body ≡ false
-  not_awaited (Took slot) e = word slot e
-  not_awaited (Carry slot message) e =
-      let ok = subst (BodyOk past frame.from me) e ((sound config past st.accepted).arrivals_ok me frame arrived).made_ok.body_ok in
-      let broadcast = ok.broadcast in
-      carried slot message e (node_in_group config past st.accepted message.sender (omega (arith, broadcast)))
+  -- a slot has one message
+  alike : (slot : ℕ) (message : Message) → CarryOk past from me slot message → Heard past from me slot → is_awaited kept from (Carry slot message) ≡ false
+  alike slot message ok came =
+      let held = (sound config past st.accepted).arrivals_ok me came.frame came.arrived in
+      let other : CarryOk past from me slot came.message = subst (BodyOk past from me) came.body (subst (λ to. BodyOk past from to came.frame.body) held.to_is (subst (λ p. BodyOk past p came.frame.to came.frame.body) came.maker held.made_ok.body_ok)) in
+      let broadcast = other.broadcast in
+      ap (λ sender. not (came_so kept from slot sender message.number) || is_turn kept sender message.number) (ok.sender_is ∙ sym other.sender_is)
+      ∙ ap (λ number. not (came_so kept from slot came.message.sender number) || is_turn kept came.message.sender number) (ok.number_is ∙ sym other.number_is)
+      ∙ carried came.frame came.maker came.arrived slot came.message came.body (node_in_group config past st.accepted came.message.sender (omega (arith, broadcast)))
+
+  not_awaited : (body : FrameBody) → BodyOk past from me body → BringsNoNews past from me body → is_awaited kept from body ≡ false
+  not_awaited (Took slot) ok acknowledged = word slot acknowledged
+  not_awaited (Carry slot message) ok took = alike slot message ok (heard past from me slot took)
 
 module _ (config : Config) (past : History) (world : State) (st : Stands config past world) (from seq : ℕ) where
   -- a node that refuses no arrival lives
@@ -162,28 +182,35 @@ module _ (config : Config) (past : History) (world : State) (st : Stands config 
       not-false _ (no_cause (crashed (kept_view kept)) (kept_causes kept (Arrived frame)) none here)
 
   -- nothing is awaited of it, so that a refusal is for its cause
-  sure : Came past from seq → IsAwaited world from seq → fault config past (Arrive from seq) ≡ None → ⊥
-  sure c awaited fine =
-      let frame = c.frame in
-      let member = Member-slice_get (frames past from) seq frame c.at in
+  sure : (frame : Frame) → slice_get (frames past from) seq ≡ Some frame → BringsNoNews past from frame.to frame.body → IsAwaited world from seq → fault config past (Arrive from seq) ≡ None → ⊥
+  sure frame at nothing awaited fine =
+      let member = Member-slice_get (frames past from) seq frame at in
       let ends = frame_ends config past st.accepted from frame member in
       let ok = (sound config past st.accepted).frames_ok from frame member in
-      let mark : slice_get (marks_at world from) seq ≡ Some (mark_of frame) = ap (λ row. slice_get row seq) (made_all config past world st from) ∙ mark_at config past world st (frames past from) seq ∙ ap (option_map mark_of) c.at in
-      let told = awaited (mark_of frame) mark (subst (λ to. (node_at world to).live ≡ true) (sym (to_of frame.to frame.body)) (lives frame c.at ends.target_in fine)) in
+      let mark : slice_get (marks_at world from) seq ≡ Some (mark_of frame) = ap (λ row. slice_get row seq) (made_all config past world st from) ∙ mark_at config past world st (frames past from) seq ∙ ap (option_map mark_of) at in
+      let told = awaited (mark_of frame) mark (subst (λ to. (node_at world to).live ≡ true) (sym (to_of frame.to frame.body)) (lives frame at ends.target_in fine)) in
       true≢false
       (sym (subst (λ body. is_awaited (node_at world frame.to) from body ≡ true) (body_again config past world st from frame.to frame.body ok.body_ok) (subst (λ to. is_awaited (node_at world to) from (body_in world.config world.nodes (mark_of frame)) ≡ true) (to_of frame.to frame.body) told))
-      ∙ not_awaited config past world st frame from ok.from_is ends.maker_in ends.target_in ends.apart c.arrived frame.body refl)
+      ∙ not_awaited config past world st from frame.to ends.maker_in ends.target_in ends.apart frame.body ok.body_ok nothing)
     where
       to_of : (to : ℕ) (body : FrameBody) → (mark_by to body).to ≡ to
       to_of to (Carry slot message) = refl
       to_of to (Took slot) = refl
 
-  -- an arrival that happened before is answered as the definitions say
-  pub answered_again : Contains past (Arrive from seq) → (given : Result Answer StepFault) (new : State) → OnErr given (IsAwaited world from seq) → Continues config past (Arrive from seq) given new → given ≡ reply config past (Arrive from seq)
+  -- an arrival that happened before, and one that brings nothing
+  old : TakesNoMemory past (Arrive from seq) → IsAwaited world from seq → fault config past (Arrive from seq) ≡ None → ⊥
+  old (inl before) awaited fine =
+      let c = came config past st.accepted from seq (Contains-Member (Arrive from seq) past before) in
+      let maker = ((sound config past st.accepted).frames_ok from c.frame (Member-slice_get (frames past from) seq c.frame c.at)).from_is in
+      sure c.frame c.at (again past c.frame from c.frame.to maker c.arrived c.frame.body refl) awaited fine
+  old (inr brings) awaited fine = sure brings.0 brings.1 brings.2 awaited fine
+
+  -- it is answered as the definitions say
+  pub answered_again : TakesNoMemory past (Arrive from seq) → (given : Result Answer StepFault) (new : State) → OnErr given (IsAwaited world from seq) → Continues config past (Arrive from seq) given new → given ≡ reply config past (Arrive from seq)
   unfolding reply
-  answered_again before (Ok answered) new awaited goes_on = sym goes_on.0
-  answered_again before (Err refusal) new awaited goes_on = by_cause (fault config past (Arrive from seq)) refl goes_on.0
+  answered_again no_memory (Ok answered) new awaited goes_on = sym goes_on.0
+  answered_again no_memory (Err refusal) new awaited goes_on = by_cause (fault config past (Arrive from seq)) refl goes_on.0
     where
       by_cause : (o : Option StepFault) → fault config past (Arrive from seq) ≡ o → IsRefused o refusal → ◌≡◌ {A = Result Answer StepFault} (Err refusal) (reply_by o (answer config past (Arrive from seq)))
-      by_cause None fine refused = absurd (sure (came config past st.accepted from seq (Contains-Member (Arrive from seq) past before)) awaited fine)
+      by_cause None fine refused = absurd (old no_memory awaited fine)
       by_cause (Some cause) fine refused = ap Err refused

@@ -9,8 +9,9 @@
 --     Continues config past event reply world     what a world stands for after a step from there
 --     IsFar event                 its slot is greater than a mark can have
 --     IsRefusedForCause config past event reply   the reply is the cause of refusal that the definitions say
---     TakesNoMemory past event    it crashes a node, or is an arrival that happened before
-use Rattle.std.specs.Prelude.{◌≡◌, ℕ, ◌<◌, ◌≤◌, ◌^◌, Option, Some, None, List, [], ◌∷◌, length, map, ◌==◌, if◌then◌else◌, slice_index_or, Result, Ok, Err}
+--     BringsNoNews past from to body    the slot of a frame with this body was taken, or acknowledged, before
+--     TakesNoMemory past event    it crashes a node, or is an arrival that happened before, or of a frame that brings no news
+use Rattle.std.specs.Prelude.{◌≡◌, ◌⊎◌, ℕ, ◌<◌, ◌≤◌, ◌^◌, true, slice_get, Option, Some, None, List, [], ◌∷◌, length, map, ◌==◌, if◌then◌else◌, slice_index_or, Result, Ok, Err}
 use Rattle.std.specs.List.{Contains}
 use Rattle.cast_message.specs.declared.config.Config.{Config}
 use Rattle.cast_message.specs.declared.event.Event.{Event}
@@ -22,7 +23,7 @@ use Rattle.cast_message.specs.declared.message.Item.TheVariants.{Close}
 use Rattle.cast_message.specs.declared.message.Frame.{Frame}
 use Rattle.cast_message.specs.declared.message.FrameBody.{FrameBody}
 use Rattle.cast_message.specs.declared.message.FrameBody.TheVariants.{Carry, Took}
-use Rattle.cast_model.specs.History.{History, frames}
+use Rattle.cast_model.specs.History.{History, frames, taken, acked}
 use Rattle.cast_model.specs.Replies.{IsAccepted, IsRefused, fault, reply}
 use Rattle.cast_model.specs.Steps.{Steps, steps_of}
 use Rattle.cast_node.specs.Kept.{Kept, nothing_kept}
@@ -120,7 +121,15 @@ abbrev pub IsRefusedForCause : Config → History → Event → Result Answer St
 IsRefusedForCause config past event (Ok answer) = ⊥
 IsRefusedForCause config past event (Err refusal) = fault config past event ≡ Some refusal
 
+-- a frame that goes from one node to another is for a slot that was taken, or acknowledged, before
+abbrev pub BringsNoNews : History → ℕ → ℕ → FrameBody → Type 0
+BringsNoNews past from to (Carry slot message) = taken past from to slot ≡ true
+BringsNoNews past from to (Took slot) = acked past to from slot ≡ true
+
 abbrev pub TakesNoMemory : History → Event → Type 0
 TakesNoMemory past (Crash node) = Unit {0}
-TakesNoMemory past (Arrive from seq) = Contains past (Arrive from seq)
+TakesNoMemory past (Arrive from seq) =
+    Contains past (Arrive from seq)
+    ⊎ ((frame : Frame) × (slice_get (frames past from) seq ≡ Some frame)
+    × BringsNoNews past from frame.to frame.body)
 TakesNoMemory past _ = ⊥

@@ -2,6 +2,7 @@
 --     TakesStep world p step made reply new     node p is asked for the step, and makes frames with these marks where it takes it
 --     MakesFrame world kind from to slot reply new   a node makes a frame of this kind for a slot, whose mark is kept
 --     IsAwaited world from seq                  the target of this frame awaits it, where it lives
+--     Awaits world event                        where the event is an arrival, its frame is awaited so
 --     StepsTo world event reply new             the world answers the event so, and is this then
 --     IsSilent reply                            a send, an acknowledgement, or an arrival that delivers and decides nothing was accepted
 --     IsSound world                             the nodes are those of the group, and frames go to them
@@ -74,6 +75,10 @@ IsAwaited world from seq =
     (mark : Mark) → slice_get (marks_at world from) seq ≡ Some mark →
     (node_at world mark.to).live ≡ true →
     is_awaited (node_at world mark.to) from (body_in world.config world.nodes mark) ≡ true
+
+abbrev pub Awaits : State → Event → Type 0
+Awaits world (Arrive from seq) = IsAwaited world from seq
+Awaits world _ = Unit {0}
 
 abbrev pub MakesFrame : State → FrameKind → ℕ → ℕ → ℕ → Result Answer StepFault → State → Type 0
 MakesFrame world kind from to slot reply new =

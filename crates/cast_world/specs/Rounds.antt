@@ -16,10 +16,10 @@ use Rattle.cast_model.specs.History.{History, is_live, broadcast, has_pair, firs
 use Rattle.cast_model.specs.Delivery.{delivered, decision}
 use Rattle.cast_model.specs.Replies.{IsRefused, IsPrefixOf, fault, history_from}
 use Rattle.cast_model.specs.Rounds.{owed, Rest, Due, Live, AreAccepted, makes_frame, plan, after_round, proposers}
-use Rattle.cast_world.specs.Group.{State, Stands, marks_at}
+use Rattle.cast_world.specs.Group.{State, Stands, TakesNoMemory, marks_at}
 use Rattle.cast_world.specs.Plans.{events_of}
 
--- these were taken, and the next one was refused
+-- these were taken, and the next one was refused: for its cause, where it takes no memory
 pub record Stops (config : Config) (past : History) (events : List Event)
     (refusal : StepFault) (world : State) : Type 0 where
   pub front : List Event
@@ -28,6 +28,8 @@ pub record Stops (config : Config) (past : History) (events : List Event)
   pub split : events ≡ front ++ event ∷ rest
   pub accepted : AreAccepted config past front
   pub refused : IsRefused (fault config (history_from config past front) event) refusal
+  pub sure : TakesNoMemory (history_from config past front) event →
+      fault config (history_from config past front) event ≡ Some refusal
   pub stands : Stands config (history_from config past front) world
 
 abbrev pub TakesAll : Config → History → List Event → Result (Unit {0}) StepFault → State → Type 0
@@ -36,10 +38,11 @@ TakesAll config past events (Ok done) world =
 TakesAll config past events (Err refusal) world = Stops config past events refusal world
 
 -- why a round stops after some events, with these left: the frames of the next one's node are full; or it has no fault, and
--- memory was wanted
+-- memory was wanted, which it takes
 abbrev pub StopsFor : Config → History → List Event → StepFault → Type 0
 StopsFor config now (event ∷ rest) FramesFull = fault config now event ≡ Some FramesFull
-StopsFor config now (event ∷ rest) Memory = fault config now event ≡ None
+StopsFor config now (event ∷ rest) Memory =
+    (fault config now event ≡ None) × (TakesNoMemory now event → ⊥)
 StopsFor config now rest refusal = ⊥
 
 pub record StopsRound (config : Config) (past : History) (refusal : StepFault) (world : State)

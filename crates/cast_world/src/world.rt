@@ -7,7 +7,7 @@ ghost use Rattle.cast_model.specs.Delivery.{decision};
 ghost use Rattle.cast_model.specs.Shown.{ShowsDelivered, ShowsStream, ShowsOwed};
 ghost use Rattle.cast_world.specs.Group.{Stands, StandingFor, Continues, FindsNode, IsFar, TakesNoMemory, IsRefusedForCause, node_at, marks_at};
 ghost use Rattle.cast_node.specs.Calls.{number_reply, silent_reply};
-ghost use Rattle.cast_world.specs.Moves.{IsAwaited, IsSilent, MakesFrame, StepsTo};
+ghost use Rattle.cast_world.specs.Moves.{Awaits, IsAwaited, IsSilent, MakesFrame, StepsTo};
 
 use crate::frames::{self, Mark};
 use cast_message::FrameKind::{Carry, Took};
@@ -78,9 +78,14 @@ impl World {
         ensures far { StandingFor self.old (λ config past.
             IsFar event.now → IsRefusedForCause config past event.now result) }
 
-        // Neither a crash takes memory nor the arrival of a frame that arrived before.
+        // Neither a crash takes memory nor the arrival of a frame that arrived before, or of one whose slot was taken, or
+        // acknowledged, before.
         ensures sure { StandingFor self.old (λ config past.
             TakesNoMemory past event.now → result ≡ reply config past event.now) }
+
+        // An arrival wants memory only where its target awaits the frame: for a message that did not come so before, or one whose
+        // turn comes by it.
+        ensures awaited { OnErr result (Awaits self.old event.now) }
     {
         match event {
             Event::Order { node, item } => self.order(*node, item),

@@ -1,4 +1,4 @@
-use Rattle.std.proofs.Common.{◌∙◌, ◌+◌, ◌∷◌, ◌++◌, [], refl, ap, sym, length, length-append, append_assoc, arith}
+use Rattle.std.proofs.Common.{◌∙◌, ◌∷◌, ◌++◌, [], refl, ap, sym, length, length-append, append_assoc, arith}
 use Rattle.cast_world.proofs.Numbering.{plan_rest, counted_none, plan_none, counted_few, counted_more, plan_more, plan_made}
 use Rattle.cast_world.proofs.world.World.round_plan.Goals as goal
 
