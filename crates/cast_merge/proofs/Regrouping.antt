@@ -13,12 +13,12 @@ module _ {X : Type 0} (key : X → ℕ) where
   merge-nil (x ∷ xs) = ap (λ all. x ∷ all) (merge-nil xs)
 
   -- the second list's first goes first
-  second_first : (x y : X) (xs ys : List X) → key y < key x → merge key (x ∷ xs) (y ∷ ys) ≡ y ∷ merge key (x ∷ xs) ys
+  pub second_first : (x y : X) (xs ys : List X) → key y < key x → merge key (x ∷ xs) (y ∷ ys) ≡ y ∷ merge key (x ∷ xs) ys
   unfolding merge
   second_first x y xs ys l = (λ k. before-more key (key x) y ys l k ++ x ∷ merge key xs (from-more key (key x) y ys l k))
 
   -- the first list's does
-  first_first : (x y : X) (xs ys : List X) → key x ≤ key y → merge key (x ∷ xs) (y ∷ ys) ≡ x ∷ merge key xs (y ∷ ys)
+  pub first_first : (x y : X) (xs ys : List X) → key x ≤ key y → merge key (x ∷ xs) (y ∷ ys) ≡ x ∷ merge key xs (y ∷ ys)
   unfolding merge
   first_first x y xs ys l = (λ k. before-none key (key x) y ys l k ++ x ∷ merge key xs (from-none key (key x) y ys l k))
 

@@ -2,10 +2,9 @@
 --     before key n ys          the first of these, as long as their keys are below n
 --     from key n ys            the others
 --     merge key xs ys          both by key; of equal keys the first list's come first
---     StartsAt stamp steps     none of these steps goes before one with this stamp
 --     logged_steps log         the steps of a log, without their outcomes
 --     merged_logs logs         the steps of the logs: those of the first merged with those of the others
-use Rattle.std.specs.Prelude.{◌≡◌, ℕ, nat_lt, if◌then◌else◌, List, [], ◌∷◌, ◌++◌, map}
+use Rattle.std.specs.Prelude.{ℕ, nat_lt, if◌then◌else◌, List, [], ◌∷◌, ◌++◌, map}
 use Rattle.cast_message.specs.declared.event.Event.{Event}
 use Rattle.cast_node.specs.declared.entry.Entry.{Entry}
 use Rattle.cast_report.specs.declared.report.NodeReport.{NodeReport}
@@ -34,9 +33,6 @@ stamp_of step = step.stamp
 
 abbrev pub event_at : LoggedStep → Event
 event_at step = step.event
-
-abbrev pub StartsAt : ℕ → List LoggedStep → Type 0
-StartsAt stamp steps = (before stamp_of stamp steps ≡ []) × (from stamp_of stamp steps ≡ steps)
 
 abbrev pub without_outcome : Taken → LoggedStep
 without_outcome t = record { stamp = t.stamp; event = t.event }

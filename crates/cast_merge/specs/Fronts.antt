@@ -1,0 +1,29 @@
+-- What is left of logs while they are merged.
+--     first_step front         the step at hand
+--     steps_left front         that step, and those of the entries after it
+--     merged_left fronts       all of these steps, merged
+--     events_left fronts       their events
+--     IsFirst fronts place     of the steps at hand the one there has the least stamp, and is the first of those that have it
+use Rattle.std.specs.Prelude.{ℕ, ◌<◌, ◌≤◌, List, [], ◌∷◌, length, map, slice_index_or}
+use Rattle.cast_message.specs.declared.event.Event.{Event}
+use Rattle.cast_merge.specs.declared.merge.Front.{Front}
+use Rattle.cast_merge.specs.ByStamp.{LoggedStep, merge, stamp_of, event_at, logged_steps}
+
+abbrev pub first_step : Front → LoggedStep
+first_step front = record { stamp = front.stamp; event = front.event.now }
+
+abbrev pub steps_left : Front → List LoggedStep
+steps_left front = first_step front ∷ logged_steps front.rest.now
+
+unfoldable pub merged_left : List Front → List LoggedStep
+merged_left [] = []
+merged_left (front ∷ fronts) = merge stamp_of (steps_left front) (merged_left fronts)
+
+abbrev pub events_left : List Front → List Event
+events_left fronts = map event_at (merged_left fronts)
+
+-- each earlier one has a greater stamp, and no later one has a smaller
+pub record IsFirst (fronts : List Front) (place : ℕ) : Type 0 where
+  pub within : place < length fronts
+  pub earlier : (k : ℕ) (d : Front) → k < place → (slice_index_or fronts place d).stamp < (slice_index_or fronts k d).stamp
+  pub later : (k : ℕ) (d : Front) → place ≤ k → k < length fronts → (slice_index_or fronts place d).stamp ≤ (slice_index_or fronts k d).stamp
