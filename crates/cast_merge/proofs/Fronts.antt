@@ -1,9 +1,9 @@
 -- The first of all steps that are left of logs is that at hand with the least stamp, of equal ones the first log's.
-use Rattle.std.proofs.Common.{◌≡◌, ℕ, zero, suc, ◌+◌, ◌<◌, ◌≤◌, refl, sym, ◌∙◌, ap, subst, List, [], ◌∷◌, ◌++◌, length, map, take, get_or, Option, inl, inr, arith}
+use Rattle.std.proofs.Common.{◌≡◌, ◌≢◌, ℕ, zero, suc, ◌+◌, ◌*◌, ◌<◌, ◌≤◌, refl, sym, ◌∙◌, ap, subst, List, [], ◌∷◌, ◌++◌, length, map, take, get_or, Option, inl, inr, arith}
 use Rattle.std.specs.Prelude.{slice_index_or, slice_set}
 use Rattle.std.specs.List.{remove}
-use Rattle.std.proofs.lemmas.Bool.{cases_lt}
-use Rattle.std.proofs.lemmas.List.{map-append, take_more, get_or_default}
+use Rattle.std.proofs.lemmas.Bool.{cases_eq, cases_lt}
+use Rattle.std.proofs.lemmas.List.{map-append, take_more, get_or_default, length-set, length-append, get_or_append_left, get_or_push, get_or-set_same, get_or-set_other}
 use Rattle.cast_message.specs.declared.event.Event.{Event}
 use Rattle.cast_message.specs.declared.event.Outcome.{Outcome}
 use Rattle.cast_message.specs.declared.event.StepFault.{StepFault}
@@ -12,9 +12,10 @@ use Rattle.cast_node.specs.declared.entry.Origin.{Origin}
 use Rattle.cast_node.specs.declared.entry.EntryKind.TheVariants.{Step as StepEntry, Refused}
 use Rattle.cast_report.specs.declared.report.NodeReport.{NodeReport}
 use Rattle.cast_report.specs.Linked.{taken_of, taken}
+use Rattle.cast_merge.specs.declared.merge.First.{First}
 use Rattle.cast_merge.specs.declared.merge.Front.{Front}
 use Rattle.cast_merge.specs.ByStamp.{LoggedStep, merge, stamp_of, without_outcome, logged_steps, merged_logs}
-use Rattle.cast_merge.specs.Fronts.{first_step, steps_left, merged_left, IsFirst}
+use Rattle.cast_merge.specs.Fronts.{first_step, steps_left, merged_left, IsFirst, FirstIn, AreFirsts}
 use Rattle.cast_merge.proofs.Regrouping.{merge-nil, second_first, first_first, merge-assoc, merged_halves, merged_one}
 
 abbrev pub log_of : NodeReport → List Entry
@@ -109,60 +110,146 @@ pub read_none : (reports : List NodeReport) (i : ℕ) (report : NodeReport) (fro
 read_none reports i report fronts l is none h =
     h ∙ sym (merge-nil stamp_of (merged_logs (map log_of (take i reports)))) ∙ ap (merge stamp_of (merged_logs (map log_of (take i reports)))) (sym none) ∙ sym (logs_more reports i report l is)
 
--- of the steps at hand before that place this one is the first
-pub record FirstBelow (fronts : List Front) (end place least : ℕ) : Type 0 where
-  pub within : place < end
-  pub stamp : (d : Front) → (slice_index_or fronts place d).stamp ≡ least
-  pub earlier : (k : ℕ) (d : Front) → k < place → least < (slice_index_or fronts k d).stamp
-  pub later : (k : ℕ) (d : Front) → place ≤ k → k < end → least ≤ (slice_index_or fronts k d).stamp
-
 stamp_at : (fronts : List Front) (i : ℕ) (f d : Front) → i < length fronts → f ≡ get_or fronts i f → (slice_index_or fronts i d).stamp ≡ f.stamp
 stamp_at fronts i f d l is = ap (λ (z : Front). z.stamp) (get_or_default fronts i d f l ∙ sym is)
 
-pub one_is_first : (fronts : List Front) (f : Front) → 0 < length fronts → f ≡ get_or fronts 0 f → FirstBelow fronts 1 0 f.stamp
-one_is_first fronts f l is = record {
-  within = omega arith;
-  stamp = λ d. stamp_at fronts 0 f d l is;
-  earlier = λ k d m. absurd (omega (arith, m));
-  later = λ k d m n.
-      let e : 0 ≡ k = omega (arith, n) in
-      subst (λ i. f.stamp ≤ (slice_index_or fronts i d).stamp) e (let at = stamp_at fronts 0 f d l is in omega (arith, at));
+-- one front alone
+pub first_alone : (fronts : List Front) (i : ℕ) (f : Front) → i < length fronts → f ≡ get_or fronts i f → FirstIn fronts i (i + 1) (record { place = i; stamp = f.stamp })
+first_alone fronts i f l is = record {
+  after = omega arith;
+  below = omega arith;
+  within = l;
+  stamp = λ d. stamp_at fronts i f d l is;
+  earlier = λ k d m n. absurd (omega (arith, m, n));
+  later = λ k d m n o.
+      let e : i ≡ k = omega (arith, m, n) in
+      subst (λ at. f.stamp ≤ (slice_index_or fronts at d).stamp) e (let at = stamp_at fronts i f d l is in omega (arith, at));
 }
 
-module _ (fronts : List Front) (end place least : ℕ) (f : Front) (first : FirstBelow fronts end place least) (l : end < length fronts) (is : f ≡ get_or fronts end f) where
-  last_at : (k : ℕ) (d : Front) → end ≤ k → k < end + 1 → (slice_index_or fronts k d).stamp ≡ f.stamp
-  last_at k d m n = let e : end ≡ k = omega (arith, m, n) in subst (λ i. (slice_index_or fronts i d).stamp ≡ f.stamp) e (stamp_at fronts end f d l is)
+-- of two ranges side by side
+module _ (fronts : List Front) (from mid end : ℕ) (p q : First) (left : FirstIn fronts from mid p) (right : FirstIn fronts mid end q) where
+  pub later_is_first : q.stamp < p.stamp → FirstIn fronts from end q
+  later_is_first less =
+      let pa = left.after in
+      let pb = left.below in
+      let qa = right.after in
+      let qw = right.within in
+      record {
+        after = omega (arith, pa, pb, qa);
+        below = right.below;
+        within = right.within;
+        stamp = right.stamp;
+        earlier = λ k d l m. elim (cases_lt k mid) [
+          | inl n ↦ elim (cases_lt k p.place) [
+            | inl o ↦ let e = left.earlier k d l o in omega (arith, e, less)
+            | inr o ↦ let e = left.later k d o n (omega (arith, m, qw)) in omega (arith, e, less)
+          ]
+          | inr n ↦ right.earlier k d n m
+        ];
+        later = right.later;
+      }
 
-  -- one more comes first
-  pub more_is_first : f.stamp < least → FirstBelow fronts (end + 1) end f.stamp
-  more_is_first less = record {
-    within = omega arith;
-    stamp = λ d. stamp_at fronts end f d l is;
-    earlier = λ k d m. elim (cases_lt k place) [
-      | inl n ↦ let e = first.earlier k d n in omega (arith, e, less)
-      | inr n ↦ let e = first.later k d n m in omega (arith, e, less)
-    ];
-    later = λ k d m n. let at = last_at k d m n in omega (arith, at);
-  }
+  pub earlier_is_first : p.stamp ≤ q.stamp → FirstIn fronts from end p
+  earlier_is_first less =
+      let pb = left.below in
+      let qa = right.after in
+      let qb = right.below in
+      record {
+        after = left.after;
+        below = omega (arith, pb, qa, qb);
+        within = left.within;
+        stamp = left.stamp;
+        earlier = left.earlier;
+        later = λ k d l m n. elim (cases_lt k mid) [
+          | inl o ↦ left.later k d l o n
+          | inr o ↦ elim (cases_lt k q.place) [
+            | inl r ↦ let e = right.earlier k d o r in omega (arith, e, less)
+            | inr r ↦ let e = right.later k d r m n in omega (arith, e, less)
+          ]
+        ];
+      }
 
-  -- or it doesn't
-  pub more_is_later : least ≤ f.stamp → FirstBelow fronts (end + 1) place least
-  more_is_later less = record {
-    within = let w = first.within in omega (arith, w);
-    stamp = first.stamp;
-    earlier = first.earlier;
-    later = λ k d m n. elim (cases_lt k end) [
-      | inl below ↦ first.later k d m below
-      | inr above ↦ let at = last_at k d above n in omega (arith, at, less)
-    ];
-  }
-
-pub all_are_below : (fronts : List Front) (end place least : ℕ) → end ≡ length fronts → FirstBelow fronts end place least → IsFirst fronts place
-all_are_below fronts end place least all first = record {
-  within = subst (λ n. place < n) all first.within;
-  earlier = λ k d l. let s = first.stamp d in let e = first.earlier k d l in omega (arith, s, e);
-  later = λ k d l m. let s = first.stamp d in let e = first.later k d l (subst (λ n. k < n) (sym all) m) in omega (arith, s, e);
+-- a range that reaches over the end
+pub first_to_end : (fronts : List Front) (from mid end : ℕ) (p : First) → FirstIn fronts from mid p → p.place < end → ((k : ℕ) → k < end → k < length fronts → k < mid) → FirstIn fronts from end p
+first_to_end fronts from mid end p first below all = record {
+  after = first.after;
+  below = below;
+  within = first.within;
+  stamp = first.stamp;
+  earlier = first.earlier;
+  later = λ k d l m n. first.later k d l (all k m n) n;
 }
+
+pub first_of_all : (fronts : List Front) (end : ℕ) (p : First) → FirstIn fronts 0 end p → length fronts ≤ end → IsFirst fronts p.place
+first_of_all fronts end p first all = record {
+  within = first.within;
+  earlier = λ k d l. let s = first.stamp d in let e = first.earlier k d (omega arith) l in omega (arith, s, e);
+  later = λ k d l m. let s = first.stamp d in let e = first.later k d l (omega (arith, all, m)) m in omega (arith, s, e);
+}
+
+-- a front elsewhere changed
+module _ (fronts : List Front) (i : ℕ) (next : Front) where
+  same_size : length (slice_set fronts i next) ≡ length fronts
+  same_size = length-set fronts i next
+
+  elsewhere : (k : ℕ) (d : Front) → k ≢ i → slice_index_or (slice_set fronts i next) k d ≡ slice_index_or fronts k d
+  elsewhere k d e = get_or-set_other fronts i k next d e
+
+  pub still_first : (from end : ℕ) (p : First) → ((k : ℕ) → from ≤ k → k < end → k ≢ i) → FirstIn fronts from end p → FirstIn (slice_set fronts i next) from end p
+  still_first from end p apart first =
+      let b = first.below in
+      let a = first.after in
+      record {
+        after = first.after;
+        below = first.below;
+        within = subst (λ n. p.place < n) (sym same_size) first.within;
+        stamp = λ d. ap (λ (z : Front). z.stamp) (elsewhere p.place d (apart p.place first.after first.below)) ∙ first.stamp d;
+        earlier = λ k d l m. subst (λ (z : Front). p.stamp < z.stamp) (sym (elsewhere k d (apart k l (omega (arith, m, b))))) (first.earlier k d l m);
+        later = λ k d l m n.
+            subst (λ (z : Front). p.stamp ≤ z.stamp) (sym (elsewhere k d (apart k (omega (arith, a, l)) m))) (first.later k d l m (subst (λ size. k < size) same_size n));
+      }
+
+  pub firsts_still : (firsts : List First) (group : ℕ) (new : First) → AreFirsts fronts firsts → group * 8 ≤ i → i < group * 8 + 8 → group < length firsts
+      → FirstIn (slice_set fronts i next) (group * 8) (group * 8 + 8) new → AreFirsts (slice_set fronts i next) (slice_set firsts group new)
+  firsts_still firsts group new are low high within first = record {
+    each = λ g d l. elim (cases_eq g group) [
+      | inl e ↦
+          subst (λ n. FirstIn (slice_set fronts i next) (n * 8) (n * 8 + 8) (slice_index_or (slice_set firsts group new) n d)) (sym e)
+          (subst (FirstIn (slice_set fronts i next) (group * 8) (group * 8 + 8)) (sym (get_or-set_same firsts group new d within)) first)
+      | inr e ↦
+          subst (FirstIn (slice_set fronts i next) (g * 8) (g * 8 + 8)) (sym (get_or-set_other firsts group g new d e))
+          (still_first (g * 8) (g * 8 + 8) (slice_index_or firsts g d) (λ k l m is. e (omega (arith, low, high, l, m, is))) (are.each g d (subst (λ n. g < n) (length-set firsts group new) l)))
+    ];
+    all = let a = are.all in let s = same_size in let t = length-set firsts group new in omega (arith, a, s, t);
+  }
+
+  pub group_within : (firsts : List First) → AreFirsts fronts firsts → (group : ℕ) → i < length fronts → group * 8 ≤ i → group < length firsts
+  group_within firsts are group l low = let a = are.all in omega (arith, a, l, low)
+
+pub none_first : (fronts : List Front) (firsts : List First) → AreFirsts fronts firsts → length firsts ≡ 0 → length fronts ≡ 0
+none_first fronts firsts are none = let a = are.all in omega (arith, a, none)
+
+-- one group more is known
+pub record FirstsBelow (fronts : List Front) (firsts : List First) (groups : ℕ) : Type 0 where
+  pub each : (g : ℕ) (d : First) → g < length firsts → FirstIn fronts (g * 8) (g * 8 + 8) (slice_index_or firsts g d)
+  pub size : length firsts ≡ groups
+
+pub no_firsts : (fronts : List Front) (firsts : List First) → firsts ≡ [] → FirstsBelow fronts firsts 0
+no_firsts fronts firsts is = subst (λ fs. FirstsBelow fronts fs 0) (sym is) (record { each = λ g d l. absurd (omega (arith, l)); size = refl })
+
+pub one_more_first : (fronts : List Front) (firsts pushed : List First) (groups : ℕ) (new : First) → FirstsBelow fronts firsts groups → FirstIn fronts (groups * 8) (groups * 8 + 8) new → pushed ≡ firsts ++ new ∷ []
+    → FirstsBelow fronts pushed (groups + 1)
+one_more_first fronts firsts pushed groups new below first push = subst (λ fs. FirstsBelow fronts fs (groups + 1)) (sym push) (record {
+  each = λ g d l. elim (cases_lt g (length firsts)) [
+    | inl m ↦ subst (FirstIn fronts (g * 8) (g * 8 + 8)) (sym (get_or_append_left firsts (new ∷ []) d g m)) (below.each g d m)
+    | inr m ↦
+        let s = below.size in
+        let n = length-append firsts (new ∷ []) in
+        let at : groups ≡ g = omega (arith, l, m, s, n) in
+        subst (λ n. FirstIn fronts (n * 8) (n * 8 + 8) (slice_index_or (firsts ++ new ∷ []) n d)) at (subst (FirstIn fronts (groups * 8) (groups * 8 + 8)) (sym (get_or_push firsts new d groups s)) first)
+  ];
+  size = let s = below.size in let n = length-append firsts (new ∷ []) in omega (arith, s, n);
+})
 
 -- a log whose first entry tells a step, and one whose first entry tells none
 pub begins_with_step : (log rest : List Entry) (e : Entry) (event : Event) (origin : Option Origin) (outcome : Outcome) → log ≡ e ∷ rest → e.kind ≡ StepEntry event origin outcome

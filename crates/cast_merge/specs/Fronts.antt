@@ -4,8 +4,11 @@
 --     merged_left fronts       all of these steps, merged
 --     events_left fronts       their events
 --     IsFirst fronts place     of the steps at hand the one there has the least stamp, and is the first of those that have it
-use Rattle.std.specs.Prelude.{ℕ, ◌<◌, ◌≤◌, List, [], ◌∷◌, length, map, slice_index_or}
+--     FirstIn fronts from end first      it is so among those from one place to another, and has this stamp
+--     AreFirsts fronts firsts            these are the firsts of each eight fronts, in order
+use Rattle.std.specs.Prelude.{◌≡◌, ℕ, ◌+◌, ◌*◌, ◌<◌, ◌≤◌, List, [], ◌∷◌, length, map, slice_index_or}
 use Rattle.cast_message.specs.declared.event.Event.{Event}
+use Rattle.cast_merge.specs.declared.merge.First.{First}
 use Rattle.cast_merge.specs.declared.merge.Front.{Front}
 use Rattle.cast_merge.specs.ByStamp.{LoggedStep, merge, stamp_of, event_at, logged_steps}
 
@@ -27,3 +30,15 @@ pub record IsFirst (fronts : List Front) (place : ℕ) : Type 0 where
   pub within : place < length fronts
   pub earlier : (k : ℕ) (d : Front) → k < place → (slice_index_or fronts place d).stamp < (slice_index_or fronts k d).stamp
   pub later : (k : ℕ) (d : Front) → place ≤ k → k < length fronts → (slice_index_or fronts place d).stamp ≤ (slice_index_or fronts k d).stamp
+
+pub record FirstIn (fronts : List Front) (from end : ℕ) (first : First) : Type 0 where
+  pub after : from ≤ first.place
+  pub below : first.place < end
+  pub within : first.place < length fronts
+  pub stamp : (d : Front) → (slice_index_or fronts first.place d).stamp ≡ first.stamp
+  pub earlier : (k : ℕ) (d : Front) → from ≤ k → k < first.place → first.stamp < (slice_index_or fronts k d).stamp
+  pub later : (k : ℕ) (d : Front) → first.place ≤ k → k < end → k < length fronts → first.stamp ≤ (slice_index_or fronts k d).stamp
+
+pub record AreFirsts (fronts : List Front) (firsts : List First) : Type 0 where
+  pub each : (g : ℕ) (d : First) → g < length firsts → FirstIn fronts (g * 8) (g * 8 + 8) (slice_index_or firsts g d)
+  pub all : length fronts ≤ length firsts * 8

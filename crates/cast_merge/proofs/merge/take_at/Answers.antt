@@ -4,10 +4,10 @@ use Rattle.cast_merge.specs.Fronts.{events_left}
 use Rattle.cast_merge.proofs.Fronts.{goes_on, ends_there}
 use Rattle.cast_merge.proofs.merge.take_at.Goals as goal
 
-pub returns-in_default : goal.returns-in_default
-returns-in_default c =
+pub returns-in_default-clause-taken : goal.returns-in_default-clause-taken
+returns-in_default-clause-taken c =
     let front = c.index.result.now in
-    ap (map event_at) (ends_there c.args.fronts.now.items c.args.place front c.requires c.index.ensures c.in_default.ensures) ∙ ap (λ left. front.event.now ∷ events_left left) (sym c.remove.ensures.items)
+    ap (map event_at) (ends_there c.args.fronts.now.items c.args.place front c.requires.first c.index.ensures c.in_default.ensures) ∙ ap (λ left. front.event.now ∷ events_left left) (sym c.remove.ensures.items)
 
-pub returns : goal.returns
-returns c = ap (map event_at) (goes_on c.args.fronts.now.items c.args.place c.index.result.now c.in-Some.next c.requires c.index.ensures c.in-Some.ensures)
+pub returns-clause-taken : goal.returns-clause-taken
+returns-clause-taken c = ap (map event_at) (goes_on c.args.fronts.now.items c.args.place c.index.result.now c.in-Some.next c.requires.first c.index.ensures c.in-Some.ensures)
