@@ -240,9 +240,3 @@ told-next index events results event result within same is here =
 pub told-end : (index : ℕ) (events : List Event) (results : List (Result Answer StepFault)) → length events ≤ index → record_text (lines_told index (drop index events) (drop index results) ++ End ∷ []) ≡ record_text (End ∷ [])
 unfolding lines_told
 told-end index events results past = ap (λ es. record_text (lines_told index es (drop index results) ++ End ∷ [])) (drop_all index events past)
-
--- there is one reply to each event
-pub length-replies : (config : Config) (past : History) (events : List Event) → length (replies_from config past events) ≡ length events
-unfolding replies_from
-length-replies config past [] = refl
-length-replies config past (event ∷ events) = omega (arith, length-replies config (after config past event) events)

@@ -1,20 +1,14 @@
 -- From the bytes of a script to those of its record.
-use Rattle.std.proofs.Common.{◌≡◌, ◌≤◌, ◌<◌, ℕ, List, length, Bool, Option, Some, None, Result, Ok, Err, IfErr, IfSome, subst, inr}
+use Rattle.std.proofs.Common.{◌≡◌, ◌<◌, ℕ, List, length, Bool, Option, Some, None, Result, Ok, Err, IfErr, IfSome, inr}
 use Rattle.cast_record.specs.declared.verdict.Verdict.TheVariants.{Good}
 use Rattle.cast_record.specs.Text.{record_text}
 use Rattle.cast_record.specs.Verdicts.{verdict}
 use Rattle.cast_script.specs.declared.script.Script.{Script}
-use Rattle.cast_script.specs.Script.{Reads}
 use Rattle.cast_script.proofs.ScriptLemmas.{value_takes_bytes}
 use Rattle.cast_text.specs.declared.fault.TextFault.{TextFault}
 use Rattle.cast_text.specs.declared.fault.TextFault.TheVariants as faults
 use Rattle.cast_text.specs.Recorded.{record_of}
-use Rattle.cast_text.specs.Text.{IsScriptIn, input_limit, Records, StopsBeforeEnd, Writes}
-
--- the script that was read is the one in the input
-pub script_in : (input : Option (List ℕ)) (bytes : List ℕ) (script : Script) → IfSome input (λ whole. bytes ≡ whole) → length bytes ≤ input_limit → Reads (Ok script) bytes → IsScriptIn input script
-script_in None bytes script same short read = tt
-script_in (Some whole) bytes script same short read = subst (λ b. (length b ≤ input_limit) × Reads (Ok script) b) same (short, read)
+use Rattle.cast_text.specs.Text.{IsScriptIn, Records, StopsBeforeEnd, Writes}
 
 -- and so it is not empty
 pub script_takes_bytes : (input : Option (List ℕ)) (script : Script) → IsScriptIn input script → IfSome input (λ bytes. 0 < length bytes)

@@ -44,9 +44,6 @@ told_as kept base s i h = let t = told_place kept s i in record { me = t.me ∙ 
 body_place : (kept : Kept) (from : ℕ) (body : FrameBody) → SamePlace kept (arrived_body kept from body).kept
 body_place kept from (Carry slot message) = by_test (holds kept.relay message.sender message.number)
   where
-    base : Kept
-    base = with_taken kept from slot
-
     by_test : (b : Bool) → SamePlace kept (cond b (told (with_knower (with_taken kept from slot) message.sender message.number from) message.sender message.number) (told (taken_up (with_taken kept from slot) message from) message.sender message.number)).kept
     by_test true = told_as (with_knower (with_taken kept from slot) message.sender message.number from) kept message.sender message.number (record { me = refl; config = refl })
     by_test false = told_as (taken_up (with_taken kept from slot) message from) kept message.sender message.number (record { me = refl; config = refl })

@@ -1,5 +1,5 @@
 //! The book of a node: what it has applied, in order, and the sheet of that.
-ghost use Rattle.std.specs.Prelude.{◌≡◌, ◌<◌, ◌≤◌, ◌++◌, ◌∷◌, [], ◌+◌, length, OnOk, OnErr};
+ghost use Rattle.std.specs.Prelude.{◌≡◌, ◌<◌, ◌≤◌, ◌++◌, ◌∷◌, [], length, OnOk, OnErr};
 ghost use Rattle.example_ledger.specs.Transfers.{account_count};
 ghost use Rattle.example_ledger.specs.Sheets.{added};
 

@@ -13,9 +13,6 @@ each_with P [] n j each h (suc i) node job e = absurd cc
 each_with P (x ∷ xs) n j each h zero node job e = each zero node job e
 each_with P (x ∷ xs) n j each h (suc i) node job e = each_with P xs n j (λ k m a at. each (suc k) m a at) h i node job e
 
-pub none_new : {J : Type 0} (P : J → Type 0) → EachJob P []
-none_new P i node job e = absurd cc
-
 pub is_new : (job : SubmitAll) → job.count ≡ length job.left → job.replies ≡ 0 → IsNew job
 unfolding replies_in
 is_new job count none = record { count = (refl, count); first = refl; replies = (sym none, omega (arith, none)); all = λ e. absurd cc }
