@@ -1,5 +1,5 @@
 //! What becomes of a frame by a plan.
-ghost use Rattle.std.specs.Prelude.{◌≡◌, ◌||◌, max};
+ghost use Rattle.std.specs.Prelude.{◌≡◌};
 ghost use Rattle.cast_carrier.specs.Fates.{is_kind, is_among, is_one_of, suffered, fate_by, fate_in, ordinal_of, one_more, counted_in};
 
 use crate::parcel::Parcel;
@@ -30,45 +30,20 @@ const UNHARMED: Fate = Fate {
 };
 
 impl Fate {
-    // Lost as well, where that is so.
-    fn or_lost(self, lost: bool) -> Fate
-        ensures { result ≡ record {
-          lost = self.lost || lost;
-          delay = self.delay;
-          twice = self.twice;
-        } }
+    // What becomes of a frame by one fault more. It is changed where it stands: handed on by value, fault after fault, its
+    // padding is copied each time, and the processor waits for that.
+    fn suffer(&mut self, fault: &Fault, frame: &NamedFrame)
+        ensures { self.new ≡ suffered frame.now self.old fault.now }
     {
-        Fate {
-            lost: self.lost || lost,
-            ..self
-        }
-    }
-
-    // Handed on twice, where that is so.
-    fn or_twice(self, twice: bool) -> Fate
-        ensures { result ≡ record {
-          lost = self.lost;
-          delay = self.delay;
-          twice = self.twice || twice;
-        } }
-    {
-        Fate {
-            twice: self.twice || twice,
-            ..self
-        }
-    }
-
-    // Of several delays the longest holds.
-    fn or_delayed(self, delay: u64) -> Fate
-        ensures { result ≡ record {
-          lost = self.lost;
-          delay = max self.delay delay;
-          twice = self.twice;
-        } }
-    {
-        Fate {
-            delay: self.delay.max(delay),
-            ..self
+        match fault {
+            Fault::Lose(frames) => self.lost = self.lost || frame.is_one_of(frames),
+            Fault::Repeat(frames) => self.twice = self.twice || frame.is_one_of(frames),
+            Fault::Delay { frames, count } => {
+                if frame.is_one_of(frames) {
+                    self.delay = self.delay.max(*count);
+                }
+            }
+            Fault::Crash { .. } => {}
         }
     }
 }
@@ -163,25 +138,7 @@ fn fate_by(faults: &[Fault], frame: &NamedFrame) -> Fate
 {
     let mut fate = UNHARMED;
     for fault in faults {
-        fate = suffer(fate, fault, frame);
+        fate.suffer(fault, frame);
     }
     fate
-}
-
-// What becomes of a frame by one fault more.
-fn suffer(fate: Fate, fault: &Fault, frame: &NamedFrame) -> Fate
-    ensures { result ≡ suffered frame.now fate fault.now }
-{
-    match fault {
-        Fault::Lose(frames) => fate.or_lost(frame.is_one_of(frames)),
-        Fault::Repeat(frames) => fate.or_twice(frame.is_one_of(frames)),
-        Fault::Delay { frames, count } => {
-            if frame.is_one_of(frames) {
-                fate.or_delayed(*count)
-            } else {
-                fate
-            }
-        }
-        Fault::Crash { .. } => fate,
-    }
 }

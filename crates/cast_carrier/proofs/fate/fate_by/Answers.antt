@@ -12,4 +12,4 @@ loop-fault-preserved c =
     let fs = c.args.faults.now in
     let f = c.fault-item.result in
     let within : l.fault-index < length fs = search rules in
-    fate_more c.args.frame.now l.fault-index fs f l.fate _ l.invariant (take_more fs l.fault-index f within ∙ ap (λ x. take l.fault-index fs ++ x ∷ []) (sym c.fault-item.is)) c.suffer-fate.ensures
+    fate_more c.args.frame.now l.fault-index fs f l.fate _ l.invariant (take_more fs l.fault-index f within ∙ ap (λ x. take l.fault-index fs ++ x ∷ []) (sym c.fault-item.is)) c.suffer.ensures
