@@ -1,9 +1,9 @@
 -- The first of all steps that are left of logs is that at hand with the least stamp, of equal ones the first log's.
-use Rattle.std.proofs.Common.{◌≡◌, ◌≢◌, ℕ, zero, suc, ◌+◌, ◌*◌, ◌<◌, ◌≤◌, refl, sym, ◌∙◌, ap, subst, List, [], ◌∷◌, ◌++◌, length, map, take, get_or, Option, inl, inr, arith}
+use Rattle.std.proofs.Common.{◌≡◌, ℕ, zero, suc, ◌+◌, ◌<◌, ◌≤◌, refl, sym, ◌∙◌, ap, subst, List, [], ◌∷◌, ◌++◌, length, map, take, get_or, Option, inl, inr, arith}
 use Rattle.std.specs.Prelude.{slice_index_or, slice_set}
 use Rattle.std.specs.List.{remove}
-use Rattle.std.proofs.lemmas.Bool.{cases_eq, cases_lt}
-use Rattle.std.proofs.lemmas.List.{map-append, take_more, get_or_default, length-set, length-append, get_or_append_left, get_or_push, get_or-set_same, get_or-set_other}
+use Rattle.std.proofs.lemmas.Bool.{cases_lt}
+use Rattle.std.proofs.lemmas.List.{map-append, take_more}
 use Rattle.cast_message.specs.declared.event.Event.{Event}
 use Rattle.cast_message.specs.declared.event.Outcome.{Outcome}
 use Rattle.cast_message.specs.declared.event.StepFault.{StepFault}
@@ -14,12 +14,9 @@ use Rattle.cast_report.specs.declared.report.NodeReport.{NodeReport}
 use Rattle.cast_report.specs.Linked.{taken_of, taken}
 use Rattle.cast_merge.specs.declared.merge.First.{First}
 use Rattle.cast_merge.specs.declared.merge.Front.{Front}
-use Rattle.cast_merge.specs.ByStamp.{LoggedStep, merge, stamp_of, without_outcome, logged_steps, merged_logs}
-use Rattle.cast_merge.specs.Fronts.{first_step, steps_left, merged_left, IsFirst, FirstIn, AreFirsts}
+use Rattle.cast_merge.specs.ByStamp.{LoggedStep, merge, stamp_of, without_outcome, logged_steps, merged_logs, logs_of}
+use Rattle.cast_merge.specs.Fronts.{first_step, steps_left, merged_left, IsFirst, AreFirsts}
 use Rattle.cast_merge.proofs.Regrouping.{merge-nil, second_first, first_first, merge-assoc, merged_halves, merged_one}
-
-abbrev pub log_of : NodeReport → List Entry
-log_of report = report.log
 
 -- none of them goes before a step with this stamp, for the first doesn't
 abbrev NotBefore : ℕ → List LoggedStep → Type 0
@@ -93,163 +90,26 @@ left-push [] f = merge-nil stamp_of (steps_left f)
 left-push (g ∷ fronts) f = ap (merge stamp_of (steps_left g)) (left-push fronts f) ∙ sym (merge-assoc stamp_of (steps_left g) (merged_left fronts) (steps_left f))
 
 logs_more : (reports : List NodeReport) (i : ℕ) (report : NodeReport) → i < length reports → report ≡ get_or reports i report
-    → merged_logs (map log_of (take (i + 1) reports)) ≡ merge stamp_of (merged_logs (map log_of (take i reports))) (logged_steps report.log)
+    → merged_logs (logs_of (take (i + 1) reports)) ≡ merge stamp_of (merged_logs (logs_of (take i reports))) (logged_steps report.log)
 logs_more reports i report l is =
-    ap (λ all. merged_logs (map log_of all)) (take_more reports i report l ∙ ap (λ x. take i reports ++ x ∷ []) (sym is))
-    ∙ ap merged_logs (map-append log_of (take i reports) (report ∷ []))
-    ∙ merged_halves (map log_of (take i reports)) (report.log ∷ [])
-    ∙ ap (merge stamp_of (merged_logs (map log_of (take i reports)))) (merged_one report.log)
+    ap (λ all. merged_logs (logs_of all)) (take_more reports i report l ∙ ap (λ x. take i reports ++ x ∷ []) (sym is))
+    ∙ ap merged_logs (map-append (λ (report : NodeReport). report.log) (take i reports) (report ∷ []))
+    ∙ merged_halves (logs_of (take i reports)) (report.log ∷ [])
+    ∙ ap (merge stamp_of (merged_logs (logs_of (take i reports)))) (merged_one report.log)
 
 pub read_more : (reports : List NodeReport) (i : ℕ) (report : NodeReport) (fronts pushed : List Front) (f : Front) → i < length reports → report ≡ get_or reports i report → pushed ≡ fronts ++ f ∷ []
-    → logged_steps report.log ≡ steps_left f → merged_left fronts ≡ merged_logs (map log_of (take i reports)) → merged_left pushed ≡ merged_logs (map log_of (take (i + 1) reports))
+    → logged_steps report.log ≡ steps_left f → merged_left fronts ≡ merged_logs (logs_of (take i reports)) → merged_left pushed ≡ merged_logs (logs_of (take (i + 1) reports))
 read_more reports i report fronts pushed f l is push left h =
-    ap merged_left push ∙ left-push fronts f ∙ ap (λ all. merge stamp_of all (steps_left f)) h ∙ ap (merge stamp_of (merged_logs (map log_of (take i reports)))) (sym left) ∙ sym (logs_more reports i report l is)
+    ap merged_left push ∙ left-push fronts f ∙ ap (λ all. merge stamp_of all (steps_left f)) h ∙ ap (merge stamp_of (merged_logs (logs_of (take i reports)))) (sym left) ∙ sym (logs_more reports i report l is)
 
 pub read_none : (reports : List NodeReport) (i : ℕ) (report : NodeReport) (fronts : List Front) → i < length reports → report ≡ get_or reports i report
-    → logged_steps report.log ≡ [] → merged_left fronts ≡ merged_logs (map log_of (take i reports)) → merged_left fronts ≡ merged_logs (map log_of (take (i + 1) reports))
+    → logged_steps report.log ≡ [] → merged_left fronts ≡ merged_logs (logs_of (take i reports)) → merged_left fronts ≡ merged_logs (logs_of (take (i + 1) reports))
 read_none reports i report fronts l is none h =
-    h ∙ sym (merge-nil stamp_of (merged_logs (map log_of (take i reports)))) ∙ ap (merge stamp_of (merged_logs (map log_of (take i reports)))) (sym none) ∙ sym (logs_more reports i report l is)
+    h ∙ sym (merge-nil stamp_of (merged_logs (logs_of (take i reports)))) ∙ ap (merge stamp_of (merged_logs (logs_of (take i reports)))) (sym none) ∙ sym (logs_more reports i report l is)
 
-stamp_at : (fronts : List Front) (i : ℕ) (f d : Front) → i < length fronts → f ≡ get_or fronts i f → (slice_index_or fronts i d).stamp ≡ f.stamp
-stamp_at fronts i f d l is = ap (λ (z : Front). z.stamp) (get_or_default fronts i d f l ∙ sym is)
-
--- one front alone
-pub first_alone : (fronts : List Front) (i : ℕ) (f : Front) → i < length fronts → f ≡ get_or fronts i f → FirstIn fronts i (i + 1) (record { place = i; stamp = f.stamp })
-first_alone fronts i f l is = record {
-  after = omega arith;
-  below = omega arith;
-  within = l;
-  stamp = λ d. stamp_at fronts i f d l is;
-  earlier = λ k d m n. absurd (omega (arith, m, n));
-  later = λ k d m n o.
-      let e : i ≡ k = omega (arith, m, n) in
-      subst (λ at. f.stamp ≤ (slice_index_or fronts at d).stamp) e (let at = stamp_at fronts i f d l is in omega (arith, at));
-}
-
--- of two ranges side by side
-module _ (fronts : List Front) (from mid end : ℕ) (p q : First) (left : FirstIn fronts from mid p) (right : FirstIn fronts mid end q) where
-  pub later_is_first : q.stamp < p.stamp → FirstIn fronts from end q
-  later_is_first less =
-      let pa = left.after in
-      let pb = left.below in
-      let qa = right.after in
-      let qw = right.within in
-      record {
-        after = omega (arith, pa, pb, qa);
-        below = right.below;
-        within = right.within;
-        stamp = right.stamp;
-        earlier = λ k d l m. elim (cases_lt k mid) [
-          | inl n ↦ elim (cases_lt k p.place) [
-            | inl o ↦ let e = left.earlier k d l o in omega (arith, e, less)
-            | inr o ↦ let e = left.later k d o n (omega (arith, m, qw)) in omega (arith, e, less)
-          ]
-          | inr n ↦ right.earlier k d n m
-        ];
-        later = right.later;
-      }
-
-  pub earlier_is_first : p.stamp ≤ q.stamp → FirstIn fronts from end p
-  earlier_is_first less =
-      let pb = left.below in
-      let qa = right.after in
-      let qb = right.below in
-      record {
-        after = left.after;
-        below = omega (arith, pb, qa, qb);
-        within = left.within;
-        stamp = left.stamp;
-        earlier = left.earlier;
-        later = λ k d l m n. elim (cases_lt k mid) [
-          | inl o ↦ left.later k d l o n
-          | inr o ↦ elim (cases_lt k q.place) [
-            | inl r ↦ let e = right.earlier k d o r in omega (arith, e, less)
-            | inr r ↦ let e = right.later k d r m n in omega (arith, e, less)
-          ]
-        ];
-      }
-
--- a range that reaches over the end
-pub first_to_end : (fronts : List Front) (from mid end : ℕ) (p : First) → FirstIn fronts from mid p → p.place < end → ((k : ℕ) → k < end → k < length fronts → k < mid) → FirstIn fronts from end p
-first_to_end fronts from mid end p first below all = record {
-  after = first.after;
-  below = below;
-  within = first.within;
-  stamp = first.stamp;
-  earlier = first.earlier;
-  later = λ k d l m n. first.later k d l (all k m n) n;
-}
-
-pub first_of_all : (fronts : List Front) (end : ℕ) (p : First) → FirstIn fronts 0 end p → length fronts ≤ end → IsFirst fronts p.place
-first_of_all fronts end p first all = record {
-  within = first.within;
-  earlier = λ k d l. let s = first.stamp d in let e = first.earlier k d (omega arith) l in omega (arith, s, e);
-  later = λ k d l m. let s = first.stamp d in let e = first.later k d l (omega (arith, all, m)) m in omega (arith, s, e);
-}
-
--- a front elsewhere changed
-module _ (fronts : List Front) (i : ℕ) (next : Front) where
-  same_size : length (slice_set fronts i next) ≡ length fronts
-  same_size = length-set fronts i next
-
-  elsewhere : (k : ℕ) (d : Front) → k ≢ i → slice_index_or (slice_set fronts i next) k d ≡ slice_index_or fronts k d
-  elsewhere k d e = get_or-set_other fronts i k next d e
-
-  pub still_first : (from end : ℕ) (p : First) → ((k : ℕ) → from ≤ k → k < end → k ≢ i) → FirstIn fronts from end p → FirstIn (slice_set fronts i next) from end p
-  still_first from end p apart first =
-      let b = first.below in
-      let a = first.after in
-      record {
-        after = first.after;
-        below = first.below;
-        within = subst (λ n. p.place < n) (sym same_size) first.within;
-        stamp = λ d. ap (λ (z : Front). z.stamp) (elsewhere p.place d (apart p.place first.after first.below)) ∙ first.stamp d;
-        earlier = λ k d l m. subst (λ (z : Front). p.stamp < z.stamp) (sym (elsewhere k d (apart k l (omega (arith, m, b))))) (first.earlier k d l m);
-        later = λ k d l m n.
-            subst (λ (z : Front). p.stamp ≤ z.stamp) (sym (elsewhere k d (apart k (omega (arith, a, l)) m))) (first.later k d l m (subst (λ size. k < size) same_size n));
-      }
-
-  pub firsts_still : (firsts : List First) (group : ℕ) (new : First) → AreFirsts fronts firsts → group * 8 ≤ i → i < group * 8 + 8 → group < length firsts
-      → FirstIn (slice_set fronts i next) (group * 8) (group * 8 + 8) new → AreFirsts (slice_set fronts i next) (slice_set firsts group new)
-  firsts_still firsts group new are low high within first = record {
-    each = λ g d l. elim (cases_eq g group) [
-      | inl e ↦
-          subst (λ n. FirstIn (slice_set fronts i next) (n * 8) (n * 8 + 8) (slice_index_or (slice_set firsts group new) n d)) (sym e)
-          (subst (FirstIn (slice_set fronts i next) (group * 8) (group * 8 + 8)) (sym (get_or-set_same firsts group new d within)) first)
-      | inr e ↦
-          subst (FirstIn (slice_set fronts i next) (g * 8) (g * 8 + 8)) (sym (get_or-set_other firsts group g new d e))
-          (still_first (g * 8) (g * 8 + 8) (slice_index_or firsts g d) (λ k l m is. e (omega (arith, low, high, l, m, is))) (are.each g d (subst (λ n. g < n) (length-set firsts group new) l)))
-    ];
-    all = let a = are.all in let s = same_size in let t = length-set firsts group new in omega (arith, a, s, t);
-  }
-
-  pub group_within : (firsts : List First) → AreFirsts fronts firsts → (group : ℕ) → i < length fronts → group * 8 ≤ i → group < length firsts
-  group_within firsts are group l low = let a = are.all in omega (arith, a, l, low)
-
+-- no group is left
 pub none_first : (fronts : List Front) (firsts : List First) → AreFirsts fronts firsts → length firsts ≡ 0 → length fronts ≡ 0
 none_first fronts firsts are none = let a = are.all in omega (arith, a, none)
-
--- one group more is known
-pub record FirstsBelow (fronts : List Front) (firsts : List First) (groups : ℕ) : Type 0 where
-  pub each : (g : ℕ) (d : First) → g < length firsts → FirstIn fronts (g * 8) (g * 8 + 8) (slice_index_or firsts g d)
-  pub size : length firsts ≡ groups
-
-pub no_firsts : (fronts : List Front) (firsts : List First) → firsts ≡ [] → FirstsBelow fronts firsts 0
-no_firsts fronts firsts is = subst (λ fs. FirstsBelow fronts fs 0) (sym is) (record { each = λ g d l. absurd (omega (arith, l)); size = refl })
-
-pub one_more_first : (fronts : List Front) (firsts pushed : List First) (groups : ℕ) (new : First) → FirstsBelow fronts firsts groups → FirstIn fronts (groups * 8) (groups * 8 + 8) new → pushed ≡ firsts ++ new ∷ []
-    → FirstsBelow fronts pushed (groups + 1)
-one_more_first fronts firsts pushed groups new below first push = subst (λ fs. FirstsBelow fronts fs (groups + 1)) (sym push) (record {
-  each = λ g d l. elim (cases_lt g (length firsts)) [
-    | inl m ↦ subst (FirstIn fronts (g * 8) (g * 8 + 8)) (sym (get_or_append_left firsts (new ∷ []) d g m)) (below.each g d m)
-    | inr m ↦
-        let s = below.size in
-        let n = length-append firsts (new ∷ []) in
-        let at : groups ≡ g = omega (arith, l, m, s, n) in
-        subst (λ n. FirstIn fronts (n * 8) (n * 8 + 8) (slice_index_or (firsts ++ new ∷ []) n d)) at (subst (FirstIn fronts (groups * 8) (groups * 8 + 8)) (sym (get_or_push firsts new d groups s)) first)
-  ];
-  size = let s = below.size in let n = length-append firsts (new ∷ []) in omega (arith, s, n);
-})
 
 -- a log whose first entry tells a step, and one whose first entry tells none
 pub begins_with_step : (log rest : List Entry) (e : Entry) (event : Event) (origin : Option Origin) (outcome : Outcome) → log ≡ e ∷ rest → e.kind ≡ StepEntry event origin outcome
@@ -266,6 +126,7 @@ unfolding taken
 tells_none [] none = refl
 tells_none (e ∷ log) none = absurd (omega (arith, none))
 
+-- no log
 pub none_left : (fronts : List Front) → length fronts ≡ 0 → merged_left fronts ≡ []
 unfolding merged_left
 none_left [] none = refl
