@@ -1,10 +1,12 @@
 //! The node of an engine, with its log and its clock.
 ghost use Rattle.std.specs.Prelude.{◌≡◌, ◌+◌, ◌<◌, ◌^◌, [], length, true, Some, None, Err, IfOk, IfErr, OnOk, OnErr, IsTrue, IsFalse, IsSome, is_some};
-ghost use Rattle.cast_model.specs.Steps.{Arrived, Stopped, making};
+ghost use Rattle.cast_message.specs.Items.{has_bytes};
+ghost use Rattle.cast_message.specs.declared.message.FrameKind.TheVariants.{Carry, Took};
+ghost use Rattle.cast_model.specs.Steps.{Sent, Acknowledged, Arrived, Stopped, making};
 ghost use Rattle.cast_report.specs.Linked.{event_of};
 ghost use Rattle.cast_node.specs.Calls.{sent_reply};
 ghost use Rattle.cast_node.specs.Kept.{nothing_kept};
-ghost use Rattle.cast_node.specs.Turns.{Gives, frame_made, is_awaited};
+ghost use Rattle.cast_node.specs.Turns.{Gives, kept_fault, frame_made, message_owed, is_awaited};
 ghost use Rattle.cast_report.specs.declared.report.EngineEnd.TheVariants.{Crashed};
 ghost use Rattle.cast_engine.specs.Journals.{MayLog, LogsStep, LogsOrder, OnlyEnds, Halts, HaltsBy, Rises, EndsAs, AsksOrder, MayEnd};
 
@@ -172,7 +174,8 @@ impl Journal {
         Ok(())
     }
 
-    /// Makes a frame of this kind for a slot, and logs it, or answers why the node makes none. A refusal changes nothing.
+    /// Makes a frame of this kind for a slot, and logs it, or answers why the node makes none: want of memory only for one that
+    /// carries a message with bytes. A refusal changes nothing.
     pub fn make(&mut self, kind: FrameKind, to: NodeId, slot: u64) -> Result<Parcel, StepFault>
         requires { MayLog self.old }
         ensures ok { OnOk result
@@ -184,6 +187,11 @@ impl Journal {
         ensures err { OnErr result (self.new ≡ self.old) }
         ensures refused { IfErr result (λ fault.
             Gives self.old.node (making kind to slot) (Err fault) self.old.node) }
+        ensures sure { kind ≡ Took → IfErr result (λ fault.
+            kept_fault self.old.node (Acknowledged to slot) ≡ Some fault) }
+        ensures payload { kind ≡ Carry →
+            OnErr result (kept_fault self.old.node (Sent to slot) ≡ None →
+            has_bytes (message_owed self.old.node to slot).item ≡ true) }
     {
         let from = self.node.id();
         let frame = frame_by(&mut self.node, kind, to, slot)?;
@@ -308,6 +316,10 @@ impl Journal {
 fn frame_by(node: &mut Node, kind: FrameKind, to: NodeId, slot: u64) -> Result<Frame, StepFault>
     ensures gives { Gives node.old (making kind to slot) (sent_reply result) node.new }
     ensures made { IfOk result (λ frame. frame ≡ frame_made kind node.old to slot) }
+    ensures sure { kind ≡ Took →
+        IfErr result (λ fault. kept_fault node.old (Acknowledged to slot) ≡ Some fault) }
+    ensures payload { kind ≡ Carry → OnErr result (kept_fault node.old (Sent to slot) ≡ None →
+        has_bytes (message_owed node.old to slot).item ≡ true) }
 {
     match kind {
         FrameKind::Carry => node.send(to, slot),
