@@ -20,7 +20,7 @@ use Rattle.cast_engine.specs.Journals.{JournalState, LogsStep, Rises, EndsAs}
 use Rattle.cast_report.specs.declared.report.EngineEnd.{EngineEnd}
 use Rattle.cast_report.specs.declared.report.EngineEnd.TheVariants.{Stopped, TurnLimit, ClockFull}
 use Rattle.cast_node.specs.Kept.{Kept}
-use Rattle.cast_node.specs.Turns.{is_awaited}
+use Rattle.cast_node.specs.Turns.{is_awaited, may_arrive}
 use Rattle.cast_model.specs.Steps.{Arrived}
 use Rattle.cast_engine.specs.Feeding.{AreFed, TellEach}
 
@@ -95,9 +95,10 @@ abbrev pub TakesOrder : Option Desk → Option OrderIn → Option Desk → Type 
 TakesOrder old None new = (taken_at new ≡ taken_at old) × (trays_at new ≡ trays_at old)
 TakesOrder old (Some order) new = (from : ℕ) × (taken_at new ≡ taken_at old ++ (from, order) ∷ []) × (trays_at new ≡ trays_at old)
 
--- why a parcel is dropped: it is for another node, or something may come of its frame, which takes memory
+-- why a parcel is dropped: it is for another node, or some node could have made its frame for this one, and something may come of
+-- it, which takes memory
 abbrev pub IsDropped : JournalState → Parcel → Type 0
-IsDropped j x = (x.frame.to ≢ j.node.me) ⊎ (is_awaited j.node x.frame.from x.frame.body ≡ true)
+IsDropped j x = (x.frame.to ≢ j.node.me) ⊎ ((may_arrive j.node x.frame ≡ true) × (is_awaited j.node x.frame.from x.frame.body ≡ true))
 
 -- a parcel's arrival was logged, or the parcel was dropped, or it has the last stamp, by which the clock is full
 abbrev pub TakesIn : JournalState → JournalState → Parcel → Type 0

@@ -6,7 +6,7 @@ ghost use Rattle.cast_model.specs.Steps.{Sent, Acknowledged, Arrived, Stopped, m
 ghost use Rattle.cast_report.specs.Linked.{event_of};
 ghost use Rattle.cast_node.specs.Calls.{sent_reply};
 ghost use Rattle.cast_node.specs.Kept.{nothing_kept};
-ghost use Rattle.cast_node.specs.Turns.{Gives, kept_fault, frame_made, message_owed, is_awaited};
+ghost use Rattle.cast_node.specs.Turns.{Gives, kept_fault, frame_made, message_owed, is_awaited, may_arrive};
 ghost use Rattle.cast_report.specs.declared.report.EngineEnd.TheVariants.{Crashed};
 ghost use Rattle.cast_engine.specs.Journals.{MayLog, LogsStep, LogsOrder, OnlyEnds, Halts, HaltsBy, Rises, EndsAs, AsksOrder, MayEnd};
 
@@ -143,8 +143,8 @@ impl Journal {
         self.ended = Some(EngineEnd::Crashed);
     }
 
-    /// Takes a frame that arrives, and logs it. Only memory can be wanting, and only where something may come of the frame. A
-    /// refusal changes nothing.
+    /// Takes a frame that arrives, and logs it. Only memory can be wanting, and only where some node could have made the frame for
+    /// this one, and something may come of it. A refusal changes nothing.
     pub fn arrive(&mut self, parcel: &Parcel) -> Result<(), StepFault>
         requires may { MayLog self.old }
         requires to { parcel.now.frame.to ≡ self.old.node.me }
@@ -153,6 +153,7 @@ impl Journal {
             (LogsStep self.old self.new (Arrived parcel.now.frame) None parcel.now.stamp) }
         ensures ended { self.new.ended ≡ self.old.ended }
         ensures err { OnErr result (self.new ≡ self.old) }
+        ensures possible { OnErr result (may_arrive self.old.node parcel.now.frame ≡ true) }
         ensures awaited { OnErr result (is_awaited self.old.node parcel.now.frame.from
             parcel.now.frame.body ≡ true) }
     {
