@@ -1,5 +1,5 @@
 //! The node of an engine, with its log and its clock.
-ghost use Rattle.std.specs.Prelude.{◌≡◌, ◌+◌, ◌<◌, ◌^◌, [], length, true, Some, None, Err, IfOk, IfErr, OnOk, OnErr, IsTrue, IsFalse, IsSome, is_some};
+ghost use Rattle.std.specs.Prelude.{◌≡◌, ◌+◌, ◌<◌, ◌^◌, ◌⊎◌, [], length, true, Some, None, Err, IfOk, IfErr, OnOk, OnErr, IsTrue, IsFalse, IsSome, is_some};
 ghost use Rattle.cast_message.specs.Items.{has_bytes};
 ghost use Rattle.cast_message.specs.declared.message.FrameKind.TheVariants.{Carry, Took};
 ghost use Rattle.cast_model.specs.Steps.{Sent, Acknowledged, Arrived, Stopped, making};
@@ -7,7 +7,7 @@ ghost use Rattle.cast_report.specs.Linked.{event_of};
 ghost use Rattle.cast_node.specs.Calls.{sent_reply};
 ghost use Rattle.cast_node.specs.Kept.{nothing_kept};
 ghost use Rattle.cast_node.specs.Turns.{Gives, kept_fault, frame_made, message_owed, is_awaited, may_arrive};
-ghost use Rattle.cast_report.specs.declared.report.EngineEnd.TheVariants.{Crashed};
+ghost use Rattle.cast_report.specs.declared.report.EngineEnd.TheVariants.{Crashed, TurnLimit};
 ghost use Rattle.cast_engine.specs.Journals.{MayLog, LogsStep, LogsOrder, OnlyEnds, Halts, HaltsBy, Rises, EndsAs, AsksOrder, MayEnd};
 
 use cast_carrier::Parcel;
@@ -261,6 +261,8 @@ impl Journal {
     pub fn close(&mut self)
         ensures halts { Halts self.old self.new }
         ensures ended { IsSome self.new.ended }
+        ensures cause { self.old.ended ≡ None →
+            (self.new.ended ≡ Some TurnLimit) ⊎ HaltsBy self.old self.new.ended }
     {
         if self.may_log() {
             self.end(EngineEnd::TurnLimit);
