@@ -13,7 +13,7 @@ use Rattle.cast_engine.specs.declared.engine.Turn.TheVariants.{Idle}
 use Rattle.cast_carrier.specs.Lists.{Has}
 use Rattle.cast_engine.specs.Runs.{EngineKeeps, HasTakenEach, parcel, made_of}
 use Rattle.cast_report.specs.Linked.{Trail, IsLogOf, made_in, stamped, EachArrival}
-use Rattle.cast_box.specs.Lists.{StartsWith}
+use Rattle.cast_box.specs.Lists.{StartsWith, HasTakenOfEnded}
 use Rattle.cast_desk.specs.Feed.{feed}
 use Rattle.cast_engine.specs.Serving.{Serves}
 use Rattle.cast_engine.specs.Journals.{JournalState, LogsStep, Rises, EndsAs}
@@ -94,6 +94,11 @@ Handed put put' held' x = ((put' ≡ put ++ x ∷ []) × (held' ≡ None)) ⊎ (
 abbrev pub TakesOrder : Option Desk → Option OrderIn → Option Desk → Type 0
 TakesOrder old None new = (taken_at new ≡ taken_at old) × (trays_at new ≡ trays_at old)
 TakesOrder old (Some order) new = (from : ℕ) × (taken_at new ≡ taken_at old ++ (from, order) ∷ []) × (trays_at new ≡ trays_at old)
+
+-- the desk was empty, so that all that its ended putters have put was taken; where there is no desk, there is no order
+abbrev pub HadNoOrder : Option Desk → Type 0
+HadNoOrder None = ⊤
+HadNoOrder (Some desk) = HasTakenOfEnded desk.orders.ended desk.orders.taken
 
 -- why a parcel is dropped: it is for another node, or some node could have made its frame for this one, and something may come of
 -- it, which takes memory

@@ -1,7 +1,7 @@
 //! An engine: the owner of a node, its log and its clock, with the ends of its boxes.
 ghost use Rattle.std.specs.Prelude.{◌≡◌, ◌<◌, [], length, IfOk, IfNone, IsFalse, Some, None};
 ghost use Rattle.cast_box.specs.Ends.{IsSamePutter, IsNextToEnd};
-ghost use Rattle.cast_engine.specs.Engines.{EngineState, IsSameEngine, HasSameBoxes, IsChosen, DoesFew, IsIdleRightly, IsSameDesk, TakesOrder, TakesIn, Handed, Leaves, Tells, WereTold, IsUnused, trays_at, with_ended};
+ghost use Rattle.cast_engine.specs.Engines.{EngineState, IsSameEngine, HasSameBoxes, IsChosen, DoesFew, IsIdleRightly, IsSameDesk, TakesOrder, HadNoOrder, TakesIn, Handed, Leaves, Tells, WereTold, IsUnused, trays_at, with_ended};
 ghost use Rattle.cast_engine.specs.Journals.{MayLog};
 
 use crate::feeding::{Place, first_places, notify_all};
@@ -594,10 +594,12 @@ fn hand<R: Wait>(
 }
 
 // Takes an order from the desk, where there is one.
+// It finds none only where the desk was empty at one moment of the call, or where there is no desk.
 #[tactic(auto, using(crate::proofs::Again::desk_same))]
 fn next_order<R: Wait>(rt: &R, desk: &mut Option<Desk>) -> Option<OrderIn>
     ensures same { IsSameDesk desk.old desk.new }
     ensures taken { TakesOrder desk.old result desk.new }
+    ensures empty { IfNone result (HadNoOrder desk.old) }
 {
     match desk {
         Some(desk) => desk.take(rt),
