@@ -9,7 +9,7 @@ use Rattle.cast_box.specs.Ends.{PutterEnd, IsSamePutter, AreSamePutters}
 use Rattle.cast_box.proofs.Same.{putters_set, get_set}
 use Rattle.cast_node.specs.declared.entry.Entry.{Entry}
 use Rattle.cast_desk.specs.declared.notice.Notice.{Notice}
-use Rattle.cast_desk.specs.Feed.{told_by, feed_from, orders_of, orders_in}
+use Rattle.cast_desk.specs.Feed.{told_by, feed_from, feed, orders_of, orders_in}
 use Rattle.cast_desk.proofs.Feeds.{take_all, counted_more, fed_more as fed_more'}
 use Rattle.cast_engine.specs.declared.feeding.Place.{Place}
 use Rattle.cast_engine.specs.Feeding.{told_at, told_here, IsNext, IsPlaced, IsFed, told_to, AreFed, FedIn, FedAt}
@@ -71,6 +71,13 @@ module _ (client : ℕ) (log more : List Entry) (place : Place) (f : IsPlaced cl
         },
         ap (λ l. feed_from client 0 l ++ take place.told new_told) front ∙ ap (λ l. feed_from client 0 (take place.entry log) ++ l) (nothing new_told ∙ sym (nothing old_told)),
       ))
+
+-- all of the feed was told
+pub all_fed : (client : ℕ) (log : List Entry) (place : Place) → IsPlaced client log place → length log ≤ place.entry → told_to client log place ≡ feed log client
+all_fed client log place f le =
+    let here = told_here client log place in
+    let none = at_end client log [] place f le in
+    ap (λ l. feed_from client 0 l ++ take place.told here) (take_all log place.entry le) ∙ ap (λ n. feed_from client 0 log ++ take n here) none.0 ∙ append-nil (feed_from client 0 log)
 
 pub fed_more : (log log' : List Entry) (e : Entry) (trays : List (PutterEnd Notice)) (places : List Place) → log' ≡ log ++ e ∷ [] → AreFed log trays places → AreFed log' trays places
 fed_more log log' e trays places is f =

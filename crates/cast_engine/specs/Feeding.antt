@@ -1,10 +1,13 @@
 -- How far a client was told of a log.
 --     IsFed client log place put       what was put into the tray is what the feed has up to the place
 --     AreFed log trays places          so it is for each client
-use Rattle.std.specs.Prelude.{◌≡◌, ℕ, ◌+◌, ◌≤◌, List, [], ◌++◌, length, take, slice_get, slice_set, Option, Some, None}
+--     next_at client log place         the next notice
+use Rattle.std.specs.Prelude.{◌≡◌, Bool, false, ℕ, ◌+◌, ◌≤◌, List, [], ◌++◌, length, take, slice_get, slice_set, Option, Some, None}
 use Rattle.cast_box.specs.Ends.{PutterEnd, IsSamePutter}
+use Rattle.cast_message.specs.Items.{has_bytes}
 use Rattle.cast_node.specs.declared.entry.Entry.{Entry}
 use Rattle.cast_desk.specs.declared.notice.Notice.{Notice}
+use Rattle.cast_desk.specs.declared.notice.Notice.TheVariants.{Delivered}
 use Rattle.cast_desk.specs.Feed.{told_by, feed_from, orders_of}
 use Rattle.cast_engine.specs.declared.feeding.Place.{Place}
 
@@ -17,9 +20,18 @@ told_at client orders (Some e) = told_by client orders e.kind
 abbrev pub told_here : ℕ → List Entry → Place → List Notice
 told_here client log place = told_at client place.orders (slice_get log place.entry)
 
+-- what it tells next
+abbrev pub next_at : ℕ → List Entry → Place → Option Notice
+next_at client log place = slice_get (told_here client log place) place.told
+
 -- the notice is the next
 abbrev pub IsNext : ℕ → List Entry → Place → Notice → Type 0
-IsNext client log place notice = slice_get (told_here client log place) place.told ≡ Some notice
+IsNext client log place notice = next_at client log place ≡ Some notice
+
+-- the notice, if there is one, is of a delivered message with bytes, of which a copy takes memory
+abbrev pub takes_memory : Option Notice → Bool
+takes_memory (Some (Delivered message)) = has_bytes message.item
+takes_memory _ = false
 
 -- what the client was told, up to the place
 abbrev pub told_to : ℕ → List Entry → Place → List Notice

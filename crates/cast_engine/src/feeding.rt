@@ -1,8 +1,8 @@
 //! What the clients of a node are told of its log, notice by notice.
-ghost use Rattle.std.specs.Prelude.{◌≡◌, ◌∷◌, replicate, slice_get, None, IfOk, IfSome, IsFalse};
+ghost use Rattle.std.specs.Prelude.{◌≡◌, ◌∷◌, replicate, slice_get, true, None, IfOk, IfNone, IfSome, IsFalse, OnErr};
 ghost use Rattle.cast_box.specs.Ends.{AreSamePutters};
-ghost use Rattle.cast_desk.specs.Feed.{told_by, news_of};
-ghost use Rattle.cast_engine.specs.Feeding.{IsNext, AreFed, FedIn, FedAt, IsPlaced, TellEach, told_to, first_place};
+ghost use Rattle.cast_desk.specs.Feed.{told_by, news_of, feed};
+ghost use Rattle.cast_engine.specs.Feeding.{IsNext, AreFed, FedIn, FedAt, IsPlaced, TellEach, told_to, next_at, takes_memory, first_place};
 
 use cast_box::Full;
 use cast_desk::{Desk, Notice, orders_in, own_reply};
@@ -81,7 +81,8 @@ fn notify<R: Wait>(rt: &R, desk: &mut Desk, client: usize, place: &mut Place, lo
     }
 }
 
-// The next notice of a client's feed, where there is one; or want of memory, and then it stays the next.
+// The next notice of a client's feed, where there is one: none only where all of the feed was told. Or want of memory, which only
+// a delivered message with bytes takes that found no full tray before, and then it stays the next.
 fn next_notice(client: u64, place: &mut Place, log: &[Entry]) -> Result<Option<Notice>, AllocError>
     requires { IsPlaced client log.now place.old }
     ensures placed { IsPlaced client log.now place.new }
@@ -89,6 +90,10 @@ fn next_notice(client: u64, place: &mut Place, log: &[Entry]) -> Result<Option<N
     ensures notice { IfOk result
         (λ found. IfSome found (λ notice. IsNext client log.now place.new notice
         × (place.new.waiting ≡ None))) }
+    ensures none { IfOk result
+        (λ found. IfNone found (told_to client log.now place.new ≡ feed log.now client)) }
+    ensures err { OnErr result (takes_memory (next_at client log.now place.new) ≡ true) }
+    ensures kept { OnErr result (place.old.waiting ≡ None) }
 {
     if let Some(notice) = place.waiting.take() {
         return Ok(Some(notice));
@@ -105,14 +110,16 @@ fn next_notice(client: u64, place: &mut Place, log: &[Entry]) -> Result<Option<N
     Ok(None)
 }
 
-// The notice of this number of those that an entry brings a client.
+// The notice of this number of those that an entry brings a client, or want of memory for it.
 fn notice_at(
     kind: &EntryKind,
     client: u64,
     orders: u64,
     told: usize,
 ) -> Result<Option<Notice>, AllocError>
-    ensures { IfOk result (λ found. found ≡ slice_get (told_by client orders kind.now) told) }
+    ensures ok { IfOk result (λ found. found ≡ slice_get (told_by client orders kind.now) told) }
+    ensures err { OnErr result
+        (takes_memory (slice_get (told_by client orders kind.now) told) ≡ true) }
 {
     match kind {
         EntryKind::Step {
@@ -135,7 +142,9 @@ fn notice_at(
 }
 
 fn after_reply(reply: Notice, outcome: &Outcome, told: usize) -> Result<Option<Notice>, AllocError>
-    ensures { IfOk result (λ found. found ≡ slice_get (reply ∷ news_of outcome.now) told) }
+    ensures ok { IfOk result (λ found. found ≡ slice_get (reply ∷ news_of outcome.now) told) }
+    ensures err { OnErr result
+        (takes_memory (slice_get (reply ∷ news_of outcome.now) told) ≡ true) }
 {
     match told.checked_sub(1) {
         Some(before) => news_at(outcome, before),
@@ -143,9 +152,10 @@ fn after_reply(reply: Notice, outcome: &Outcome, told: usize) -> Result<Option<N
     }
 }
 
-// The notice of this number of those that a step's outcome brings every client.
+// The notice of this number of those that a step's outcome brings every client, or want of memory for it.
 fn news_at(outcome: &Outcome, at: usize) -> Result<Option<Notice>, AllocError>
-    ensures { IfOk result (λ found. found ≡ slice_get (news_of outcome.now) at) }
+    ensures ok { IfOk result (λ found. found ≡ slice_get (news_of outcome.now) at) }
+    ensures err { OnErr result (takes_memory (slice_get (news_of outcome.now) at) ≡ true) }
 {
     let deliveries = outcome.deliveries.as_slice();
     if at < deliveries.len() {
