@@ -57,6 +57,7 @@ module _ (client : ℕ) (log more : List Entry) (place : Place) (f : IsPlaced cl
           counted = f.counted ∙ ap orders_of (sym front);
           begun = subst (λ l. place.told ≤ length l) (sym (same_entry lt)) f.begun;
           waits = λ n w. ap (λ l. slice_get l place.told) (same_entry lt) ∙ f.waits n w;
+          counts = f.counts;
         },
         (λ i. feed_from client 0 (front i) ++ take place.told (same_entry lt i)),
       ))
@@ -68,6 +69,7 @@ module _ (client : ℕ) (log more : List Entry) (place : Place) (f : IsPlaced cl
           counted = f.counted ∙ ap orders_of (sym front);
           begun = let z = none.0 in omega arith;
           waits = λ n w. absurd (none.1 n w);
+          counts = f.counts;
         },
         ap (λ l. feed_from client 0 l ++ take place.told new_told) front ∙ ap (λ l. feed_from client 0 (take place.entry log) ++ l) (nothing new_told ∙ sym (nothing old_told)),
       ))
@@ -105,6 +107,7 @@ module _ (client : ℕ) (log : List Entry) (place : Place) (f : IsPlaced client 
       counted = counted_more client log place.entry e lt is place.orders orders f.counted counts cap;
       begun = omega arith;
       waits = λ n w. let no : None ≡ Some n = sym quiet ∙ w in absurd cc;
+      counts = λ n w. let no : None ≡ Some n = sym quiet ∙ w in absurd cc;
     },
     append-nil (feed_from client 0 (take (place.entry + 1) log)) ∙ sym (fed_more' client log place.entry e lt is (feed_from client 0 (take place.entry log)) _ place.orders refl f.counted refl)
         ∙ ap (λ l. feed_from client 0 (take place.entry log) ++ l) (sym all_told),
@@ -141,6 +144,7 @@ module _ (client : ℕ) (log : List Entry) (trays : List (PutterEnd Notice)) (ol
               counted = p.counted;
               begun = let l = slice_get_within here place.told notice next in omega arith;
               waits = λ n w. absurd cc;
+              counts = λ n w. absurd cc;
             },
             put ∙ ap (λ l. l ++ notice ∷ []) (the_tray was at) ∙ append_assoc (feed_from client 0 (take place.entry log)) (take place.told here) (notice ∷ [])
                 ∙ ap (λ l. feed_from client 0 (take place.entry log) ++ l) (sym (ap (λ n. take n here) more ∙ take_next here place.told notice next)),

@@ -6,3 +6,4 @@ pub mod Telling
 pub mod Answering
 pub mod Again
 pub mod Few
+pub mod Causes

@@ -174,7 +174,7 @@ stays_new j config me crash put arrived desk places lt is p a u l =
         λ c tray place s t.
             let e : first_place ≡ place = get_replicate (length (trays_at desk)) first_place place c (ap (λ k. slice_get k c) (sym l) ∙ t) in
             let Q : Place → Type 0 = λ p. IsFed c [] p tray.put in
-            subst Q e (record { within = omega arith; counted = refl; begun = omega arith; waits = λ n w. absurd cc }, u.1 c tray s),
+            subst Q e (record { within = omega arith; counted = refl; begun = omega arith; waits = λ n w. absurd cc; counts = λ n w. absurd cc }, u.1 c tray s),
       );
     })))
 

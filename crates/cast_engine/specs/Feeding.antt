@@ -2,13 +2,15 @@
 --     IsFed client log place put       what was put into the tray is what the feed has up to the place
 --     AreFed log trays places          so it is for each client
 --     next_at client log place         the next notice
-use Rattle.std.specs.Prelude.{◌≡◌, Bool, false, ℕ, ◌+◌, ◌≤◌, List, [], ◌++◌, length, take, slice_get, slice_set, Option, Some, None}
-use Rattle.cast_box.specs.Ends.{PutterEnd, IsSamePutter}
+--     IsToldNoMore client log tray p   why none is put
+--     AreTold log old new places       each client got a notice, or there is such a cause
+use Rattle.std.specs.Prelude.{◌≡◌, Bool, true, false, ℕ, ◌+◌, ◌<◌, ◌≤◌, ◌^◌, List, [], ◌++◌, length, take, slice_get, slice_set, Option, Some, None, ◌⊎◌}
+use Rattle.cast_box.specs.Ends.{PutterEnd, IsSamePutter, WasFull, FilledItAlone}
 use Rattle.cast_message.specs.Items.{has_bytes}
 use Rattle.cast_node.specs.declared.entry.Entry.{Entry}
 use Rattle.cast_desk.specs.declared.notice.Notice.{Notice}
 use Rattle.cast_desk.specs.declared.notice.Notice.TheVariants.{Delivered}
-use Rattle.cast_desk.specs.Feed.{told_by, feed_from, orders_of}
+use Rattle.cast_desk.specs.Feed.{told_by, feed_from, feed, orders_of}
 use Rattle.cast_engine.specs.declared.feeding.Place.{Place}
 
 -- what an entry, if there is one, tells the client, after this many orders of the node
@@ -42,6 +44,7 @@ pub record IsPlaced (client : ℕ) (log : List Entry) (place : Place) : Type 0 w
   pub counted : place.orders ≡ orders_of (take place.entry log)
   pub begun : place.told ≤ length (told_here client log place)
   pub waits : (notice : Notice) → place.waiting ≡ Some notice → IsNext client log place notice
+  pub counts : (notice : Notice) → place.waiting ≡ Some notice → place.told + 1 < 2 ^ 64  -- one notice more can be counted
 
 abbrev pub IsFed : ℕ → List Entry → Place → List Notice → Type 0
 IsFed client log place put = IsPlaced client log place × (put ≡ told_to client log place)
@@ -61,6 +64,11 @@ FedAt client log old new place =
     (was : PutterEnd Notice) × (now : PutterEnd Notice)
     × (slice_get old client ≡ Some was) × (new ≡ slice_set old client now) × IsSamePutter was now × IsFed client log place now.put
 
+-- why a client is told no more: all of its feed was told, or its tray was full, or the next notice takes memory
+abbrev pub IsToldNoMore : ℕ → List Entry → PutterEnd Notice → Place → Type 0
+IsToldNoMore client log tray place =
+    (told_to client log place ≡ feed log client) ⊎ ((WasFull tray × FilledItAlone tray) ⊎ (takes_memory (next_at client log place) ≡ true))
+
 -- where a client was told nothing
 abbrev pub first_place : Place
 first_place = record { entry = 0; orders = 0; told = 0; waiting = None }
@@ -73,3 +81,12 @@ put_into (Some tray) = tray.put
 -- into each tray so many notices more were put at most
 abbrev pub TellEach : ℕ → List (PutterEnd Notice) → List (PutterEnd Notice) → Type 0
 TellEach count old new = (c : ℕ) → length (put_into (slice_get new c)) ≤ length (put_into (slice_get old c)) + count
+
+-- the client's tray got a notice more, or there is a cause that it did not
+abbrev pub IsTold : Bool → ℕ → List Entry → List (PutterEnd Notice) → List (PutterEnd Notice) → Place → Type 0
+IsTold true client log old new place = length (put_into (slice_get new client)) ≡ length (put_into (slice_get old client)) + 1
+IsTold false client log old new place = (tray : PutterEnd Notice) × (slice_get old client ≡ Some tray) × IsToldNoMore client log tray place
+
+-- so it is for each client
+abbrev pub AreTold : List Entry → List (PutterEnd Notice) → List (PutterEnd Notice) → List Place → Type 0
+AreTold log old new places = (c : ℕ) (place : Place) → slice_get places c ≡ Some place → (told : Bool) × IsTold told c log old new place

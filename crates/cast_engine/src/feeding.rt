@@ -1,8 +1,8 @@
 //! What the clients of a node are told of its log, notice by notice.
-ghost use Rattle.std.specs.Prelude.{◌≡◌, ◌∷◌, replicate, slice_get, true, None, IfOk, IfNone, IfSome, IsFalse, OnErr};
+ghost use Rattle.std.specs.Prelude.{◌≡◌, ◌+◌, ◌<◌, ◌^◌, ◌∷◌, replicate, slice_get, true, None, IfOk, IfNone, IfSome, IsFalse, OnErr};
 ghost use Rattle.cast_box.specs.Ends.{AreSamePutters};
 ghost use Rattle.cast_desk.specs.Feed.{told_by, news_of, feed};
-ghost use Rattle.cast_engine.specs.Feeding.{IsNext, AreFed, FedIn, FedAt, IsPlaced, TellEach, told_to, next_at, takes_memory, first_place};
+ghost use Rattle.cast_engine.specs.Feeding.{IsNext, AreFed, FedIn, FedAt, IsPlaced, TellEach, IsTold, AreTold, told_to, next_at, takes_memory, first_place};
 
 use cast_box::Full;
 use cast_desk::{Desk, Notice, orders_in, own_reply};
@@ -38,8 +38,8 @@ pub fn first_places(alloc: Global, clients: usize) -> Result<Vec<Place>, AllocEr
     Ok(places)
 }
 
-/// For each client that has something to be told, puts the next notice of its feed, where its tray has room. Answers
-/// whether one was put.
+/// For each client that has something to be told, puts the next notice of its feed, where its tray has room and memory for it is
+/// not wanting (`told`). Answers whether one was put.
 pub fn notify_all<R: Wait>(rt: &R, desk: &mut Desk, places: &mut Vec<Place>, log: &[Entry]) -> bool
     requires { AreFed log.now desk.old.trays.items places.old.items }
     ensures fed { AreFed log.now desk.new.trays.items places.new.items }
@@ -47,6 +47,7 @@ pub fn notify_all<R: Wait>(rt: &R, desk: &mut Desk, places: &mut Vec<Place>, log
     ensures trays { AreSamePutters desk.old.trays.items desk.new.trays.items }
     ensures few { TellEach 1 desk.old.trays.items desk.new.trays.items }
     ensures idle { IsFalse result → desk.new.trays.items ≡ desk.old.trays.items }
+    ensures told { AreTold log.now desk.old.trays.items desk.new.trays.items places.new.items }
 {
     let mut moved = false;
     for client in 0..places.len() {
@@ -55,20 +56,20 @@ pub fn notify_all<R: Wait>(rt: &R, desk: &mut Desk, places: &mut Vec<Place>, log
     moved
 }
 
-// Puts the next notice of a client's feed, where its tray has room.
+// Puts the next notice of a client's feed, where its tray has room. Answers whether it did.
 fn notify<R: Wait>(rt: &R, desk: &mut Desk, client: usize, place: &mut Place, log: &[Entry]) -> bool
     requires { FedIn client log.now desk.old.trays.items place.old }
     ensures orders { desk.new.orders ≡ desk.old.orders }
     ensures fed { FedAt client log.now desk.old.trays.items desk.new.trays.items place.new }
     ensures few { TellEach 1 desk.old.trays.items desk.new.trays.items }
     ensures idle { IsFalse result → desk.new.trays.items ≡ desk.old.trays.items }
+    ensures told { IsTold result client log.now
+        desk.old.trays.items desk.new.trays.items place.new }
 {
     let Ok(Some(notice)) = next_notice(client as u64, place, log) else {
         return false;
     };
-    let Some(told) = place.told.checked_add(1) else {
-        return false;
-    };
+    let told = place.told + 1;
     match desk.notify(rt, client as u64, notice) {
         Ok(()) => {
             place.told = told;
@@ -90,6 +91,7 @@ fn next_notice(client: u64, place: &mut Place, log: &[Entry]) -> Result<Option<N
     ensures notice { IfOk result
         (λ found. IfSome found (λ notice. IsNext client log.now place.new notice
         × (place.new.waiting ≡ None))) }
+    ensures counts { IfOk result (λ found. IfSome found (λ _. place.new.told + 1 < 2 ^ 64)) }
     ensures none { IfOk result
         (λ found. IfNone found (told_to client log.now place.new ≡ feed log.now client)) }
     ensures err { OnErr result (takes_memory (next_at client log.now place.new) ≡ true) }
@@ -110,7 +112,7 @@ fn next_notice(client: u64, place: &mut Place, log: &[Entry]) -> Result<Option<N
     Ok(None)
 }
 
-// The notice of this number of those that an entry brings a client, or want of memory for it.
+// The notice of this number of those that an entry brings a client, or want of memory for it. The next number is a number too.
 fn notice_at(
     kind: &EntryKind,
     client: u64,
@@ -118,6 +120,7 @@ fn notice_at(
     told: usize,
 ) -> Result<Option<Notice>, AllocError>
     ensures ok { IfOk result (λ found. found ≡ slice_get (told_by client orders kind.now) told) }
+    ensures counts { IfOk result (λ found. IfSome found (λ _. told + 1 < 2 ^ 64)) }
     ensures err { OnErr result
         (takes_memory (slice_get (told_by client orders kind.now) told) ≡ true) }
 {
@@ -143,6 +146,7 @@ fn notice_at(
 
 fn after_reply(reply: Notice, outcome: &Outcome, told: usize) -> Result<Option<Notice>, AllocError>
     ensures ok { IfOk result (λ found. found ≡ slice_get (reply ∷ news_of outcome.now) told) }
+    ensures counts { IfOk result (λ found. IfSome found (λ _. told + 1 < 2 ^ 64)) }
     ensures err { OnErr result
         (takes_memory (slice_get (reply ∷ news_of outcome.now) told) ≡ true) }
 {
@@ -152,9 +156,11 @@ fn after_reply(reply: Notice, outcome: &Outcome, told: usize) -> Result<Option<N
     }
 }
 
-// The notice of this number of those that a step's outcome brings every client, or want of memory for it.
+// The notice of this number of those that a step's outcome brings every client, or want of memory for it. A reply before them
+// leaves the next number a number too.
 fn news_at(outcome: &Outcome, at: usize) -> Result<Option<Notice>, AllocError>
     ensures ok { IfOk result (λ found. found ≡ slice_get (news_of outcome.now) at) }
+    ensures counts { IfOk result (λ found. IfSome found (λ _. at + 2 < 2 ^ 64)) }
     ensures err { OnErr result (takes_memory (slice_get (news_of outcome.now) at) ≡ true) }
 {
     let deliveries = outcome.deliveries.as_slice();

@@ -17,9 +17,6 @@ returns-in_default-clause-fed g c = fed_still c.args.client c.args.log.now c.arg
 pub returns-in_default-2-clause-fed : goal.returns-in_default-2-clause-fed
 returns-in_default-2-clause-fed g c = fed_still c.args.client c.args.log.now c.args.desk.now.trays.items c.args.place.now c.next_notice.new.place c.requires c.next_notice.ensures.placed c.next_notice.ensures.fed
 
-pub returns-in_default-checked_add-clause-fed : goal.returns-in_default-checked_add-clause-fed
-returns-in_default-checked_add-clause-fed g c = fed_still c.args.client c.args.log.now c.args.desk.now.trays.items c.args.place.now c.next_notice.new.place c.requires c.next_notice.ensures.placed c.next_notice.ensures.fed
-
 pub notify-requires : goal.notify-requires
 notify-requires g c = slice_get_within c.args.desk.now.trays.items c.args.client c.requires.0 c.requires.1
 
@@ -31,9 +28,8 @@ returns-in-Ok-clause-fed g c =
     let put = c.in-Ok.ensures.tray in
     let P : Place → Type 0 = λ p. FedAt c.args.client c.args.log.now c.args.desk.now.trays.items c.notify.new.self.trays.items p in
     let as_place : ℕ → Option Notice → Place = λ t w. record { entry = place.entry; orders = place.orders; told = t; waiting = w } in
-    subst (λ t. P (as_place t place.waiting)) (sym c.in-Some.ensures.1)
-    (subst (λ w. P (as_place (place.told + 1) w)) (sym next.1)
-    (fed_put c.args.client c.args.log.now c.args.desk.now.trays.items c.args.place.now place c.requires c.next_notice.ensures.placed c.next_notice.ensures.fed notice next.0 put.0 put.1 c.notify.new.self.trays.items put.2 put.3 put.4 put.5))
+    subst (λ w. P (as_place (place.told + 1) w)) (sym next.1)
+    (fed_put c.args.client c.args.log.now c.args.desk.now.trays.items c.args.place.now place c.requires c.next_notice.ensures.placed c.next_notice.ensures.fed notice next.0 put.0 put.1 c.notify.new.self.trays.items put.2 put.3 put.4 put.5)
 
 pub returns-in-Err-clause-idle : goal.returns-in-Err-clause-idle
 returns-in-Err-clause-idle g c quiet =

@@ -5,6 +5,8 @@ use Rattle.cast_box.proofs.Same.{putters_again}
 use Rattle.cast_carrier.proofs.Lists.{read_at}
 use Rattle.cast_engine.proofs.Fed.{fed_at, fed_set}
 use Rattle.cast_engine.proofs.Few.{tells_next}
+use Rattle.cast_engine.proofs.Causes.{told_next}
+use Rattle.std.proofs.lemmas.Option.{slice_get_within}
 use Rattle.cast_engine.proofs.feeding.notify_all.Goals as goal
 
 pub notify-moved-requires : goal.notify-moved-requires
@@ -26,4 +28,10 @@ loop-client-preserved g c =
       next.0,
       next.1,
       λ quiet. let neither = or_parts l.moved c.notify-moved.result quiet in c.notify-moved.ensures.idle neither.1 ∙ l.invariant.6 neither.0,
+      told_next c.args.log.now c.args.desk.now.trays.items l.desk.trays.items c.notify-moved.new.desk.trays.items l.places.items l.client fed.1 c.notify-moved.new.place c.notify-moved.result l.invariant.5 fed.3 l.invariant.7 c.notify-moved.ensures.told,
     )
+
+pub returns-clause-told : goal.returns-clause-told
+returns-clause-told g c k place at =
+    let l = c.loop-client in
+    l.invariant.7 k place (let w = slice_get_within l.places.items k place at in omega (arith, c.loop-client-test.false, c.len-client-end.ensures, l.invariant.3)) at
