@@ -81,9 +81,6 @@ pub ends_kept : (old new : JournalState) (put : List Parcel) (held : Option Parc
 ends_kept old new put held arrived orders k e = let P : JournalState → Type 0 = λ j. KeepsOf j put held arrived orders in subst P (sym e) k
 
 module _ (old new : JournalState) (put : List Parcel) (held : Option Parcel) (arrived : List (ℕ × Parcel)) (orders : List (ℕ × OrderIn)) (k : KeepsOf old put held arrived orders) where
-  me : ℕ
-  me = old.node.me
-
   abbrev steps_now : Steps
   steps_now = steps_in old.config old.node.me (trail_of k.run)
 
