@@ -1,35 +1,39 @@
--- A frame that arrived before, or whose slot was taken or acknowledged before: its target awaits nothing of it.
+-- A frame that arrived before, or whose slot was taken or acknowledged before, or an acknowledgement in basic mode: its target
+-- awaits nothing of it.
 use Rattle.std.proofs.Common.{◌≡◌, ℕ, zero, suc, ◌<◌, refl, sym, ◌∙◌, ap, subst, Bool, true, false, not, cond, ◌&&◌, ◌||◌, List, [], ◌∷◌, ◌++◌, length, Option, Some, None, inl, inr, Result, Ok, Err, true≢false, arith}
-use Rattle.std.specs.Prelude.{◌==◌, nat_lt, slice_get, option_map, if◌then◌else◌, OnErr}
+use Rattle.std.specs.Prelude.{◌==◌, nat_lt, slice_index_or, slice_get, option_map, if◌then◌else◌, OnErr}
 use Rattle.std.specs.List.{list_any}
 use Rattle.std.specs.FinSet as set
-use Rattle.std.proofs.lemmas.Bool.{and_from, and_parts, cases_eq, eq-eqb, eqb-true, lt-ltb, ne_eqb, not-false, or_right}
+use Rattle.std.proofs.lemmas.Bool.{or_left, ltb-true, and_from, and_parts, cases_eq, eq-eqb, eqb-true, lt-ltb, ne_eqb, not-false, or_right}
 use Rattle.cast_message.specs.declared.config.Config.{Config}
+use Rattle.cast_message.specs.declared.config.Mode.TheVariants.{Basic}
 use Rattle.cast_message.specs.declared.event.Event.{Event}
 use Rattle.cast_message.specs.declared.event.Event.TheVariants.{Arrive}
 use Rattle.cast_message.specs.declared.event.Answer.{Answer}
 use Rattle.cast_message.specs.declared.event.StepFault.{StepFault}
 use Rattle.cast_message.specs.declared.event.StepFault.TheVariants.{NoFrame}
+use Rattle.cast_message.specs.declared.message.Item.TheVariants.{Close}
 use Rattle.cast_message.specs.declared.message.Frame.{Frame}
 use Rattle.cast_message.specs.declared.message.FrameBody.{FrameBody}
 use Rattle.cast_message.specs.declared.message.FrameBody.TheVariants.{Carry, Took}
 use Rattle.cast_message.specs.declared.message.Message.{Message}
-use Rattle.cast_model.specs.History.{History, frames, frame_arriving, frame_at, arrivals, has_pair, taken, acked, is_carry_of, is_took_of}
-use Rattle.cast_model.specs.Delivery.{tells_of}
+use Rattle.cast_model.specs.History.{History, first, frames, frame_arriving, frame_at, arrivals, has_pair, taken, acked, is_carry_of, is_took_of}
+use Rattle.cast_model.specs.Delivery.{are_enough, tells_of}
 use Rattle.cast_model.specs.Refusals.{crashed}
 use Rattle.cast_model.specs.Replies.{IsAccepted, IsRefused, causes, causes_of_arrival, fault, answer, reply, reply_by}
-use Rattle.cast_model.specs.Steps.{Arrived, steps_of}
-use Rattle.cast_model.specs.OwnSteps.{own_copies, own_given, own_given_copies, own_knows, own_acked, own_is_ready, message_in, takes}
+use Rattle.cast_model.specs.Steps.{Arrived, Held, held, copy_of, steps_of}
+use Rattle.cast_model.specs.OwnSteps.{own_copies, own_given, own_given_copies, own_knows, own_acked, own_is_ready, own_known_by, own_known_enough, message_in, takes}
 use Rattle.cast_model.proofs.Accepted.{no_cause}
-use Rattle.cast_model.proofs.Members.{Member, here, there, Member-uncons, Member-append_left, Member-append_right, Member-slice_get, Member-list_any, list_any-Member, Contains-Member}
+use Rattle.cast_model.proofs.Members.{Member, here, there, Member-uncons, Member-append_left, Member-append_right, Member-slice_get, Member-filter, Member-get_or, Member-list_any, list_any-Member, Contains-Member}
 use Rattle.cast_model.proofs.Growth.{made, arriving, frames-more, arrivals-more}
-use Rattle.cast_model.proofs.Sound.{sound, HeldAt, BodyOk, CarryOk}
+use Rattle.cast_model.proofs.RoundSpreads.{Member-map}
+use Rattle.cast_model.proofs.Sound.{sound, has_pair-Member, HeldAt, BodyOk, CarryOk}
 use Rattle.cast_model.proofs.Projected.{frames_in-steps_of, held-steps_of}
 use Rattle.cast_model.proofs.OwnHeld.{own_taken-steps_of, own_acked-steps_of}
 use Rattle.cast_model.proofs.OwnReplies.{own_fault-steps_of, frame_ends}
 use Rattle.cast_model.proofs.Agreement.{node_in as node_in_group}
 use Rattle.cast_node.specs.Kept.{Kept, taken_from, knowers_of, is_enough, is_enough_in}
-use Rattle.cast_node.specs.Turns.{came_so, is_turn, is_word_awaited, is_awaited, kept_view, kept_causes, kept_fault}
+use Rattle.cast_node.specs.Turns.{came_so, is_turn, is_turn_with, is_word_awaited, is_awaited, kept_view, kept_causes, kept_fault}
 use Rattle.cast_node.specs.Stands.{Stands as NodeStands}
 use Rattle.cast_node.proofs.HolderSets.{enough-is}
 use Rattle.cast_node.proofs.Refusals.{faults_are}
@@ -97,10 +101,10 @@ heard past from me slot e =
     by_body frame arrived maker (Took place) is same = absurd (true≢false (sym same))
 
 -- of a frame that arrived, the slot was taken, or acknowledged
-again : (past : History) (frame : Frame) (from me : ℕ) → frame.from ≡ from → Member frame (arrivals past me) → (body : FrameBody) → frame.body ≡ body → BringsNoNews past from me body
+again : (config : Config) (past : History) (frame : Frame) (from me : ℕ) → frame.from ≡ from → Member frame (arrivals past me) → (body : FrameBody) → frame.body ≡ body → BringsNoNews config past from me body
 unfolding taken acked
-again past frame from me maker arrived (Carry slot message) body = list_any-Member _ frame (arrivals past me) arrived (and_from _ _ (eq-eqb _ _ maker) (ap (is_carry_of slot) body ∙ eq-eqb slot slot refl))
-again past frame from me maker arrived (Took slot) body = list_any-Member _ frame (arrivals past me) arrived (and_from _ _ (eq-eqb _ _ maker) (ap (is_took_of slot) body ∙ eq-eqb slot slot refl))
+again config past frame from me maker arrived (Carry slot message) body = list_any-Member _ frame (arrivals past me) arrived (and_from _ _ (eq-eqb _ _ maker) (ap (is_carry_of slot) body ∙ eq-eqb slot slot refl))
+again config past frame from me maker arrived (Took slot) body = inl (list_any-Member _ frame (arrivals past me) arrived (and_from _ _ (eq-eqb _ _ maker) (ap (is_took_of slot) body ∙ eq-eqb slot slot refl)))
 
 module _ (config : Config) (past : History) (world : State) (st : Stands config past world) (from me : ℕ)
     (inside : from < config.nodes) (target : me < config.nodes) (apart : from ≡ me → ⊥) where
@@ -129,7 +133,7 @@ module _ (config : Config) (past : History) (world : State) (st : Stands config 
         ∙ or_right _ _ (list_any-Member _ frame (arrivals past me) arrived (and_from _ _ (eq-eqb _ _ maker) (ap (tells_of (own_given_copies me (steps_of past me) from) s i) body ∙ and_from _ _ (eq-eqb s s refl) (eq-eqb i i refl))))
 
     took : set.contains (taken_from kept from) slot ≡ true
-    took = b.taken from slot inside ∙ own_taken-steps_of past me from slot ∙ again past frame from me maker arrived (Carry slot message) body
+    took = b.taken from slot inside ∙ own_taken-steps_of past me from slot ∙ again config past frame from me maker arrived (Carry slot message) body
 
     known : set.contains (knowers_of kept s i) from ≡ true
     known = b.knows s i from sender ∙ and_from _ _ pair (and_from _ _ (lt-ltb from config.nodes inside) told)
@@ -168,8 +172,72 @@ module _ (config : Config) (past : History) (world : State) (st : Stands config 
       ∙ ap (λ number. not (came_so kept from slot came.message.sender number) || is_turn kept came.message.sender number) (ok.number_is ∙ sym other.number_is)
       ∙ carried came.frame came.maker came.arrived slot came.message came.body (node_in_group config past st.accepted came.message.sender (omega (arith, broadcast)))
 
-  not_awaited : (body : FrameBody) → BodyOk past from me body → BringsNoNews past from me body → is_awaited kept from body ≡ false
-  not_awaited (Took slot) ok acknowledged = word slot acknowledged
+  -- in basic mode no message waits for an acknowledgement: one that is held had its turn, or waits for those before it
+  module _ (basic : config.mode ≡ Basic) (slot : ℕ) where
+    abbrev blank : Held
+    blank = record { message = record { sender = 0; number = 0; item = Close }; source = 0 }
+
+    abbrev h : Held
+    h = slice_index_or (own_given me (steps_of past me) from) slot blank
+
+    abbrev owed_sender : ℕ
+    owed_sender = h.message.sender
+
+    abbrev owed_number : ℕ
+    owed_number = h.message.number
+
+    module _ (given : slot < length (own_given me (steps_of past me) from)) where
+      copy_in : Member (copy_of h) (first past me)
+      unfolding own_given
+      copy_in =
+          subst (λ copies. Member (copy_of h) copies) (held-steps_of past me)
+          (Member-map copy_of h (held me (steps_of past me)) (Member-filter (λ (x : Held). not (x.message.sender == from) && not (x.source == from)) h (held me (steps_of past me)) (Member-get_or (own_given me (steps_of past me) from) slot blank given)).0)
+
+      sender_in : owed_sender < config.nodes
+      sender_in =
+          let broadcast = ((sound config past st.accepted).copies_ok me (copy_of h) copy_in).broadcast in
+          node_in_group config past st.accepted owed_sender (omega (arith, broadcast))
+
+      held_there : has_pair (own_copies me (steps_of past me)) owed_sender owed_number ≡ true
+      held_there = ap (λ copies. has_pair copies owed_sender owed_number) (held-steps_of past me) ∙ has_pair-Member (copy_of h) (first past me) copy_in
+
+      knows_itself : own_knows me (steps_of past me) owed_sender owed_number me ≡ true
+      unfolding own_knows
+      knows_itself = or_left _ _ (or_left _ _ (eq-eqb me me refl))
+
+      known_here : set.contains (knowers_of kept owed_sender owed_number) kept.me ≡ true
+      known_here =
+          ap (set.contains (knowers_of kept owed_sender owed_number)) b.same_me
+          ∙ b.knows owed_sender owed_number me sender_in ∙ and_from _ _ held_there (and_from _ _ (lt-ltb me config.nodes target) knows_itself)
+
+      ready_there : own_is_ready config me (steps_of past me) owed_sender owed_number ≡ true
+      unfolding own_is_ready own_known_enough
+      ready_there = and_from _ _ held_there (ap (λ mode. are_enough mode config.faults (own_known_by config me (steps_of past me) owed_sender owed_number)) basic)
+
+      not_next : (enough : Bool) (next : ℕ) → own_is_ready config me (steps_of past me) owed_sender next ≡ false → (enough && owed_number == next) ≡ false
+      not_next false next stops = refl
+      not_next true next stops = elim (cases_eq owed_number next) [
+        | inl same ↦ absurd (true≢false (sym ready_there ∙ ap (own_is_ready config me (steps_of past me) owed_sender) same ∙ stops))
+        | inr other ↦ ne_eqb owed_number next other
+      ]
+
+      no_word : is_word_awaited kept from (Some h.message) ≡ false
+      no_word =
+          ap (λ t. not t || is_turn_with kept owed_sender owed_number (set.insert (knowers_of kept owed_sender owed_number) from)) known_here
+          ∙ not_next (is_enough_in kept.config.mode kept.config.faults (set.insert (knowers_of kept owed_sender owed_number) from)) _ (b.holds_back owed_sender sender_in).stops
+
+    basic_word : is_awaited kept from (Took slot) ≡ false
+    unfolding message_in
+    basic_word = ap (is_word_awaited kept from) ((b.out from inside apart).owed slot) ∙ by_given (nat_lt slot (length (own_given me (steps_of past me) from))) refl (own_acked (steps_of past me) from slot)
+      where
+        by_given : (t : Bool) → nat_lt slot (length (own_given me (steps_of past me) from)) ≡ t → (heard : Bool) → is_word_awaited kept from (if t && not heard then Some (message_in (own_given me (steps_of past me) from) slot) else None) ≡ false
+        by_given false e heard = refl
+        by_given true e true = refl
+        by_given true e false = no_word (ltb-true _ _ e)
+
+  not_awaited : (body : FrameBody) → BodyOk past from me body → BringsNoNews config past from me body → is_awaited kept from body ≡ false
+  not_awaited (Took slot) ok (inl acknowledged) = word slot acknowledged
+  not_awaited (Took slot) ok (inr basic) = basic_word basic slot
   not_awaited (Carry slot message) ok took = alike slot message ok (heard past from me slot took)
 
 module _ (config : Config) (past : History) (world : State) (st : Stands config past world) (from seq : ℕ) where
@@ -182,7 +250,7 @@ module _ (config : Config) (past : History) (world : State) (st : Stands config 
       not-false _ (no_cause (crashed (kept_view kept)) (kept_causes kept (Arrived frame)) none here)
 
   -- nothing is awaited of it, so that a refusal is for its cause
-  sure : (frame : Frame) → slice_get (frames past from) seq ≡ Some frame → BringsNoNews past from frame.to frame.body → IsAwaited world from seq → fault config past (Arrive from seq) ≡ None → ⊥
+  sure : (frame : Frame) → slice_get (frames past from) seq ≡ Some frame → BringsNoNews config past from frame.to frame.body → IsAwaited world from seq → fault config past (Arrive from seq) ≡ None → ⊥
   sure frame at nothing awaited fine =
       let member = Member-slice_get (frames past from) seq frame at in
       let ends = frame_ends config past st.accepted from frame member in
@@ -198,15 +266,15 @@ module _ (config : Config) (past : History) (world : State) (st : Stands config 
       to_of to (Took slot) = refl
 
   -- an arrival that happened before, and one that brings nothing
-  old : TakesNoMemory past (Arrive from seq) → IsAwaited world from seq → fault config past (Arrive from seq) ≡ None → ⊥
+  old : TakesNoMemory config past (Arrive from seq) → IsAwaited world from seq → fault config past (Arrive from seq) ≡ None → ⊥
   old (inl before) awaited fine =
       let c = came config past st.accepted from seq (Contains-Member (Arrive from seq) past before) in
       let maker = ((sound config past st.accepted).frames_ok from c.frame (Member-slice_get (frames past from) seq c.frame c.at)).from_is in
-      sure c.frame c.at (again past c.frame from c.frame.to maker c.arrived c.frame.body refl) awaited fine
+      sure c.frame c.at (again config past c.frame from c.frame.to maker c.arrived c.frame.body refl) awaited fine
   old (inr brings) awaited fine = sure brings.0 brings.1 brings.2 awaited fine
 
   -- it is answered as the definitions say
-  pub answered_again : TakesNoMemory past (Arrive from seq) → (given : Result Answer StepFault) (new : State) → OnErr given (IsAwaited world from seq) → Continues config past (Arrive from seq) given new → given ≡ reply config past (Arrive from seq)
+  pub answered_again : TakesNoMemory config past (Arrive from seq) → (given : Result Answer StepFault) (new : State) → OnErr given (IsAwaited world from seq) → Continues config past (Arrive from seq) given new → given ≡ reply config past (Arrive from seq)
   unfolding reply
   answered_again no_memory (Ok answered) new awaited goes_on = sym goes_on.0
   answered_again no_memory (Err refusal) new awaited goes_on = by_cause (fault config past (Arrive from seq)) refl goes_on.0

@@ -49,7 +49,7 @@ module _ (config : Config) (past : History) where
       stands = subst (λ h. Stands config h new) (sym (with_all-append past past taking.front (event ∷ []))) on.1;
     }
 
-    pub taking_stops : (refusal : StepFault) → Continues config (with_all past taking.front) event (Err refusal) new → (TakesNoMemory (with_all past taking.front) event → Err refusal ≡ reply config (with_all past taking.front) event) → Stops config past events refusal new
+    pub taking_stops : (refusal : StepFault) → Continues config (with_all past taking.front) event (Err refusal) new → (TakesNoMemory config (with_all past taking.front) event → Err refusal ≡ reply config (with_all past taking.front) event) → Stops config past events refusal new
     taking_stops refusal on sure =
         let now_is = sym (history_from-with_all config past taking.front taking.stands.accepted) in
         record {
@@ -59,7 +59,7 @@ module _ (config : Config) (past : History) where
           split = taking.split;
           accepted = all_accepted config past taking.front taking.stands.accepted;
           refused = subst (λ h. IsRefused (fault config h event) refusal) now_is on.0;
-          sure = subst (λ h. TakesNoMemory h event → fault config h event ≡ Some refusal) now_is (λ none. caused config (with_all past taking.front) event refusal (sure none));
+          sure = subst (λ h. TakesNoMemory config h event → fault config h event ≡ Some refusal) now_is (λ none. caused config (with_all past taking.front) event refusal (sure none));
           stands = subst (λ h. Stands config h new) now_is on.1;
         }
 
@@ -147,11 +147,11 @@ module _ (config : Config) (past : History) where
             cause = stops_for (history_from config past whole) stop.event later refusal
                 (subst (λ h. (fault config h stop.event ≡ None) ⊎ (fault config h stop.event ≡ Some FramesFull)) (sym (history_from-with_all config past whole whole_accepted)) (plan_fault config past whole stop.event later split whole_accepted))
                 (subst (λ h. IsRefused (fault config h stop.event) refusal) now_is stop.refused)
-                (subst (λ h. TakesNoMemory h stop.event → fault config h stop.event ≡ Some refusal) now_is stop.sure);
+                (subst (λ h. TakesNoMemory config h stop.event → fault config h stop.event ≡ Some refusal) now_is stop.sure);
             stands = subst (λ h. Stands config h new) now_is stop.stands;
           }
         where
-          stops_for : (h : History) (event : Event) (later : List Event) (refusal : StepFault) → (fault config h event ≡ None) ⊎ (fault config h event ≡ Some FramesFull) → IsRefused (fault config h event) refusal → (TakesNoMemory h event → fault config h event ≡ Some refusal) → StopsFor config h (event ∷ later) refusal
+          stops_for : (h : History) (event : Event) (later : List Event) (refusal : StepFault) → (fault config h event ≡ None) ⊎ (fault config h event ≡ Some FramesFull) → IsRefused (fault config h event) refusal → (TakesNoMemory config h event → fault config h event ≡ Some refusal) → StopsFor config h (event ∷ later) refusal
           stops_for h event later refusal (inl none) refused sure = subst (StopsFor config h (event ∷ later)) (sym (subst (λ o. IsRefused o refusal) none refused)) (none, λ takes. uncaused refusal (sym none ∙ sure takes))
           stops_for h event later refusal (inr full) refused sure = subst (StopsFor config h (event ∷ later)) (sym (subst (λ o. IsRefused o refusal) full refused)) full
 

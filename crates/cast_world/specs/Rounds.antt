@@ -28,7 +28,7 @@ pub record Stops (config : Config) (past : History) (events : List Event)
   pub split : events ≡ front ++ event ∷ rest
   pub accepted : AreAccepted config past front
   pub refused : IsRefused (fault config (history_from config past front) event) refusal
-  pub sure : TakesNoMemory (history_from config past front) event →
+  pub sure : TakesNoMemory config (history_from config past front) event →
       fault config (history_from config past front) event ≡ Some refusal
   pub stands : Stands config (history_from config past front) world
 
@@ -42,7 +42,7 @@ TakesAll config past events (Err refusal) world = Stops config past events refus
 abbrev pub StopsFor : Config → History → List Event → StepFault → Type 0
 StopsFor config now (event ∷ rest) FramesFull = fault config now event ≡ Some FramesFull
 StopsFor config now (event ∷ rest) Memory =
-    (fault config now event ≡ None) × (TakesNoMemory now event → ⊥)
+    (fault config now event ≡ None) × (TakesNoMemory config now event → ⊥)
 StopsFor config now rest refusal = ⊥
 
 pub record StopsRound (config : Config) (past : History) (refusal : StepFault) (world : State)

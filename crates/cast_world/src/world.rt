@@ -78,10 +78,10 @@ impl World {
         ensures far { StandingFor self.old (λ config past.
             IsFar event.now → IsRefusedForCause config past event.now result) }
 
-        // Neither a crash takes memory nor the arrival of a frame that arrived before, or of one whose slot was taken, or
-        // acknowledged, before.
+        // Neither a crash takes memory nor the arrival of a frame that arrived before, of one whose slot was taken, or
+        // acknowledged, before, or, in basic mode, of an acknowledgement.
         ensures sure { StandingFor self.old (λ config past.
-            TakesNoMemory past event.now → result ≡ reply config past event.now) }
+            TakesNoMemory config past event.now → result ≡ reply config past event.now) }
 
         // An arrival wants memory only where its target awaits the frame: for a message that did not come so before, or one whose
         // turn comes by it.

@@ -38,13 +38,13 @@ pub returns-in-Crash-clause-far : goal.returns-in-Crash-clause-far
 returns-in-Crash-clause-far c config past st far = refused_far config past st.accepted c.args.event.now c.crash.result c.crash.new.self far (returns-in-Crash-clause-stands c config past st)
 
 pub returns-in-Order-clause-sure : goal.returns-in-Order-clause-sure
-returns-in-Order-clause-sure c config past st none = absurd (subst (TakesNoMemory past) c.in-Order.is none)
+returns-in-Order-clause-sure c config past st none = absurd (subst (TakesNoMemory config past) c.in-Order.is none)
 
 pub returns-in-Send-clause-sure : goal.returns-in-Send-clause-sure
-returns-in-Send-clause-sure c config past st none = absurd (subst (TakesNoMemory past) c.in-Send.is none)
+returns-in-Send-clause-sure c config past st none = absurd (subst (TakesNoMemory config past) c.in-Send.is none)
 
 pub returns-in-Ack-clause-sure : goal.returns-in-Ack-clause-sure
-returns-in-Ack-clause-sure c config past st none = absurd (subst (TakesNoMemory past) c.in-Ack.is none)
+returns-in-Ack-clause-sure c config past st none = absurd (subst (TakesNoMemory config past) c.in-Ack.is none)
 
 pub returns-in-Arrive-clause-sure : goal.returns-in-Arrive-clause-sure
 returns-in-Arrive-clause-sure c config past st =
