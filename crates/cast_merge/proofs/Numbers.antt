@@ -22,6 +22,7 @@ use Rattle.cast_node.specs.Stands.{Stands as NodeStands}
 use Rattle.cast_desk.specs.declared.notice.Notice.TheVariants.{Reply, Delivered, Decided}
 use Rattle.cast_desk.specs.Feed.{feed_from, told_by, reply_of, news_of, orders_in}
 use Rattle.cast_report.specs.Linked.{Trail, Taken, event_of, taken, taken_of, taken_in, taken_by, steps_in, AreTaken}
+use Rattle.cast_report.proofs.Logging.{get_left}
 use Rattle.cast_merge.specs.Told.{HasOrdered, TellsNumbers}
 
 -- ---- the items that steps order, in order
@@ -75,11 +76,6 @@ at_either : {A : Type 0} (xs ys : List A) (i : ℕ) (x : A) → slice_get (xs ++
 at_either [] ys i x at = inr (i, at)
 at_either (y ∷ xs) ys zero x at = inl at
 at_either (y ∷ xs) ys (suc i) x at = at_either xs ys i x at
-
-at_front : {A : Type 0} (xs ys : List A) (i : ℕ) (x : A) → slice_get xs i ≡ Some x → slice_get (xs ++ ys) i ≡ Some x
-at_front [] ys i x at = absurd cc
-at_front (y ∷ xs) ys zero x at = at
-at_front (y ∷ xs) ys (suc i) x at = at_front xs ys i x at
 
 no_reply_delivered : (messages : List Message) (decisions : List Decision) (i ticket : ℕ) (outcome : Result ℕ StepFault)
     → slice_get (map Delivered messages ++ map Decided decisions) i ≡ Some (Reply ticket outcome) → ⊥
@@ -194,7 +190,7 @@ module _ (client : ℕ) where
 pub tells_numbers : TellsNumbers
 tells_numbers config past world p client got stands has i ticket number at =
     let is = has.tells in
-    let there = subst (λ all. slice_get all i ≡ Some (Reply ticket (Ok number))) (sym has.begins.1) (at_front got has.begins.0 i (Reply ticket (Ok number)) at) in
+    let there = subst (λ all. slice_get all i ≡ Some (Reply ticket (Ok number))) (sym has.begins.1) (get_left got has.begins.0 i (Reply ticket (Ok number)) at) in
     let it = numbered client 0 has.report.log i ticket number there in
     let node = subst (NodeStands config p (steps_of past p)) has.same (stands.nodes p is.stands.place) in
     let all = ap items_in is.tells ∙ items_taken config p has.trail is.accepted ∙ sym is.stands.stream ∙ node.stream ∙ own_items-steps_of past p in

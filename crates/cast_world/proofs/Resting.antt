@@ -1,5 +1,5 @@
 -- What holds at rest, and how rest is found.
-use Rattle.std.proofs.Common.{◌≡◌, ℕ, ◌<◌, refl, sym, ◌∙◌, ap, subst, Bool, true, List, [], ◌∷◌, length, Option, Some, None, false, true≢false, arith}
+use Rattle.std.proofs.Common.{◌≡◌, ℕ, ◌<◌, sym, ◌∙◌, ap, subst, Bool, true, length, Option, Some, None, false, true≢false, arith}
 use Rattle.std.specs.Prelude.{◌≢◌, ◌↔◌, is_some, nat_lt, not, ◌&&◌}
 use Rattle.std.specs.FinMap as finite
 use Rattle.std.specs.FinMap.{empty_of_len, len-empty}
@@ -8,6 +8,7 @@ use Rattle.std.specs.FinSet.{contains-remove}
 use Rattle.std.specs.Cmp.{nat_cmp_total}
 use Rattle.std.proofs.lemmas.Bool.Decides.{nat_tests}
 use Rattle.std.specs.Ordering.{nat_cmp, eq_by_cmp}
+use Rattle.std.proofs.lemmas.List.{nil_from_length}
 use Rattle.cast_message.specs.declared.config.Config.{Config}
 use Rattle.cast_message.specs.declared.config.Mode.TheVariants.{Uniform}
 use Rattle.cast_message.specs.declared.message.Message.{Message}
@@ -35,10 +36,6 @@ module _ (config : Config) (past : History) (accepted : IsAccepted config past) 
   pub have_all : config.mode ≡ Uniform → HaveFewCrashed config past → HaveWhatAnyDelivered config past
   have_all uniform few p q s live = all_have_it config past accepted rest uniform few p live.in_group live.alive q s
 
-no_length : (slots : List ℕ) → length slots ≡ 0 → slots ≡ []
-no_length [] e = refl
-no_length (slot ∷ slots) e = absurd (omega (arith, e))
-
 -- a live node is settled with all where it owes none of the other live ones
 module _ (config : Config) (past : History) (world : State) (st : Stands config past world) (p : ℕ) (l : p < length world.nodes) where
   within : p < config.nodes
@@ -55,7 +52,7 @@ module _ (config : Config) (past : History) (world : State) (st : Stands config 
 
       settled : OwesNoneOf (node_at world p).outgoing others → IsSettledWithAll config past p
       settled none q m live_p live_q apart =
-          no_length (owed past p q)
+          nil_from_length (owed past p q)
           (sym (owed_shown config past world st p q within m (λ e. apart (sym e)))
           ∙ ap finite.len (none q (other q ∙ in_others (length world.nodes) (node_at world q).live (subst (λ n. q < n) (sym st.size) m) (live_shown config past world st q m ∙ live_q) (λ e. apart (sym e))))
           ∙ len-empty nat_cmp Message)

@@ -16,6 +16,7 @@ use Rattle.cast_message.specs.declared.message.FrameKind.{FrameKind}
 use Rattle.cast_message.specs.declared.message.FrameKind.TheVariants as kinds
 use Rattle.cast_model.specs.Refusals.{Cause, no_node, first_fault}
 use Rattle.cast_model.specs.Steps.{Step, Ordered, Sent, Acknowledged, Arrived, Stopped, making}
+use Rattle.cast_model.proofs.OwnTurns.{length-map}
 use Rattle.std.specs.FinMap as finite
 use Rattle.cast_relay.specs.Held.{holds}
 use Rattle.cast_node.specs.Kept.{Kept, nothing_kept, link_to, is_enough}
@@ -185,13 +186,9 @@ module _ {A : Type 0} (items : A → List Mark) (config : Config) (nodes : List 
     pub rows_more : (frame : Mark) → p < length rows → items v ≡ items before ++ frame ∷ [] → map items (slice_set rows p v) ≡ marks_after (map items rows) p (frame ∷ [])
     rows_more frame within more = map-set items rows p v ∙ ap (slice_set (map items rows) p) (more ∙ ap (λ row. row ++ frame ∷ []) (ap items found ∙ sym (get_or-map items rows p before [] within)))
 
-  length-rows : (xs : List A) → length (map items xs) ≡ length xs
-  length-rows [] = refl
-  length-rows (x ∷ xs) = ap suc (length-rows xs)
-
   module _ (sound : IsSound (record { config = config; nodes = nodes; marks = map items rows })) (p : ℕ) (within : p < length nodes) (kept new : Kept) (found : kept ≡ get_or nodes p kept) (step : Step) (before : A) (row_found : before ≡ get_or rows p before) (v : A) (frame : Kept → Mark) where
     in_rows : p < length rows
-    in_rows = let a = sound.size in let b = sound.rows in let c = length-rows rows in omega (arith, within, a, b, c)
+    in_rows = let a = sound.size in let b = sound.rows in let c = length-map items rows in omega (arith, within, a, b, c)
 
     at : kept ≡ node_at (record { config = config; nodes = nodes; marks = map items rows }) p
     at = found_at (record { config = config; nodes = nodes; marks = map items rows }) p kept within found

@@ -28,6 +28,7 @@ use Rattle.cast_model.proofs.Dues.{none_from_absent}
 use Rattle.cast_model.proofs.OwnHeld.{steps_after}
 use Rattle.cast_model.proofs.OwnReplies.{own_fault-steps_of, own_frames-steps_of, frame_ends}
 use Rattle.cast_model.proofs.Possible.{node_reply-steps_of, node_after-steps_of}
+use Rattle.cast_model.proofs.RoundFaults.{quiet}
 use Rattle.cast_node.specs.Kept.{Kept, nothing_kept}
 use Rattle.cast_node.specs.Turns.{kept_after, kept_fault}
 use Rattle.cast_node.specs.Stands.{Stands as NodeStands}
@@ -174,10 +175,6 @@ module _ (config : Config) (past : History) (world : State) (st : Stands config 
   unfolding first_fault
   first_holds cause more e = ap (λ b. cond b (Some cause.refusal) (first_fault more)) e
 
-  first_not : (cause : Cause) (more : List Cause) → cause.holds ≡ false → first_fault (cause ∷ more) ≡ first_fault more
-  unfolding first_fault
-  first_not cause more e = ap (λ b. cond b (Some cause.refusal) (first_fault more)) e
-
   -- the mark of a frame in its place
   pub mark_at : (all : List Frame) (seq : ℕ) → slice_get (map mark_of all) seq ≡ option_map mark_of (slice_get all seq)
   mark_at [] seq = refl
@@ -208,7 +205,7 @@ module _ (config : Config) (past : History) (world : State) (st : Stands config 
       by_place : (from < config.nodes) ⊎ (config.nodes ≤ from) → IsRefused (fault config past (Arrive from seq)) refusal
       by_place (inl l) =
           let e : nat_lt from config.nodes ≡ true = grind (arith, nat_tests) in
-          subst (λ o. IsRefused o refusal) (sym (first_not (no_node config from) (causes_of_arrival config past (slice_get (frames past from) seq)) (ap not e) ∙ ap (λ o. first_fault (causes_of_arrival config past o)) at ∙ first_holds (record { holds = true; refusal = NoFrame }) [] refl)) (is_missed true e)
+          subst (λ o. IsRefused o refusal) (sym (quiet (no_node config from) (causes_of_arrival config past (slice_get (frames past from) seq)) (ap not e) ∙ ap (λ o. first_fault (causes_of_arrival config past o)) at ∙ first_holds (record { holds = true; refusal = NoFrame }) [] refl)) (is_missed true e)
       by_place (inr l) =
           let e : nat_lt from config.nodes ≡ false = grind (arith, nat_tests) in
           subst (λ o. IsRefused o refusal) (sym (first_holds (no_node config from) (causes_of_arrival config past (slice_get (frames past from) seq)) (ap not e))) (is_missed false e)
