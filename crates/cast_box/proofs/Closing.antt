@@ -71,12 +71,6 @@ module _ {T : Type 0} where
       → AreAllEnds all t → all ≡ seen ++ p ∷ rest → (p.home ≡ t.home) × (p.number ≡ length seen)
   next_end all t seen p rest ends e = ends.1 (length seen) p (ap (λ l. slice_get l (length seen)) e ∙ get_middle seen p rest)
 
-  -- no more is left than the box has places
-  pub room_left : (r : Option (ℕ × T)) (v w : Known T)
-      → MatchOption r ((w ≡ v) × Held 0 (ShowsAll v)) (λ m. Closes v m w) → length (left_from r w.left) ≤ v.size
-  room_left None v w h = omega arith
-  room_left (Some m) v w h = h.2
-
   -- where the box holds nothing, all was taken of the putters that have ended
   pub taken_of_ended : (v : Known T) → Held 0 (ShowsEnded v) → HasTakenOfEnded v.ended v.taken
   taken_of_ended v h a lt =
