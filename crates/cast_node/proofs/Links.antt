@@ -67,9 +67,6 @@ one_place p n e =
     ∙ length-append (filter p (range_with_len 0 n)) (filter p ((0 + n) ∷ []))
     ∙ ap (λ b. length (filter p (range_with_len 0 n)) + length (cond b ((0 + n) ∷ []) [])) (ap p (let z : 0 + n ≡ n = omega arith in z) ∙ e)
 
-filter_alike : (p t : ℕ → Bool) (xs : List ℕ) → ((k : ℕ) → p k ≡ t k) → filter p xs ≡ filter t xs
-filter_alike p t xs h = λ i. filter (λ k. h k i) xs
-
 module _ (me : ℕ) (steps : Steps) (step : Step) (q : ℕ) where
   abbrev slot_owed : ℕ → Bool
   slot_owed slot = not (own_acked steps q slot)

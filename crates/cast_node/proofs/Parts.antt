@@ -1,5 +1,5 @@
 -- Lists by sender, and rows in them.
-use Rattle.std.specs.Prelude.{◌≡◌, ℕ, zero, suc, ◌+◌, ◌<◌, true, List, [], ◌∷◌, ◌++◌, length, take, map, replicate, slice_set, slice_index_or, Result, Ok, Err, OnErr, refl}
+use Rattle.std.specs.Prelude.{◌≡◌, ℕ, zero, suc, ◌<◌, true, List, [], ◌∷◌, ◌++◌, length, take, map, replicate, slice_set, slice_index_or, Result, Ok, Err, OnErr, refl}
 use Rattle.std.specs.Result.{is_err}
 use Rattle.std.proofs.Common.{sym, ap, ◌∙◌, arith, drop, true≢false}
 use Rattle.cast_fifo.specs.Held.{Held as HeldBack, held_of}
@@ -32,12 +32,6 @@ module _ {X Y : Type 0} where
   same_rows f [] i r x l e g = absurd (omega (arith, l))
   same_rows f (y ∷ xs) zero r x l e g = ap (λ z. z ∷ map f xs) (g ∙ ap f e)
   same_rows f (y ∷ xs) (suc i) r x l e g = ap (λ ys. f y ∷ ys) (same_rows f xs i r x (omega (arith, l)) e g)
-
-module _ {X : Type 0} where
-  pub set_back : (xs : List X) (i : ℕ) (v d : X) → v ≡ slice_index_or xs i d → slice_set xs i v ≡ xs
-  set_back [] i v d e = refl
-  set_back (x ∷ xs) zero v d e = ap (λ y. y ∷ xs) e
-  set_back (x ∷ xs) (suc i) v d e = ap (λ ys. x ∷ ys) (set_back xs i v d e)
 
 -- a row is replaced by one that shows the same, and then changed
 pub changed_rows : {X Y : Type 0} (f : X → Y) (g : Y → Y) (xs : List X) (place s : ℕ) (r x y : X) (d : Y) → place ≡ s → place < length xs → r ≡ slice_index_or xs place r → f x ≡ f r → f y ≡ g (f x) → map f (slice_set xs place y) ≡ slice_set (map f xs) s (g (slice_index_or (map f xs) s d))

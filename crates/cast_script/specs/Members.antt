@@ -2,7 +2,7 @@
 --     has_known_members d     d is an object, and has no other members than a script's
 --     settings_of d           what the members say that aren't lists
 --     list_of name d          the values in the list of this name, which is empty where it is absent
-use Rattle.std.specs.Prelude.{ℕ, List, [], codes, ◌||◌, ◌&&◌, Bool, true, false, if◌then◌else◌, Option, Some, None, option_and_then}
+use Rattle.std.specs.Prelude.{ℕ, List, [], codes, ◌||◌, ◌&&◌, Bool, true, false, Option, Some, None, option_and_then}
 use Rattle.std.specs.Str.{bytes_eq}
 use Rattle.serde_json.specs.Data.{Data, Members, no_members, member}
 use Rattle.serde_json.specs.Find.{get, as_object, as_str}

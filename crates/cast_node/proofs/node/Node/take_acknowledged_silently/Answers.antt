@@ -1,5 +1,4 @@
 use Rattle.std.proofs.Common.{◌∙◌, ap, sym, arith, rules}
-use Rattle.std.specs.FinSet as set
 use Rattle.std.specs.Option.{option_copied}
 use Rattle.cast_node.specs.Kept.{Kept}
 use Rattle.cast_node.specs.Outgoing.{links_of}
