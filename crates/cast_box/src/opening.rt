@@ -59,10 +59,7 @@ pub fn make_box<T: Drop>(
 }
 
 // A box of one putter.
-fn open_sole<T: Drop>(
-    alloc: Global,
-    size: usize,
-) -> Result<(Vec<Putter<T>>, Taker<T>), AllocError>
+fn open_sole<T: Drop>(alloc: Global, size: usize) -> Result<(Vec<Putter<T>>, Taker<T>), AllocError>
     ensures { IfOk result (λ ends. AreAllEnds ends.0.items ends.1 × AreNew ends.0.items ends.1
         × (ends.1.size ≡ size) × (ends.1.putters ≡ 1)) }
 {

@@ -36,7 +36,6 @@ knows_more config me step steps accepted s i r =
     (λ k. (r == me || r == s) || all k)
     ∙ or_assoc (r == me || r == s) (told_by me steps s i r (frames_in steps)) (told_by me steps s i r (frame_of step))
   where
-
     same : (frame : Frame) → (frame.from ≡ r → GivenTo me steps r frame.body) → (frame.from == r && tells_of (own_given_copies me (step ∷ steps) r) s i frame.body) ≡ (frame.from == r && tells_of (own_given_copies me steps r) s i frame.body)
     same frame given = and_alike (frame.from == r) _ _ (λ e. tells_same config me step steps accepted r s i frame.body (given (eqb-true frame.from r e)))
 
