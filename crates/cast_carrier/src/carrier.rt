@@ -8,7 +8,7 @@ ghost use Rattle.cast_carrier.specs.Carriers.{IsSameCarrier, CarriesOne, AreUnus
 use crate::board::Board;
 use crate::fate::{Fate, Ordinals, fate_of};
 use crate::parcel::Parcel;
-use crate::waiting::Waiting;
+use crate::waiting::{Pause, SHORT_NAP, Waiting};
 use cast_box::{Putter, Taker};
 use cast_message::NodeId;
 use cast_script::Fault;
@@ -16,8 +16,11 @@ use std::alloc::{AllocError, Global};
 use std::marker::Model;
 use std::sync::Wait;
 
-// So often in succession a carrier that finds nothing gives up the processor.
-const PATIENCE: u64 = 8;
+// A carrier that finds nothing sleeps soon: its engine has put nothing, and what it puts can wait for so long.
+const PAUSE: Pause = Pause {
+    patience: 8,
+    nap: SHORT_NAP,
+};
 
 /// A parcel that is kept until so many more frames were taken for its target.
 #[derive(Drop)]
@@ -118,7 +121,7 @@ impl Carrier {
 pub fn run_carrier<R: Wait>(rt: &R, mut carrier: Carrier, board: &Board, node: usize) -> Carrier
     ensures { IsSameCarrier carrier result }
 {
-    let mut waiting = Waiting::new(PATIENCE);
+    let mut waiting = Waiting::new();
     for _ in rt.forever() {
         let last = board.has_ended(node);
         if carrier.carry(rt) {
@@ -128,7 +131,7 @@ pub fn run_carrier<R: Wait>(rt: &R, mut carrier: Carrier, board: &Board, node: u
         if last {
             break;
         }
-        waiting.wait(rt);
+        waiting.wait(rt, PAUSE);
     }
     board.settle(node);
     carrier

@@ -14,4 +14,4 @@ pub use board::{Board, QuietWord};
 pub use carrier::{Carrier, run_carrier};
 pub use parcel::Parcel;
 pub use plan::{crash_of, faults_from, is_planned};
-pub use waiting::Waiting;
+pub use waiting::{Pause, SHORT_NAP, Waiting};

@@ -8,24 +8,30 @@ use std::thread;
 use std::thread::Parker;
 use std::time::Duration;
 
-// How long a sleep is, in microseconds, to which the system adds some fifty.
-const NAP: u64 = 20;
+/// How a thread waits: so many times in succession it gives up the processor, and then it sleeps, for so many microseconds at a
+/// time, to which the system adds some fifty.
+#[derive(Clone, Copy)]
+pub struct Pause {
+    pub patience: u64,
+    pub nap: u64,
+}
 
-/// How a thread waits: so many times in succession it gives up the processor, and then it sleeps, for a moment at a time.
+/// The shortest sleep that is of use, in microseconds.
+pub const SHORT_NAP: u64 = 20;
+
+/// A thread that has nothing to do at times.
 #[derive(Drop)]
 pub struct Waiting {
     parker: Parker,
-    patience: u64,
     // How often in succession there was nothing to do.
     waits: u64,
 }
 
 impl Waiting {
-    /// A thread that sleeps once it has waited so often.
-    pub fn new(patience: u64) -> Waiting {
+    /// A thread that had something to do.
+    pub fn new() -> Waiting {
         Waiting {
             parker: Parker::new(),
-            patience,
             waits: 0,
         }
     }
@@ -36,12 +42,13 @@ impl Waiting {
     }
 
     /// Lets others run, as there was nothing to do.
-    pub fn wait<R: Wait>(&mut self, rt: &R) {
-        if self.waits < self.patience {
+    pub fn wait<R: Wait>(&mut self, rt: &R, pause: Pause) {
+        if self.waits < pause.patience {
             self.waits += 1;
             thread::yield_now();
         } else {
-            self.parker.park_timeout(rt, Duration::from_micros(NAP));
+            self.parker
+                .park_timeout(rt, Duration::from_micros(pause.nap));
         }
     }
 }

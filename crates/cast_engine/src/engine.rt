@@ -8,7 +8,7 @@ use crate::feeding::{Place, first_places, notify_all};
 use crate::gate::Gate;
 use crate::journal::Journal;
 use crate::quiet::Quiet;
-use crate::resend::{LAST_SENT, Resend};
+use crate::resend::Resend;
 use cast_box::{Full, Putter, Taker};
 use cast_carrier::{Board, Parcel, Waiting};
 use cast_desk::{Desk, OrderIn};
@@ -18,11 +18,6 @@ use cast_report::EngineEnd;
 use std::alloc::{AllocError, Global};
 use std::marker::Model;
 use std::sync::Wait;
-
-// So often in succession an engine that finds nothing to do gives up the processor. What it owes it sends again in less, so
-// after so many turns nothing is owed but to engines that have ended, or the outbox stays full or memory is wanting, and it waits
-// for others alone.
-const PATIENCE: u64 = 2 * LAST_SENT as u64;
 
 /// What came of a turn.
 #[derive(Clone, Copy)]
@@ -484,7 +479,7 @@ pub fn run_engine<G: Gate + Drop, R: Wait>(
 ) -> Engine
     ensures { IsSameEngine engine result }
 {
-    let mut waiting = Waiting::new(PATIENCE);
+    let mut waiting = Waiting::new();
     let mut all_quiet = false;
     for _ in rt.forever() {
         if board.is_abandoned() {
@@ -492,7 +487,7 @@ pub fn run_engine<G: Gate + Drop, R: Wait>(
         }
         match engine.turn(rt, &mut gate, board, &mut quiet) {
             Turn::Moved => waiting.found(),
-            Turn::Idle => waiting.wait(rt),
+            Turn::Idle => waiting.wait(rt, engine.resend.pause()),
             Turn::Stopped => {
                 all_quiet = true;
                 break;

@@ -18,6 +18,40 @@ fn box_of_one(rt: HostRuntime) -> Result<(), Fail> {
     Ok(())
 }
 
+// A box of one putter is a ring, which hands out what is left by the same numbers.
+#[test]
+fn box_of_one_putter(rt: HostRuntime) -> Result<(), Fail> {
+    let (mut putters, mut taker) = make_box::<u64>(rt.alloc(), 2, 1)?;
+    assert!(&rt; taker.take(&rt) == None);
+    assert!(&rt; putters[0].put(&rt, 10).is_ok());
+    assert!(&rt; putters[0].put(&rt, 20).is_ok());
+    assert!(&rt; putters[0].put(&rt, 30).map_err(|full| full.item) == Err(30));
+    assert!(&rt; taker.take(&rt) == Some(10));
+    assert!(&rt; putters[0].put(&rt, 30).is_ok());
+    let mut gathered = gather(&rt, putters, taker);
+    assert!(&rt; gathered.next_left(&rt) == Some((0, 20)));
+    assert!(&rt; gathered.next_left(&rt) == Some((0, 30)));
+    assert!(&rt; gathered.next_left(&rt) == None);
+    Ok(())
+}
+
+// Once its only putter has ended a box can be taken from still.
+#[test]
+fn taken_after_the_end(rt: HostRuntime) -> Result<(), Fail> {
+    let (mut putters, mut taker) = make_box::<u64>(rt.alloc(), 4096, 1)?;
+    let Some(mut putter) = putters.pop() else {
+        return Err(Fail::new("no putter"));
+    };
+    assert!(&rt; putter.put(&rt, 10).is_ok());
+    assert!(&rt; putter.put(&rt, 20).is_ok());
+    taker.end(putter);
+    assert!(&rt; taker.take(&rt) == Some(10));
+    assert!(&rt; taker.take(&rt) == Some(20));
+    assert!(&rt; taker.take(&rt) == None);
+    assert!(&rt; taker.gather(&rt).next_left(&rt) == None);
+    Ok(())
+}
+
 /// Sizes and numbers of putters that no box has, and what is told of them.
 const REFUSED: &[(u64, u64, BoxFault)] = &[
     (0, 1, BoxFault::Size),
@@ -38,17 +72,19 @@ fn box_limits(rt: HostRuntime) -> Result<(), Fail> {
 }
 
 #[test]
-fn two_threads_put_and_a_third_takes(rt: HostRuntime) -> Result<(), Fail> {
-    for _round in 0..50u64 {
-        let (mut all, mut gathered) = exchange(rt, rt.alloc(), 4, 2, 1000, 1997)?;
-        assert!(&rt; all.len() == 1997);
+fn threads_put_and_another_takes(rt: HostRuntime) -> Result<(), Fail> {
+    for round in 0..100u64 {
+        let putters = 1 + round % 2;
+        let put = putters * 1000;
+        let (mut all, mut gathered) = exchange(rt, rt.alloc(), 4, putters, 1000, put as usize - 3)?;
+        assert!(&rt; all.len() as u64 == put - 3);
         for _ in 0..4 {
             if let Some((_, item)) = gathered.next_left(&rt) {
                 all.push(item)?;
             }
         }
-        assert!(&rt; all.len() == 2000);
-        for putter in 0..2u64 {
+        assert!(&rt; all.len() as u64 == put);
+        for putter in 0..putters {
             let own = all.iter().filter(|item| **item / 1000 == putter);
             let mut next = putter * 1000;
             for item in own {

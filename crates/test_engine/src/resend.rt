@@ -1,4 +1,4 @@
-//! Which slots are sent in which turn.
+//! Which slots are sent in which turn, and how an engine waits that sends again too soon.
 use cast_carrier::Board;
 use cast_engine::Resend;
 use cast_message::{Config, Frame, FrameBody, Item, Message, Mode, NodeId, StepFault};
@@ -193,4 +193,80 @@ fn a_slot_that_is_given_later_is_sent(rt: HostRuntime) -> Result<(), Fail> {
 fn a_message_that_came_is_passed_on(rt: HostRuntime) -> Result<(), Fail> {
     let news = [(1, News::Carried), (2, News::Carried)];
     expect_sent(&rt, (3, 64, 0), &news, 4, &[(1, 2, 0)])
+}
+
+// Node 1 tells so often that it took this slot.
+fn hear_of(node: &mut Node, resend: &mut Resend, slot: u64, times: u64) -> Result<(), StepFault> {
+    let frame = frame_of(1, FrameBody::Took { slot });
+    for _ in 0..times {
+        resend.meet(node, &frame);
+        bring(node, &frame)?;
+    }
+    Ok(())
+}
+
+// So many turns pass, then node 1 tells so often that it took a slot; and how node 0 then waits in a turn that finds nothing: how
+// often it gives up the processor, and for how many microseconds it sleeps then.
+#[derive(Clone, Copy)]
+struct Step {
+    turns: u64,
+    slot: u64,
+    times: u64,
+    wanted: (u64, u64),
+}
+
+const AT_EASE: (u64, u64) = (512, 20);
+
+// What node 0, which gave so many slots, makes of such steps.
+fn expect_pauses(rt: &(impl Abort + AllocGlobal), slots: u64, steps: &[Step]) -> Result<(), Fail> {
+    let config = Config::check(2, 0, 1, 4_096, 65_536, 64, 0, Mode::Basic)?;
+    let mut node = Node::new(rt.alloc(), &config, NodeId(0))?;
+    for instance in 0..slots {
+        give(&mut node, instance)?;
+    }
+    let mut resend = Resend::new(rt.alloc(), &config)?;
+    for step in steps {
+        for _ in 0..step.turns {
+            resend.next_turn(&node);
+        }
+        hear_of(&mut node, &mut resend, step.slot, step.times)?;
+        let pause = resend.pause();
+        assert_eq!(rt; (pause.patience, pause.nap), step.wanted);
+    }
+    Ok(())
+}
+
+// Word of a slot that was acknowledged before, sixteen times in a period of 256 turns, makes a sleep twice as long, once in a
+// period, and four periods without make it half as long.
+#[test]
+fn who_hears_again_and_again_of_a_slot_sleeps(rt: HostRuntime) -> Result<(), Fail> {
+    let steps = [
+        (0, 16, AT_EASE),
+        (0, 1, (8, 20)),
+        (0, 40, (8, 20)),
+        (256, 16, (8, 40)),
+        (1_023, 0, (8, 40)),
+        (1, 0, (8, 20)),
+        (1_024, 0, AT_EASE),
+    ];
+    let steps = steps.map(|(turns, times, wanted)| Step {
+        turns,
+        slot: 0,
+        times,
+        wanted,
+    });
+    expect_pauses(&rt, 1, &steps)
+}
+
+// Where most of the word is of slots that were not acknowledged before, it is no haste.
+#[test]
+fn who_hears_mostly_what_is_new_does_not_sleep(rt: HostRuntime) -> Result<(), Fail> {
+    let slots = [0, 1, 2, 3, 4, 5, 6, 7, 8, 9, 10, 11, 12, 13, 14, 15, 16, 17];
+    let steps = slots.map(|slot: u64| Step {
+        turns: 0,
+        slot,
+        times: if slot < 17 { 1 } else { 17 },
+        wanted: AT_EASE,
+    });
+    expect_pauses(&rt, 18, &steps)
 }
