@@ -1,6 +1,7 @@
-//! The ends of a box of one putter: a ring without locks, in which a put and a take are one atomic step each.
+//! The ends of a box of one putter: a ring in which neither end waits for the other, and a put and a take are one atomic step
+//! each.
 ghost use Rattle.std.specs.Prelude.{◌≡◌, ◌++◌, ◌∷◌, [], ◌≤◌, length, IfNone, OnErr, MatchResult, MatchOption};
-ghost use Rattle.rtrb.specs.Ring.{IsPair, sent, known_free, producer_capacity, received, known_items, consumer_capacity};
+ghost use Rattle.rtrb.specs.Ring.{sent, known_free, producer_capacity, received, consumer_capacity};
 ghost use Rattle.cast_box.specs.Lists.{IsFair, HasTakenOfEnded};
 ghost use Rattle.cast_box.specs.Ends.{ring_of, PutterEnd, TakerEnd, IsSamePutter, IsSameTaker, IsNextToEnd, HaveAllEnded, TakesItem, WasFull, FilledItAlone};
 
@@ -29,7 +30,9 @@ impl<T> Model for SolePutter<T> {
       put = sent p.producer;
     } };
 
-    ghost invariant = { λ p. producer_capacity p.producer ≤ known_free p.producer + length (sent p.producer) };
+    // So a producer that knows of no free slot has sent as many items as the ring has slots.
+    ghost invariant = { λ p. producer_capacity p.producer
+        ≤ known_free p.producer + length (sent p.producer) };
 }
 
 /// The taker.
@@ -41,7 +44,7 @@ pub(crate) struct SoleTaker<T> {
 }
 
 impl<T> Model for SoleTaker<T> {
-    ghost use Rattle.std.specs.Prelude.{◌≡◌, ◌++◌, ◌∷◌, [], cond, map, true, ◌≤◌, length};
+    ghost use Rattle.std.specs.Prelude.{◌≡◌, ◌++◌, ◌∷◌, [], cond, true, ◌≤◌, length};
     ghost use Rattle.rtrb.specs.Ring.{received, known_items, consumer_capacity};
     ghost use Rattle.cast_box.specs.Lists.{numbered};
     ghost use Rattle.cast_box.specs.Ends.{TakerEnd, ring_of};
@@ -56,7 +59,8 @@ impl<T> Model for SoleTaker<T> {
       ended = cond t.ended ((received t.consumer ++ known_items t.consumer) ∷ []) [];
     } };
 
-    ghost invariant = { λ t. t.ended ≡ true → length (known_items t.consumer) ≤ consumer_capacity t.consumer };
+    ghost invariant = { λ t. t.ended ≡ true →
+        length (known_items t.consumer) ≤ consumer_capacity t.consumer };
 }
 
 /// What is left once the putter has ended, all of which is known.
