@@ -3,3 +3,4 @@ pub mod Carrying
 pub mod Copying
 pub mod Crashing
 pub mod Suffering
+pub mod Targets

@@ -25,7 +25,7 @@ unfolding delay_of
 delay_snoc frame [] f = omega arith
 delay_snoc frame (x ∷ xs) f = let it = delay_snoc frame xs f in omega (arith, it)
 
-same_fate : (x y : Fate) → x.lost ≡ y.lost → x.delay ≡ y.delay → x.twice ≡ y.twice → x ≡ y
+pub same_fate : (x y : Fate) → x.lost ≡ y.lost → x.delay ≡ y.delay → x.twice ≡ y.twice → x ≡ y
 same_fate x y l d t = ap (λ (b : Bool). record { lost = b; delay = x.delay; twice = x.twice }) l ∙ ap (λ (n : ℕ). record { lost = y.lost; delay = n; twice = x.twice }) d ∙ ap (λ (b : Bool). record { lost = y.lost; delay = y.delay; twice = b }) t
 
 fate_snoc : (frame : NamedFrame) (xs : List Fault) (f : Fault) → fate_by frame (xs ++ f ∷ []) ≡ suffered frame (fate_by frame xs) f

@@ -3,8 +3,11 @@
 --     fate_by frame faults                   what becomes of a frame by the faults of a plan
 --     fate_in faults ordinals frame          the same of the next frame for its target, where so many were taken
 --     counted_in ordinals frame              how many were taken then
-use Rattle.std.specs.Prelude.{ℕ, ◌+◌, ◌-◌, ◌%◌, ◌^◌, min, max, ◌==◌, nat_le, Bool, true, false, ◌&&◌, ◌||◌, if◌then◌else◌, List, [], ◌∷◌, slice_get, slice_set, Option, Some, None}
-use Rattle.std.specs.List.{list_any}
+--     AreByTarget faults rows                the rows are the faults of each target's frames
+--     AreFatedAlike to some all              by some of the faults a frame for the target meets the fate that it meets by all
+use Rattle.std.specs.Prelude.{◌≡◌, ℕ, ◌+◌, ◌-◌, ◌%◌, ◌^◌, min, max, ◌==◌, nat_le, Bool, true, false, ◌&&◌, ◌||◌, if◌then◌else◌, List, [], ◌∷◌, slice_get, slice_set, Option, Some, None}
+use Rattle.std.specs.List.{list_any, filter}
+use Rattle.std.specs.Global.{Vec}
 use Rattle.cast_message.specs.declared.message.Frame.{Frame}
 use Rattle.cast_message.specs.declared.message.FrameKind.{FrameKind}
 use Rattle.cast_message.specs.declared.message.FrameKind.TheVariants.{Carry, Took}
@@ -12,6 +15,7 @@ use Rattle.cast_message.specs.Items.{kind_of}
 use Rattle.cast_script.specs.declared.script.Fault.{Fault}
 use Rattle.cast_script.specs.declared.script.Frames.{Frames}
 use Rattle.cast_script.specs.declared.script.Fault.TheVariants.{Lose, Repeat, Delay, Crash}
+use Rattle.cast_carrier.specs.Plans.{is_to}
 use Rattle.cast_carrier.specs.declared.fate.Fate.{Fate}
 use Rattle.cast_carrier.specs.declared.fate.NamedFrame.{NamedFrame}
 use Rattle.cast_carrier.specs.declared.fate.Ordinals.{Ordinals}
@@ -109,3 +113,13 @@ counted_where ordinals frame None = ordinals
 
 abbrev pub counted_in : List Ordinals → Frame → List Ordinals
 counted_in ordinals frame = counted_where ordinals frame (slice_get ordinals frame.to)
+
+-- ---- the faults of each target
+
+-- at the place of each target stand the faults of its frames, in their order
+abbrev pub AreByTarget : List Fault → List (Vec Fault) → Type 0
+AreByTarget faults rows = (q : ℕ) (row : Vec Fault) → slice_get rows q ≡ Some row → row.items ≡ filter (is_to q) faults
+
+-- whatever frame for the target meets the same fate by both
+abbrev pub AreFatedAlike : ℕ → List Fault → List Fault → Type 0
+AreFatedAlike to some all = (frame : NamedFrame) → frame.to ≡ to → fate_by frame some ≡ fate_by frame all

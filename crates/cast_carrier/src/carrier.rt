@@ -7,6 +7,7 @@ ghost use Rattle.cast_carrier.specs.Carriers.{IsSameCarrier, CarriesOne, AreUnus
 
 use crate::board::Board;
 use crate::fate::{Fate, Ordinals, fate_of};
+use crate::faults::CarrierFaults;
 use crate::parcel::Parcel;
 use crate::waiting::{Pause, SHORT_NAP, Waiting};
 use cast_box::{Putter, Taker};
@@ -36,7 +37,7 @@ pub struct Carrier {
     outbox: Taker<Parcel>,
     // By target.
     inboxes: Vec<Putter<Parcel>>,
-    faults: Vec<Fault>,
+    faults: CarrierFaults,
     // By target.
     ordinals: Vec<Ordinals>,
     delayed: Vec<Delayed>,
@@ -50,13 +51,13 @@ impl Model for Carrier {
     ghost view = { λ c. record {
       outbox = c.outbox;
       inboxes = c.inboxes.items;
-      faults = c.faults.items;
+      faults = c.faults;
       delayed = c.delayed.items;
     } };
 
     ghost invariant = { λ c. CarrierKeeps c.outbox.taken c.inboxes.items c.delayed.items
         × CarrierPlans
-        c.faults.items c.ordinals.items c.outbox.taken c.inboxes.items c.delayed.items };
+        c.faults c.ordinals.items c.outbox.taken c.inboxes.items c.delayed.items };
 }
 
 impl Carrier {
@@ -76,6 +77,7 @@ impl Carrier {
           delayed = [];
         }) }
     {
+        let faults = CarrierFaults::new(alloc, faults, inboxes.len())?;
         let ordinals = vec![in alloc; Ordinals { carry: 0, took: 0 }; inboxes.len()]?;
         Ok(Carrier {
             outbox,

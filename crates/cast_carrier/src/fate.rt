@@ -2,6 +2,7 @@
 ghost use Rattle.std.specs.Prelude.{◌≡◌};
 ghost use Rattle.cast_carrier.specs.Fates.{is_kind, is_among, is_one_of, suffered, fate_by, fate_in, ordinal_of, one_more, counted_in};
 
+use crate::faults::CarrierFaults;
 use crate::parcel::Parcel;
 use cast_message::{FrameKind, NodeId};
 use cast_script::{Fault, Frames};
@@ -50,7 +51,7 @@ impl Fate {
 
 /// What becomes of a parcel by the plan, which counts its frame. A frame for a target past the row of ordinals is not counted,
 /// and no fault befalls it.
-pub fn fate_of(faults: &[Fault], ordinals: &mut [Ordinals], parcel: &Parcel) -> Fate
+pub fn fate_of(faults: &CarrierFaults, ordinals: &mut [Ordinals], parcel: &Parcel) -> Fate
     ensures fate { result ≡ fate_in faults.now ordinals.old parcel.now.frame }
     ensures counts { ordinals.new ≡ counted_in ordinals.old parcel.now.frame }
 {
@@ -68,7 +69,7 @@ pub fn fate_of(faults: &[Fault], ordinals: &mut [Ordinals], parcel: &Parcel) -> 
         to,
         ordinal,
     };
-    fate_by(faults, &frame)
+    fate_by(faults.for_target(to), &frame)
 }
 
 // The ordinal of the next frame of the kind, which stays at its greatest value once there.

@@ -6,6 +6,7 @@
 mod board;
 mod carrier;
 mod fate;
+mod faults;
 mod parcel;
 mod plan;
 mod waiting;

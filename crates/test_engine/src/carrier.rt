@@ -85,6 +85,17 @@ fn frames(kind: FrameKind, first: u64, step: u64) -> Frames {
     }
 }
 
+// All of one kind that go to the node.
+fn all_frames_for(to: NodeId) -> Frames {
+    Frames {
+        kind: Took,
+        from: NodeId(0),
+        to,
+        first: 0,
+        step: 1,
+    }
+}
+
 fn lose(kind: FrameKind, first: u64, step: u64) -> Fault {
     Fault::Lose(frames(kind, first, step))
 }
@@ -108,6 +119,17 @@ fn frames_are_lost_from_the_first_by_steps(rt: HostRuntime) -> Result<(), Fail> 
     expect_carried(&rt, &[lose(Carry, 1, 2)], &[0, 1, 2, 3, 5, 6])?;
     let both = [lose(Took, 0, 0), lose(Carry, 0, 0)];
     expect_carried(&rt, &both, &[2, 3, 4, 5, 6, 7])
+}
+
+// Node 0 is a target of the carrier too, and node 2 is none.
+#[test]
+fn faults_of_frames_for_others_are_passed_over(rt: HostRuntime) -> Result<(), Fail> {
+    let all = [0, 1, 2, 3, 4, 5, 6, 7];
+    expect_carried(&rt, &[Fault::Lose(all_frames_for(NodeId(0)))], &all)?;
+    expect_carried(&rt, &[Fault::Lose(all_frames_for(NodeId(2)))], &all)?;
+    expect_carried(&rt, &[Fault::Repeat(all_frames_for(NodeId(0)))], &all)?;
+    let both = [Fault::Lose(all_frames_for(NodeId(0))), lose(Took, 1, 0)];
+    expect_carried(&rt, &both, &[0, 1, 3, 4, 5, 6, 7])
 }
 
 #[test]

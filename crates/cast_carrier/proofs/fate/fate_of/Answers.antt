@@ -1,4 +1,4 @@
-use Rattle.std.proofs.Common.{◌≡◌, ◌<◌, ℕ, List, length, rules}
+use Rattle.std.proofs.Common.{◌≡◌, ◌∙◌, ◌<◌, ℕ, List, length, refl, rules}
 use Rattle.std.specs.Prelude.{slice_index_or}
 use Rattle.cast_carrier.specs.declared.fate.Ordinals.{Ordinals}
 use Rattle.cast_carrier.proofs.Suffering.{got, fate_there, counted_there}
@@ -13,7 +13,7 @@ returns-clause-fate c =
     let is : to ≡ c.args.parcel.now.frame.to = search rules in
     let within : to < length c.args.ordinals.now = search rules in
     fate_there c.args.faults.now c.args.ordinals.now c.args.parcel.now.frame to (counts_at c.args.ordinals.now to) c.kind-kind.result c.count-ordinal.result c.fate_by.result is (got c.args.ordinals.now to _ within)
-    c.kind-kind.ensures c.count-ordinal.ensures.ordinal c.fate_by.ensures
+    c.kind-kind.ensures c.count-ordinal.ensures.ordinal (c.fate_by.ensures ∙ c.for_target.ensures _ refl)
 
 pub returns-clause-counts : goal.returns-clause-counts
 returns-clause-counts c =

@@ -13,20 +13,19 @@ invariant_of-self g c =
     let took = c.in-Some.ensures.taken in
     let keeps = c.self.invariant.0 in
     let plans = c.self.invariant.1 in
-    let faults = c.deref.ensures.value in
     let row = c.deref_mut.ensures.value in
     let fated = c.fate_of-fate in
-    let by = fated.ensures.fate ∙ ap (λ s. fate_in s c.deref_mut.result.now c.in-Some.parcel.frame) faults ∙ ap (λ s. fate_in i.faults.items s c.in-Some.parcel.frame) row in
+    let by = fated.ensures.fate ∙ ap (λ s. fate_in i.faults s c.in-Some.parcel.frame) row in
     let count = counted_back i.ordinals.items fated.new.ordinals c.in-Some.parcel.frame i.ordinals.len i.ordinals.ok.0 (fated.ensures.counts ∙ ap (λ s. counted_in s c.in-Some.parcel.frame) row) in (
       carried i.outbox.taken _ i.inboxes.items c.take_over.new.inboxes.items i.delayed.items c.take_over.new.delayed.items took.0 c.in-Some.parcel keeps took.2 c.take_over.ensures.moves,
-      planned_by i.faults.items i.outbox.taken _ i.inboxes.items c.take_over.new.inboxes.items i.delayed.items c.take_over.new.delayed.items took.0 c.in-Some.parcel i.ordinals.items _ _ plans took.2
+      planned_by i.faults i.outbox.taken _ i.inboxes.items c.take_over.new.inboxes.items i.delayed.items c.take_over.new.delayed.items took.0 c.in-Some.parcel i.ordinals.items _ _ plans took.2
           by count c.take_over.ensures.same c.take_over.ensures.planned,
     )
 
 pub invariant_of-self-in-None : goal.invariant_of-self-in-None
 invariant_of-self-in-None g c =
     let i = c.self.inside in
-    subst (λ l. CarrierKeeps l i.inboxes.items i.delayed.items × CarrierPlans i.faults.items i.ordinals.items l i.inboxes.items i.delayed.items) (sym c.in-None.ensures.taken) c.self.invariant
+    subst (λ l. CarrierKeeps l i.inboxes.items i.delayed.items × CarrierPlans i.faults i.ordinals.items l i.inboxes.items i.delayed.items) (sym c.in-None.ensures.taken) c.self.invariant
 
 pub returns-in-None-clause-same : goal.returns-in-None-clause-same
 returns-in-None-clause-same g c =

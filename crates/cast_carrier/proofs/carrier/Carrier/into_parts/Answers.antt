@@ -11,4 +11,4 @@ pub returns-clause-planned : goal.returns-clause-planned
 returns-clause-planned c =
     let i = c.self.inside in
     let P : CarrierState → Type 0 = λ s. IsByPlan s.faults s.outbox.taken s.inboxes in
-    subst P c.self.view_is (by_plan i.faults.items i.ordinals.items i.outbox.taken i.inboxes.items i.delayed.items c.self.invariant.1)
+    subst P c.self.view_is (by_plan i.faults i.ordinals.items i.outbox.taken i.inboxes.items i.delayed.items c.self.invariant.1)

@@ -1,0 +1,84 @@
+//! The faults that a carrier acts on, by the target of their frames: so a frame is a step over the faults of its own link, however
+//! many the plan has for others.
+ghost use Rattle.std.specs.Prelude.{◌≡◌, IfOk};
+ghost use Rattle.std.specs.List.{filter};
+ghost use Rattle.cast_carrier.specs.Plans.{is_to};
+ghost use Rattle.cast_carrier.specs.Fates.{AreByTarget, AreFatedAlike};
+
+use cast_message::NodeId;
+use cast_script::Fault;
+use std::alloc::{AllocError, Global};
+use std::marker::Model;
+
+/// The faults of a carrier. Contracts see them in their order.
+#[derive(Drop)]
+pub struct CarrierFaults {
+    // In the order of the plan, as contracts see them.
+    all: Vec<Fault>,
+    // The same by target, where the carrier has it.
+    rows: Vec<Vec<Fault>>,
+}
+
+impl Model for CarrierFaults {
+    ghost use Rattle.std.specs.Prelude.{List};
+    ghost use Rattle.cast_carrier.specs.Fates.{AreByTarget};
+    ghost use Rattle.cast_script.specs.declared.script.Fault.{Fault as Planned};
+
+    ghost Value = { List Planned };
+
+    ghost view = { λ f. f.all.items };
+
+    ghost invariant = { λ f. AreByTarget f.all.items f.rows.items };
+}
+
+impl CarrierFaults {
+    /// These faults, for a carrier with so many targets. All room is made here.
+    pub fn new(
+        alloc: Global,
+        faults: Vec<Fault>,
+        targets: usize,
+    ) -> Result<CarrierFaults, AllocError>
+        ensures { IfOk result (λ f. f ≡ faults.items) }
+    {
+        let mut rows = Vec::new(alloc);
+        for to in 0..targets {
+            rows.push(faults_to(alloc, to, &faults)?)?;
+        }
+        Ok(CarrierFaults { all: faults, rows })
+    }
+
+    /// Some by which any frame for this target meets the fate that it meets by all: those of its own frames, where the carrier
+    /// has this target.
+    pub fn for_target(&self, to: NodeId) -> &[Fault]
+        ensures { AreFatedAlike to result.now self.now }
+    {
+        match self.rows.get(usize::from(to.0)) {
+            Some(row) => row.as_slice(),
+            None => self.all.as_slice(),
+        }
+    }
+}
+
+// The faults of the frames for a target, in their order.
+fn faults_to(alloc: Global, to: usize, faults: &[Fault]) -> Result<Vec<Fault>, AllocError>
+    ensures { IfOk result (λ row. row.items ≡ filter (is_to to) faults.now) }
+{
+    let mut row = Vec::new(alloc);
+    for fault in faults {
+        if is_to(to, fault) {
+            row.push(*fault)?;
+        }
+    }
+    Ok(row)
+}
+
+fn is_to(to: usize, fault: &Fault) -> bool
+    ensures { result ≡ is_to to fault.now }
+{
+    match fault {
+        Fault::Lose(frames) | Fault::Repeat(frames) | Fault::Delay { frames, .. } => {
+            usize::from(frames.to.0) == to
+        }
+        Fault::Crash { .. } => false,
+    }
+}
