@@ -1,7 +1,24 @@
 //! The worked rows `box-of-one` and `box-limits`.
-use cast_box::{BoxFault, gather, make_box};
+use cast_box::{BoxFault, Gathered, gather, make_box};
+use std::alloc::{AllocError, Global};
+use std::sync::Wait;
 use std::test::*;
 use test_boxes::exchange;
+
+// What is left in a box of at most four places, with the numbers of its putters.
+fn all_left<R: Wait>(
+    rt: &R,
+    alloc: Global,
+    mut gathered: Gathered<u64>,
+) -> Result<Vec<(u64, u64)>, AllocError> {
+    let mut left = Vec::new(alloc);
+    for _place in 0..4 {
+        if let Some(item) = gathered.next_left(rt) {
+            left.push(item)?;
+        }
+    }
+    Ok(left)
+}
 
 #[test]
 fn box_of_one(rt: HostRuntime) -> Result<(), Fail> {
@@ -12,9 +29,8 @@ fn box_of_one(rt: HostRuntime) -> Result<(), Fail> {
     assert!(&rt; putters[1].put(&rt, 20).map_err(|full| full.item) == Err(20));
     assert!(&rt; taker.take(&rt) == Some(10));
     assert!(&rt; putters[1].put(&rt, 20).is_ok());
-    let mut gathered = gather(&rt, putters, taker);
-    assert!(&rt; gathered.next_left(&rt) == Some((1, 20)));
-    assert!(&rt; gathered.next_left(&rt) == None);
+    let left = all_left(&rt, rt.alloc(), gather(&rt, putters, taker))?;
+    assert_eq!(&rt; left.as_slice(), [(1, 20)].as_slice());
     Ok(())
 }
 
@@ -28,10 +44,8 @@ fn box_of_one_putter(rt: HostRuntime) -> Result<(), Fail> {
     assert!(&rt; putters[0].put(&rt, 30).map_err(|full| full.item) == Err(30));
     assert!(&rt; taker.take(&rt) == Some(10));
     assert!(&rt; putters[0].put(&rt, 30).is_ok());
-    let mut gathered = gather(&rt, putters, taker);
-    assert!(&rt; gathered.next_left(&rt) == Some((0, 20)));
-    assert!(&rt; gathered.next_left(&rt) == Some((0, 30)));
-    assert!(&rt; gathered.next_left(&rt) == None);
+    let left = all_left(&rt, rt.alloc(), gather(&rt, putters, taker))?;
+    assert_eq!(&rt; left.as_slice(), [(0, 20), (0, 30)].as_slice());
     Ok(())
 }
 
@@ -76,12 +90,10 @@ fn threads_put_and_another_takes(rt: HostRuntime) -> Result<(), Fail> {
     for round in 0..100u64 {
         let putters = 1 + round % 2;
         let put = putters * 1000;
-        let (mut all, mut gathered) = exchange(rt, rt.alloc(), 4, putters, 1000, put as usize - 3)?;
+        let (mut all, gathered) = exchange(rt, rt.alloc(), 4, putters, 1000, put as usize - 3)?;
         assert!(&rt; all.len() as u64 == put - 3);
-        for _ in 0..4 {
-            if let Some((_, item)) = gathered.next_left(&rt) {
-                all.push(item)?;
-            }
+        for (_putter, item) in all_left(&rt, rt.alloc(), gathered)? {
+            all.push(item)?;
         }
         assert!(&rt; all.len() as u64 == put);
         for putter in 0..putters {
