@@ -1,6 +1,7 @@
 //! A carrier: takes parcels from an outbox and puts each into the inbox of its frame's target, once, twice or never, as the
 //! plan says.
-ghost use Rattle.std.specs.Prelude.{◌≡◌, [], IfOk, if◌then◌else◌, map};
+ghost use Rattle.std.specs.Prelude.{◌≡◌, [], IfOk, IsFalse, if◌then◌else◌, map};
+ghost use Rattle.cast_box.specs.Lists.{HasTakenOfEnded};
 ghost use Rattle.cast_box.specs.Ends.{AreSamePutters};
 ghost use Rattle.cast_carrier.specs.Copies.{IsByPlan, copies};
 ghost use Rattle.cast_carrier.specs.Carriers.{IsSameCarrier, CarriesOne, AreUnused, Brings, Moves, MovesOn, Puts, PutsUpTo, IsNoMore, IsByFate, IsKeptOrLost, counted_down};
@@ -88,10 +89,12 @@ impl Carrier {
         })
     }
 
-    /// Carries one parcel. Answers whether there was one; else nothing changed.
+    /// Carries one parcel. Answers whether there was one; else nothing changed, and the outbox was empty at one moment of the call.
     pub fn carry<R: Wait>(&mut self, rt: &R) -> bool
         ensures same { IsSameCarrier self.old self.new }
         ensures one { CarriesOne self.old self.new result }
+        ensures empty { IsFalse result →
+            HasTakenOfEnded self.old.outbox.ended self.old.outbox.taken }
     {
         match self.outbox.take(rt) {
             Some(parcel) => {

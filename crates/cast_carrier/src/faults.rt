@@ -40,7 +40,7 @@ impl CarrierFaults {
     ) -> Result<CarrierFaults, AllocError>
         ensures { IfOk result (λ f. f ≡ faults.items) }
     {
-        let mut rows = Vec::new(alloc);
+        let mut rows = Vec::with_capacity(alloc, targets)?;
         for to in 0..targets {
             rows.push(faults_to(alloc, to, &faults)?)?;
         }
