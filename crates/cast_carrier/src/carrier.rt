@@ -89,7 +89,7 @@ impl Carrier {
         })
     }
 
-    /// Carries one parcel. Answers whether there was one; else nothing changed, and the outbox was empty at one moment of the call.
+    /// Carries one parcel. Answers whether there was one; else nothing changed, and all that an engine that has ended put was taken.
     pub fn carry<R: Wait>(&mut self, rt: &R) -> bool
         ensures same { IsSameCarrier self.old self.new }
         ensures one { CarriesOne self.old self.new result }

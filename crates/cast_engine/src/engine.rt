@@ -588,8 +588,8 @@ fn hand<R: Wait>(
     }
 }
 
-// Takes an order from the desk, where there is one.
-// It finds none only where the desk was empty at one moment of the call, or where there is no desk.
+// Takes an order from the desk, where there is one. It finds none only where there is no desk, or all that clients put that have
+// ended was taken.
 #[tactic(auto, using(crate::proofs::Again::desk_same))]
 fn next_order<R: Wait>(rt: &R, desk: &mut Option<Desk>) -> Option<OrderIn>
     ensures same { IsSameDesk desk.old desk.new }

@@ -2,10 +2,13 @@
 //!
 //! What is lost is sent again after so many turns, not after a time. On a processor of its own a turn that finds nothing takes
 //! less than a microsecond, while a peer waits for milliseconds behind another program: so an engine would send again what is
-//! under way, and again, until the logs are full. Word of a slot that was acknowledged before tells of that, as a frame comes
-//! twice only where it was sent twice, or a plan repeats it. The engine then sleeps in turns that find nothing, twice as long as
-//! before, and half as long once no such word has come for a while: as the timer of TCP backs off, whose acknowledgements tell
-//! the same (Karn and Partridge, 1987; RFC 6298).
+//! under way, and again, until the logs are full. Two things tell of that, and the engine then sleeps in turns that find nothing.
+//!
+//! - Word of a slot that was acknowledged before, as a frame comes twice only where it was sent twice, or a plan repeats it. The
+//!   engine sleeps twice as long as before, and half as long once no such word has come for a while: as the timer of TCP backs
+//!   off, whose acknowledgements tell the same (Karn and Partridge, 1987; RFC 6298).
+//! - A peer's silence, before any word can come: so much was sent again to it since its last frame that not all of it is lost. It
+//!   may have no processor for the moment. A silence that goes on is a link on which all is lost, which no sleep mends.
 use crate::resend::LAST_SENT;
 use cast_carrier::{Pause, SHORT_NAP};
 
@@ -36,6 +39,35 @@ const CALM_PERIODS: u64 = 4;
 const LEAST_AGAIN: u64 = 16;
 
 const SHARE_AGAIN: u64 = 2;
+
+// How long an engine sleeps while a peer is silent, in microseconds.
+const NAP_IN_SILENCE: u64 = 4 * SHORT_NAP;
+
+// A peer is silent once so many slots were sent again to it since its last frame, and all that can be under way to it; and
+// for so many times as many.
+const LEAST_UNANSWERED: u64 = 16;
+
+const LONG_SILENCE: u64 = 4;
+
+/// How many slots were sent again to a peer since a frame came from it.
+#[derive(Clone, Copy)]
+pub struct Unanswered(u64);
+
+impl Unanswered {
+    /// None.
+    pub const NONE: Unanswered = Unanswered(0);
+
+    /// One slot more was sent again.
+    pub fn add(&mut self) {
+        self.0 = self.0.saturating_add(1);
+    }
+
+    /// Whether the peer is silent, and not for long, where so many slots are under way to it at most.
+    pub fn is_silence(self, window: u64) -> bool {
+        let least = LEAST_UNANSWERED.max(window);
+        self.0 >= least && self.0 < least.saturating_mul(LONG_SILENCE)
+    }
+}
 
 /// How much an engine has sent again too soon of late.
 #[derive(Drop)]
@@ -89,14 +121,19 @@ impl Haste {
         }
     }
 
-    /// How it waits in a turn that finds nothing.
-    pub fn pause(&self) -> Pause {
-        if self.nap == 0 {
+    /// How it waits in a turn that finds nothing, where a peer is silent or none is.
+    pub fn pause(&self, silence: bool) -> Pause {
+        let nap = if silence {
+            self.nap.max(NAP_IN_SILENCE)
+        } else {
+            self.nap
+        };
+        if nap == 0 {
             return AT_EASE;
         }
         Pause {
             patience: SHORT_PATIENCE,
-            nap: self.nap,
+            nap,
         }
     }
 

@@ -270,3 +270,52 @@ fn who_hears_mostly_what_is_new_does_not_sleep(rt: HostRuntime) -> Result<(), Fa
     });
     expect_pauses(&rt, 18, &steps)
 }
+
+// How node 0 waits after so many turns, in each of which it sends what is due; in one of them a frame of node 1 may come. It gave
+// one slot, and the boxes have so many places.
+fn pause_after(
+    alloc: Global,
+    box_size: u64,
+    turns: u64,
+    frame_at: u64,
+) -> Result<(u64, u64), Fail> {
+    let config = Config::check(2, 0, 1, 4_096, 65_536, box_size, 0, Mode::Basic)?;
+    let mut node = Node::new(alloc, &config, NodeId(0))?;
+    give(&mut node, 0)?;
+    let mut resend = Resend::new(alloc, &config)?;
+    let board = Board::new(alloc, &[0, 0])?;
+    for turn in 0..turns {
+        resend.next_turn(&node);
+        if turn == frame_at {
+            resend.meet(&node, &frame_of(1, first_message()));
+        }
+        if let Some((to, slot)) = resend.next_due(&node, &board) {
+            resend.note(to, slot);
+        }
+    }
+    let pause = resend.pause();
+    Ok((pause.patience, pause.nap))
+}
+
+// The slot is sent in turn 0, and again in turns 256, 512, ..: from the sixteenth time on the peer is silent, and from the
+// sixty-fourth on for long. Where 32 slots may be under way to it, twice as often. A frame of it ends its silence.
+#[test]
+fn who_is_answered_by_nothing_sleeps_for_a_while(rt: HostRuntime) -> Result<(), Fail> {
+    const NEVER: u64 = u64::MAX;
+    const ASLEEP: (u64, u64) = (8, 80);
+    for (box_size, turns, frame_at, wanted) in [
+        (4, 16 * 256, NEVER, AT_EASE),
+        (4, 16 * 256 + 1, NEVER, ASLEEP),
+        (4, 64 * 256, NEVER, ASLEEP),
+        (4, 64 * 256 + 1, NEVER, AT_EASE),
+        (64, 32 * 256, NEVER, AT_EASE),
+        (64, 32 * 256 + 1, NEVER, ASLEEP),
+        (4, 16 * 256 + 3, 16 * 256 + 2, AT_EASE),
+        (4, 16 * 256 + 1, 257, AT_EASE),
+        (4, 17 * 256 + 1, 257, ASLEEP),
+    ] {
+        let pause = pause_after(rt.alloc(), box_size, turns, frame_at)?;
+        assert_eq!(rt; pause, wanted);
+    }
+    Ok(())
+}
