@@ -141,6 +141,9 @@ def read_summary(out, nodes):
 
 
 def told(passed, failed):
-    """Prints the last line of a script, its counts, and answers its status."""
+    """Prints the last line of a script, its counts, and answers its status. Where nothing was tried, that is a failure."""
+    if passed + failed == 0:
+        print("nothing was tried")
+        failed = 1
     print(f"{passed} passed, {failed} failed")
     return 1 if failed else 0

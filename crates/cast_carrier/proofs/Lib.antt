@@ -4,3 +4,4 @@ pub mod Copying
 pub mod Crashing
 pub mod Suffering
 pub mod Targets
+pub mod Sifting

@@ -1,6 +1,6 @@
 -- A carrier, as contracts see it, and what it keeps.
-use Rattle.std.specs.Prelude.{◌≡◌, ℕ, ◌+◌, ◌-◌, ◌≤◌, ◌==◌, nat_le, Bool, true, false, ◌&&◌, cond, if◌then◌else◌, List, [], ◌∷◌, ◌++◌, map, length, slice_get, Some}
-use Rattle.std.specs.List.{count_by, sum_by}
+use Rattle.std.specs.Prelude.{◌≡◌, ℕ, ◌+◌, ◌-◌, ◌≤◌, ◌<◌, ◌==◌, nat_le, nat_lt, Bool, true, false, ◌&&◌, cond, if◌then◌else◌, List, [], ◌∷◌, ◌++◌, map, length, slice_get, Some}
+use Rattle.std.specs.List.{count_by, sum_by, filter}
 use Rattle.cast_box.specs.Ends.{PutterEnd, TakerEnd, IsSameTaker, AreSamePutters}
 use Rattle.cast_script.specs.declared.script.Fault.{Fault}
 use Rattle.cast_carrier.specs.declared.parcel.Parcel.{Parcel}
@@ -8,6 +8,7 @@ use Rattle.cast_carrier.specs.declared.carrier.Delayed.{Delayed}
 use Rattle.cast_carrier.specs.declared.fate.Fate.{Fate}
 use Rattle.cast_carrier.specs.declared.fate.Ordinals.{Ordinals}
 use Rattle.cast_carrier.specs.Lists.{Has}
+use Rattle.cast_carrier.specs.Fates.{fate_in}
 use Rattle.cast_carrier.specs.Copies.{ordinals_after, is_for, copies, copies_after, due}
 
 pub record CarrierState : Type 0 where
@@ -38,11 +39,6 @@ CarrierKeeps taken inboxes delayed = Brings taken inboxes × Delays taken delaye
 abbrev pub IsSameCarrier : CarrierState → CarrierState → Type 0
 IsSameCarrier old new = IsSameTaker old.outbox new.outbox × AreSamePutters old.inboxes new.inboxes × (new.faults ≡ old.faults)
 
--- one parcel was taken from the outbox; or none, and nothing changed
-abbrev pub CarriesOne : CarrierState → CarrierState → Bool → Type 0
-CarriesOne old new true = (m : ℕ × Parcel) × (new.outbox.taken ≡ old.outbox.taken ++ m ∷ [])
-CarriesOne old new false = new ≡ old
-
 abbrev pub AreUnused : List (PutterEnd Parcel) → Type 0
 AreUnused inboxes = (q : ℕ) (p : PutterEnd Parcel) → slice_get inboxes q ≡ Some p → p.put ≡ []
 
@@ -63,6 +59,14 @@ MovesOn inboxes delayed inboxes' delayed' = (taken : List (ℕ × Parcel)) → C
 -- one more frame was taken for a target
 abbrev pub counted_down : ℕ → Delayed → Delayed
 counted_down to d = record { left = if d.parcel.frame.to == to then d.left - 1 else d.left; twice = d.twice; parcel = d.parcel }
+
+-- more frames have to be taken before it is due
+abbrev pub is_early : Delayed → Bool
+is_early d = nat_lt 0 d.left
+
+-- what still waits once one more frame was taken for a target, in its order
+abbrev pub waiting_on : ℕ → List Delayed → List Delayed
+waiting_on to delayed = filter is_early (map (counted_down to) delayed)
 
 -- how many copies of the delayed parcels for target q that pass a test are handed on by the time that so many more frames are
 -- taken for it
@@ -102,3 +106,18 @@ IsByFate fate inboxes delayed x inboxes' delayed' =
 -- it is kept behind the others, or lost
 abbrev pub IsKeptOrLost : List Delayed → Delayed → List Delayed → Type 0
 IsKeptOrLost old d new = (kept : Bool) × (new ≡ cond kept (old ++ d ∷ []) old)
+
+-- what waited and is not due waits, and behind it the parcel, where its fate delays it and there was memory to keep it
+abbrev pub WaitsBy : Fate → List Delayed → Parcel → List Delayed → Type 0
+WaitsBy fate old x new =
+    (kept : Bool) × (kept ≡ true → (fate.lost ≡ false) × (0 < fate.delay))
+    × (new ≡ waiting_on x.frame.to old
+    ++ cond kept (record { left = fate.delay; twice = fate.twice; parcel = x } ∷ []) [])
+
+-- one parcel was taken from the outbox, and what is due waits no longer; or none was, and nothing changed
+abbrev pub CarriesOne : CarrierState → CarrierState → Bool → Type 0
+CarriesOne old new true =
+    (m : ℕ × Parcel) × (new.outbox.taken ≡ old.outbox.taken ++ m ∷ [])
+    × WaitsBy (fate_in old.faults (ordinals_after (length old.inboxes) old.outbox.taken) m.1.frame)
+    old.delayed m.1 new.delayed
+CarriesOne old new false = new ≡ old

@@ -1,10 +1,11 @@
 //! A carrier: takes parcels from an outbox and puts each into the inbox of its frame's target, once, twice or never, as the
 //! plan says.
 ghost use Rattle.std.specs.Prelude.{◌≡◌, [], IfOk, IsFalse, if◌then◌else◌, map};
+ghost use Rattle.std.specs.List.{filter};
 ghost use Rattle.cast_box.specs.Lists.{HasTakenOfEnded};
 ghost use Rattle.cast_box.specs.Ends.{AreSamePutters};
 ghost use Rattle.cast_carrier.specs.Copies.{IsByPlan, copies};
-ghost use Rattle.cast_carrier.specs.Carriers.{IsSameCarrier, CarriesOne, AreUnused, Brings, Moves, MovesOn, Puts, PutsUpTo, IsNoMore, IsByFate, IsKeptOrLost, counted_down};
+ghost use Rattle.cast_carrier.specs.Carriers.{IsSameCarrier, CarriesOne, AreUnused, Brings, Moves, MovesOn, Puts, PutsUpTo, IsNoMore, IsByFate, IsKeptOrLost, WaitsBy, counted_down, is_early, waiting_on};
 
 use crate::board::Board;
 use crate::fate::{Fate, Ordinals, fate_of};
@@ -89,7 +90,8 @@ impl Carrier {
         })
     }
 
-    /// Carries one parcel. Answers whether there was one; else nothing changed, and all that an engine that has ended put was taken.
+    /// Carries one parcel: what is due by it waits no longer, and it waits behind the others where its fate delays it. Answers
+    /// whether there was one; else nothing changed, and all that an engine that has ended put was taken.
     pub fn carry<R: Wait>(&mut self, rt: &R) -> bool
         ensures same { IsSameCarrier self.old self.new }
         ensures one { CarriesOne self.old self.new result }
@@ -155,6 +157,7 @@ fn take_over<R: Wait>(
         delayed.new.items }
     ensures planned { IsByFate fate inboxes.old.items delayed.old.items parcel inboxes.new.items
         delayed.new.items }
+    ensures waits { WaitsBy fate delayed.old.items parcel delayed.new.items }
 {
     pass_time(rt, inboxes, delayed, &parcel);
     if fate.lost {
@@ -181,6 +184,7 @@ fn pass_time<R: Wait>(
     ensures planned { IsNoMore inboxes.old.items
         (map (counted_down parcel.now.frame.to) delayed.old.items)
         inboxes.new.items delayed.new.items }
+    ensures waits { delayed.new.items ≡ waiting_on parcel.now.frame.to delayed.old.items }
 {
     count_down(delayed, parcel.frame.to);
     release(rt, inboxes, delayed);
@@ -210,6 +214,7 @@ fn release<R: Wait>(rt: &R, inboxes: &mut Vec<Putter<Parcel>>, delayed: &mut Vec
         delayed.new.items }
     ensures planned { IsNoMore inboxes.old.items delayed.old.items inboxes.new.items
         delayed.new.items }
+    ensures waits { delayed.new.items ≡ filter is_early delayed.old.items }
 {
     let mut place = 0;
     while place < delayed.len() {

@@ -1,6 +1,6 @@
 //! The faults that a carrier acts on, by the target of their frames: so a frame is a step over the faults of its own link, however
 //! many the plan has for others.
-ghost use Rattle.std.specs.Prelude.{◌≡◌, IfOk};
+ghost use Rattle.std.specs.Prelude.{◌≡◌, ◌≢◌, [], IfOk, OnErr};
 ghost use Rattle.std.specs.List.{filter};
 ghost use Rattle.cast_carrier.specs.Plans.{is_to};
 ghost use Rattle.cast_carrier.specs.Fates.{AreByTarget, AreFatedAlike};
@@ -59,9 +59,10 @@ impl CarrierFaults {
     }
 }
 
-// The faults of the frames for a target, in their order.
+// The faults of the frames for a target, in their order, or want of memory, which none never wants.
 fn faults_to(alloc: Global, to: usize, faults: &[Fault]) -> Result<Vec<Fault>, AllocError>
-    ensures { IfOk result (λ row. row.items ≡ filter (is_to to) faults.now) }
+    ensures ok { IfOk result (λ row. row.items ≡ filter (is_to to) faults.now) }
+    ensures err { OnErr result (filter (is_to to) faults.now ≢ []) }
 {
     let mut row = Vec::new(alloc);
     for fault in faults {

@@ -1,5 +1,5 @@
 //! What a plan may name, and what it says of each node.
-ghost use Rattle.std.specs.Prelude.{◌≡◌, ◌↔◌, None, IsTrue, IfOk};
+ghost use Rattle.std.specs.Prelude.{◌≡◌, ◌≢◌, [], ◌↔◌, None, IsTrue, IfOk, OnErr};
 ghost use Rattle.std.specs.List.{filter};
 ghost use Rattle.cast_carrier.specs.Plans.{ArePlanned, IsPlanned, IsLink, crash_by, crash_from, is_from, least};
 
@@ -74,9 +74,10 @@ fn least(earliest: Option<u64>, entries: u64) -> Option<u64>
     }
 }
 
-/// The faults of the frames of a node, in their order.
+/// The faults of the frames of a node, in their order, or want of memory, which none never wants.
 pub fn faults_from(alloc: Global, node: NodeId, faults: &[Fault]) -> Result<Vec<Fault>, AllocError>
-    ensures { IfOk result (λ own. own.items ≡ filter (is_from node) faults.now) }
+    ensures ok { IfOk result (λ own. own.items ≡ filter (is_from node) faults.now) }
+    ensures err { OnErr result (filter (is_from node) faults.now ≢ []) }
 {
     let mut own = Vec::new(alloc);
     for fault in faults {

@@ -32,7 +32,7 @@ verdict: what the judge says of the record of what happened";
 const MARKS: &str = "A line for each node, time to the right, a column for each event. Marks:
   dot      a broadcast, with the item
   arrow    a frame that arrives, in the colour of the message's sender; dotted and grey an acknowledgement
-  stub     a frame that never arrives, with a small cross
+  stub     a frame that never arrives, with a small cross; without it, one that arrives by an event that is not shown
   box      a delivery, with sender and number
   diamond  a decision, with the value
   cross    a crash

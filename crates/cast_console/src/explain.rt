@@ -4,6 +4,7 @@ mod stream;
 
 use crate::source::{Failure, Source, StreamName};
 use cast_explain::{Explanation, group_words, head_words, script_words, verdict_words};
+use cast_script::LiveFault;
 use cast_text::{INPUT_LIMIT, TextFault};
 use std::alloc::Global;
 use std::rt::Runtime;
@@ -22,7 +23,7 @@ pub fn explain_fault<R: Runtime + AllocGlobal>(
     tell(rt, fault_words(rt, fault, source, output));
 }
 
-/// Explains the fault of an output, where the input was read without one.
+/// Explains the fault of an output.
 pub fn explain_output<R: Runtime + AllocGlobal>(rt: &R, output: Failure<'_>) {
     tell(rt, failure_words(rt.alloc(), output));
 }
@@ -53,7 +54,7 @@ fn fault_words<R: Runtime + AllocGlobal>(
     match fault {
         TextFault::Read => failure_words(rt.alloc(), source.failure()),
         TextFault::Write => failure_words(rt.alloc(), output),
-        TextFault::Memory => Ok(None),
+        TextFault::Memory | TextFault::Live(LiveFault::Memory | LiveFault::Threads) => Ok(None),
         TextFault::TooLong => length_words(rt.alloc(), source.name()),
         TextFault::Script(why) => on_input(rt, source, |alloc, name, bytes| {
             script_words(alloc, name, bytes, why)

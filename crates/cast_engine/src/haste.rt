@@ -109,8 +109,8 @@ impl Haste {
         }
     }
 
-    /// Word has come of a slot, which was acknowledged before or not. In the period after its sleep became longer such word is of
-    /// slots that were sent again before, and says nothing new.
+    /// Word has come of a slot, which was acknowledged before or not. In the period after its sleep changed it is left aside:
+    /// where the sleep became longer, it is of slots that were sent again before, and says nothing new.
     pub fn note(&mut self, again: bool) {
         self.heard = self.heard.saturating_add(1);
         self.again = self.again.saturating_add(u64::from(again));

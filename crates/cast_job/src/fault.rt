@@ -13,6 +13,11 @@ pub enum StartFault {
 }
 
 impl From<AllocError> for StartFault {
+    ghost use Rattle.std.specs.Prelude.{◌≡◌};
+    ghost use Rattle.cast_job.specs.declared.fault.StartFault.TheVariants.{Memory};
+
+    ghost from_gives = { λ _ fault. fault ≡ Memory };
+
     fn from(_refused: AllocError) -> StartFault {
         StartFault::Memory
     }

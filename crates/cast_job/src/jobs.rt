@@ -130,7 +130,7 @@ fn start_job<J: ClientJob + Send + Drop + 'static, R: Threads + Wait + Copy + Se
     started.ok().ok_or(StartFault::Threads)
 }
 
-/// Starts a thread for each job. Those that were started stand in `threads`, at `Err` too.
+/// Starts a thread for each job. Those that were started stand in `threads`, at `Err` too, of which no clause speaks.
 pub fn start_jobs<J: ClientJob + Send + Drop + 'static, R: Threads + Wait + Copy + Send + 'static>(
     rt: R,
     board: &Arc<Board, Global>,

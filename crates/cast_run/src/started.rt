@@ -85,7 +85,7 @@ impl<J: ClientJob + Send + Drop + 'static> Running<J> {
     }
 
     /// Runs each engine, each carrier and each job in a thread of its own, and joins them. Where a thread isn't started, or
-    /// memory runs out, those that were started are told to stop and are joined.
+    /// memory runs out, those that were started are told to stop and are joined, of which no clause speaks.
     pub fn run<G: Gate + Send + Drop + 'static, R: Threads + Wait + Copy + Send + 'static>(
         rt: R,
         alloc: Global,

@@ -6,7 +6,7 @@ use anyhow::Result;
 use cast_message::NodeId;
 use cast_run::{Gate, run_live};
 use cast_script::Fault;
-use run_setup::{Shape, no_faults, submit_each};
+use run_setup::{Shape, one_fault, submit_each};
 use std::alloc::{AllocError, Global};
 use std::sync::atomic::{AtomicU64, Ordering};
 use std::sync::{Arc, Wait};
@@ -61,9 +61,11 @@ pub fn crash_with_a_frame_under_way<R: Threads + Wait + Print + Copy + Send + 's
     alloc: Global,
     row: &str,
 ) -> Result<()> {
-    let node = NodeId(0);
-    let mut plan = no_faults(alloc);
-    plan.faults.push(Fault::Crash { node, entries: 2 })?;
+    let crash = Fault::Crash {
+        node: NodeId(0),
+        entries: 2,
+    };
+    let plan = one_fault(alloc, crash)?;
     let config = Shape::new(3, 1, 2).config()?;
     let jobs = submit_each(alloc, &[0], 1)?;
     let run = run_live(rt, alloc, config, &plan, jobs, late_gates(alloc)?, TURNS)?;

@@ -1,5 +1,6 @@
 use Rattle.cast_carrier.proofs.Carrying.{moves_lost, moves_kept, moves_handed}
 use Rattle.cast_carrier.proofs.Copying.{lost_so, kept_so, handed_so}
+use Rattle.cast_carrier.proofs.Sifting.{waits_none, waits_kept}
 use Rattle.cast_carrier.proofs.carrier.take_over.Goals as goal
 
 pub returns-then-fate-clause-moves : goal.returns-then-fate-clause-moves
@@ -31,3 +32,13 @@ pub returns-clause-planned : goal.returns-clause-planned
 returns-clause-planned g c =
     let p = c.pass_time.new in
     handed_so c.args.fate c.args.inboxes.now.items p.inboxes.items c.hand_on.new.inboxes.items c.args.delayed.now.items p.delayed.items c.args.parcel c.if-fate.false c.if-fate-gt0.false c.pass_time.ensures.planned c.hand_on.ensures.same c.hand_on.ensures.most
+
+pub returns-then-fate-clause-waits : goal.returns-then-fate-clause-waits
+returns-then-fate-clause-waits g c = waits_none c.args.fate c.args.delayed.now.items c.args.parcel c.pass_time.new.delayed.items c.pass_time.ensures.waits
+
+pub returns-then-fate-gt0-clause-waits : goal.returns-then-fate-gt0-clause-waits
+returns-then-fate-gt0-clause-waits g c =
+    waits_kept c.args.fate c.args.delayed.now.items c.args.parcel c.pass_time.new.delayed.items c.keep.new.delayed.items c.keep.ensures.0 c.if-fate.false c.if-fate-gt0.true c.pass_time.ensures.waits c.keep.ensures.1
+
+pub returns-clause-waits : goal.returns-clause-waits
+returns-clause-waits g c = waits_none c.args.fate c.args.delayed.now.items c.args.parcel c.pass_time.new.delayed.items c.pass_time.ensures.waits
