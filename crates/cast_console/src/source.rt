@@ -1,5 +1,8 @@
 //! The streams of a command, which remember what the system said when they failed, and the input once more.
-ghost use Rattle.std.specs.Prelude.{◌≡◌};
+ghost use Rattle.std.specs.Prelude.{◌≡◌, true, IsErr};
+ghost use Rattle.std.specs.Io.{ReadsAtMost};
+ghost use Rattle.std.specs.Io.KnownBytes.{ReadConsumes};
+ghost use Rattle.cast_console.specs.Streams.{is_unopened, stream_remaining};
 
 use cast_command::Call;
 use cast_text::INPUT_LIMIT;
@@ -157,7 +160,12 @@ impl<F: Read + Drop, S: Read + Drop> Read for Source<'_, F, S> {
 
     ghost remaining = { λ source. stream_remaining F.remaining S.remaining source.stream };
 
-    fn read(&mut self, buf: &mut [u8]) -> io::Result<usize> {
+    fn read(&mut self, buf: &mut [u8]) -> io::Result<usize>
+        ensures bound { ReadsAtMost result buf.new }
+        ensures bytes { ReadConsumes (stream_remaining F.remaining S.remaining self.old.stream)
+            (stream_remaining F.remaining S.remaining self.new.stream) result buf.new }
+        ensures unopened { is_unopened self.old.stream ≡ true → IsErr result }
+    {
         let outcome = match &mut self.stream {
             Stream::File(file) => file.read(buf),
             Stream::Standard(input) => input.read(buf),

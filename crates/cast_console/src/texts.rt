@@ -3,6 +3,7 @@ ghost use Rattle.std.specs.Prelude.{◌≡◌, [], false, IfOk, IfErr, OnOk};
 ghost use Rattle.std.specs.Io.Buffered.{writer_buffer, writer_inner};
 ghost use Rattle.cast_text.specs.Text.{TakesInput, Tells};
 ghost use Rattle.cast_console.specs.Made.{Makes, Refuses, BreaksOff};
+ghost use Rattle.cast_console.specs.Statuses.{status_after};
 
 use crate::explain::{explain_fault, explain_verdict};
 use crate::output::hand_on;
@@ -36,6 +37,18 @@ pub enum Done {
     Written,
     /// It has judged a record so, and written the verdict.
     Judged(Verdict),
+}
+
+impl Done {
+    // The status of a command that has done so.
+    fn status(self) -> Status
+        ensures { result ≡ status_after self }
+    {
+        match self {
+            Done::Written | Done::Judged(Verdict::Good) => Status::Good,
+            Done::Judged(Verdict::Bad { .. }) => Status::Bad,
+        }
+    }
 }
 
 impl TextCommand {
@@ -104,15 +117,17 @@ pub fn write_text<R: Runtime + AllocGlobal>(
     };
     let mut source = open_source(rt, call);
     let (done, heard) = command.perform_through(rt.alloc(), &mut Meter::new(&mut source), output);
-    let fault = match done {
-        Ok(Done::Written | Done::Judged(Verdict::Good)) => return Status::Good,
-        Ok(Done::Judged(Verdict::Bad { line, rule })) => {
-            explain_verdict(rt, line, rule, source);
-            return Status::Bad;
+    match done {
+        Ok(done) => {
+            if let Done::Judged(Verdict::Bad { line, rule }) = done {
+                explain_verdict(rt, line, rule, source);
+            }
+            done.status()
         }
-        Err(fault) => fault,
-    };
-    let status = refuse(rt, fault);
-    explain_fault(rt, fault, source, Failure::of_output(heard.error()));
-    status
+        Err(fault) => {
+            let status = refuse(rt, fault);
+            explain_fault(rt, fault, source, Failure::of_output(heard.error()));
+            status
+        }
+    }
 }

@@ -1,11 +1,12 @@
 //! The command `live`: a script's group in threads, the files that are kept of the run, and its summary.
-ghost use Rattle.std.specs.Prelude.{◌≡◌, [], true, false, IfOk, IfErr, OnOk, OnErr};
+ghost use Rattle.std.specs.Prelude.{◌≡◌, ◌⊎◌, [], true, false, IfOk, IfErr, OnOk, OnErr, IsOk};
 ghost use Rattle.std.specs.Io.Buffered.{writer_buffer, writer_inner};
 ghost use Rattle.std.specs.Io.KnownBytes.{Appends, append_known};
 ghost use Rattle.cast_live.specs.Live.{IsFinished, IsSummaryOf};
 ghost use Rattle.cast_text.specs.Text.{TakesInput, Tells, WroteFront};
 ghost use Rattle.cast_console.specs.Made.{IsCut};
 ghost use Rattle.castgroup.specs.Ran.{IsTold, RefusesRun, RunsScript, output_text};
+ghost use Rattle.castgroup.specs.Told.{IsToldOfBoth, fault_told, status_of_run};
 
 use crate::progress::{ProgressReporter, due_deliveries};
 use cast_command::{Call, RunFiles};
@@ -77,7 +78,10 @@ struct Stop<'a> {
 
 impl<'a> Stop<'a> {
     // Which of two is told: the other where it is want of memory, else this one.
-    fn or_memory(self, other: Stop<'a>) -> Stop<'a> {
+    fn or_memory(self, other: Stop<'a>) -> Stop<'a>
+        ensures fault { result.fault ≡ fault_told self.entry.fault other.entry.fault }
+        ensures whole { (result ≡ self.entry) ⊎ (result ≡ other.entry) }
+    {
         match other.fault {
             TextFault::Memory => other,
             _ => self,
@@ -100,7 +104,9 @@ fn tell_verdict<R: Runtime + AllocGlobal>(
     status_of(summary)
 }
 
-fn status_of(summary: Summary) -> Status {
+fn status_of(summary: Summary) -> Status
+    ensures { result ≡ status_of_run summary }
+{
     match (summary.verdict, summary.rest) {
         (Verdict::Bad { .. }, _) => Status::Bad,
         (Verdict::Good, false) => Status::Restless,
@@ -232,10 +238,11 @@ fn warn_of_length<'a, R: Eprint>(
 }
 
 // Where neither the record nor the replay is written, want of memory is told first, and else the record's fault.
-fn both_kept<'a>(
-    record: Result<(), Stop<'a>>,
-    replay: Result<(), Stop<'a>>,
-) -> Result<(), Stop<'a>> {
+fn both_kept<'a>(record: Result<(), Stop<'a>>, replay: Result<(), Stop<'a>>) -> Result<(), Stop<'a>>
+    ensures ok { OnOk result (IsOk «record».entry × IsOk replay.entry) }
+    ensures err { IfErr result (λ stop.
+        IsToldOfBoth (λ one. one.fault) «record».entry replay.entry stop.fault) }
+{
     match (record, replay) {
         (Err(record), Err(replay)) => Err(record.or_memory(replay)),
         (record, replay) => record.and(replay),

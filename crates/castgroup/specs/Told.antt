@@ -1,0 +1,32 @@
+-- What is told of a run in threads.
+--     status_of_run said            the status of a run of which this was summarized
+--     fault_told first other        which of two faults is told
+--     IsToldOfBoth fault a b told   which is told where the one output, the other, or both were not written
+use Rattle.std.specs.Prelude.{◌≡◌, Bool, true, false, Result, Ok, Err}
+use Rattle.cast_console.specs.declared.status.Status.{Status}
+use Rattle.cast_console.specs.declared.status.Status.TheVariants.{Good, Bad, Restless}
+use Rattle.cast_live.specs.declared.summary.Summary.{Summary}
+use Rattle.cast_record.specs.declared.verdict.Verdict.{Verdict}
+use Rattle.cast_record.specs.declared.verdict.Verdict.TheVariants as verdicts
+use Rattle.cast_text.specs.declared.fault.TextFault.{TextFault}
+use Rattle.cast_text.specs.declared.fault.TextFault.TheVariants as faults
+
+-- a bad record comes first, then a group that is not at rest
+abbrev pub status_by : Verdict → Bool → Status
+status_by (verdicts.Bad line rule) rest = Bad
+status_by verdicts.Good false = Restless
+status_by verdicts.Good true = Good
+
+abbrev pub status_of_run : Summary → Status
+status_of_run said = status_by said.verdict said.rest
+
+-- want of memory, or else the first
+abbrev pub fault_told : TextFault → TextFault → TextFault
+fault_told first faults.Memory = faults.Memory
+fault_told first other = first
+
+abbrev pub IsToldOfBoth : {S : Type 0} → (S → TextFault) → Result (Unit {0}) S → Result (Unit {0}) S → TextFault → Type 0
+IsToldOfBoth fault (Err first) (Err other) told = told ≡ fault_told (fault first) (fault other)
+IsToldOfBoth fault (Err first) (Ok done) told = told ≡ fault first
+IsToldOfBoth fault (Ok done) (Err other) told = told ≡ fault other
+IsToldOfBoth fault (Ok done) (Ok also) told = ⊥
