@@ -1,89 +1,118 @@
--- Each step of a carrier keeps what it keeps.
-use Rattle.std.proofs.Common.{◌≡◌, ◌≢◌, Bool, true, false, cond, ℕ, zero, suc, ◌+◌, List, [], ◌∷◌, ◌++◌, map, take, drop, slice_get, slice_set, Some, Ok, Err, Result, MatchResult, refl, sym, ap, ◌∙◌, subst, ◌⊎◌, inl, inr, ⊎_elim}
-use Rattle.cast_box.specs.Ends.{PutterEnd}
-use Rattle.cast_box.proofs.Same.{get_set}
+-- A carrier that carries one parcel has the same ends, and keeps what it keeps.
+use Rattle.std.proofs.Common.{◌≡◌, ◌≢◌, Bool, true, false, cond, ℕ, zero, suc, List, [], ◌∷◌, ◌++◌, map, slice_get, slice_set, Some, Ok, Err, Result, MatchResult, refl, sym, ap, ◌∙◌, subst, ◌⊎◌, inl, inr, ⊎_elim}
+use Rattle.cast_box.specs.Ends.{PutterEnd, IsSamePutter, AreSamePutters, WasFull}
+use Rattle.cast_box.proofs.Same.{get_set, putters_same, putters_again, putters_set}
 use Rattle.cast_carrier.specs.declared.parcel.Parcel.{Parcel}
 use Rattle.cast_carrier.specs.declared.carrier.Delayed.{Delayed}
+use Rattle.cast_carrier.specs.declared.fate.Fate.{Fate}
 use Rattle.cast_carrier.specs.Lists.{Has}
-use Rattle.cast_carrier.specs.Carriers.{IsTaken, CarrierKeeps, Moves, MovesOn, Puts, IsKeptOrLost, counted_down}
-use Rattle.cast_carrier.proofs.Lists.{has_left, has_last, has_snoc, has_none}
+use Rattle.cast_carrier.specs.Carriers.{IsTaken, Brings, CarrierKeeps, WaitsBy, PutsOne, PutsCopy, HandsOn, HandsOnAll, HandsOnUnless, HandsOver, counted_down, waiting_on, due_by}
+use Rattle.cast_carrier.proofs.Lists.{has_left, has_last, has_snoc, has_none, has_either, has_filter}
 
-pub put_either : {F : Type 0} (r : Result (Unit {0}) F) (P Q : Type 0) (A B : F → Type 0) → MatchResult r (λ _. P) (λ f. A f × Q × B f) → P ⊎ Q
-put_either (Ok u) P Q A B h = inl h
-put_either (Err f) P Q A B h = inr h.1
+pub put_or_full : {F : Type 0} (r : Result (Unit {0}) F) (P Q R : Type 0) (A : F → Type 0) → MatchResult r (λ _. P) (λ f. A f × Q × R) → P ⊎ (Q × R)
+put_or_full (Ok u) P Q R A h = inl h
+put_or_full (Err f) P Q R A h = inr (h.1, h.2)
 
-pub puts_put : (inboxes : List (PutterEnd Parcel)) (x : Parcel) (old new : PutterEnd Parcel) → slice_get inboxes x.frame.to ≡ Some old → (new.put ≡ old.put ++ x ∷ []) ⊎ (new.put ≡ old.put)
-    → Puts inboxes x (slice_set inboxes x.frame.to new)
-puts_put inboxes x old new was put taken k is q inbox y at has =
-    ⊎_elim
-    (λ (t : (q ≡ x.frame.to) × (new ≡ inbox)).
-    let here : Has new.put y = let P : PutterEnd Parcel → Type 0 = λ p. Has p.put y in subst P (sym t.1) has in
-    let old_one : Has old.put y → (y.frame.to ≡ q) × IsTaken taken y = λ h. let it = k x.frame.to old y was h in (it.0 ∙ sym t.0, it.1) in
-    ⊎_elim
-    (λ (e : new.put ≡ old.put ++ x ∷ []). ⊎_elim old_one
-    (λ (w : x ≡ y). (ap (λ (p : Parcel). p.frame.to) (sym w) ∙ sym t.0, subst (IsTaken taken) w is))
-    (has_snoc old.put x y (subst (λ l. Has l y) e here)))
-    (λ (e : new.put ≡ old.put). old_one (subst (λ l. Has l y) e here))
-    put)
-    (λ (t : (q ≢ x.frame.to) × (slice_get inboxes q ≡ Some inbox)). k q inbox y t.1 has)
-    (get_set inboxes x.frame.to q new inbox at)
+pub put_one : (inboxes : List (PutterEnd Parcel)) (x : Parcel) (to : ℕ) (old new : PutterEnd Parcel) → to ≡ x.frame.to → slice_get inboxes to ≡ Some old → IsSamePutter old new
+    → (new.put ≡ old.put ++ x ∷ []) ⊎ ((new.put ≡ old.put) × WasFull old) → PutsOne inboxes x (slice_set inboxes to new)
+put_one inboxes x to old new at was same put = inr (old, new, ap (slice_get inboxes) (sym at) ∙ was, ap (λ n. slice_set inboxes n new) at, same, put)
 
-pub puts_equal : (inboxes inboxes' : List (PutterEnd Parcel)) (x y : Parcel) → x ≡ y → Puts inboxes x inboxes' → Puts inboxes y inboxes'
-puts_equal inboxes inboxes' x y e p = subst (λ z. Puts inboxes z inboxes') e p
+-- ---- the ends are the same
 
-pub puts_both : (a b c : List (PutterEnd Parcel)) (x : Parcel) → Puts a x b → Puts b x c → Puts a x c
-puts_both a b c x p q taken k is = q taken (p taken k is) is
+same_one : (a b : List (PutterEnd Parcel)) (x : Parcel) → PutsOne a x b → AreSamePutters a b
+same_one a b x h =
+    ⊎_elim (λ t. subst (AreSamePutters a) (sym t.1) (putters_same a))
+    (λ t. subst (AreSamePutters a) (sym t.3) (putters_set a x.frame.to t.0 t.1 t.2 t.4))
+    h
 
-has_take : {A : Type 0} (n : ℕ) (xs : List A) (x : A) → Has (take n xs) x → Has xs x
-has_take zero xs x h = absurd (has_none x h)
-has_take (suc n) [] x h = h
-has_take (suc n) (y ∷ ys) x (zero, e) = (zero, e)
-has_take (suc n) (y ∷ ys) x (suc i, e) = let it = has_take n ys x (i, e) in (suc it.0, it.1)
+same_copy : (twice : Bool) (a b : List (PutterEnd Parcel)) (x : Parcel) → PutsCopy twice a x b → AreSamePutters a b
+same_copy false a b x h = subst (AreSamePutters a) (sym h) (putters_same a)
+same_copy true a b x h = ⊎_elim (λ t. same_one a b x t) (λ t. subst (AreSamePutters a) (sym t.1) (putters_same a)) h
 
-has_drop : {A : Type 0} (n : ℕ) (xs : List A) (x : A) → Has (drop n xs) x → Has xs x
-has_drop (suc n) (y ∷ ys) x h = let it = has_drop n ys x h in (suc it.0, it.1)
-has_drop n xs x h = h
+pub same_on : (twice : Bool) (a b : List (PutterEnd Parcel)) (x : Parcel) → HandsOn twice a x b → AreSamePutters a b
+same_on twice a b x h = putters_again a h.0 b (same_copy twice a h.0 x h.1) (same_one h.0 b x h.2)
 
-has_either : {A : Type 0} (xs ys : List A) (x : A) → Has (xs ++ ys) x → Has xs x ⊎ Has ys x
-has_either [] ys x h = inr h
-has_either (y ∷ xs) ys x (zero, e) = inl (zero, e)
-has_either {A = A} (y ∷ xs) ys x (suc i, e) = ⊎_elim (λ (t : Has xs x). inl (suc t.0, t.1)) (λ t. inr t) (has_either xs ys x (i, e))
+pub same_last : (twice : Bool) (a b : List (PutterEnd Parcel)) (x : Parcel) (h : HandsOn twice a x b) → AreSamePutters h.0 b
+same_last twice a b x h = same_one h.0 b x h.2
 
--- what is due is handed on
-pub moves_due : (inboxes inboxes' : List (PutterEnd Parcel)) (old delayed delayed' : List Delayed) (first : List (PutterEnd Parcel)) (place : ℕ) (d : Delayed)
-    → MovesOn first old inboxes delayed → slice_get delayed place ≡ Some d → delayed' ≡ take place delayed ++ drop (place + 1) delayed → Puts inboxes d.parcel inboxes' → MovesOn first old inboxes' delayed'
-moves_due inboxes inboxes' old delayed delayed' first place d m at e p taken k =
-    let now = m taken k in (
-      p taken now.0 (now.1 d (place, at)),
-      λ y has. now.1 y (⊎_elim (λ h. has_take place delayed y h) (λ h. has_drop (place + 1) delayed y h) (has_either (take place delayed) (drop (place + 1) delayed) y (subst (λ l. Has l y) e has))),
-    )
+pub same_all : (a b : List (PutterEnd Parcel)) (ds : List Delayed) → HandsOnAll a ds b → AreSamePutters a b
+unfolding HandsOnAll
+same_all a b [] h = subst (AreSamePutters a) (sym h) (putters_same a)
+same_all a b (d ∷ ds) h = putters_again a h.0 b (same_on d.twice a h.0 d.parcel h.1) (same_all h.0 b ds h.2)
 
-has_down : (to : ℕ) (d : List Delayed) (y : Delayed) → Has (map (counted_down to) d) y → (x : Delayed) × Has d x × (x.parcel ≡ y.parcel)
-has_down to [] y h = absurd (has_none y h)
-has_down to (x ∷ d) y (zero, e) = (x, (zero, refl), let is : counted_down to x ≡ y = cc in ap (λ (z : Delayed). z.parcel) is)
-has_down to (x ∷ d) y (suc i, e) = let it = has_down to d y (i, e) in (it.0, (suc it.1.0, it.1.1), it.2)
+same_unless : (stays twice : Bool) (a b : List (PutterEnd Parcel)) (x : Parcel) → HandsOnUnless stays twice a x b → AreSamePutters a b
+same_unless true twice a b x h = subst (AreSamePutters a) (sym h) (putters_same a)
+same_unless false twice a b x h = same_on twice a b x h
 
-pub moves_timed : (a b : List (PutterEnd Parcel)) (d e f : List Delayed) (to : ℕ) → e ≡ map (counted_down to) d → MovesOn a e b f → MovesOn a d b f
-moves_timed a b d e f to is m taken k =
-    m taken (k.0, λ y has. let it = has_down to d y (subst (λ l. Has l y) is has) in subst (IsTaken taken) it.2 (k.1 it.0 it.1))
+pub same_over : (fate : Fate) (a b : List (PutterEnd Parcel)) (d : List Delayed) (x : Parcel) → HandsOver fate a d x b → AreSamePutters a b
+same_over fate a b d x h = putters_again a h.0 b (same_all a h.0 (due_by x.frame.to d) h.1) (same_unless _ fate.twice h.0 b x h.2)
 
-pub moves_lost : (a b : List (PutterEnd Parcel)) (d e : List Delayed) (x : Parcel) → MovesOn a d b e → Moves a d x b e
-moves_lost a b d e x m taken k is = m taken k
+-- ---- what was put was taken from the outbox
 
-kept_is : (taken : List (ℕ × Parcel)) (e f : List Delayed) (d y : Delayed) (kept : Bool) → f ≡ cond kept (e ++ d ∷ []) e → IsTaken taken d.parcel → Has f y → Has e y ⊎ IsTaken taken y.parcel
-kept_is taken e f d y true is taken_is has = let P : Delayed → Type 0 = λ z. IsTaken taken z.parcel in ⊎_elim (λ t. inl t) (λ (w : d ≡ y). inr (subst P w taken_is)) (has_snoc e d y (subst (λ l. Has l y) is has))
-kept_is taken e f d y false is taken_is has = inl (subst (λ l. Has l y) is has)
+module _ (taken : List (ℕ × Parcel)) where
+  brings_put : (inboxes : List (PutterEnd Parcel)) (x : Parcel) (old new : PutterEnd Parcel) → slice_get inboxes x.frame.to ≡ Some old → (new.put ≡ old.put ++ x ∷ []) ⊎ (new.put ≡ old.put)
+      → IsTaken taken x → Brings taken inboxes → Brings taken (slice_set inboxes x.frame.to new)
+  brings_put inboxes x old new was put is k q inbox y at has =
+      ⊎_elim
+      (λ (t : (q ≡ x.frame.to) × (new ≡ inbox)).
+      let here : Has new.put y = let P : PutterEnd Parcel → Type 0 = λ p. Has p.put y in subst P (sym t.1) has in
+      let old_one : Has old.put y → (y.frame.to ≡ q) × IsTaken taken y = λ h. let it = k x.frame.to old y was h in (it.0 ∙ sym t.0, it.1) in
+      ⊎_elim
+      (λ (e : new.put ≡ old.put ++ x ∷ []). ⊎_elim old_one
+      (λ (w : x ≡ y). (ap (λ (p : Parcel). p.frame.to) (sym w) ∙ sym t.0, subst (IsTaken taken) w is))
+      (has_snoc old.put x y (subst (λ l. Has l y) e here)))
+      (λ (e : new.put ≡ old.put). old_one (subst (λ l. Has l y) e here))
+      put)
+      (λ (t : (q ≢ x.frame.to) × (slice_get inboxes q ≡ Some inbox)). k q inbox y t.1 has)
+      (get_set inboxes x.frame.to q new inbox at)
 
-pub moves_kept : (a b : List (PutterEnd Parcel)) (d e f : List Delayed) (x : Delayed) → MovesOn a d b e → IsKeptOrLost e x f → Moves a d x.parcel b f
-moves_kept a b d e f x m w taken k is = let now = m taken k in (now.0, λ y has. ⊎_elim (λ t. now.1 y t) (λ (t : IsTaken taken y.parcel). t) (kept_is taken e f x y w.0 w.1 is has))
+  brings_one : (a b : List (PutterEnd Parcel)) (x : Parcel) → IsTaken taken x → PutsOne a x b → Brings taken a → Brings taken b
+  brings_one a b x is h k =
+      ⊎_elim (λ t. subst (Brings taken) (sym t.1) k)
+      (λ t. subst (Brings taken) (sym t.3) (brings_put a x t.0 t.1 t.2 (⊎_elim (λ e. inl e) (λ e. inr e.0) t.5) is k))
+      h
 
-pub moves_handed : (a b c : List (PutterEnd Parcel)) (d e : List Delayed) (x : Parcel) → MovesOn a d b e → Puts b x c → Moves a d x c e
-moves_handed a b c d e x m p taken k is = let now = m taken k in (p taken now.0 is, now.1)
+  brings_copy : (twice : Bool) (a b : List (PutterEnd Parcel)) (x : Parcel) → IsTaken taken x → PutsCopy twice a x b → Brings taken a → Brings taken b
+  brings_copy false a b x is h k = subst (Brings taken) (sym h) k
+  brings_copy true a b x is h k = ⊎_elim (λ t. brings_one a b x is t k) (λ t. subst (Brings taken) (sym t.1) k) h
+
+  brings_on : (twice : Bool) (a b : List (PutterEnd Parcel)) (x : Parcel) → IsTaken taken x → HandsOn twice a x b → Brings taken a → Brings taken b
+  brings_on twice a b x is h k = brings_one h.0 b x is h.2 (brings_copy twice a h.0 x is h.1 k)
+
+  brings_all : (a b : List (PutterEnd Parcel)) (ds : List Delayed) → ((d : Delayed) → Has ds d → IsTaken taken d.parcel) → HandsOnAll a ds b → Brings taken a → Brings taken b
+  unfolding HandsOnAll
+  brings_all a b [] are h k = subst (Brings taken) (sym h) k
+  brings_all a b (d ∷ ds) are h k = brings_all h.0 b ds (λ y has. are y (suc has.0, has.1)) h.2 (brings_on d.twice a h.0 d.parcel (are d (zero, refl)) h.1 k)
+
+  brings_unless : (stays twice : Bool) (a b : List (PutterEnd Parcel)) (x : Parcel) → IsTaken taken x → HandsOnUnless stays twice a x b → Brings taken a → Brings taken b
+  brings_unless true twice a b x is h k = subst (Brings taken) (sym h) k
+  brings_unless false twice a b x is h k = brings_on twice a b x is h k
+
+  -- what waited was taken, whatever it has to wait for now
+  has_down : (to : ℕ) (d : List Delayed) → ((y : Delayed) → Has d y → IsTaken taken y.parcel) → (y : Delayed) → Has (map (counted_down to) d) y → IsTaken taken y.parcel
+  has_down to [] are y h = absurd (has_none y h)
+  has_down to (x ∷ d) are y (zero, e) = let is : counted_down to x ≡ y = cc in subst (IsTaken taken) (ap (λ (z : Delayed). z.parcel) is) (are x (zero, refl))
+  has_down to (x ∷ d) are y (suc i, e) = has_down to d (λ z h. are z (suc h.0, h.1)) y (i, e)
+
+  now_waits : (kept : Bool) (d y : Delayed) → IsTaken taken d.parcel → Has (cond kept (d ∷ []) []) y → IsTaken taken y.parcel
+  now_waits true d y is (zero, e) = let same : d ≡ y = cc in subst (λ (z : Delayed). IsTaken taken z.parcel) same is
+  now_waits true d y is (suc i, e) = absurd cc
+  now_waits false d y is h = absurd (has_none y h)
+
+  pub goes_on : (fate : Fate) (a b : List (PutterEnd Parcel)) (d e : List Delayed) (x : Parcel) → IsTaken taken x → WaitsBy fate d x e → HandsOver fate a d x b → CarrierKeeps taken a d → CarrierKeeps taken b e
+  goes_on fate a b d e x is waits hands k =
+      let to = x.frame.to in
+      let down = has_down to d k.1 in (
+        brings_unless _ fate.twice hands.0 b x is hands.2 (brings_all a hands.0 (due_by to d) (λ y has. down y (has_filter _ (map (counted_down to) d) y has)) hands.1 k.0),
+        λ y has. ⊎_elim (λ h. down y (has_filter _ (map (counted_down to) d) y h)) (λ h. now_waits waits.0 _ y is h)
+            (has_either (waiting_on to d) (cond waits.0 (record { left = fate.delay; twice = fate.twice; parcel = x } ∷ []) []) y (subst (λ l. Has l y) waits.2 has)),
+      )
 
 -- a carrier that takes one parcel more, and does with it what the plan says
-pub carried : (taken taken' : List (ℕ × Parcel)) (a b : List (PutterEnd Parcel)) (d e : List Delayed) (number : ℕ) (x : Parcel)
-    → CarrierKeeps taken a d → taken' ≡ taken ++ (number, x) ∷ [] → Moves a d x b e → CarrierKeeps taken' b e
-carried taken taken' a b d e number x k is m =
-    let more : (y : Parcel) → IsTaken taken y → IsTaken (taken ++ (number, x) ∷ []) y = λ y h. (h.0, has_left taken ((number, x) ∷ []) (h.0, y) h.1) in
+pub carried : (taken taken' : List (ℕ × Parcel)) (fate : Fate) (a b : List (PutterEnd Parcel)) (d e : List Delayed) (number : ℕ) (x : Parcel)
+    → CarrierKeeps taken a d → taken' ≡ taken ++ (number, x) ∷ [] → WaitsBy fate d x e → HandsOver fate a d x b → CarrierKeeps taken' b e
+carried taken taken' fate a b d e number x k is waits hands =
+    let now = taken ++ (number, x) ∷ [] in
+    let more : (y : Parcel) → IsTaken taken y → IsTaken now y = λ y h. (h.0, has_left taken ((number, x) ∷ []) (h.0, y) h.1) in
     subst (λ t. CarrierKeeps t b e) (sym is)
-    (m (taken ++ (number, x) ∷ []) ((λ q inbox y at has. let it = k.0 q inbox y at has in (it.0, more y it.1)), λ d has. more d.parcel (k.1 d has)) (number, has_last taken (number, x)))
+    (goes_on now fate a b d e x (number, has_last taken (number, x)) waits hands ((λ q inbox y at has. let it = k.0 q inbox y at has in (it.0, more y it.1)), λ d has. more d.parcel (k.1 d has)))

@@ -1,6 +1,7 @@
 -- What a carrier puts is no more than its plan lets through.
-use Rattle.std.proofs.Common.{◌≡◌, ◌≢◌, ◌<◌, ◌≤◌, ◌+◌, ◌-◌, ◌==◌, nat_le, nat_lt, ℕ, zero, suc, Bool, true, false, cond, if◌then◌else◌, ◌&&◌, ◌||◌, List, [], ◌∷◌, ◌++◌, map, length, replicate, take, drop, fold, count_by, sum_by, slice_get, slice_set, Option, Some, None, sym, refl, ap, ◌∙◌, subst, ◌⊎◌, ⊎_elim, length-set, take_at, arith}
-use Rattle.std.proofs.lemmas.Bool.{eq-eqb, le-leb, ltb-false, false_from_ne_true}
+use Rattle.std.proofs.Common.{◌≡◌, ◌≢◌, ◌<◌, ◌≤◌, ◌+◌, ◌-◌, ◌==◌, nat_le, nat_lt, ℕ, zero, suc, Bool, true, false, cond, if◌then◌else◌, ◌&&◌, ◌||◌, List, [], ◌∷◌, ◌++◌, map, length, replicate, take, drop, fold, count_by, sum_by, slice_get, slice_set, Option, Some, None, sym, refl, ap, ◌∙◌, subst, ◌⊎◌, inl, inr, ⊎_elim, not, append-nil, length-set, take_at, arith}
+use Rattle.std.specs.List.{filter}
+use Rattle.std.proofs.lemmas.Bool.{eq-eqb, le-leb, lt-ltb, ltb-false, false_from_ne_true, false≢true}
 use Rattle.std.proofs.lemmas.List.Sums.{fold-append, sum_by-cons, sum_by_push}
 use Rattle.cast_box.specs.Ends.{PutterEnd, AreSamePutters}
 use Rattle.cast_box.proofs.Same.{get_set}
@@ -13,7 +14,8 @@ use Rattle.cast_carrier.specs.declared.fate.Ordinals.{Ordinals}
 use Rattle.cast_carrier.specs.Fates.{one_more, fate_in, counted_where, counted_in}
 use Rattle.cast_message.specs.Items.{kind_of}
 use Rattle.cast_carrier.specs.Copies.{none_taken, counted_all, ordinals_after, frames_for, is_for, copies, copies_after, due_from, due, IsByPlan}
-use Rattle.cast_carrier.specs.Carriers.{counted_down, kept_for, CarrierPlans, PutsUpTo, IsNoMore, IsByFate, IsKeptOrLost}
+use Rattle.cast_carrier.specs.Carriers.{counted_down, is_early, is_due, waiting_on, kept_for, CarrierPlans, IsKeptOrLost, WaitsBy, PutsOne, PutsCopy, HandsOn, HandsOnAll, HandsOnUnless, HandsOver}
+use Rattle.cast_carrier.proofs.Carrying.{same_on, same_last, same_all, same_over}
 
 -- ---- what is due, by one frame more
 
@@ -68,7 +70,13 @@ put_at_most test q x old new n is most =
     let yes : is_for test q x ≡ test x = ap (λ b. b && test x) (eq-eqb x.frame.to q is) in
     subst (λ b. count_by test new ≤ count_by test old + cond b n 0) (sym yes) most
 
-pub put_once : (inboxes : List (PutterEnd Parcel)) (x : Parcel) (old new : PutterEnd Parcel) → slice_get inboxes x.frame.to ≡ Some old → (new.put ≡ old.put ++ x ∷ []) ⊎ (new.put ≡ old.put)
+-- into the inbox of its target go at most so many copies of the parcel, and nothing else into any
+abbrev PutsUpTo : ℕ → List (PutterEnd Parcel) → Parcel → List (PutterEnd Parcel) → Type 0
+PutsUpTo n inboxes x inboxes' =
+    (test : Parcel → Bool) (q : ℕ) (old new : PutterEnd Parcel)
+    → slice_get inboxes q ≡ Some old → slice_get inboxes' q ≡ Some new → count_by test new.put ≤ count_by test old.put + cond (is_for test q x) n 0
+
+put_once : (inboxes : List (PutterEnd Parcel)) (x : Parcel) (old new : PutterEnd Parcel) → slice_get inboxes x.frame.to ≡ Some old → (new.put ≡ old.put ++ x ∷ []) ⊎ (new.put ≡ old.put)
     → PutsUpTo 1 inboxes x (slice_set inboxes x.frame.to new)
 put_once inboxes x old new was put test q a b at now =
     ⊎_elim
@@ -81,55 +89,74 @@ put_once inboxes x old new was put test q a b at now =
     let same = ap (λ (z : PutterEnd Parcel). count_by test z.put) (same_read inboxes q a b at t.1) in omega (arith, same))
     (get_set inboxes x.frame.to q new b now)
 
-pub put_none : (inboxes : List (PutterEnd Parcel)) (x : Parcel) (n : ℕ) → PutsUpTo n inboxes x inboxes
+put_none : (inboxes : List (PutterEnd Parcel)) (x : Parcel) (n : ℕ) → PutsUpTo n inboxes x inboxes
 put_none inboxes x n test q a b at now = let same = ap (λ (z : PutterEnd Parcel). count_by test z.put) (same_read inboxes q a b at now) in omega (arith, same)
-
-pub put_equal : (n : ℕ) (a b : List (PutterEnd Parcel)) (x y : Parcel) → x ≡ y → PutsUpTo n a x b → PutsUpTo n a y b
-put_equal n a b x y e p = subst (λ z. PutsUpTo n a z b) e p
 
 split_for : (b : Bool) (m n all : ℕ) → m + n ≡ all → cond b m 0 + cond b n 0 ≡ cond b all 0
 split_for true m n all e = e
 split_for false m n all e = refl
 
-pub second : (twice : Bool) → (if twice then 1 else 0) + 1 ≡ copies twice
+second : (twice : Bool) → (if twice then 1 else 0) + 1 ≡ copies twice
 second true = refl
 second false = refl
 
-pub put_both : (a b c : List (PutterEnd Parcel)) (x : Parcel) (m n all : ℕ) → m + n ≡ all → AreSamePutters b c → PutsUpTo m a x b → PutsUpTo n b x c → PutsUpTo all a x c
-put_both a b c x m n all sum same p r test q old new at now =
-    let mid = same.1 q new now in
-    omega (arith, p test q old mid.0 at mid.1, r test q mid.0 new mid.1 now, split_for (is_for test q x) m n all sum)
+most_one : (a b : List (PutterEnd Parcel)) (x : Parcel) → PutsOne a x b → PutsUpTo 1 a x b
+most_one a b x h =
+    ⊎_elim (λ t. subst (PutsUpTo 1 a x) (sym t.1) (put_none a x 1))
+    (λ t. subst (PutsUpTo 1 a x) (sym t.3) (put_once a x t.0 t.1 t.2 (⊎_elim (λ e. inl e) (λ e. inr e.0) t.5)))
+    h
+
+most_copy : (twice : Bool) (a b : List (PutterEnd Parcel)) (x : Parcel) → PutsCopy twice a x b → PutsUpTo (if twice then 1 else 0) a x b
+most_copy false a b x h = subst (PutsUpTo 0 a x) (sym h) (put_none a x 0)
+most_copy true a b x h = ⊎_elim (λ t. most_one a b x t) (λ t. subst (PutsUpTo 1 a x) (sym t.1) (put_none a x 1)) h
+
+most_on : (twice : Bool) (a b : List (PutterEnd Parcel)) (x : Parcel) → HandsOn twice a x b → PutsUpTo (copies twice) a x b
+most_on twice a b x h test q old new at now =
+    let mid = (same_last twice a b x h).1 q new now in
+    omega (arith, most_copy twice a h.0 x h.1 test q old mid.0 at mid.1, most_one h.0 b x h.2 test q mid.0 new mid.1 now, split_for (is_for test q x) _ 1 _ (second twice))
 
 -- ---- what is handed on, kept or lost
 
-sum_without : {X : Type 0} (f : X → ℕ) (xs : List X) (i : ℕ) (x : X) → slice_get xs i ≡ Some x → sum_by f (take i xs ++ drop (i + 1) xs) + f x ≡ sum_by f xs
-sum_without f [] i x e = absurd cc
-sum_without f (y ∷ xs) zero x e = let here : y ≡ x = cc in let same = ap f here in omega (arith, same, sum_by-cons f y xs)
-sum_without f (y ∷ xs) (suc i) x e =
-    let next : suc i + 1 ≡ suc (i + 1) = omega arith in
-    let same : sum_by f (take (suc i) (y ∷ xs) ++ drop (suc i + 1) (y ∷ xs)) ≡ sum_by f (y ∷ (take i xs ++ drop (i + 1) xs)) = ap (λ n. sum_by f (take (suc i) (y ∷ xs) ++ drop n (y ∷ xs))) next in
-    omega (arith, same, sum_without f xs i x e, sum_by-cons f y xs, sum_by-cons f y (take i xs ++ drop (i + 1) xs))
+-- no more are put or kept than were before, at any time
+abbrev IsNoMore : List (PutterEnd Parcel) → List Delayed → List (PutterEnd Parcel) → List Delayed → Type 0
+IsNoMore inboxes delayed inboxes' delayed' =
+    (test : Parcel → Bool) (q more : ℕ) (old new : PutterEnd Parcel)
+    → slice_get inboxes q ≡ Some old → slice_get inboxes' q ≡ Some new
+    → count_by test new.put + kept_for test q more delayed' ≤ count_by test old.put + kept_for test q more delayed
 
-is_due : (b : Bool) (left more c : ℕ) → left ≡ 0 → cond b c 0 ≡ cond (b && nat_le left more) c 0
-is_due true left more c e = sym (ap (λ n. cond n c 0) (le-leb left more (omega (arith, e))))
-is_due false left more c e = refl
+-- no more than were before, and what is due of the parcel by its fate
+abbrev IsByFate : Fate → List (PutterEnd Parcel) → List Delayed → Parcel → List (PutterEnd Parcel) → List Delayed → Type 0
+IsByFate fate inboxes delayed x inboxes' delayed' =
+    (test : Parcel → Bool) (q more : ℕ) (old new : PutterEnd Parcel)
+    → slice_get inboxes q ≡ Some old → slice_get inboxes' q ≡ Some new
+    → count_by test new.put + kept_for test q more delayed'
+    ≤ count_by test old.put + kept_for test q more (map (counted_down x.frame.to) delayed) + cond (is_for test q x) (copies_after fate more) 0
 
-pub released : (first inboxes inboxes' : List (PutterEnd Parcel)) (old delayed delayed' : List Delayed) (place : ℕ) (d : Delayed)
-    → IsNoMore first old inboxes delayed → slice_get delayed place ≡ Some d → d.left ≡ 0 → delayed' ≡ take place delayed ++ drop (place + 1) delayed
-    → AreSamePutters inboxes inboxes' → PutsUpTo (copies d.twice) inboxes d.parcel inboxes' → IsNoMore first old inboxes' delayed'
-released first inboxes inboxes' old delayed delayed' place d before at due_now rest same most test q more one new was now =
-    let mid = same.1 q new now in
-    let f : Delayed → ℕ = λ z. cond (is_for test q z.parcel && nat_le z.left more) (copies z.twice) 0 in
-    let all : cond (is_for test q d.parcel) (copies d.twice) 0 ≡ f d = is_due (is_for test q d.parcel) d.left more (copies d.twice) due_now in
-    let less = sum_without f delayed place d at in
-    let left = ap (sum_by f) rest in
-    omega (arith, before test q more one mid.0 was mid.1, most test q mid.0 new mid.1 now, all, less, left)
+counted_now : (b : Bool) (left more c : ℕ) → left ≡ 0 → cond b c 0 ≡ cond (b && nat_le left more) c 0
+counted_now true left more c e = sym (ap (λ n. cond n c 0) (le-leb left more (omega (arith, e))))
+counted_now false left more c e = refl
 
-pub passed : (a b : List (PutterEnd Parcel)) (d e f : List Delayed) → e ≡ d → IsNoMore a e b f → IsNoMore a d b f
-passed a b d e f is m = subst (λ l. IsNoMore a l b f) is m
+late : (n : ℕ) → not (nat_lt 0 n) ≡ true → n ≡ 0
+late zero h = refl
+late (suc n) h = absurd (false≢true (sym (ap not (lt-ltb 0 (suc n) (omega arith))) ∙ h))
 
-pub lost_so : (fate : Fate) (a b : List (PutterEnd Parcel)) (d e : List Delayed) (x : Parcel) → IsNoMore a (map (counted_down x.frame.to) d) b e → IsByFate fate a d x b e
-lost_so fate a b d e x m test q more old new at now = omega (arith, m test q more old new at now)
+-- what is due is put in the place of being kept
+pub handed_no_more : (a b : List (PutterEnd Parcel)) (ds : List Delayed) → HandsOnAll a (filter is_due ds) b → IsNoMore a ds b (filter is_early ds)
+unfolding HandsOnAll
+handed_no_more a b [] h =
+    λ test q more old new at now. let same = ap (λ (z : PutterEnd Parcel). count_by test z.put) (same_read a q old new at (ap (λ l. slice_get l q) (sym h) ∙ now)) in omega (arith, same)
+handed_no_more a b (d ∷ ds) h = by_test (is_early d) refl h (λ c on. handed_no_more c b ds on)
+  where
+    by_test : (t : Bool) → is_early d ≡ t → HandsOnAll a (if not t then d ∷ filter is_due ds else filter is_due ds) b
+        → ((c : List (PutterEnd Parcel)) → HandsOnAll c (filter is_due ds) b → IsNoMore c ds b (filter is_early ds)) → IsNoMore a (d ∷ ds) b (if t then d ∷ filter is_early ds else filter is_early ds)
+    by_test true is on rest test q more old new at now =
+        let f : Delayed → ℕ = λ z. cond (is_for test q z.parcel && nat_le z.left more) (copies z.twice) 0 in
+        omega (arith, rest a on test q more old new at now, sum_by-cons f d ds, sum_by-cons f d (filter is_early ds))
+    by_test false is on rest test q more old new at now =
+        let f : Delayed → ℕ = λ z. cond (is_for test q z.parcel && nat_le z.left more) (copies z.twice) 0 in
+        let mid = (same_all on.0 b (filter is_due ds) on.2).1 q new now in
+        let own = counted_now (is_for test q d.parcel) d.left more (copies d.twice) (late d.left (ap not is)) in
+        omega (arith, most_on d.twice a on.0 d.parcel on.1 test q old mid.0 at mid.1, rest on.0 on.2 test q more mid.0 new mid.1 now, own, sum_by-cons f d ds)
 
 allowed : (fate : Fate) (b : Bool) (more : ℕ) → fate.lost ≡ false → cond (b && nat_le fate.delay more) (copies fate.twice) 0 ≤ cond b (copies_after fate more) 0
 allowed fate false more spared = omega arith
@@ -141,17 +168,43 @@ kept_more test q more e f d true is =
     let g : Delayed → ℕ = λ z. cond (is_for test q z.parcel && nat_le z.left more) (copies z.twice) 0 in let all = ap (sum_by g) is in omega (arith, all, sum_by_push g e d)
 kept_more test q more e f d false is = let all = ap (kept_for test q more) is in omega (arith, all)
 
-pub kept_so : (fate : Fate) (a b : List (PutterEnd Parcel)) (d e f : List Delayed) (x : Parcel) → fate.lost ≡ false → IsNoMore a (map (counted_down x.frame.to) d) b e
+lost_so : (fate : Fate) (a b : List (PutterEnd Parcel)) (d e : List Delayed) (x : Parcel) → IsNoMore a (map (counted_down x.frame.to) d) b e → IsByFate fate a d x b e
+lost_so fate a b d e x m test q more old new at now = omega (arith, m test q more old new at now)
+
+kept_so : (fate : Fate) (a b : List (PutterEnd Parcel)) (d e f : List Delayed) (x : Parcel) → fate.lost ≡ false → IsNoMore a (map (counted_down x.frame.to) d) b e
     → IsKeptOrLost e (record { left = fate.delay; twice = fate.twice; parcel = x }) f → IsByFate fate a d x b f
 kept_so fate a b d e f x spared m k test q more old new at now =
     omega (arith, m test q more old new at now, kept_more test q more e f (record { left = fate.delay; twice = fate.twice; parcel = x }) k.0 k.1, allowed fate (is_for test q x) more spared)
 
-pub handed_so : (fate : Fate) (a b c : List (PutterEnd Parcel)) (d e : List Delayed) (x : Parcel) → fate.lost ≡ false → fate.delay ≤ 0 → IsNoMore a (map (counted_down x.frame.to) d) b e
+handed_so : (fate : Fate) (a b c : List (PutterEnd Parcel)) (d e : List Delayed) (x : Parcel) → fate.lost ≡ false → fate.delay ≤ 0 → IsNoMore a (map (counted_down x.frame.to) d) b e
     → AreSamePutters b c → PutsUpTo (copies fate.twice) b x c → IsByFate fate a d x c e
 handed_so fate a b c d e x spared none m same most test q more old new at now =
     let mid = same.1 q new now in
     let zero_is : fate.delay ≡ 0 = omega (arith, none) in
-    omega (arith, m test q more old mid.0 at mid.1, most test q mid.0 new mid.1 now, is_due (is_for test q x) fate.delay more (copies fate.twice) zero_is, allowed fate (is_for test q x) more spared)
+    omega (arith, m test q more old mid.0 at mid.1, most test q mid.0 new mid.1 now, counted_now (is_for test q x) fate.delay more (copies fate.twice) zero_is, allowed fate (is_for test q x) more spared)
+
+or_parts : (x y : Bool) → x || y ≡ false → (x ≡ false) × (y ≡ false)
+or_parts true y h = absurd cc
+or_parts false y h = (refl, h)
+
+by_fate : (stays : Bool) (fate : Fate) (a mid b : List (PutterEnd Parcel)) (d e : List Delayed) (x : Parcel) (kept : Bool) → fate.lost || nat_lt 0 fate.delay ≡ stays
+    → IsNoMore a (map (counted_down x.frame.to) d) mid (waiting_on x.frame.to d) → (kept ≡ true → (fate.lost ≡ false) × (0 < fate.delay))
+    → e ≡ waiting_on x.frame.to d ++ cond kept (record { left = fate.delay; twice = fate.twice; parcel = x } ∷ []) [] → HandsOnUnless stays fate.twice mid x b → IsByFate fate a d x b e
+by_fate true fate a mid b d e x true stays no_more may is on =
+    let from : IsByFate fate a d x mid e = kept_so fate a mid d (waiting_on x.frame.to d) e x (may refl).0 no_more (true, is) in
+    subst (λ l. IsByFate fate a d x l e) (sym on) from
+by_fate true fate a mid b d e x false stays no_more may is on =
+    let same : e ≡ waiting_on x.frame.to d = is ∙ append-nil (waiting_on x.frame.to d) in
+    subst (λ l. IsByFate fate a d x l e) (sym on) (subst (IsByFate fate a d x mid) (sym same) (lost_so fate a mid d (waiting_on x.frame.to d) x no_more))
+by_fate false fate a mid b d e x kept stays no_more may is on =
+    let goes = or_parts fate.lost (nat_lt 0 fate.delay) stays in
+    let none : kept ≡ false = false_from_ne_true kept (λ yes. let some = (may yes).1 in let few = ltb-false 0 fate.delay goes.1 in omega (arith, some, few)) in
+    let same : e ≡ waiting_on x.frame.to d = is ∙ (λ i. waiting_on x.frame.to d ++ cond (none i) (record { left = fate.delay; twice = fate.twice; parcel = x } ∷ []) []) ∙ append-nil (waiting_on x.frame.to d) in
+    subst (IsByFate fate a d x b) (sym same) (handed_so fate a mid b d (waiting_on x.frame.to d) x goes.0 (ltb-false 0 fate.delay goes.1) no_more (same_on fate.twice mid b x on) (most_on fate.twice mid b x on))
+
+over_by_fate : (fate : Fate) (a b : List (PutterEnd Parcel)) (d e : List Delayed) (x : Parcel) → WaitsBy fate d x e → HandsOver fate a d x b → IsByFate fate a d x b e
+over_by_fate fate a b d e x waits hands =
+    by_fate (fate.lost || nat_lt 0 fate.delay) fate a hands.0 b d e x waits.0 refl (handed_no_more a hands.0 (map (counted_down x.frame.to) d) hands.1) waits.1 waits.2 hands.2
 
 -- ---- a carrier
 
@@ -166,8 +219,10 @@ counted_back old new frame len long is =
 
 pub planned_by : (faults : List Fault) (taken taken' : List (ℕ × Parcel)) (a b : List (PutterEnd Parcel)) (d e : List Delayed) (number : ℕ) (x : Parcel) (ordinals ordinals' : List Ordinals) (fate : Fate)
     → CarrierPlans faults ordinals taken a d → taken' ≡ taken ++ (number, x) ∷ [] → fate ≡ fate_in faults ordinals x.frame → ordinals' ≡ counted_in ordinals x.frame
-    → AreSamePutters a b → IsByFate fate a d x b e → CarrierPlans faults ordinals' taken' b e
-planned_by faults taken taken' a b d e number x ordinals ordinals' fate k is by count same m =
+    → WaitsBy fate d x e → HandsOver fate a d x b → CarrierPlans faults ordinals' taken' b e
+planned_by faults taken taken' a b d e number x ordinals ordinals' fate k is by count waits hands =
+    let same = same_over fate a b d x hands in
+    let m = over_by_fate fate a b d e x waits hands in
     let add : List Ordinals → (ℕ × Parcel) → List Ordinals = λ s n. counted_in s n.1.frame in
     let more_so : ordinals' ≡ ordinals_after (length b) taken' =
     count ∙ ap (λ s. counted_in s x.frame) k.0 ∙ sym (fold-append add (replicate (length a) none_taken) taken ((number, x) ∷ [])) ∙ ap (λ n. ordinals_after n (taken ++ (number, x) ∷ [])) (sym same.0) ∙ ap (ordinals_after (length b)) (sym is) in (

@@ -20,6 +20,20 @@ module _ {A : Type 0} where
   pub has_none : (x : A) → Has [] x → ⊥
   has_none x h = let e = h.1 in cc
 
+  pub has_either : (xs ys : List A) (x : A) → Has (xs ++ ys) x → Has xs x ⊎ Has ys x
+  has_either [] ys x h = inr h
+  has_either (y ∷ xs) ys x (zero, e) = inl (zero, e)
+  has_either (y ∷ xs) ys x (suc i, e) = ⊎_elim (λ (t : Has xs x). inl (suc t.0, t.1)) (λ t. inr t) (has_either xs ys x (i, e))
+
+  pub has_filter : (test : A → Bool) (xs : List A) (x : A) → Has (filter test xs) x → Has xs x
+  has_filter test [] x h = h
+  has_filter test (y ∷ xs) x h = step (test y) (λ k. has_filter test xs x k) h
+    where
+      step : (b : Bool) → (Has (filter test xs) x → Has xs x) → Has (if b then y ∷ filter test xs else filter test xs) x → Has (y ∷ xs) x
+      step true on (zero, e) = (zero, e)
+      step true on (suc i, e) = let it = on (i, e) in (suc it.0, it.1)
+      step false on k = let it = on k in (suc it.0, it.1)
+
 -- the first elements, and the next one
 pub take_next : {A : Type 0} (xs : List A) (n : ℕ) (x : A) → slice_get xs n ≡ Some x → take (suc n) xs ≡ take n xs ++ x ∷ []
 take_next [] n x e = absurd cc

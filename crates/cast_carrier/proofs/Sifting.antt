@@ -1,11 +1,12 @@
--- What still waits, behind a front that was looked through, and once a parcel was taken over.
-use Rattle.std.proofs.Common.{◌≡◌, ◌≢◌, ◌<◌, ◌≤◌, Bool, true, false, cond, nat_lt, ℕ, zero, suc, List, [], ◌∷◌, ◌++◌, length, take, drop, slice_get, Some, refl, sym, ap, ◌∙◌, append-nil, arith}
+-- What still waits and what is handed on, behind a front that was looked through, and once a parcel was taken over.
+use Rattle.std.proofs.Common.{◌≡◌, ◌≢◌, ◌<◌, ◌≤◌, Bool, true, false, not, ◌||◌, cond, nat_lt, ℕ, zero, suc, List, [], ◌∷◌, ◌++◌, length, take, drop, slice_get, Some, refl, sym, ap, ◌∙◌, subst, append-nil, append_assoc, arith}
 use Rattle.std.proofs.lemmas.Bool.Decides.{nat_tests}
 use Rattle.std.specs.List.{filter}
 use Rattle.cast_carrier.specs.declared.parcel.Parcel.{Parcel}
 use Rattle.cast_carrier.specs.declared.carrier.Delayed.{Delayed}
 use Rattle.cast_carrier.specs.declared.fate.Fate.{Fate}
-use Rattle.cast_carrier.specs.Carriers.{WaitsBy, waiting_on}
+use Rattle.cast_box.specs.Ends.{PutterEnd}
+use Rattle.cast_carrier.specs.Carriers.{WaitsBy, waiting_on, is_early, is_due, due_by, HandsOn, HandsOnAll, HandsOnUnless, HandsOver}
 use Rattle.cast_carrier.proofs.Lists.{picked, left_out}
 
 module _ {A : Type 0} (test : A → Bool) where
@@ -32,6 +33,12 @@ module _ {A : Type 0} (test : A → Bool) where
 pub early : (n : ℕ) → n ≢ 0 → nat_lt 0 n ≡ true
 early n h = grind (arith, nat_tests, h)
 
+pub waits_longer : (n : ℕ) → 0 < n → nat_lt 0 n ≡ true
+waits_longer n h = grind (arith, nat_tests, h)
+
+pub goes_now : (n : ℕ) → n ≤ 0 → nat_lt 0 n ≡ false
+goes_now n h = grind (arith, nat_tests, h)
+
 pub waits_none : (fate : Fate) (old : List Delayed) (x : Parcel) (new : List Delayed) → new ≡ waiting_on x.frame.to old → WaitsBy fate old x new
 waits_none fate old x new is = (false, λ h. absurd cc, is ∙ sym (append-nil (waiting_on x.frame.to old)))
 
@@ -39,3 +46,69 @@ pub waits_kept : (fate : Fate) (old : List Delayed) (x : Parcel) (rest new : Lis
     → rest ≡ waiting_on x.frame.to old → new ≡ cond kept (rest ++ (record { left = fate.delay; twice = fate.twice; parcel = x }) ∷ []) rest → WaitsBy fate old x new
 waits_kept fate old x rest new true found delayed left is = (true, λ h. (found, delayed), is ∙ ap (λ l. l ++ (record { left = fate.delay; twice = fate.twice; parcel = x }) ∷ []) left)
 waits_kept fate old x rest new false found delayed left is = waits_none fate old x new (is ∙ left)
+
+-- ---- what is handed on
+
+-- one more, behind the others
+pub hands_more : (a b c : List (PutterEnd Parcel)) (ds : List Delayed) (d : Delayed) → HandsOnAll a ds b → HandsOn d.twice b d.parcel c → HandsOnAll a (ds ++ d ∷ []) c
+unfolding HandsOnAll
+hands_more a b c [] d h on = (c, subst (λ l. HandsOn d.twice l d.parcel c) h on, refl)
+hands_more a b c (x ∷ ds) d h on = (h.0, h.1, hands_more h.0 b c ds d h.2 on)
+
+pub hands_none : (a : List (PutterEnd Parcel)) → HandsOnAll a [] a
+unfolding HandsOnAll
+hands_none a = refl
+
+-- the next of those that are left passes the test, or does not
+module _ {A : Type 0} (test : A → Bool) where
+  pub next_passes : (n : ℕ) (xs : List A) (x : A) → slice_get xs n ≡ Some x → test x ≡ true → filter test (drop n xs) ≡ x ∷ filter test (drop (suc n) xs)
+  next_passes n [] x at passes = absurd cc
+  next_passes zero (y ∷ ys) x at passes = let is : y ≡ x = cc in picked (test y) y (filter test ys) (ap test is ∙ passes) ∙ ap (λ z. z ∷ filter test ys) is
+  next_passes (suc n) (y ∷ ys) x at passes = next_passes n ys x at passes
+
+  pub next_fails : (n : ℕ) (xs : List A) (x : A) → slice_get xs n ≡ Some x → test x ≡ false → filter test (drop (suc n) xs) ≡ filter test (drop n xs)
+  next_fails n [] x at fails = absurd cc
+  next_fails zero (y ∷ ys) x at fails = let is : y ≡ x = cc in sym (left_out (test y) y (filter test ys) (ap test is ∙ fails))
+  next_fails (suc n) (y ∷ ys) x at fails = next_fails n ys x at fails
+
+  -- what is left where one was taken out
+  pub rest_behind : (n : ℕ) (xs : List A) (x : A) → slice_get xs n ≡ Some x → drop n (take n xs ++ drop (suc n) xs) ≡ drop (suc n) xs
+  rest_behind n [] x at = absurd cc
+  rest_behind zero (y ∷ ys) x at = refl
+  rest_behind (suc n) (y ∷ ys) x at = rest_behind n ys x at
+
+  pub none_behind : (n : ℕ) (xs : List A) → length xs ≤ n → drop n xs ≡ []
+  none_behind zero [] all = refl
+  none_behind (suc n) [] all = refl
+  none_behind zero (y ∷ ys) all = absurd (omega (arith, all))
+  none_behind (suc n) (y ∷ ys) all = none_behind n ys (omega (arith, all))
+
+-- the first of those that are due were handed on; the others stand from here on
+abbrev pub HandedSo : List (PutterEnd Parcel) → List Delayed → ℕ → List (PutterEnd Parcel) → List Delayed → Type 0
+HandedSo a old n b delayed = (done : List Delayed) × HandsOnAll a done b × (done ++ filter is_due (drop n delayed) ≡ filter is_due old)
+
+pub handed_first : (a : List (PutterEnd Parcel)) (old : List Delayed) → HandedSo a old 0 a old
+handed_first a old = ([], hands_none a, refl)
+
+pub handed_next : (a b c : List (PutterEnd Parcel)) (old delayed : List Delayed) (n : ℕ) (d : Delayed) → HandedSo a old n b delayed → slice_get delayed n ≡ Some d → is_early d ≡ false → HandsOn d.twice b d.parcel c
+    → HandedSo a old n c (take n delayed ++ drop (suc n) delayed)
+handed_next a b c old delayed n d so at late on = (
+  so.0 ++ d ∷ [],
+  hands_more a b c so.0 d so.1 on,
+  append_assoc so.0 (d ∷ []) _ ∙ ap (λ l. so.0 ++ d ∷ filter is_due l) (rest_behind is_due n delayed d at) ∙ ap (λ l. so.0 ++ l) (sym (next_passes is_due n delayed d at (ap not late))) ∙ so.2,
+)
+
+pub handed_past : (a b : List (PutterEnd Parcel)) (old delayed : List Delayed) (n : ℕ) (d : Delayed) → HandedSo a old n b delayed → slice_get delayed n ≡ Some d → is_early d ≡ true → HandedSo a old (suc n) b delayed
+handed_past a b old delayed n d so at early_now = (so.0, so.1, ap (λ l. so.0 ++ l) (next_fails is_due n delayed d at (ap not early_now)) ∙ so.2)
+
+pub handed_all : (a b : List (PutterEnd Parcel)) (old delayed : List Delayed) (n : ℕ) → HandedSo a old n b delayed → length delayed ≤ n → HandsOnAll a (filter is_due old) b
+handed_all a b old delayed n so all =
+    let done : so.0 ≡ filter is_due old = sym (append-nil so.0) ∙ ap (λ l. so.0 ++ filter is_due l) (sym (none_behind is_due n delayed all)) ∙ so.2 in
+    subst (λ l. HandsOnAll a l b) done so.1
+
+-- and then the parcel, by its fate
+pub hands_nothing : (fate : Fate) (a b : List (PutterEnd Parcel)) (delayed : List Delayed) (x : Parcel) → HandsOnAll a (due_by x.frame.to delayed) b → fate.lost || nat_lt 0 fate.delay ≡ true → HandsOver fate a delayed x b
+hands_nothing fate a b delayed x all stays = (b, all, subst (λ t. HandsOnUnless t fate.twice b x b) (sym stays) refl)
+
+pub hands_parcel : (fate : Fate) (a b c : List (PutterEnd Parcel)) (delayed : List Delayed) (x : Parcel) → HandsOnAll a (due_by x.frame.to delayed) b → fate.lost || nat_lt 0 fate.delay ≡ false → HandsOn fate.twice b x c → HandsOver fate a delayed x c
+hands_parcel fate a b c delayed x all goes on = (b, all, subst (λ t. HandsOnUnless t fate.twice b x c) (sym goes) on)

@@ -1,7 +1,8 @@
 -- A carrier, as contracts see it, and what it keeps.
-use Rattle.std.specs.Prelude.{◌≡◌, ℕ, ◌+◌, ◌-◌, ◌≤◌, ◌<◌, ◌==◌, nat_le, nat_lt, Bool, true, false, ◌&&◌, cond, if◌then◌else◌, List, [], ◌∷◌, ◌++◌, map, length, slice_get, Some}
+use Rattle.std.specs.Prelude.{◌≡◌, ℕ, ◌+◌, ◌-◌, ◌≤◌, ◌<◌, ◌==◌, nat_le, nat_lt, Bool, true, false, not, ◌&&◌, ◌||◌, cond, if◌then◌else◌, List, [], ◌∷◌, ◌++◌, map, length, slice_get, slice_set, Some, None, ◌⊎◌}
 use Rattle.std.specs.List.{count_by, sum_by, filter}
-use Rattle.cast_box.specs.Ends.{PutterEnd, TakerEnd, IsSameTaker, AreSamePutters}
+use Rattle.cast_box.specs.Ends.{PutterEnd, TakerEnd, IsSameTaker, IsSamePutter, AreSamePutters, WasFull}
+use Rattle.cast_message.specs.Items.{carries_bytes}
 use Rattle.cast_script.specs.declared.script.Fault.{Fault}
 use Rattle.cast_carrier.specs.declared.parcel.Parcel.{Parcel}
 use Rattle.cast_carrier.specs.declared.carrier.Delayed.{Delayed}
@@ -9,7 +10,7 @@ use Rattle.cast_carrier.specs.declared.fate.Fate.{Fate}
 use Rattle.cast_carrier.specs.declared.fate.Ordinals.{Ordinals}
 use Rattle.cast_carrier.specs.Lists.{Has}
 use Rattle.cast_carrier.specs.Fates.{fate_in}
-use Rattle.cast_carrier.specs.Copies.{ordinals_after, is_for, copies, copies_after, due}
+use Rattle.cast_carrier.specs.Copies.{ordinals_after, is_for, copies, due}
 
 pub record CarrierState : Type 0 where
   pub outbox : TakerEnd Parcel
@@ -42,18 +43,6 @@ IsSameCarrier old new = IsSameTaker old.outbox new.outbox × AreSamePutters old.
 abbrev pub AreUnused : List (PutterEnd Parcel) → Type 0
 AreUnused inboxes = (q : ℕ) (p : PutterEnd Parcel) → slice_get inboxes q ≡ Some p → p.put ≡ []
 
--- whatever holds of all parcels that were put or delayed before, each in the inbox of its target, and of this one, holds of
--- those that are now
-abbrev pub Moves : List (PutterEnd Parcel) → List Delayed → Parcel → List (PutterEnd Parcel) → List Delayed → Type 0
-Moves inboxes delayed x inboxes' delayed' = (taken : List (ℕ × Parcel)) → CarrierKeeps taken inboxes delayed → IsTaken taken x → CarrierKeeps taken inboxes' delayed'
-
--- the same of the inboxes alone
-abbrev pub Puts : List (PutterEnd Parcel) → Parcel → List (PutterEnd Parcel) → Type 0
-Puts inboxes x inboxes' = (taken : List (ℕ × Parcel)) → Brings taken inboxes → IsTaken taken x → Brings taken inboxes'
-
-abbrev pub MovesOn : List (PutterEnd Parcel) → List Delayed → List (PutterEnd Parcel) → List Delayed → Type 0
-MovesOn inboxes delayed inboxes' delayed' = (taken : List (ℕ × Parcel)) → CarrierKeeps taken inboxes delayed → CarrierKeeps taken inboxes' delayed'
-
 -- ---- what a carrier makes of its plan
 
 -- one more frame was taken for a target
@@ -82,27 +71,6 @@ IsWithin faults targets taken inboxes delayed =
 abbrev pub CarrierPlans : List Fault → List Ordinals → List (ℕ × Parcel) → List (PutterEnd Parcel) → List Delayed → Type 0
 CarrierPlans faults ordinals taken inboxes delayed = (ordinals ≡ ordinals_after (length inboxes) taken) × IsWithin faults (length inboxes) taken inboxes delayed
 
--- into the inbox of its target go at most so many copies of the parcel, and nothing else into any
-abbrev pub PutsUpTo : ℕ → List (PutterEnd Parcel) → Parcel → List (PutterEnd Parcel) → Type 0
-PutsUpTo n inboxes x inboxes' =
-    (test : Parcel → Bool) (q : ℕ) (old new : PutterEnd Parcel)
-    → slice_get inboxes q ≡ Some old → slice_get inboxes' q ≡ Some new → count_by test new.put ≤ count_by test old.put + cond (is_for test q x) n 0
-
--- no more are put or kept than were before, at any time
-abbrev pub IsNoMore : List (PutterEnd Parcel) → List Delayed → List (PutterEnd Parcel) → List Delayed → Type 0
-IsNoMore inboxes delayed inboxes' delayed' =
-    (test : Parcel → Bool) (q more : ℕ) (old new : PutterEnd Parcel)
-    → slice_get inboxes q ≡ Some old → slice_get inboxes' q ≡ Some new
-    → count_by test new.put + kept_for test q more delayed' ≤ count_by test old.put + kept_for test q more delayed
-
--- no more than were before, and what is due of the parcel by its fate
-abbrev pub IsByFate : Fate → List (PutterEnd Parcel) → List Delayed → Parcel → List (PutterEnd Parcel) → List Delayed → Type 0
-IsByFate fate inboxes delayed x inboxes' delayed' =
-    (test : Parcel → Bool) (q more : ℕ) (old new : PutterEnd Parcel)
-    → slice_get inboxes q ≡ Some old → slice_get inboxes' q ≡ Some new
-    → count_by test new.put + kept_for test q more delayed'
-    ≤ count_by test old.put + kept_for test q more (map (counted_down x.frame.to) delayed) + cond (is_for test q x) (copies_after fate more) 0
-
 -- it is kept behind the others, or lost
 abbrev pub IsKeptOrLost : List Delayed → Delayed → List Delayed → Type 0
 IsKeptOrLost old d new = (kept : Bool) × (new ≡ cond kept (old ++ d ∷ []) old)
@@ -114,10 +82,56 @@ WaitsBy fate old x new =
     × (new ≡ waiting_on x.frame.to old
     ++ cond kept (record { left = fate.delay; twice = fate.twice; parcel = x } ∷ []) [])
 
--- one parcel was taken from the outbox, and what is due waits no longer; or none was, and nothing changed
+-- ---- what a carrier puts, in order
+
+-- the parcel was put into the inbox of its target, or is lost, as that was full, or there is none
+abbrev pub PutsOne : List (PutterEnd Parcel) → Parcel → List (PutterEnd Parcel) → Type 0
+PutsOne old x new =
+    ((slice_get old x.frame.to ≡ None) × (new ≡ old))
+    ⊎ ((was now : PutterEnd Parcel) × (slice_get old x.frame.to ≡ Some was)
+    × (new ≡ slice_set old x.frame.to now) × IsSamePutter was now
+    × ((now.put ≡ was.put ++ x ∷ []) ⊎ ((now.put ≡ was.put) × WasFull was)))
+
+-- a copy of it too, where it is repeated: that is also lost where there is no memory for its bytes
+abbrev pub PutsCopy : Bool → List (PutterEnd Parcel) → Parcel → List (PutterEnd Parcel) → Type 0
+PutsCopy false old x new = new ≡ old
+PutsCopy true old x new = PutsOne old x new ⊎ ((carries_bytes x.frame.body ≡ true) × (new ≡ old))
+
+-- the parcel is handed on, once or twice
+abbrev pub HandsOn : Bool → List (PutterEnd Parcel) → Parcel → List (PutterEnd Parcel) → Type 0
+HandsOn twice old x new = (mid : List (PutterEnd Parcel)) × PutsCopy twice old x mid × PutsOne mid x new
+
+-- these are, one after another
+unfoldable pub HandsOnAll : List (PutterEnd Parcel) → List Delayed → List (PutterEnd Parcel) → Type 0
+HandsOnAll old [] new = new ≡ old
+HandsOnAll old (d ∷ ds) new = (mid : List (PutterEnd Parcel)) × HandsOn d.twice old d.parcel mid × HandsOnAll mid ds new
+
+-- what waits no longer
+abbrev pub is_due : Delayed → Bool
+is_due d = not (is_early d)
+
+-- and is handed on, once one more frame was taken for a target, in its order
+abbrev pub due_by : ℕ → List Delayed → List Delayed
+due_by to delayed = filter is_due (map (counted_down to) delayed)
+
+-- unless the parcel is lost or waits
+abbrev pub HandsOnUnless : Bool → Bool → List (PutterEnd Parcel) → Parcel → List (PutterEnd Parcel) → Type 0
+HandsOnUnless true twice old x new = new ≡ old
+HandsOnUnless false twice old x new = HandsOn twice old x new
+
+-- what is due by the parcel is handed on, and then the parcel, by its fate
+abbrev pub HandsOver : Fate → List (PutterEnd Parcel) → List Delayed → Parcel → List (PutterEnd Parcel) → Type 0
+HandsOver fate old delayed x new =
+    (mid : List (PutterEnd Parcel)) × HandsOnAll old (due_by x.frame.to delayed) mid
+    × HandsOnUnless (fate.lost || nat_lt 0 fate.delay) fate.twice mid x new
+
+-- the parcel goes on its way, and what is due by it
+abbrev pub Carries : CarrierState → Fate → Parcel → CarrierState → Type 0
+Carries old fate x new = WaitsBy fate old.delayed x new.delayed × HandsOver fate old.inboxes old.delayed x new.inboxes
+
+-- one parcel was taken from the outbox, and carried as the plan says; or none was, and nothing changed
 abbrev pub CarriesOne : CarrierState → CarrierState → Bool → Type 0
 CarriesOne old new true =
     (m : ℕ × Parcel) × (new.outbox.taken ≡ old.outbox.taken ++ m ∷ [])
-    × WaitsBy (fate_in old.faults (ordinals_after (length old.inboxes) old.outbox.taken) m.1.frame)
-    old.delayed m.1 new.delayed
+    × Carries old (fate_in old.faults (ordinals_after (length old.inboxes) old.outbox.taken) m.1.frame) m.1 new
 CarriesOne old new false = new ≡ old

@@ -1,11 +1,10 @@
 //! A carrier: takes parcels from an outbox and puts each into the inbox of its frame's target, once, twice or never, as the
 //! plan says.
-ghost use Rattle.std.specs.Prelude.{◌≡◌, [], IfOk, IsFalse, if◌then◌else◌, map};
+ghost use Rattle.std.specs.Prelude.{◌≡◌, [], IfOk, IsFalse, map};
 ghost use Rattle.std.specs.List.{filter};
 ghost use Rattle.cast_box.specs.Lists.{HasTakenOfEnded};
-ghost use Rattle.cast_box.specs.Ends.{AreSamePutters};
-ghost use Rattle.cast_carrier.specs.Copies.{IsByPlan, copies};
-ghost use Rattle.cast_carrier.specs.Carriers.{IsSameCarrier, CarriesOne, AreUnused, Brings, Moves, MovesOn, Puts, PutsUpTo, IsNoMore, IsByFate, IsKeptOrLost, WaitsBy, counted_down, is_early, waiting_on};
+ghost use Rattle.cast_carrier.specs.Copies.{IsByPlan};
+ghost use Rattle.cast_carrier.specs.Carriers.{IsSameCarrier, CarriesOne, AreUnused, Brings, IsKeptOrLost, WaitsBy, counted_down, is_early, is_due, waiting_on, due_by, PutsOne, PutsCopy, HandsOn, HandsOnAll, HandsOver};
 
 use crate::board::Board;
 use crate::fate::{Fate, Ordinals, fate_of};
@@ -90,8 +89,10 @@ impl Carrier {
         })
     }
 
-    /// Carries one parcel: what is due by it waits no longer, and it waits behind the others where its fate delays it. Answers
-    /// whether there was one; else nothing changed, and all that an engine that has ended put was taken.
+    /// Carries one parcel: what is due by it is handed on, in the order in which it came, and waits no longer; and then the
+    /// parcel itself, unless it is lost, or waits behind the others as its fate delays it. What is handed on is lost only where
+    /// the inbox was full, or is none; a copy also where there is no memory for its bytes. Answers whether there was a parcel;
+    /// else nothing changed, and all that an engine that has ended put was taken.
     pub fn carry<R: Wait>(&mut self, rt: &R) -> bool
         ensures same { IsSameCarrier self.old self.new }
         ensures one { CarriesOne self.old self.new result }
@@ -152,12 +153,8 @@ fn take_over<R: Wait>(
     parcel: Parcel,
     fate: Fate,
 )
-    ensures same { AreSamePutters inboxes.old.items inboxes.new.items }
-    ensures moves { Moves inboxes.old.items delayed.old.items parcel inboxes.new.items
-        delayed.new.items }
-    ensures planned { IsByFate fate inboxes.old.items delayed.old.items parcel inboxes.new.items
-        delayed.new.items }
     ensures waits { WaitsBy fate delayed.old.items parcel delayed.new.items }
+    ensures hands { HandsOver fate inboxes.old.items delayed.old.items parcel inboxes.new.items }
 {
     pass_time(rt, inboxes, delayed, &parcel);
     if fate.lost {
@@ -178,13 +175,9 @@ fn pass_time<R: Wait>(
     delayed: &mut Vec<Delayed>,
     parcel: &Parcel,
 )
-    ensures same { AreSamePutters inboxes.old.items inboxes.new.items }
-    ensures moves { MovesOn inboxes.old.items delayed.old.items inboxes.new.items
-        delayed.new.items }
-    ensures planned { IsNoMore inboxes.old.items
-        (map (counted_down parcel.now.frame.to) delayed.old.items)
-        inboxes.new.items delayed.new.items }
     ensures waits { delayed.new.items ≡ waiting_on parcel.now.frame.to delayed.old.items }
+    ensures hands { HandsOnAll inboxes.old.items
+        (due_by parcel.now.frame.to delayed.old.items) inboxes.new.items }
 {
     count_down(delayed, parcel.frame.to);
     release(rt, inboxes, delayed);
@@ -209,12 +202,9 @@ fn count_one(one: &mut Delayed, to: NodeId)
 
 // Hands on what is due.
 fn release<R: Wait>(rt: &R, inboxes: &mut Vec<Putter<Parcel>>, delayed: &mut Vec<Delayed>)
-    ensures same { AreSamePutters inboxes.old.items inboxes.new.items }
-    ensures moves { MovesOn inboxes.old.items delayed.old.items inboxes.new.items
-        delayed.new.items }
-    ensures planned { IsNoMore inboxes.old.items delayed.old.items inboxes.new.items
-        delayed.new.items }
     ensures waits { delayed.new.items ≡ filter is_early delayed.old.items }
+    ensures hands { HandsOnAll inboxes.old.items (filter is_due delayed.old.items)
+        inboxes.new.items }
 {
     let mut place = 0;
     while place < delayed.len() {
@@ -241,9 +231,7 @@ fn keep(delayed: &mut Vec<Delayed>, parcel: Parcel, fate: Fate)
 
 // Hands on a parcel once or twice. A copy that finds no memory is lost.
 fn hand_on<R: Wait>(rt: &R, inboxes: &mut Vec<Putter<Parcel>>, parcel: Parcel, twice: bool)
-    ensures same { AreSamePutters inboxes.old.items inboxes.new.items }
-    ensures puts { Puts inboxes.old.items parcel inboxes.new.items }
-    ensures most { PutsUpTo (copies twice) inboxes.old.items parcel inboxes.new.items }
+    ensures { HandsOn twice inboxes.old.items parcel inboxes.new.items }
 {
     put_copy(rt, inboxes, &parcel, twice);
     put(rt, inboxes, parcel);
@@ -251,10 +239,7 @@ fn hand_on<R: Wait>(rt: &R, inboxes: &mut Vec<Putter<Parcel>>, parcel: Parcel, t
 
 // Where the parcel is handed on twice, puts a copy.
 fn put_copy<R: Wait>(rt: &R, inboxes: &mut Vec<Putter<Parcel>>, parcel: &Parcel, twice: bool)
-    ensures same { AreSamePutters inboxes.old.items inboxes.new.items }
-    ensures puts { Puts inboxes.old.items parcel.now inboxes.new.items }
-    ensures most { PutsUpTo (if twice then 1 else 0) inboxes.old.items parcel.now
-        inboxes.new.items }
+    ensures { PutsCopy twice inboxes.old.items parcel.now inboxes.new.items }
 {
     if !twice {
         return;
@@ -266,9 +251,7 @@ fn put_copy<R: Wait>(rt: &R, inboxes: &mut Vec<Putter<Parcel>>, parcel: &Parcel,
 
 // Puts a parcel into the inbox of its target. It is lost where that is full.
 fn put<R: Wait>(rt: &R, inboxes: &mut Vec<Putter<Parcel>>, parcel: Parcel)
-    ensures same { AreSamePutters inboxes.old.items inboxes.new.items }
-    ensures puts { Puts inboxes.old.items parcel inboxes.new.items }
-    ensures most { PutsUpTo 1 inboxes.old.items parcel inboxes.new.items }
+    ensures { PutsOne inboxes.old.items parcel inboxes.new.items }
 {
     let to = usize::from(parcel.frame.to.0);
     if to < inboxes.len() {

@@ -1,37 +1,6 @@
-use Rattle.cast_carrier.proofs.Carrying.{moves_lost, moves_kept, moves_handed}
-use Rattle.cast_carrier.proofs.Copying.{lost_so, kept_so, handed_so}
-use Rattle.cast_carrier.proofs.Sifting.{waits_none, waits_kept}
+use Rattle.std.proofs.Common.{ap, ◌∙◌, ◌||◌, nat_lt}
+use Rattle.cast_carrier.proofs.Sifting.{waits_none, waits_kept, waits_longer, goes_now, hands_nothing, hands_parcel}
 use Rattle.cast_carrier.proofs.carrier.take_over.Goals as goal
-
-pub returns-then-fate-clause-moves : goal.returns-then-fate-clause-moves
-returns-then-fate-clause-moves g c =
-    let p = c.pass_time.new in
-    moves_lost c.args.inboxes.now.items p.inboxes.items c.args.delayed.now.items p.delayed.items c.args.parcel c.pass_time.ensures.moves
-
-pub returns-then-fate-gt0-clause-moves : goal.returns-then-fate-gt0-clause-moves
-returns-then-fate-gt0-clause-moves g c =
-    let p = c.pass_time.new in
-    moves_kept c.args.inboxes.now.items p.inboxes.items c.args.delayed.now.items p.delayed.items c.keep.new.delayed.items _ c.pass_time.ensures.moves c.keep.ensures
-
-pub returns-clause-moves : goal.returns-clause-moves
-returns-clause-moves g c =
-    let p = c.pass_time.new in
-    moves_handed c.args.inboxes.now.items p.inboxes.items c.hand_on.new.inboxes.items c.args.delayed.now.items p.delayed.items c.args.parcel c.pass_time.ensures.moves c.hand_on.ensures.puts
-
-pub returns-then-fate-clause-planned : goal.returns-then-fate-clause-planned
-returns-then-fate-clause-planned g c =
-    let p = c.pass_time.new in
-    lost_so c.args.fate c.args.inboxes.now.items p.inboxes.items c.args.delayed.now.items p.delayed.items c.args.parcel c.pass_time.ensures.planned
-
-pub returns-then-fate-gt0-clause-planned : goal.returns-then-fate-gt0-clause-planned
-returns-then-fate-gt0-clause-planned g c =
-    let p = c.pass_time.new in
-    kept_so c.args.fate c.args.inboxes.now.items p.inboxes.items c.args.delayed.now.items p.delayed.items c.keep.new.delayed.items c.args.parcel c.if-fate.false c.pass_time.ensures.planned c.keep.ensures
-
-pub returns-clause-planned : goal.returns-clause-planned
-returns-clause-planned g c =
-    let p = c.pass_time.new in
-    handed_so c.args.fate c.args.inboxes.now.items p.inboxes.items c.hand_on.new.inboxes.items c.args.delayed.now.items p.delayed.items c.args.parcel c.if-fate.false c.if-fate-gt0.false c.pass_time.ensures.planned c.hand_on.ensures.same c.hand_on.ensures.most
 
 pub returns-then-fate-clause-waits : goal.returns-then-fate-clause-waits
 returns-then-fate-clause-waits g c = waits_none c.args.fate c.args.delayed.now.items c.args.parcel c.pass_time.new.delayed.items c.pass_time.ensures.waits
@@ -42,3 +11,17 @@ returns-then-fate-gt0-clause-waits g c =
 
 pub returns-clause-waits : goal.returns-clause-waits
 returns-clause-waits g c = waits_none c.args.fate c.args.delayed.now.items c.args.parcel c.pass_time.new.delayed.items c.pass_time.ensures.waits
+
+pub returns-then-fate-clause-hands : goal.returns-then-fate-clause-hands
+returns-then-fate-clause-hands g c =
+    hands_nothing c.args.fate c.args.inboxes.now.items c.pass_time.new.inboxes.items c.args.delayed.now.items c.args.parcel c.pass_time.ensures.hands (ap (λ b. b || nat_lt 0 c.args.fate.delay) c.if-fate.true)
+
+pub returns-then-fate-gt0-clause-hands : goal.returns-then-fate-gt0-clause-hands
+returns-then-fate-gt0-clause-hands g c =
+    hands_nothing c.args.fate c.args.inboxes.now.items c.pass_time.new.inboxes.items c.args.delayed.now.items c.args.parcel c.pass_time.ensures.hands
+    (ap (λ b. b || nat_lt 0 c.args.fate.delay) c.if-fate.false ∙ waits_longer c.args.fate.delay c.if-fate-gt0.true)
+
+pub returns-clause-hands : goal.returns-clause-hands
+returns-clause-hands g c =
+    hands_parcel c.args.fate c.args.inboxes.now.items c.pass_time.new.inboxes.items c.hand_on.new.inboxes.items c.args.delayed.now.items c.args.parcel c.pass_time.ensures.hands
+    (ap (λ b. b || nat_lt 0 c.args.fate.delay) c.if-fate.false ∙ goes_now c.args.fate.delay c.if-fate-gt0.false) c.hand_on.ensures
