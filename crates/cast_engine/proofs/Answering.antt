@@ -20,7 +20,7 @@ use Rattle.cast_box.specs.Lists.{of}
 use Rattle.cast_report.specs.Linked.{Mark, Trail, steps_in, event_of, outcome_in}
 use Rattle.cast_carrier.specs.Lists.{Has}
 use Rattle.cast_engine.specs.Runs.{Read, Moved, Served, Denied, Run, mark, trail_of, log_of, orders_of, order_by, entry_by, IsRead, IsRun, is_order, origin_of}
-use Rattle.cast_engine.specs.Journals.{Rises}
+use Rattle.cast_engine.specs.Journals.{Rises, IsStampedAfter}
 use Rattle.cast_engine.specs.Serving.{is_of, origin_in, entries_of, orders_by, before, HasOriginOf, IsOriginIn, IsAnswered, IsAnsweredBy, Matches}
 use Rattle.cast_carrier.proofs.Lists.{has_left, has_last, has_snoc, has_none}
 
@@ -38,7 +38,7 @@ module _ {A B : Type 0} where
   matches_still R S xs ys f m = absurd m
 
 module _ {A : Type 0} where
-  filter_snoc : (f : A → Bool) (xs : List A) (x : A) → filter f (xs ++ x ∷ []) ≡ filter f xs ++ (if f x then x ∷ [] else [])
+  pub filter_snoc : (f : A → Bool) (xs : List A) (x : A) → filter f (xs ++ x ∷ []) ≡ filter f xs ++ (if f x then x ∷ [] else [])
   filter_snoc f [] x = one (f x) x
     where
       one : (b : Bool) (x : A) → (if b then x ∷ [] else []) ≡ [] ++ (if b then x ∷ [] else [])
@@ -60,10 +60,10 @@ module _ {A : Type 0} where
       step false on k = let it = on k in (suc it.0, it.1)
 
 -- rising stamps of a log with one entry more
-rises_front : (log : List Entry) (first clock : ℕ) (e : Entry) → Rises first (log ++ e ∷ []) clock → (c : ℕ) × Rises first log c
+pub rises_front : (log : List Entry) (first clock : ℕ) (e : Entry) → Rises first (log ++ e ∷ []) clock → (c : ℕ) × Rises first log c × IsStampedAfter c e × (clock ≡ e.stamp)
 unfolding Rises
-rises_front [] first clock e r = (first, refl)
-rises_front (x ∷ xs) first clock e r = let it = rises_front xs x.stamp clock e r.1 in (it.0, (r.0, it.1))
+rises_front [] first clock e r = (first, refl, r.0, r.1)
+rises_front (x ∷ xs) first clock e r = let it = rises_front xs x.stamp clock e r.1 in (it.0, (r.0, it.1), it.2, it.3)
 
 rises_over : (log : List Entry) (first clock : ℕ) (e : Entry) → Rises first (log ++ e ∷ []) clock → first < e.stamp
 unfolding Rises

@@ -4,6 +4,7 @@ pub mod Fed
 pub mod Staying
 pub mod Telling
 pub mod Answering
+pub mod Stamping
 pub mod Again
 pub mod Few
 pub mod Causes

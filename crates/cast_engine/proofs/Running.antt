@@ -1,5 +1,5 @@
 -- What an engine keeps, by one change of its log or of its boxes.
-use Rattle.std.proofs.Common.{◌≡◌, ℕ, ◌<◌, ◌+◌, Bool, cond, count_by, false, List, [], ◌∷◌, ◌++◌, map, Option, Some, None, sym, refl, ap, ◌∙◌, subst, ⊎_elim, arith}
+use Rattle.std.proofs.Common.{◌≡◌, ℕ, ◌+◌, max, Bool, cond, count_by, false, List, [], ◌∷◌, ◌++◌, map, Option, Some, None, sym, refl, ap, ◌∙◌, subst, ⊎_elim, arith}
 use Rattle.std.specs.Prelude.{Ok, Err}
 use Rattle.std.specs.Option.{option_to_list}
 use Rattle.std.proofs.lemmas.List.{append-nil, map-append}
@@ -21,7 +21,7 @@ use Rattle.cast_node.proofs.Showing.{carries, tells_taken}
 use Rattle.cast_desk.specs.declared.desk.OrderIn.{OrderIn}
 use Rattle.cast_carrier.specs.declared.parcel.Parcel.{Parcel}
 use Rattle.cast_report.specs.Linked.{Trail, event_of, outcome_in, steps_in, made_in, kept_in, stamped, IsFor}
-use Rattle.cast_engine.specs.Runs.{Read, Moved, Served, Denied, Run, mark, trail_of, log_of, orders_of, IsRun, AreReceived, IsReceived, IsReceivedBy, HasTakenEach, arrived_by, arrivals_in, made_of, parcel, is_order, origin_of, EngineKeeps}
+use Rattle.cast_engine.specs.Runs.{Read, Moved, Served, Denied, Run, mark, trail_of, log_of, orders_of, IsRun, clock_after, AreReceived, IsReceived, IsReceivedBy, HasTakenEach, arrived_by, arrivals_in, made_of, parcel, is_order, origin_of, EngineKeeps}
 use Rattle.cast_engine.specs.Journals.{JournalState, LogsStep, LogsRefusal, LogsOrder, OnlyEnds, Halts}
 use Rattle.cast_message.specs.declared.message.FrameKind.{FrameKind}
 use Rattle.cast_message.specs.declared.message.FrameKind.TheVariants.{Carry, Took}
@@ -46,25 +46,25 @@ unfolding made_in
 nothing_more config p trail stamp step none = sym (ap (λ l. made_in config p trail ++ map (stamped stamp) l) none ∙ append-nil (made_in config p trail))
 
 -- a parcel that arrived was taken still where more was taken
-received_still : (taken : List (ℕ × Parcel)) (m : ℕ × Parcel) (run : Run) → AreReceived taken run → AreReceived (taken ++ m ∷ []) run
+received_still : (taken : List (ℕ × Parcel)) (m : ℕ × Parcel) (first : ℕ) (run : Run) → AreReceived taken first run → AreReceived (taken ++ m ∷ []) first run
 unfolding AreReceived
-received_still taken m [] h = tt
-received_still taken m (r ∷ rs) h = (received_still taken m rs h.0, one r h.1)
+received_still taken m first [] h = tt
+received_still taken m first (r ∷ rs) h = (received_still taken m first rs h.0, one r h.1)
   where
-    by_step : (stamp : ℕ) (step : Step) → IsReceivedBy taken stamp step → IsReceivedBy (taken ++ m ∷ []) stamp step
-    by_step stamp (Arrived frame) g = (g.0, g.1, has_left taken (m ∷ []) (g.0, parcel g.1 frame) g.2, g.3)
-    by_step stamp step g = tt
+    by_step : (clock stamp : ℕ) (step : Step) → IsReceivedBy taken clock stamp step → IsReceivedBy (taken ++ m ∷ []) clock stamp step
+    by_step clock stamp (Arrived frame) g = (g.0, g.1, has_left taken (m ∷ []) (g.0, parcel g.1 frame) g.2, g.3)
+    by_step clock stamp step g = tt
 
-    one : (r : Read) → IsReceived taken r → IsReceived (taken ++ m ∷ []) r
-    one (Moved stamp step) g = by_step stamp step g
+    one : (r : Read) → IsReceived taken (clock_after first rs) r → IsReceived (taken ++ m ∷ []) (clock_after first rs) r
+    one (Moved stamp step) g = by_step (clock_after first rs) stamp step g
     one read g = tt
 
 -- where only boxes changed
-boxes_kept : {config : Config} {p : ℕ} {node : Kept} {log : List Entry} {put put' : List Parcel} {held held' : Option Parcel} {arrived arrived' : List (ℕ × Parcel)} {orders : List (ℕ × OrderIn)}
-    → (k : EngineKeeps config p node log put held arrived orders) → put' ++ option_to_list held' ≡ put ++ option_to_list held → AreReceived arrived' k.run → HasTakenEach arrived' (trail_of k.run)
-    → EngineKeeps config p node log put' held' arrived' orders
+boxes_kept : {config : Config} {p : ℕ} {node : Kept} {log : List Entry} {clock : ℕ} {put put' : List Parcel} {held held' : Option Parcel} {arrived arrived' : List (ℕ × Parcel)} {orders : List (ℕ × OrderIn)}
+    → (k : EngineKeeps config p node log clock put held arrived orders) → put' ++ option_to_list held' ≡ put ++ option_to_list held → AreReceived arrived' config.first_stamp k.run → HasTakenEach arrived' (trail_of k.run)
+    → EngineKeeps config p node log clock put' held' arrived' orders
 boxes_kept k same received each =
-    record { run = k.run; runs = k.runs; is_log = k.is_log; stands = k.stands; reached = k.reached; handed = ap (map made_of) same ∙ k.handed; received = received; each_taken = each; ordered = k.ordered }
+    record { run = k.run; runs = k.runs; is_log = k.is_log; stands = k.stands; reached = k.reached; handed = ap (map made_of) same ∙ k.handed; time = k.time; received = received; each_taken = each; ordered = k.ordered }
 
 -- a parcel more
 one_taken : (taken : List (ℕ × Parcel)) (m : ℕ × Parcel) (test : Frame → Bool) → count_by (λ n. test n.1.frame) (taken ++ m ∷ []) ≡ count_by (λ n. test n.1.frame) taken + cond (test m.1.frame) 1 0
@@ -73,7 +73,7 @@ one_taken taken m test = sum_by_push (λ (n : ℕ × Parcel). cond (test n.1.fra
 -- where more was taken from the inbox
 pub taken_kept : (j : JournalState) (put : List Parcel) (held : Option Parcel) (arrived : List (ℕ × Parcel)) (orders : List (ℕ × OrderIn)) (m : ℕ × Parcel)
     → KeepsOf j put held arrived orders → KeepsOf j put held (arrived ++ m ∷ []) orders
-taken_kept j put held arrived orders m k = boxes_kept k refl (received_still arrived m k.run k.received) (λ test. omega (arith, k.each_taken test, one_taken arrived m test))
+taken_kept j put held arrived orders m k = boxes_kept k refl (received_still arrived m j.config.first_stamp k.run k.received) (λ test. omega (arith, k.each_taken test, one_taken arrived m test))
 
 -- where only the end was noted
 pub ends_kept : (old new : JournalState) (put : List Parcel) (held : Option Parcel) (arrived : List (ℕ × Parcel)) (orders : List (ℕ × OrderIn))
@@ -84,21 +84,24 @@ module _ (old new : JournalState) (put : List Parcel) (held : Option Parcel) (ar
   abbrev steps_now : Steps
   steps_now = steps_in old.config old.node.me (trail_of k.run)
 
+  abbrev clock_now : ℕ
+  clock_now = clock_after old.config.first_stamp k.run
+
   abbrev KeepsOf' : JournalState → List (ℕ × OrderIn) → Type 0
   KeepsOf' j orders' = KeepsOf j put held arrived orders'
 
   -- the node is the same
   at_new : {put' : List Parcel} {held' : Option Parcel} {arrived' : List (ℕ × Parcel)} {orders' : List (ℕ × OrderIn)} (steps : Steps) → Stands old.config old.node.me steps new.node → new.config ≡ old.config
-      → EngineKeeps old.config old.node.me new.node new.log put' held' arrived' orders' → KeepsOf new put' held' arrived' orders'
+      → EngineKeeps old.config old.node.me new.node new.log new.clock put' held' arrived' orders' → KeepsOf new put' held' arrived' orders'
   at_new {put' = put'} {held' = held'} {arrived' = arrived'} {orders' = orders'} steps st c e =
-      let P : Config → ℕ → Type 0 = λ config p. EngineKeeps config p new.node new.log put' held' arrived' orders' in
+      let P : Config → ℕ → Type 0 = λ config p. EngineKeeps config p new.node new.log new.clock put' held' arrived' orders' in
       subst (λ config. P config new.node.me) (sym c) (subst (P old.config) (sym st.same_me) e)
 
   -- a step that is no order is one more of the run; what it made was handed on, and what arrived by it was taken
   moved : (step : Step) (above : ℕ) (l : LogsStep old new step None above) → is_order step ≡ false → IsFor old.node.me step
-      → (arrived' : List (ℕ × Parcel)) → AreReceived arrived' k.run → ((stamp : ℕ) → above < stamp → IsReceivedBy arrived' stamp step) → HasTakenEach arrived' (mark l.stamp step ∷ trail_of k.run)
+      → (arrived' : List (ℕ × Parcel)) → AreReceived arrived' old.config.first_stamp k.run → (l.stamp ≡ max clock_now above + 1 → IsReceivedBy arrived' clock_now l.stamp step) → HasTakenEach arrived' (mark l.stamp step ∷ trail_of k.run)
       → (put' : List Parcel) (held' : Option Parcel) → map made_of (put' ++ option_to_list held') ≡ made_in old.config old.node.me (mark l.stamp step ∷ trail_of k.run) → KeepsOf new put' held' arrived' orders
-  unfolding trail_of log_of orders_of IsRun AreReceived steps_in kept_in
+  unfolding trail_of log_of orders_of IsRun clock_after AreReceived steps_in kept_in
   moved step above l quiet for_me arrived' before received each put' held' handed =
       let go = continues old.config old.node.me steps_now old.node k.stands step (Ok l.answer) new.node l.gives in
       let none = sym (faults_are old.config old.node.me steps_now old.node k.stands step) ∙ l.gives.0 in
@@ -109,7 +112,8 @@ module _ (old new : JournalState) (put : List Parcel) (held : Option Parcel) (ar
         stands = go.1;
         reached = l.gives.2 ∙ ap (λ n. kept_after n step) k.reached;
         handed = handed;
-        received = (before, received l.stamp (omega (arith, l.next)));
+        time = l.logs.clock;
+        received = (before, received (l.next ∙ ap (λ c. max c above + 1) k.time));
         each_taken = each;
         ordered = append-nil (orders_of k.run) ∙ k.ordered;
       })
@@ -124,7 +128,7 @@ module _ (old new : JournalState) (put : List Parcel) (held : Option Parcel) (ar
   unfolding own_made arrivals_in
   arrival_kept number x l to =
       let m : ℕ × Parcel = (number, x) in
-      moved (Arrived x.frame) x.stamp l refl to (arrived ++ m ∷ []) (received_still arrived m k.run k.received) (λ stamp lt. (number, x.stamp, has_last arrived m, lt))
+      moved (Arrived x.frame) x.stamp l refl to (arrived ++ m ∷ []) (received_still arrived m old.config.first_stamp k.run k.received) (λ next. (number, x.stamp, has_last arrived m, next))
       (λ test. omega (arith, k.each_taken test, one_taken arrived m test, sum_by-cons (λ (f : Frame). cond (test f) 1 0) x.frame (arrivals_in (trail_of k.run))))
       put held (k.handed ∙ nothing_more old.config old.node.me (trail_of k.run) l.stamp (Arrived x.frame) refl)
 
@@ -134,7 +138,7 @@ module _ (old new : JournalState) (put : List Parcel) (held : Option Parcel) (ar
   stopped : LogsStep old new Stopped None old.clock → KeepsOf new put held arrived orders
   unfolding own_made
   stopped l =
-      moved Stopped old.clock l refl tt arrived k.received (λ stamp lt. tt) (none_arrived l.stamp Stopped refl) put held
+      moved Stopped old.clock l refl tt arrived k.received (λ next. tt) (none_arrived l.stamp Stopped refl) put held
       (k.handed ∙ nothing_more old.config old.node.me (trail_of k.run) l.stamp Stopped refl)
 
   pub halt_kept : Halts old new → KeepsOf new put held arrived orders
@@ -142,7 +146,7 @@ module _ (old new : JournalState) (put : List Parcel) (held : Option Parcel) (ar
 
   -- an order that was taken from the desk and logged at once
   served : (order : OrderIn) (from : ℕ) → LogsStep old new (Ordered order.item) (Some (origin_of order)) old.clock → KeepsOf' new (orders ++ (from, order) ∷ [])
-  unfolding trail_of log_of orders_of IsRun AreReceived steps_in kept_in
+  unfolding trail_of log_of orders_of IsRun clock_after AreReceived steps_in kept_in
   served order from l =
       let step : Step = Ordered order.item in
       let go = continues old.config old.node.me steps_now old.node k.stands step (Ok l.answer) new.node l.gives in
@@ -155,13 +159,14 @@ module _ (old new : JournalState) (put : List Parcel) (held : Option Parcel) (ar
         stands = go.1;
         reached = l.gives.2 ∙ ap (λ n. kept_after n step) k.reached;
         handed = k.handed ∙ nothing_more old.config old.node.me (trail_of k.run) l.stamp step (order_makes_none old.node.me steps_now order.item);
+        time = l.logs.clock;
         received = (k.received, tt);
         each_taken = none_arrived l.stamp step refl;
         ordered = ap (λ l. l ++ order ∷ []) k.ordered ∙ sym (map-append snd orders ((from, order) ∷ []));
       })
 
   denied : (order : OrderIn) (from : ℕ) → LogsRefusal old new order → KeepsOf' new (orders ++ (from, order) ∷ [])
-  unfolding trail_of log_of orders_of IsRun AreReceived
+  unfolding trail_of log_of orders_of IsRun clock_after AreReceived
   denied order from l =
       let step : Step = Ordered order.item in
       let go = continues old.config old.node.me steps_now old.node k.stands step (Err l.fault) new.node l.gives in
@@ -173,6 +178,7 @@ module _ (old new : JournalState) (put : List Parcel) (held : Option Parcel) (ar
         stands = go.1;
         reached = l.gives.1 ∙ k.reached;
         handed = k.handed;
+        time = l.logs.clock;
         received = (k.received, tt);
         each_taken = k.each_taken;
         ordered = ap (λ l. l ++ order ∷ []) k.ordered ∙ sym (map-append snd orders ((from, order) ∷ []));
@@ -182,7 +188,7 @@ module _ (old new : JournalState) (put : List Parcel) (held : Option Parcel) (ar
   order_kept order from h = ⊎_elim (λ l. served order from l) (λ l. denied order from l) h
 
   -- a step that makes a frame, which is handed on where none waits
-  made_now : (step : Step) (above : ℕ) (f : Frame) → LogsStep old new step None above → is_order step ≡ false → IsFor old.node.me step → ((stamp : ℕ) → IsReceivedBy arrived stamp step) → arrived_by step ≡ []
+  made_now : (step : Step) (above : ℕ) (f : Frame) → LogsStep old new step None above → is_order step ≡ false → IsFor old.node.me step → ((clock stamp : ℕ) → IsReceivedBy arrived clock stamp step) → arrived_by step ≡ []
       → own_made old.node.me steps_now step ≡ f ∷ [] → (x : Parcel) → x.frame ≡ f → x.stamp ≡ new.clock
       → held ≡ None → (put' : List Parcel) (held' : Option Parcel) → Handed put put' held' x → KeepsOf new put' held' arrived orders
   unfolding made_in
@@ -191,7 +197,7 @@ module _ (old new : JournalState) (put : List Parcel) (held : Option Parcel) (ar
       let all : map made_of put ≡ before = ap (map made_of) (sym (append-nil put) ∙ ap (λ o. put ++ option_to_list o) (sym none)) ∙ k.handed in
       let time_is : x.stamp ≡ l.stamp = time ∙ l.logs.clock in
       let last : made_of x ≡ stamped l.stamp f = λ i. stamped (time_is i) (is i) in
-      moved step above l quiet for_me arrived k.received (λ stamp lt. received stamp) (none_arrived l.stamp step no_arrival) put' held'
+      moved step above l quiet for_me arrived k.received (λ next. received clock_now l.stamp) (none_arrived l.stamp step no_arrival) put' held'
       (ap (map made_of) (handed_all put put' held' x h) ∙ map-append made_of put (x ∷ []) ∙ ap (λ ms. ms ++ made_of x ∷ []) all ∙ ap (λ m. before ++ m ∷ []) last
       ∙ ap (λ fs. before ++ map (stamped l.stamp) fs) (sym made))
 
@@ -206,7 +212,7 @@ module _ (old new : JournalState) (put put' : List Parcel) (held held' : Option 
   made_kept Carry to slot l is =
       let steps = steps_in old.config old.node.me (trail_of k.run) in
       let clear = sym (faults_are old.config old.node.me steps old.node k.stands (Sent to slot)) ∙ l.gives.0 in
-      made_now old new put held arrived orders k (Sent to slot) above (carry_of old.node to slot) l refl tt (λ stamp. tt) refl (carries old.config old.node.me steps old.node k.stands to slot clear) x is time none put' held' h
+      made_now old new put held arrived orders k (Sent to slot) above (carry_of old.node to slot) l refl tt (λ clock stamp. tt) refl (carries old.config old.node.me steps old.node k.stands to slot clear) x is time none put' held' h
   made_kept Took to slot l is =
       let steps = steps_in old.config old.node.me (trail_of k.run) in
-      made_now old new put held arrived orders k (Acknowledged to slot) above (took_of old.node to slot) l refl tt (λ stamp. tt) refl (tells_taken old.config old.node.me steps old.node k.stands to slot) x is time none put' held' h
+      made_now old new put held arrived orders k (Acknowledged to slot) above (took_of old.node to slot) l refl tt (λ clock stamp. tt) refl (tells_taken old.config old.node.me steps old.node k.stands to slot) x is time none put' held' h

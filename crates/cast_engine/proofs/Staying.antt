@@ -16,7 +16,7 @@ use Rattle.cast_desk.specs.declared.notice.Notice.{Notice}
 use Rattle.cast_carrier.specs.declared.parcel.Parcel.{Parcel}
 use Rattle.cast_engine.specs.declared.feeding.Place.{Place}
 use Rattle.cast_report.specs.Linked.{steps_in, kept_in, made_in}
-use Rattle.cast_engine.specs.Runs.{EngineKeeps, arrivals_in, trail_of, log_of, orders_of, IsRun, AreReceived}
+use Rattle.cast_engine.specs.Runs.{EngineKeeps, arrivals_in, trail_of, log_of, orders_of, IsRun, clock_after, AreReceived}
 use Rattle.cast_engine.specs.Journals.{JournalState, LogsStep, LogsRefusal, LogsOrder, OnlyEnds, Halts, MayLog, Rises, EndsAs}
 use Rattle.cast_message.specs.declared.message.FrameKind.{FrameKind}
 use Rattle.cast_engine.specs.Feeding.{AreFed, IsFed, first_place}
@@ -153,7 +153,7 @@ get_replicate (suc n) a x (suc i) e = get_replicate n a x i e
 pub stays_new : (j : JournalState) (config : Config) (me : ℕ) (crash : Option ℕ) (put : List Parcel) (arrived : List (ℕ × Parcel)) (desk : Option Desk) (places : List Place)
     → me < config.nodes → j ≡ record { config = config; node = nothing_kept config me; log = []; clock = config.first_stamp; crash = crash; ended = None }
     → put ≡ [] → arrived ≡ [] → IsUnused desk → places ≡ replicate (length (trays_at desk)) first_place → EngineStays j put None arrived desk places
-unfolding trail_of log_of orders_of IsRun AreReceived steps_in kept_in made_in arrivals_in
+unfolding trail_of log_of orders_of IsRun clock_after AreReceived steps_in kept_in made_in arrivals_in
 stays_new j config me crash put arrived desk places lt is p a u l =
     let P : JournalState → List Parcel → List (ℕ × Parcel) → Type 0 = λ j p a. EngineStays j p None a desk places in
     let base : JournalState = record { config = config; node = nothing_kept config me; log = []; clock = config.first_stamp; crash = crash; ended = None } in
@@ -165,6 +165,7 @@ stays_new j config me crash put arrived desk places lt is p a u l =
         stands = stands_for_nothing config me lt;
         reached = refl;
         handed = refl;
+        time = refl;
         received = tt;
         each_taken = λ test. omega arith;
         ordered = sym (ap (map (λ (m : ℕ × OrderIn). m.1)) u.0);
@@ -196,9 +197,10 @@ pub leaves : (j : JournalState) (put : List Parcel) (held : Option Parcel) (arri
     → (log : List Entry) (node : Kept) (ended : EngineEnd) → log ≡ j.log → node ≡ j.node → j.ended ≡ Some ended → Rises j.config.first_stamp j.log j.clock → EndsAs j.config.log_limit j.crash j.ended j.log
     → Leaves e log node ended
 leaves j put held arrived desk places e k c m cr p a d log node ended l n en r x =
-    let K : Config → ℕ → Kept → List Entry → List Parcel → List (ℕ × Parcel) → Option Desk → Type 0 = λ c m n l p a d. EngineKeeps c m n l p held a (taken_at d) in
+    let K : Config → ℕ → Kept → List Entry → List Parcel → List (ℕ × Parcel) → Option Desk → Type 0 = λ c m n l p a d. EngineKeeps c m n l j.clock p held a (taken_at d) in
     record {
       held = held;
+      clock = j.clock;
       keeps = back e.config j.config (λ c. K c e.me node log e.outbox.put e.inbox.taken e.desk) c
           (back e.me j.node.me (λ m. K j.config m node log e.outbox.put e.inbox.taken e.desk) m
           (back node j.node (λ n. K j.config j.node.me n log e.outbox.put e.inbox.taken e.desk) n
@@ -208,7 +210,6 @@ leaves j put held arrived desk places e k c m cr p a d log node ended l n en r x
           (back e.desk desk (λ d. K j.config j.node.me j.node j.log put arrived d) d k.keeps))))));
       places = places;
       fed = back e.desk desk (λ o. AreFed log (trays_at o) places) d (back log j.log (λ g. AreFed g (trays_at desk) places) l k.fed);
-      clock = j.clock;
       rises = back e.config j.config (λ c. Rises c.first_stamp log j.clock) c (back log j.log (λ g. Rises j.config.first_stamp g j.clock) l r);
       ends = back e.config j.config (λ c. EndsAs c.log_limit e.crash (Some ended) log) c
           (back e.crash j.crash (λ o. EndsAs j.config.log_limit o (Some ended) log) cr

@@ -18,14 +18,16 @@ use Rattle.cast_report.specs.declared.report.EngineEnd.{EngineEnd}
 use Rattle.cast_engine.specs.declared.feeding.Place.{Place}
 use Rattle.cast_report.specs.Linked.{Taken, steps_in, taken_in, taken_by, taken, taken_of, AreTaken, IsRising, EachArrival, OnArrival, made_in}
 use Rattle.cast_carrier.specs.Lists.{Has}
-use Rattle.cast_engine.specs.Runs.{Moved, Served, Denied, Run, mark, parcel, made_of, trail_of, log_of, orders_of, entry_by, IsRun, AreReceived, IsReceivedBy}
+use Rattle.cast_engine.specs.Runs.{Moved, Served, Denied, Run, mark, parcel, made_of, trail_of, log_of, orders_of, entry_by, IsRun, clock_after, AreReceived, IsReceivedBy}
 use Rattle.cast_engine.specs.Journals.{Rises}
 use Rattle.cast_engine.specs.Feeding.{told_here, told_at, told_to, IsPlaced, AreFed}
-use Rattle.cast_engine.specs.Engines.{EngineState, Leaves, Tells, WereTold, trays_at}
+use Rattle.cast_engine.specs.Clocks.{Follows, stamps_made}
+use Rattle.cast_engine.specs.Engines.{EngineState, CameIn, Leaves, Tells, WereTold, trays_at}
 use Rattle.cast_box.proofs.Closing.{found, map_at}
 use Rattle.cast_report.proofs.Logging.{one_more, made_numbered}
 use Rattle.cast_carrier.proofs.Lists.{has_left}
 use Rattle.cast_engine.proofs.Answering.{run_fits, run_origins}
+use Rattle.cast_engine.proofs.Stamping.{run_follows, run_made}
 use Rattle.cast_engine.specs.Serving.{Serves}
 use Rattle.cast_desk.specs.declared.desk.OrderIn.{OrderIn}
 
@@ -70,16 +72,16 @@ run_taken config p (Denied stamp order fault ∷ rs) r = run_taken config p rs r
 abbrev IsBrought : List (ℕ × Parcel) → ℕ → Frame → Type 0
 IsBrought arrived stamp frame = (number : ℕ) × (sent : ℕ) × Has arrived (number, parcel sent frame) × (sent < stamp)
 
-by_step : (arrived : List (ℕ × Parcel)) (stamp : ℕ) (step : Step) → IsReceivedBy arrived stamp step → OnArrival (IsBrought arrived) stamp step
-by_step arrived stamp (Arrived frame) h = h
-by_step arrived stamp step h = tt
+by_step : (arrived : List (ℕ × Parcel)) (clock stamp : ℕ) (step : Step) → IsReceivedBy arrived clock stamp step → OnArrival (IsBrought arrived) stamp step
+by_step arrived clock stamp (Arrived frame) h = (h.0, h.1, h.2, omega (arith, h.3))
+by_step arrived clock stamp step h = tt
 
-pub run_received : (arrived : List (ℕ × Parcel)) (run : Run) → AreReceived arrived run → EachArrival (IsBrought arrived) (trail_of run)
+pub run_received : (arrived : List (ℕ × Parcel)) (first : ℕ) (run : Run) → AreReceived arrived first run → EachArrival (IsBrought arrived) (trail_of run)
 unfolding trail_of AreReceived EachArrival
-run_received arrived [] h = tt
-run_received arrived (Moved stamp step ∷ rs) h = (run_received arrived rs h.0, by_step arrived stamp step h.1)
-run_received arrived (Served stamp order ∷ rs) h = (run_received arrived rs h.0, tt)
-run_received arrived (Denied stamp order fault ∷ rs) h = run_received arrived rs h.0
+run_received arrived first [] h = tt
+run_received arrived first (Moved stamp step ∷ rs) h = (run_received arrived first rs h.0, by_step arrived (clock_after first rs) stamp step h.1)
+run_received arrived first (Served stamp order ∷ rs) h = (run_received arrived first rs h.0, tt)
+run_received arrived first (Denied stamp order fault ∷ rs) h = run_received arrived first rs h.0
 
 -- what was put was made
 pub handed_made : (config : Config) (p : ℕ) (run : Run) → IsRun config p run → (xs : List Parcel) → map made_of xs ≡ made_in config p (trail_of run)
@@ -93,6 +95,7 @@ handed_made config p run runs xs all x h =
 pub leaves_tell : (e : EngineState) (log : List Entry) (node : Kept) (ended : EngineEnd) → Leaves e log node ended → Tells e log node
 leaves_tell e log node ended l =
     let k = l.keeps in
+    let rises : Rises e.config.first_stamp (log_of e.config e.me k.run) l.clock = subst (λ g. Rises e.config.first_stamp g l.clock) k.is_log l.rises in
     record {
       trail = trail_of k.run;
       tells = record {
@@ -107,13 +110,14 @@ leaves_tell e log node ended l =
       serves =
           let O : List OrderIn → Type 0 = λ o. Serves e.config e.me log (trail_of k.run) o in
           let L : List Entry → Type 0 = λ l. Serves e.config e.me l (trail_of k.run) (orders_of k.run) in
-          let rises : Rises e.config.first_stamp (log_of e.config e.me k.run) l.clock = subst (λ g. Rises e.config.first_stamp g l.clock) k.is_log l.rises in
           subst O k.ordered (subst L (sym k.is_log) (record {
             matches = λ c. run_fits e.config e.me c k.run e.config.first_stamp l.clock rises k.runs;
             origins = run_origins e.config e.me k.run k.runs;
           }));
-      received = run_received e.inbox.taken k.run k.received;
+      received = run_received e.inbox.taken e.config.first_stamp k.run k.received;
       each_taken = k.each_taken;
+      stamps = subst (Follows (CameIn e.inbox.taken) e.config.first_stamp) (sym k.is_log) (run_follows e.config e.me e.inbox.taken k.run e.config.first_stamp l.clock rises k.received);
+      made = run_made e.config e.me k.run ∙ ap stamps_made (sym k.is_log);
     }
 
 -- the feed of a log in two parts

@@ -1,6 +1,7 @@
 -- An engine, as contracts see it, and what it keeps.
 use Rattle.std.specs.Prelude.{◌≡◌, ◌≢◌, ℕ, ◌+◌, ◌<◌, ◌≤◌, ◌^◌, true, length, List, [], ◌∷◌, ◌++◌, map, slice_get, Option, Some, None, ◌⊎◌, ⊤}
 use Rattle.cast_message.specs.declared.config.Config.{Config}
+use Rattle.cast_message.specs.declared.message.Frame.{Frame}
 use Rattle.cast_box.specs.Ends.{PutterEnd, TakerEnd, IsSamePutter, IsSameTaker, AreSamePutters}
 use Rattle.cast_node.specs.declared.entry.Entry.{Entry}
 use Rattle.cast_desk.specs.declared.desk.Desk.{Desk}
@@ -11,6 +12,7 @@ use Rattle.cast_engine.specs.declared.feeding.Place.{Place}
 use Rattle.cast_engine.specs.declared.engine.Turn.{Turn}
 use Rattle.cast_engine.specs.declared.engine.Turn.TheVariants.{Idle}
 use Rattle.cast_carrier.specs.Lists.{Has}
+use Rattle.cast_engine.specs.Clocks.{Follows, stamps_made}
 use Rattle.cast_engine.specs.Runs.{EngineKeeps, HasTakenEach, parcel, made_of}
 use Rattle.cast_report.specs.Linked.{Trail, IsLogOf, made_in, stamped, EachArrival}
 use Rattle.cast_box.specs.Lists.{StartsWith, HasTakenOfEnded}
@@ -79,7 +81,7 @@ IsIdleRightly Idle old new = HasSameBoxes old new
 IsIdleRightly _ old new = ⊤
 
 abbrev pub KeepsOf : JournalState → List Parcel → Option Parcel → List (ℕ × Parcel) → List (ℕ × OrderIn) → Type 0
-KeepsOf j put held arrived orders = EngineKeeps j.config j.node.me j.node j.log put held arrived orders
+KeepsOf j put held arrived orders = EngineKeeps j.config j.node.me j.node j.log j.clock put held arrived orders
 
 -- what an engine keeps of its journal and its boxes
 pub record EngineStays (j : JournalState) (put : List Parcel) (held : Option Parcel) (arrived : List (ℕ × Parcel)) (desk : Option Desk) (places : List Place) : Type 0 where
@@ -124,15 +126,20 @@ IsUnused desk = (taken_at desk ≡ []) × ((c : ℕ) (tray : PutterEnd Notice) �
 -- what an engine that ended leaves
 pub record Leaves (e : EngineState) (log : List Entry) (node : Kept) (ended : EngineEnd) : Type 0 where
   pub held : Option Parcel
-  pub keeps : EngineKeeps e.config e.me node log e.outbox.put held e.inbox.taken (taken_at e.desk)
+  pub clock : ℕ
+  pub keeps : EngineKeeps e.config e.me node log clock e.outbox.put held e.inbox.taken (taken_at e.desk)
   pub places : List Place
   pub fed : AreFed log (trays_at e.desk) places
-  pub clock : ℕ
   pub rises : Rises e.config.first_stamp log clock
   pub ends : EndsAs e.config.log_limit e.crash (Some ended) log
 
+-- a frame of this maker and number came in a parcel with this stamp
+abbrev pub CameIn : List (ℕ × Parcel) → ℕ → ℕ → ℕ → Type 0
+CameIn taken from seq sent = (number : ℕ) × (frame : Frame) × Has taken (number, parcel sent frame) × (frame.from ≡ from) × (frame.seq ≡ seq)
+
 -- the log tells of the node's steps; what was put into the outbox is the first of the frames that they made, in order, with their
--- stamps; and each frame that arrived came out of the inbox in a parcel of its own, whose stamp is smaller than the arrival's
+-- stamps; each frame that arrived came out of the inbox in a parcel of its own, whose stamp is smaller than the arrival's; and the
+-- clock began at the first stamp and gave each entry its own
 pub record Tells (e : EngineState) (log : List Entry) (node : Kept) : Type 0 where
   pub trail : Trail
   pub tells : IsLogOf e.config e.me trail log node
@@ -141,6 +148,8 @@ pub record Tells (e : EngineState) (log : List Entry) (node : Kept) : Type 0 whe
   pub serves : Serves e.config e.me log trail (map (λ m. m.1) (taken_at e.desk))
   pub received : EachArrival (λ stamp frame. (number : ℕ) × (sent : ℕ) × Has e.inbox.taken (number, parcel sent frame) × (sent < stamp)) trail
   pub each_taken : HasTakenEach e.inbox.taken trail
+  pub stamps : Follows (CameIn e.inbox.taken) e.config.first_stamp log
+  pub made : map (λ m. m.stamp) (made_in e.config e.me trail) ≡ stamps_made log
 
 -- what was put into each tray begins its client's feed
 abbrev pub WereTold : List Entry → List (PutterEnd Notice) → Type 0

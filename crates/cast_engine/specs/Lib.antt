@@ -1,4 +1,5 @@
 pub mod Runs
+pub mod Clocks
 pub mod Journals
 pub mod Feeding
 pub mod Engines

@@ -4,10 +4,11 @@
 --     log_of config p run              the log
 --     orders_of run                    the orders, accepted or refused, in order
 --     IsRun config p run               each was taken or refused where it stands
---     AreReceived taken run            the frame of each arrival came in a parcel with a smaller stamp
+--     clock_after first run            the clock, which began so
+--     AreReceived taken first run      the frame of each arrival came in a parcel, and its stamp is one above the greater of the clock's and the parcel's
 --     arrivals_in trail                the frames that arrived
 --     made_of x                        the frame of a parcel, with the stamp of the step that made it
-use Rattle.std.specs.Prelude.{◌≡◌, ℕ, ◌<◌, ◌≤◌, Bool, true, false, List, [], ◌∷◌, ◌++◌, map, Option, Some, None}
+use Rattle.std.specs.Prelude.{◌≡◌, ℕ, ◌+◌, ◌≤◌, max, Bool, true, false, List, [], ◌∷◌, ◌++◌, map, Option, Some, None}
 use Rattle.std.specs.List.{count_by}
 use Rattle.std.specs.Option.{option_to_list}
 use Rattle.cast_message.specs.declared.config.Config.{Config}
@@ -92,19 +93,29 @@ IsRun config p (r ∷ rs) = IsRun config p rs × IsRead config p (steps_in confi
 abbrev pub parcel : ℕ → Frame → Parcel
 parcel stamp frame = record { stamp = stamp; frame = frame }
 
-abbrev pub IsReceivedBy : List (ℕ × Parcel) → ℕ → Step → Type 0
-IsReceivedBy taken stamp (Arrived frame) = (number : ℕ) × (sent : ℕ) × Has taken (number, parcel sent frame) × (sent < stamp)
-IsReceivedBy taken stamp _ = Unit {0}
+abbrev pub stamp_of : Read → ℕ
+stamp_of (Moved stamp step) = stamp
+stamp_of (Served stamp order) = stamp
+stamp_of (Denied stamp order fault) = stamp
 
-abbrev pub IsReceived : List (ℕ × Parcel) → Read → Type 0
-IsReceived taken (Moved stamp step) = IsReceivedBy taken stamp step
-IsReceived taken (Served stamp order) = Unit {0}
-IsReceived taken (Denied stamp order fault) = Unit {0}
+-- the clock has the stamp of the last entry
+unfoldable pub clock_after : ℕ → Run → ℕ
+clock_after first [] = first
+clock_after first (r ∷ rs) = stamp_of r
 
--- the frame of each arrival came in a parcel with a smaller stamp
-unfoldable pub AreReceived : List (ℕ × Parcel) → Run → Type 0
-AreReceived taken [] = Unit {0}
-AreReceived taken (r ∷ rs) = AreReceived taken rs × IsReceived taken r
+abbrev pub IsReceivedBy : List (ℕ × Parcel) → ℕ → ℕ → Step → Type 0
+IsReceivedBy taken clock stamp (Arrived frame) = (number : ℕ) × (sent : ℕ) × Has taken (number, parcel sent frame) × (stamp ≡ max clock sent + 1)
+IsReceivedBy taken clock stamp _ = Unit {0}
+
+abbrev pub IsReceived : List (ℕ × Parcel) → ℕ → Read → Type 0
+IsReceived taken clock (Moved stamp step) = IsReceivedBy taken clock stamp step
+IsReceived taken clock (Served stamp order) = Unit {0}
+IsReceived taken clock (Denied stamp order fault) = Unit {0}
+
+-- the frame of each arrival came in a parcel, and its stamp is one above the greater of the clock's and the parcel's
+unfoldable pub AreReceived : List (ℕ × Parcel) → ℕ → Run → Type 0
+AreReceived taken first [] = Unit {0}
+AreReceived taken first (r ∷ rs) = AreReceived taken first rs × IsReceived taken (clock_after first rs) r
 
 abbrev pub made_of : Parcel → Made
 made_of x = stamped x.stamp x.frame
@@ -123,7 +134,7 @@ abbrev pub HasTakenEach : List (ℕ × Parcel) → Trail → Type 0
 HasTakenEach taken trail = (test : Frame → Bool) → count_by test (arrivals_in trail) ≤ count_by (λ m. test m.1.frame) taken
 
 -- what a log, a node and boxes show of an engine
-pub record EngineKeeps (config : Config) (p : ℕ) (kept : Kept) (log : List Entry) (put : List Parcel) (held : Option Parcel) (arrived : List (ℕ × Parcel)) (orders : List (ℕ × OrderIn)) : Type 0 where
+pub record EngineKeeps (config : Config) (p : ℕ) (kept : Kept) (log : List Entry) (clock : ℕ) (put : List Parcel) (held : Option Parcel) (arrived : List (ℕ × Parcel)) (orders : List (ℕ × OrderIn)) : Type 0 where
   pub run : Run
   pub runs : IsRun config p run
   pub is_log : log ≡ log_of config p run
@@ -131,8 +142,9 @@ pub record EngineKeeps (config : Config) (p : ℕ) (kept : Kept) (log : List Ent
   pub reached : kept ≡ kept_in config p (trail_of run)
   -- what was put into the outbox, and then what it refused last, are the frames that the node made, in order, with the stamps of their steps
   pub handed : map made_of (put ++ option_to_list held) ≡ made_in config p (trail_of run)
-  -- the frame of each arrival came in a parcel taken from the inbox, with a smaller stamp
-  pub received : AreReceived arrived run
+  pub time : clock ≡ clock_after config.first_stamp run
+  -- the frame of each arrival came in a parcel taken from the inbox, and its stamp is one above the greater of the clock's and the parcel's
+  pub received : AreReceived arrived config.first_stamp run
   -- each in a parcel of its own
   pub each_taken : HasTakenEach arrived (trail_of run)
   -- the orders, one for one, are those taken from the desk
