@@ -28,7 +28,9 @@ IsTaken taken x = (number : ℕ) × Has taken (number, x)
 
 -- what went into inbox q goes to node q, and was taken from the outbox
 abbrev pub Brings : List (ℕ × Parcel) → List (PutterEnd Parcel) → Type 0
-Brings taken inboxes = (q : ℕ) (inbox : PutterEnd Parcel) (x : Parcel) → slice_get inboxes q ≡ Some inbox → Has inbox.put x → (x.frame.to ≡ q) × IsTaken taken x
+Brings taken inboxes =
+    (q : ℕ) (inbox : PutterEnd Parcel) (x : Parcel) → slice_get inboxes q ≡ Some inbox
+    → Has inbox.put x → (x.frame.to ≡ q) × IsTaken taken x
 
 -- so was what is delayed
 abbrev pub Delays : List (ℕ × Parcel) → List Delayed → Type 0
@@ -38,7 +40,9 @@ abbrev pub CarrierKeeps : List (ℕ × Parcel) → List (PutterEnd Parcel) → L
 CarrierKeeps taken inboxes delayed = Brings taken inboxes × Delays taken delayed
 
 abbrev pub IsSameCarrier : CarrierState → CarrierState → Type 0
-IsSameCarrier old new = IsSameTaker old.outbox new.outbox × AreSamePutters old.inboxes new.inboxes × (new.faults ≡ old.faults)
+IsSameCarrier old new =
+    IsSameTaker old.outbox new.outbox × AreSamePutters old.inboxes new.inboxes
+    × (new.faults ≡ old.faults)
 
 abbrev pub AreUnused : List (PutterEnd Parcel) → Type 0
 AreUnused inboxes = (q : ℕ) (p : PutterEnd Parcel) → slice_get inboxes q ≡ Some p → p.put ≡ []
@@ -47,7 +51,8 @@ AreUnused inboxes = (q : ℕ) (p : PutterEnd Parcel) → slice_get inboxes q ≡
 
 -- one more frame was taken for a target
 abbrev pub counted_down : ℕ → Delayed → Delayed
-counted_down to d = record { left = if d.parcel.frame.to == to then d.left - 1 else d.left; twice = d.twice; parcel = d.parcel }
+counted_down to d =
+    record { left = if d.parcel.frame.to == to then d.left - 1 else d.left; twice = d.twice; parcel = d.parcel }
 
 -- more frames have to be taken before it is due
 abbrev pub is_early : Delayed → Bool
@@ -60,16 +65,21 @@ waiting_on to delayed = filter is_early (map (counted_down to) delayed)
 -- how many copies of the delayed parcels for target q that pass a test are handed on by the time that so many more frames are
 -- taken for it
 abbrev pub kept_for : (Parcel → Bool) → ℕ → ℕ → List Delayed → ℕ
-kept_for test q more delayed = sum_by (λ d. cond (is_for test q d.parcel && nat_le d.left more) (copies d.twice) 0) delayed
+kept_for test q more delayed =
+    sum_by (λ d. cond (is_for test q d.parcel && nat_le d.left more) (copies d.twice) 0) delayed
 
 -- no more are put or kept than are due, at any time
 abbrev pub IsWithin : List Fault → ℕ → List (ℕ × Parcel) → List (PutterEnd Parcel) → List Delayed → Type 0
 IsWithin faults targets taken inboxes delayed =
     (test : Parcel → Bool) (q more : ℕ) (inbox : PutterEnd Parcel)
-    → slice_get inboxes q ≡ Some inbox → count_by test inbox.put + kept_for test q more delayed ≤ due faults targets test q more taken
+    → slice_get inboxes q ≡ Some inbox
+    → count_by test inbox.put + kept_for test q more delayed ≤ due faults targets test q more taken
 
-abbrev pub CarrierPlans : List Fault → List Ordinals → List (ℕ × Parcel) → List (PutterEnd Parcel) → List Delayed → Type 0
-CarrierPlans faults ordinals taken inboxes delayed = (ordinals ≡ ordinals_after (length inboxes) taken) × IsWithin faults (length inboxes) taken inboxes delayed
+abbrev pub CarrierPlans : List Fault → List Ordinals → List (ℕ × Parcel) → List (PutterEnd Parcel)
+    → List Delayed → Type 0
+CarrierPlans faults ordinals taken inboxes delayed =
+    (ordinals ≡ ordinals_after (length inboxes) taken)
+    × IsWithin faults (length inboxes) taken inboxes delayed
 
 -- it is kept behind the others, or lost
 abbrev pub IsKeptOrLost : List Delayed → Delayed → List Delayed → Type 0
@@ -104,7 +114,8 @@ HandsOn twice old x new = (mid : List (PutterEnd Parcel)) × PutsCopy twice old 
 -- these are, one after another
 unfoldable pub HandsOnAll : List (PutterEnd Parcel) → List Delayed → List (PutterEnd Parcel) → Type 0
 HandsOnAll old [] new = new ≡ old
-HandsOnAll old (d ∷ ds) new = (mid : List (PutterEnd Parcel)) × HandsOn d.twice old d.parcel mid × HandsOnAll mid ds new
+HandsOnAll old (d ∷ ds) new =
+    (mid : List (PutterEnd Parcel)) × HandsOn d.twice old d.parcel mid × HandsOnAll mid ds new
 
 -- what waits no longer
 abbrev pub is_due : Delayed → Bool
@@ -120,14 +131,16 @@ HandsOnUnless true twice old x new = new ≡ old
 HandsOnUnless false twice old x new = HandsOn twice old x new
 
 -- what is due by the parcel is handed on, and then the parcel, by its fate
-abbrev pub HandsOver : Fate → List (PutterEnd Parcel) → List Delayed → Parcel → List (PutterEnd Parcel) → Type 0
+abbrev pub HandsOver : Fate → List (PutterEnd Parcel) → List Delayed → Parcel
+    → List (PutterEnd Parcel) → Type 0
 HandsOver fate old delayed x new =
     (mid : List (PutterEnd Parcel)) × HandsOnAll old (due_by x.frame.to delayed) mid
     × HandsOnUnless (fate.lost || nat_lt 0 fate.delay) fate.twice mid x new
 
 -- the parcel goes on its way, and what is due by it
 abbrev pub Carries : CarrierState → Fate → Parcel → CarrierState → Type 0
-Carries old fate x new = WaitsBy fate old.delayed x new.delayed × HandsOver fate old.inboxes old.delayed x new.inboxes
+Carries old fate x new =
+    WaitsBy fate old.delayed x new.delayed × HandsOver fate old.inboxes old.delayed x new.inboxes
 
 -- one parcel was taken from the outbox, and carried as the plan says; or none was, and nothing changed
 abbrev pub CarriesOne : CarrierState → CarrierState → Bool → Type 0

@@ -36,7 +36,9 @@ is_among first step ordinal =
 
 abbrev pub is_one_of : NamedFrame → Frames → Bool
 is_one_of frame frames =
-    frames.to == frame.to && (is_kind frames.kind frame.kind && (frames.from == frame.from && is_among frames.first frames.step frame.ordinal))
+    frames.to == frame.to
+    && (is_kind frames.kind frame.kind
+    && (frames.from == frame.from && is_among frames.first frames.step frame.ordinal))
 
 -- ---- what becomes of a frame
 
@@ -108,7 +110,8 @@ fate_in faults ordinals frame = fate_where faults frame (slice_get ordinals fram
 
 -- the counts of its target, and no other
 abbrev pub counted_where : List Ordinals → Frame → Option Ordinals → List Ordinals
-counted_where ordinals frame (Some counts) = slice_set ordinals frame.to (one_more (kind_of frame.body) counts)
+counted_where ordinals frame (Some counts) =
+    slice_set ordinals frame.to (one_more (kind_of frame.body) counts)
 counted_where ordinals frame None = ordinals
 
 abbrev pub counted_in : List Ordinals → Frame → List Ordinals
@@ -118,7 +121,8 @@ counted_in ordinals frame = counted_where ordinals frame (slice_get ordinals fra
 
 -- at the place of each target stand the faults of its frames, in their order
 abbrev pub AreByTarget : List Fault → List (Vec Fault) → Type 0
-AreByTarget faults rows = (q : ℕ) (row : Vec Fault) → slice_get rows q ≡ Some row → row.items ≡ filter (is_to q) faults
+AreByTarget faults rows =
+    (q : ℕ) (row : Vec Fault) → slice_get rows q ≡ Some row → row.items ≡ filter (is_to q) faults
 
 -- whatever frame for the target meets the same fate by both
 abbrev pub AreFatedAlike : ℕ → List Fault → List Fault → Type 0

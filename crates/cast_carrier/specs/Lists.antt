@@ -9,7 +9,8 @@ abbrev pub Has : {A : Type 0} → List A → A → Type 0
 Has xs x = (i : ℕ) × (slice_get xs i ≡ Some x)
 
 abbrev pub AreSame : {S T : Type 0} → (S → T → Type 0) → List S → List T → Type 0
-AreSame {S} {T} Same old new = (p : ℕ) (z : T) → slice_get new p ≡ Some z → (x : S) × (slice_get old p ≡ Some x) × Same x z
+AreSame {S} {T} Same old new =
+    (p : ℕ) (z : T) → slice_get new p ≡ Some z → (x : S) × (slice_get old p ≡ Some x) × Same x z
 
 abbrev pub IsRoomFor : {T : Type 0} → ℕ → Vec T → Type 0
 IsRoomFor n v = (v.items ≡ []) × (vec_len v ≡ 0) × (n ≤ vec_capacity v)

@@ -48,8 +48,11 @@ abbrev pub Refuses : TextCommand → Option (List ℕ) → Bool → TextFault �
 Refuses command input failed faults.Read = failed ≡ true
 Refuses command input failed faults.Write = failed ≡ false
 Refuses command input failed faults.Memory = failed ≡ false
-Refuses command input failed faults.TooLong = (failed ≡ false) × IfSome input (λ bytes. input_limit < length bytes)
-Refuses command input failed fault = (failed ≡ false) × IfSome input (λ bytes. (length bytes ≤ input_limit) × RefusesText command bytes fault)
+Refuses command input failed faults.TooLong =
+    (failed ≡ false) × IfSome input (λ bytes. input_limit < length bytes)
+Refuses command input failed fault =
+    (failed ≡ false)
+    × IfSome input (λ bytes. (length bytes ≤ input_limit) × RefusesText command bytes fault)
 
 abbrev pub IsCut : Option (List ℕ) → Option (List ℕ) → Type 0
 IsCut None new = Unit {0}
@@ -57,10 +60,13 @@ IsCut (Some whole) None = ⊥
 IsCut (Some whole) (Some new) = (rest : List ℕ) × (whole ≡ new ++ rest)
 
 abbrev pub IsTextOf : TextCommand → Option (List ℕ) → List ℕ → Type 0
-IsTextOf Run input text = (script : Script) × IsScriptIn input script × (text ≡ record_text (record_of script))
+IsTextOf Run input text =
+    (script : Script) × IsScriptIn input script × (text ≡ record_text (record_of script))
 IsTextOf Judge input text = (said : Verdict) × JudgesInput input said × (text ≡ verdict_text said ++ 10 ∷ [])
 IsTextOf Migrate input text = IsInputMigrated input text
-IsTextOf (Draw window) input text = (script : Script) × IsScriptIn input script × (text ≡ picture_of script window)
+IsTextOf (Draw window) input text =
+    (script : Script) × IsScriptIn input script × (text ≡ picture_of script window)
 
 abbrev pub BreaksOff : TextCommand → Option (List ℕ) → Option (List ℕ) → Option (List ℕ) → Type 0
-BreaksOff command input old new = IsCut old new ⊎ ((text : List ℕ) × IsTextOf command input text × IsCut (append_known old text) new)
+BreaksOff command input old new =
+    IsCut old new ⊎ ((text : List ℕ) × IsTextOf command input text × IsCut (append_known old text) new)

@@ -5,7 +5,6 @@ use Rattle.std.specs.Option.{option_to_list}
 use Rattle.std.proofs.lemmas.List.{append-nil, append_assoc, map-append, reverse-append}
 use Rattle.std.proofs.lemmas.Option.{slice_get_within}
 use Rattle.cast_message.specs.declared.config.Config.{Config}
-use Rattle.cast_message.specs.declared.message.Frame.{Frame}
 use Rattle.cast_model.specs.Steps.{Step, Ordered, Arrived}
 use Rattle.cast_box.specs.Lists.{StartsWith}
 use Rattle.cast_box.specs.Ends.{PutterEnd}
@@ -18,11 +17,11 @@ use Rattle.cast_report.specs.declared.report.EngineEnd.{EngineEnd}
 use Rattle.cast_engine.specs.declared.feeding.Place.{Place}
 use Rattle.cast_report.specs.Linked.{Taken, steps_in, taken_in, taken_by, taken, taken_of, AreTaken, IsRising, EachArrival, OnArrival, made_in}
 use Rattle.cast_carrier.specs.Lists.{Has}
-use Rattle.cast_engine.specs.Runs.{Moved, Served, Denied, Run, mark, parcel, made_of, trail_of, log_of, orders_of, entry_by, IsRun, clock_after, AreReceived, IsReceivedBy}
+use Rattle.cast_engine.specs.Runs.{Moved, Served, Denied, Run, mark, made_of, trail_of, log_of, orders_of, entry_by, IsRun, clock_after, AreReceived, IsReceivedBy}
 use Rattle.cast_engine.specs.Journals.{Rises}
 use Rattle.cast_engine.specs.Feeding.{told_here, told_at, told_to, IsPlaced, AreFed}
 use Rattle.cast_engine.specs.Clocks.{Follows, stamps_made}
-use Rattle.cast_engine.specs.Engines.{EngineState, CameIn, Leaves, Tells, WereTold, trays_at}
+use Rattle.cast_engine.specs.Engines.{EngineState, CameIn, CameBefore, Leaves, Tells, WereTold, trays_at}
 use Rattle.cast_box.proofs.Closing.{found, map_at}
 use Rattle.cast_report.proofs.Logging.{one_more, made_numbered}
 use Rattle.cast_carrier.proofs.Lists.{has_left}
@@ -69,14 +68,11 @@ run_taken config p (Moved stamp step ∷ rs) r = (run_taken config p rs r.0, r.1
 run_taken config p (Served stamp order ∷ rs) r = (run_taken config p rs r.0, r.1, tt)
 run_taken config p (Denied stamp order fault ∷ rs) r = run_taken config p rs r.0
 
-abbrev IsBrought : List (ℕ × Parcel) → ℕ → Frame → Type 0
-IsBrought arrived stamp frame = (number : ℕ) × (sent : ℕ) × Has arrived (number, parcel sent frame) × (sent < stamp)
-
-by_step : (arrived : List (ℕ × Parcel)) (clock stamp : ℕ) (step : Step) → IsReceivedBy arrived clock stamp step → OnArrival (IsBrought arrived) stamp step
+by_step : (arrived : List (ℕ × Parcel)) (clock stamp : ℕ) (step : Step) → IsReceivedBy arrived clock stamp step → OnArrival (CameBefore arrived) stamp step
 by_step arrived clock stamp (Arrived frame) h = (h.0, h.1, h.2, omega (arith, h.3))
 by_step arrived clock stamp step h = tt
 
-pub run_received : (arrived : List (ℕ × Parcel)) (first : ℕ) (run : Run) → AreReceived arrived first run → EachArrival (IsBrought arrived) (trail_of run)
+pub run_received : (arrived : List (ℕ × Parcel)) (first : ℕ) (run : Run) → AreReceived arrived first run → EachArrival (CameBefore arrived) (trail_of run)
 unfolding trail_of AreReceived EachArrival
 run_received arrived first [] h = tt
 run_received arrived first (Moved stamp step ∷ rs) h = (run_received arrived first rs h.0, by_step arrived (clock_after first rs) stamp step h.1)

@@ -1,8 +1,8 @@
 -- How the stamps of logs follow the clocks that they are read off.
---     makes event             an event by which a frame is made
---     stamps_made log         the stamps under which frames were made, in order: so that of frame number q stands at place q
---     IsStampedBy Came clock e     the stamp that the clock gives an entry, where Came from seq sent says with which stamp a frame came
---     Follows Came clock log       the clock gives each entry its stamp, one after another
+--     makes kind                   an entry by which a frame is made
+--     stamps_made log              the stamps under which frames were made, in order: that of frame q at place q
+--     IsStampedBy Came clock e     the clock gives the entry its stamp; Came from seq sent: that frame came with this stamp
+--     Follows Came clock log       so it does for each entry, one after another
 use Rattle.std.specs.Prelude.{◌≡◌, ℕ, ◌+◌, max, Bool, true, false, List, [], ◌∷◌, map}
 use Rattle.std.specs.List.{filter}
 use Rattle.cast_message.specs.declared.event.Event.{Event}
@@ -24,9 +24,11 @@ makes (Refused origin fault) = false
 unfoldable pub stamps_made : List Entry → List ℕ
 stamps_made log = map (λ e. e.stamp) (filter (λ e. makes e.kind) log)
 
--- an arrival has the stamp after the greater of the clock's and the one that its frame came with; any other entry that after the clock's
+-- an arrival has the stamp after the greater of the clock's and the one that its frame came with; any other entry has the one
+-- after the clock's (Lamport 1978)
 abbrev pub IsStampedAs : (ℕ → ℕ → ℕ → Type 0) → ℕ → ℕ → EntryKind → Type 0
-IsStampedAs Came clock stamp (StepEntry (Arrive from seq) origin outcome) = (sent : ℕ) × Came from seq sent × (stamp ≡ max clock sent + 1)
+IsStampedAs Came clock stamp (StepEntry (Arrive from seq) origin outcome) =
+    (sent : ℕ) × Came from seq sent × (stamp ≡ max clock sent + 1)
 IsStampedAs Came clock stamp _ = stamp ≡ clock + 1
 
 abbrev pub IsStampedBy : (ℕ → ℕ → ℕ → Type 0) → ℕ → Entry → Type 0

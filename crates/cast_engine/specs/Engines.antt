@@ -51,7 +51,9 @@ trays_at (Some desk) = desk.trays.items
 -- the same ends of the same desk and trays, or none as before
 pub record IsSameDesk (old new : Option Desk) : Type 0 where
   pub none : new ≡ None → old ≡ None
-  pub some : (d : Desk) → new ≡ Some d → (was : Desk) × (old ≡ Some was) × IsSameTaker was.orders d.orders × AreSamePutters was.trays.items d.trays.items
+  pub some : (d : Desk) → new ≡ Some d
+      → (was : Desk) × (old ≡ Some was)
+      × IsSameTaker was.orders d.orders × AreSamePutters was.trays.items d.trays.items
 
 -- the engine of the same node with ends of the same boxes
 pub record IsSameEngine (old new : EngineState) : Type 0 where
@@ -80,11 +82,14 @@ abbrev pub IsIdleRightly : Turn → EngineState → EngineState → Type 0
 IsIdleRightly Idle old new = HasSameBoxes old new
 IsIdleRightly _ old new = ⊤
 
-abbrev pub KeepsOf : JournalState → List Parcel → Option Parcel → List (ℕ × Parcel) → List (ℕ × OrderIn) → Type 0
-KeepsOf j put held arrived orders = EngineKeeps j.config j.node.me j.node j.log j.clock put held arrived orders
+abbrev pub KeepsOf : JournalState → List Parcel → Option Parcel → List (ℕ × Parcel)
+    → List (ℕ × OrderIn) → Type 0
+KeepsOf j put held arrived orders =
+    EngineKeeps j.config j.node.me j.node j.log j.clock put held arrived orders
 
 -- what an engine keeps of its journal and its boxes
-pub record EngineStays (j : JournalState) (put : List Parcel) (held : Option Parcel) (arrived : List (ℕ × Parcel)) (desk : Option Desk) (places : List Place) : Type 0 where
+pub record EngineStays (j : JournalState) (put : List Parcel) (held : Option Parcel)
+    (arrived : List (ℕ × Parcel)) (desk : Option Desk) (places : List Place) : Type 0 where
   pub keeps : KeepsOf j put held arrived (taken_at desk)
   pub fed : AreFed j.log (trays_at desk) places
 
@@ -95,7 +100,8 @@ Handed put put' held' x = ((put' ≡ put ++ x ∷ []) × (held' ≡ None)) ⊎ (
 -- an order was taken from the desk, if there is one
 abbrev pub TakesOrder : Option Desk → Option OrderIn → Option Desk → Type 0
 TakesOrder old None new = (taken_at new ≡ taken_at old) × (trays_at new ≡ trays_at old)
-TakesOrder old (Some order) new = (from : ℕ) × (taken_at new ≡ taken_at old ++ (from, order) ∷ []) × (trays_at new ≡ trays_at old)
+TakesOrder old (Some order) new =
+    (from : ℕ) × (taken_at new ≡ taken_at old ++ (from, order) ∷ []) × (trays_at new ≡ trays_at old)
 
 -- the desk was empty, so that all that its ended putters have put was taken; where there is no desk, there is no order
 abbrev pub HadNoOrder : Option Desk → Type 0
@@ -105,13 +111,16 @@ HadNoOrder (Some desk) = HasTakenOfEnded desk.orders.ended desk.orders.taken
 -- why a parcel is dropped: it is for another node, or some node could have made its frame for this one, and something may come of
 -- it, which takes memory
 abbrev pub IsDropped : JournalState → Parcel → Type 0
-IsDropped j x = (x.frame.to ≢ j.node.me) ⊎ ((may_arrive j.node x.frame ≡ true) × (is_awaited j.node x.frame.from x.frame.body ≡ true))
+IsDropped j x =
+    (x.frame.to ≢ j.node.me)
+    ⊎ ((may_arrive j.node x.frame ≡ true) × (is_awaited j.node x.frame.from x.frame.body ≡ true))
 
 -- a parcel's arrival was logged, or the parcel was dropped, or it has the last stamp, by which the clock is full
 abbrev pub TakesIn : JournalState → JournalState → Parcel → Type 0
 TakesIn old new x =
     (LogsStep old new (Arrived x.frame) None x.stamp × (x.frame.to ≡ old.node.me))
-    ⊎ (((new ≡ old) × IsDropped old x) ⊎ ((x.stamp + 1 ≡ 2 ^ 64) × (new ≡ record old { ended = Some ClockFull })))
+    ⊎ (((new ≡ old) × IsDropped old x)
+    ⊎ ((x.stamp + 1 ≡ 2 ^ 64) × (new ≡ record old { ended = Some ClockFull })))
 
 -- an engine chooses to end so: all are quiet, or no turn is left
 abbrev pub IsChosen : EngineEnd → Type 0
@@ -121,7 +130,9 @@ IsChosen _ = ⊥
 
 -- no order was taken, and no notice given
 abbrev pub IsUnused : Option Desk → Type 0
-IsUnused desk = (taken_at desk ≡ []) × ((c : ℕ) (tray : PutterEnd Notice) → slice_get (trays_at desk) c ≡ Some tray → tray.put ≡ [])
+IsUnused desk =
+    (taken_at desk ≡ [])
+    × ((c : ℕ) (tray : PutterEnd Notice) → slice_get (trays_at desk) c ≡ Some tray → tray.put ≡ [])
 
 -- what an engine that ended leaves
 pub record Leaves (e : EngineState) (log : List Entry) (node : Kept) (ended : EngineEnd) : Type 0 where
@@ -135,7 +146,14 @@ pub record Leaves (e : EngineState) (log : List Entry) (node : Kept) (ended : En
 
 -- a frame of this maker and number came in a parcel with this stamp
 abbrev pub CameIn : List (ℕ × Parcel) → ℕ → ℕ → ℕ → Type 0
-CameIn taken from seq sent = (number : ℕ) × (frame : Frame) × Has taken (number, parcel sent frame) × (frame.from ≡ from) × (frame.seq ≡ seq)
+CameIn taken from seq sent =
+    (number : ℕ) × (frame : Frame) × Has taken (number, parcel sent frame) × (frame.from ≡ from)
+    × (frame.seq ≡ seq)
+
+-- a frame came in a parcel with a smaller stamp
+abbrev pub CameBefore : List (ℕ × Parcel) → ℕ → Frame → Type 0
+CameBefore taken stamp frame =
+    (number : ℕ) × (sent : ℕ) × Has taken (number, parcel sent frame) × (sent < stamp)
 
 -- the log tells of the node's steps; what was put into the outbox is the first of the frames that they made, in order, with their
 -- stamps; each frame that arrived came out of the inbox in a parcel of its own, whose stamp is smaller than the arrival's; and the
@@ -143,14 +161,16 @@ CameIn taken from seq sent = (number : ℕ) × (frame : Frame) × Has taken (num
 pub record Tells (e : EngineState) (log : List Entry) (node : Kept) : Type 0 where
   pub trail : Trail
   pub tells : IsLogOf e.config e.me trail log node
-  pub sent : (x : Parcel) → Has e.outbox.put x → slice_get (made_in e.config e.me trail) x.frame.seq ≡ Some (stamped x.stamp x.frame)
+  pub sent : (x : Parcel) → Has e.outbox.put x
+      → slice_get (made_in e.config e.me trail) x.frame.seq ≡ Some (stamped x.stamp x.frame)
   pub handed : StartsWith (made_in e.config e.me trail) (map made_of e.outbox.put)
   pub serves : Serves e.config e.me log trail (map (λ m. m.1) (taken_at e.desk))
-  pub received : EachArrival (λ stamp frame. (number : ℕ) × (sent : ℕ) × Has e.inbox.taken (number, parcel sent frame) × (sent < stamp)) trail
+  pub received : EachArrival (CameBefore e.inbox.taken) trail
   pub each_taken : HasTakenEach e.inbox.taken trail
   pub stamps : Follows (CameIn e.inbox.taken) e.config.first_stamp log
   pub made : map (λ m. m.stamp) (made_in e.config e.me trail) ≡ stamps_made log
 
 -- what was put into each tray begins its client's feed
 abbrev pub WereTold : List Entry → List (PutterEnd Notice) → Type 0
-WereTold log trays = (c : ℕ) (tray : PutterEnd Notice) → slice_get trays c ≡ Some tray → StartsWith (feed log c) tray.put
+WereTold log trays =
+    (c : ℕ) (tray : PutterEnd Notice) → slice_get trays c ≡ Some tray → StartsWith (feed log c) tray.put

@@ -37,14 +37,16 @@ takes_memory _ = false
 
 -- what the client was told, up to the place
 abbrev pub told_to : ℕ → List Entry → Place → List Notice
-told_to client log place = feed_from client 0 (take place.entry log) ++ take place.told (told_here client log place)
+told_to client log place =
+    feed_from client 0 (take place.entry log) ++ take place.told (told_here client log place)
 
 pub record IsPlaced (client : ℕ) (log : List Entry) (place : Place) : Type 0 where
   pub within : place.entry ≤ length log
   pub counted : place.orders ≡ orders_of (take place.entry log)
   pub begun : place.told ≤ length (told_here client log place)
   pub waits : (notice : Notice) → place.waiting ≡ Some notice → IsNext client log place notice
-  pub counts : (notice : Notice) → place.waiting ≡ Some notice → place.told + 1 < 2 ^ 64  -- one notice more can be counted
+  pub counts : (notice : Notice) → place.waiting ≡ Some notice
+      → place.told + 1 < 2 ^ 64  -- one notice more can be counted
 
 abbrev pub IsFed : ℕ → List Entry → Place → List Notice → Type 0
 IsFed client log place put = IsPlaced client log place × (put ≡ told_to client log place)
@@ -52,22 +54,27 @@ IsFed client log place put = IsPlaced client log place × (put ≡ told_to clien
 abbrev pub AreFed : List Entry → List (PutterEnd Notice) → List Place → Type 0
 AreFed log trays places =
     (length places ≡ length trays)
-    × ((c : ℕ) (tray : PutterEnd Notice) (place : Place) → slice_get trays c ≡ Some tray → slice_get places c ≡ Some place → IsFed c log place tray.put)
+    × ((c : ℕ) (tray : PutterEnd Notice) (place : Place) → slice_get trays c ≡ Some tray
+    → slice_get places c ≡ Some place → IsFed c log place tray.put)
 
 -- the client's tray is fed up to the place
 abbrev pub FedIn : ℕ → List Entry → List (PutterEnd Notice) → Place → Type 0
-FedIn client log trays place = (tray : PutterEnd Notice) × (slice_get trays client ≡ Some tray) × IsFed client log place tray.put
+FedIn client log trays place =
+    (tray : PutterEnd Notice) × (slice_get trays client ≡ Some tray)
+    × IsFed client log place tray.put
 
 -- one tray may have got a notice more, and is fed up to the place
 abbrev pub FedAt : ℕ → List Entry → List (PutterEnd Notice) → List (PutterEnd Notice) → Place → Type 0
 FedAt client log old new place =
     (was : PutterEnd Notice) × (now : PutterEnd Notice)
-    × (slice_get old client ≡ Some was) × (new ≡ slice_set old client now) × IsSamePutter was now × IsFed client log place now.put
+    × (slice_get old client ≡ Some was) × (new ≡ slice_set old client now) × IsSamePutter was now
+    × IsFed client log place now.put
 
 -- why a client is told no more: all of its feed was told, or its tray was full, or the next notice takes memory
 abbrev pub IsToldNoMore : ℕ → List Entry → PutterEnd Notice → Place → Type 0
 IsToldNoMore client log tray place =
-    (told_to client log place ≡ feed log client) ⊎ ((WasFull tray × FilledItAlone tray) ⊎ (takes_memory (next_at client log place) ≡ true))
+    (told_to client log place ≡ feed log client)
+    ⊎ ((WasFull tray × FilledItAlone tray) ⊎ (takes_memory (next_at client log place) ≡ true))
 
 -- where a client was told nothing
 abbrev pub first_place : Place
@@ -80,13 +87,19 @@ put_into (Some tray) = tray.put
 
 -- into each tray so many notices more were put at most
 abbrev pub TellEach : ℕ → List (PutterEnd Notice) → List (PutterEnd Notice) → Type 0
-TellEach count old new = (c : ℕ) → length (put_into (slice_get new c)) ≤ length (put_into (slice_get old c)) + count
+TellEach count old new =
+    (c : ℕ) → length (put_into (slice_get new c)) ≤ length (put_into (slice_get old c)) + count
 
 -- the client's tray got a notice more, or there is a cause that it did not
 abbrev pub IsTold : Bool → ℕ → List Entry → List (PutterEnd Notice) → List (PutterEnd Notice) → Place → Type 0
-IsTold true client log old new place = length (put_into (slice_get new client)) ≡ length (put_into (slice_get old client)) + 1
-IsTold false client log old new place = (tray : PutterEnd Notice) × (slice_get old client ≡ Some tray) × IsToldNoMore client log tray place
+IsTold true client log old new place =
+    length (put_into (slice_get new client)) ≡ length (put_into (slice_get old client)) + 1
+IsTold false client log old new place =
+    (tray : PutterEnd Notice) × (slice_get old client ≡ Some tray)
+    × IsToldNoMore client log tray place
 
 -- so it is for each client
 abbrev pub AreTold : List Entry → List (PutterEnd Notice) → List (PutterEnd Notice) → List Place → Type 0
-AreTold log old new places = (c : ℕ) (place : Place) → slice_get places c ≡ Some place → (told : Bool) × IsTold told c log old new place
+AreTold log old new places =
+    (c : ℕ) (place : Place) → slice_get places c ≡ Some place → (told : Bool)
+    × IsTold told c log old new place

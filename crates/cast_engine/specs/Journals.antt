@@ -61,11 +61,13 @@ pub record LogsRefusal (old new : JournalState) (order : OrderIn) : Type 0 where
   pub next : stamp ≡ old.clock + 1
 
 abbrev pub LogsOrder : JournalState → JournalState → OrderIn → Type 0
-LogsOrder old new order = LogsStep old new (Ordered order.item) (Some (origin_of order)) old.clock ⊎ LogsRefusal old new order
+LogsOrder old new order =
+    LogsStep old new (Ordered order.item) (Some (origin_of order)) old.clock ⊎ LogsRefusal old new order
 
 -- a node was asked to take up an item, which it did or refused
 abbrev pub AsksOrder : Kept → Kept → Item → Result (Item × Outcome) StepFault → Type 0
-AsksOrder old new item (Ok told) = (number : ℕ) × Gives old (Ordered item) (Ok (AnswerOrdered number told.1)) new
+AsksOrder old new item (Ok told) =
+    (number : ℕ) × Gives old (Ordered item) (Ok (AnswerOrdered number told.1)) new
 AsksOrder old new item (Err fault) = Gives old (Ordered item) (Err fault) new
 
 -- where an engine ends so, short of a crash and of a full log: it could log an entry more
@@ -118,8 +120,8 @@ is_crash (Refused origin fault) = false
 abbrev pub GoesOn : ℕ → Option ℕ → List Entry → Type 0
 GoesOn limit crash log = (length log < limit) × ((n : ℕ) → crash ≡ Some n → length log < n)
 
--- how a log may end: a crash stands last, after as many entries as the plan says, and exactly where the end is Crashed; the end LogFull comes only at
--- the limit, ClockFull only below it, and Stopped and TurnLimit only where no crash is due either
+-- how a log may end: a crash stands last, after as many entries as the plan says, and exactly where the end is Crashed; the end
+-- LogFull comes only at the limit, ClockFull only below it, and Stopped and TurnLimit only where no crash is due either
 pub record EndsAs (limit : ℕ) (crash : Option ℕ) (ended : Option EngineEnd) (log : List Entry) : Type 0 where
   pub within : length log ≤ limit
   pub full : ended ≡ Some LogFull → length log ≡ limit
@@ -127,11 +129,14 @@ pub record EndsAs (limit : ℕ) (crash : Option ℕ) (ended : Option EngineEnd) 
   pub rested : ended ≡ Some AllStopped → GoesOn limit crash log
   pub used_up : ended ≡ Some TurnLimit → GoesOn limit crash log
   pub due : ended ≢ Some Crashed → (n : ℕ) → crash ≡ Some n → length log ≤ n
-  pub last : (i : ℕ) (e : Entry) → slice_get log i ≡ Some e → is_crash e.kind ≡ true → (suc i ≡ length log) × (crash ≡ Some i) × (ended ≡ Some Crashed)
-  pub crashed : ended ≡ Some Crashed → (i : ℕ) × (e : Entry) × (slice_get log i ≡ Some e) × (is_crash e.kind ≡ true)
+  pub last : (i : ℕ) (e : Entry) → slice_get log i ≡ Some e → is_crash e.kind ≡ true
+      → (suc i ≡ length log) × (crash ≡ Some i) × (ended ≡ Some Crashed)
+  pub crashed : ended ≡ Some Crashed
+      → (i : ℕ) × (e : Entry) × (slice_get log i ≡ Some e) × (is_crash e.kind ≡ true)
 
 -- what a journal keeps: room for its whole log, rising stamps, how the log may end, and a live node before a crash
-pub record JournalKeeps (config : Config) (room : ℕ) (node : Kept) (log : List Entry) (clock : ℕ) (crash : Option ℕ) (ended : Option EngineEnd) : Type 0 where
+pub record JournalKeeps (config : Config) (room : ℕ) (node : Kept) (log : List Entry) (clock : ℕ)
+    (crash : Option ℕ) (ended : Option EngineEnd) : Type 0 where
   pub has_room : config.log_limit ≤ room
   pub rises : Rises config.first_stamp log clock
   pub ends : EndsAs config.log_limit crash ended log

@@ -5,7 +5,8 @@
 --     orders_of run                    the orders, accepted or refused, in order
 --     IsRun config p run               each was taken or refused where it stands
 --     clock_after first run            the clock, which began so
---     AreReceived taken first run      the frame of each arrival came in a parcel, and its stamp is one above the greater of the clock's and the parcel's
+--     AreReceived taken first run      each arrival's frame came in a parcel, and its stamp is one above the greater of the
+--                                      clock's and the parcel's
 --     arrivals_in trail                the frames that arrived
 --     made_of x                        the frame of a parcel, with the stamp of the step that made it
 use Rattle.std.specs.Prelude.{◌≡◌, ℕ, ◌+◌, ◌≤◌, max, Bool, true, false, List, [], ◌∷◌, ◌++◌, map, Option, Some, None}
@@ -54,12 +55,17 @@ abbrev pub origin_of : OrderIn → Origin
 origin_of order = record { client = order.client; ticket = order.ticket }
 
 abbrev pub step_entry : Config → ℕ → Steps → ℕ → Step → Option Origin → Entry
-step_entry config p steps stamp step origin = record { stamp = stamp; kind = StepEntry (event_of p step) origin (outcome_in (node_reply config p steps step)) }
+step_entry config p steps stamp step origin = record {
+  stamp = stamp;
+  kind = StepEntry (event_of p step) origin (outcome_in (node_reply config p steps step));
+}
 
 abbrev pub entry_by : Config → ℕ → Steps → Read → Entry
 entry_by config p steps (Moved stamp step) = step_entry config p steps stamp step None
-entry_by config p steps (Served stamp order) = step_entry config p steps stamp (Ordered order.item) (Some (origin_of order))
-entry_by config p steps (Denied stamp order fault) = record { stamp = stamp; kind = Refused (origin_of order) fault }
+entry_by config p steps (Served stamp order) =
+    step_entry config p steps stamp (Ordered order.item) (Some (origin_of order))
+entry_by config p steps (Denied stamp order fault) =
+    record { stamp = stamp; kind = Refused (origin_of order) fault }
 
 -- the log
 unfoldable pub log_of : Config → ℕ → Run → List Entry
@@ -81,9 +87,11 @@ is_order (Ordered item) = true
 is_order _ = false
 
 abbrev pub IsRead : Config → ℕ → Steps → Read → Type 0
-IsRead config p steps (Moved stamp step) = (own_fault config p steps step ≡ None) × IsFor p step × (is_order step ≡ false)
+IsRead config p steps (Moved stamp step) =
+    (own_fault config p steps step ≡ None) × IsFor p step × (is_order step ≡ false)
 IsRead config p steps (Served stamp order) = own_fault config p steps (Ordered order.item) ≡ None
-IsRead config p steps (Denied stamp order fault) = IsRefused (own_fault config p steps (Ordered order.item)) fault
+IsRead config p steps (Denied stamp order fault) =
+    IsRefused (own_fault config p steps (Ordered order.item)) fault
 
 -- each step was taken, and each order refused that was refused, where it stands
 unfoldable pub IsRun : Config → ℕ → Run → Type 0
@@ -104,7 +112,8 @@ clock_after first [] = first
 clock_after first (r ∷ rs) = stamp_of r
 
 abbrev pub IsReceivedBy : List (ℕ × Parcel) → ℕ → ℕ → Step → Type 0
-IsReceivedBy taken clock stamp (Arrived frame) = (number : ℕ) × (sent : ℕ) × Has taken (number, parcel sent frame) × (stamp ≡ max clock sent + 1)
+IsReceivedBy taken clock stamp (Arrived frame) =
+    (number : ℕ) × (sent : ℕ) × Has taken (number, parcel sent frame) × (stamp ≡ max clock sent + 1)
 IsReceivedBy taken clock stamp _ = Unit {0}
 
 abbrev pub IsReceived : List (ℕ × Parcel) → ℕ → Read → Type 0
@@ -131,19 +140,24 @@ arrivals_in (mark ∷ trail) = arrived_by mark.step ++ arrivals_in trail
 
 -- however frames are told apart, no more of them arrived than were in the parcels that were taken
 abbrev pub HasTakenEach : List (ℕ × Parcel) → Trail → Type 0
-HasTakenEach taken trail = (test : Frame → Bool) → count_by test (arrivals_in trail) ≤ count_by (λ m. test m.1.frame) taken
+HasTakenEach taken trail =
+    (test : Frame → Bool) → count_by test (arrivals_in trail) ≤ count_by (λ m. test m.1.frame) taken
 
 -- what a log, a node and boxes show of an engine
-pub record EngineKeeps (config : Config) (p : ℕ) (kept : Kept) (log : List Entry) (clock : ℕ) (put : List Parcel) (held : Option Parcel) (arrived : List (ℕ × Parcel)) (orders : List (ℕ × OrderIn)) : Type 0 where
+pub record EngineKeeps (config : Config) (p : ℕ) (kept : Kept) (log : List Entry) (clock : ℕ)
+    (put : List Parcel) (held : Option Parcel) (arrived : List (ℕ × Parcel))
+    (orders : List (ℕ × OrderIn)) : Type 0 where
   pub run : Run
   pub runs : IsRun config p run
   pub is_log : log ≡ log_of config p run
   pub stands : Stands config p (steps_in config p (trail_of run)) kept
   pub reached : kept ≡ kept_in config p (trail_of run)
-  -- what was put into the outbox, and then what it refused last, are the frames that the node made, in order, with the stamps of their steps
+  -- what was put into the outbox, and then what it refused last, are the frames that the node made, in order, with the stamps
+  -- of their steps
   pub handed : map made_of (put ++ option_to_list held) ≡ made_in config p (trail_of run)
   pub time : clock ≡ clock_after config.first_stamp run
-  -- the frame of each arrival came in a parcel taken from the inbox, and its stamp is one above the greater of the clock's and the parcel's
+  -- the frame of each arrival came in a parcel taken from the inbox, and its stamp is one above the greater of the clock's and
+  -- the parcel's
   pub received : AreReceived arrived config.first_stamp run
   -- each in a parcel of its own
   pub each_taken : HasTakenEach arrived (trail_of run)

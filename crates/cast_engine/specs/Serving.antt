@@ -2,8 +2,8 @@
 --     entries_of c log                     the entries with an origin at client c
 --     IsAnswered config p trail e order    the entry took the order as a step, or refused it as the steps before it say
 --     Matches R xs ys                      the two lists are related one for one, in order
---     HasOriginOf P kind                   an entry of an order, taken or refused, has an origin of which P holds, and no other has one
---     Serves config p log trail orders     for each client its entries and its orders match, and each order in the log is one of them
+--     HasOriginOf P kind                   an entry of an order, taken or refused, has an origin of which P holds; no other has one
+--     Serves config p log trail orders     each client's entries and its orders match, and each order in the log is one of them
 use Rattle.std.specs.Prelude.{◌≡◌, ℕ, ◌==◌, nat_lt, Bool, false, if◌then◌else◌, List, [], ◌∷◌, Option, Some, None}
 use Rattle.std.specs.List.{filter}
 use Rattle.cast_message.specs.declared.config.Config.{Config}
@@ -40,11 +40,14 @@ before stamp [] = []
 before stamp (mark ∷ trail) = if nat_lt mark.stamp stamp then mark ∷ trail else before stamp trail
 
 abbrev pub IsAnsweredBy : Config → ℕ → Steps → EntryKind → OrderIn → Type 0
-IsAnsweredBy config p earlier (StepEntry event origin outcome) order = (event ≡ Order p order.item) × (origin ≡ Some (origin_of order))
-IsAnsweredBy config p earlier (Refused origin fault) order = (origin ≡ origin_of order) × IsRefused (own_fault config p earlier (Ordered order.item)) fault
+IsAnsweredBy config p earlier (StepEntry event origin outcome) order =
+    (event ≡ Order p order.item) × (origin ≡ Some (origin_of order))
+IsAnsweredBy config p earlier (Refused origin fault) order =
+    (origin ≡ origin_of order) × IsRefused (own_fault config p earlier (Ordered order.item)) fault
 
 abbrev pub IsAnswered : Config → ℕ → Trail → Entry → OrderIn → Type 0
-IsAnswered config p trail e order = IsAnsweredBy config p (steps_in config p (before e.stamp trail)) e.kind order
+IsAnswered config p trail e order =
+    IsAnsweredBy config p (steps_in config p (before e.stamp trail)) e.kind order
 
 unfoldable pub Matches : {A B : Type 0} → (A → B → Type 0) → List A → List B → Type 0
 Matches R [] [] = Unit {0}
@@ -62,6 +65,7 @@ abbrev pub IsOriginIn : List OrderIn → Origin → Type 0
 IsOriginIn orders origin = (order : OrderIn) × Has orders order × (origin ≡ origin_of order)
 
 -- for each client, its entries and its orders, and each order in the log is one of these
-pub record Serves (config : Config) (p : ℕ) (log : List Entry) (trail : Trail) (orders : List OrderIn) : Type 0 where
+pub record Serves (config : Config) (p : ℕ) (log : List Entry) (trail : Trail)
+    (orders : List OrderIn) : Type 0 where
   pub matches : (c : ℕ) → Matches (IsAnswered config p trail) (entries_of c log) (orders_by c orders)
   pub origins : (e : Entry) → Has log e → HasOriginOf (IsOriginIn orders) e.kind

@@ -6,11 +6,14 @@ use Rattle.cast_desk.specs.Desk.{ClientState, IsDeskOf, IsNewDesk}
 -- no client and no desk, or a new desk with this many clients
 abbrev pub IsNewDeskOf : ℕ → ℕ → Option Desk → List ClientState → Type 0
 IsNewDeskOf size clients None cs = (clients ≡ 0) × (cs ≡ [])
-IsNewDeskOf size clients (Some d) cs = IsDeskOf cs d.orders d.trays.items × (length cs ≡ clients) × IsNewDesk size 0 cs d.orders d.trays.items
+IsNewDeskOf size clients (Some d) cs =
+    IsDeskOf cs d.orders d.trays.items × (length cs ≡ clients)
+    × IsNewDesk size 0 cs d.orders d.trays.items
 
 -- for each count a desk with that many clients
 abbrev pub AreNewDesks : ℕ → List ℕ → List (Option Desk) → List (List ClientState) → Type 0
 AreNewDesks size counts desks rows =
     (length desks ≡ length counts) × (length rows ≡ length counts)
-    × ((p : ℕ) (d : Option Desk) (cs : List ClientState) → slice_get desks p ≡ Some d → slice_get rows p ≡ Some cs
+    × ((p : ℕ) (d : Option Desk) (cs : List ClientState) → slice_get desks p ≡ Some d
+    → slice_get rows p ≡ Some cs
     → (k : ℕ) × (slice_get counts p ≡ Some k) × IsNewDeskOf size k d cs)

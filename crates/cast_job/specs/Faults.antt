@@ -17,7 +17,8 @@ pub record JobsFit {J : Type 0} (nodes : ℕ) (jobs : List (ℕ × J)) : Type 0 
   pub placed : (i : ℕ) (job : ℕ × J) → slice_get jobs i ≡ Some job → job.0 < nodes
   pub few : (p : ℕ) → p < nodes → length (of p jobs) ≤ 4
 
-pub record Fits {J : Type 0} (nodes : ℕ) (jobs : List (ℕ × J)) (gates : ℕ) (faults : List Fault) : Type 0 where
+pub record Fits {J : Type 0} (nodes : ℕ) (jobs : List (ℕ × J)) (gates : ℕ) (faults : List Fault)
+    : Type 0 where
   pub jobs_fit : JobsFit nodes jobs
   pub gates_fit : gates ≡ nodes
   pub plan_fits : ArePlanned nodes faults
@@ -30,7 +31,8 @@ IsFaultOf nodes jobs gates faults Memory = Fits nodes jobs gates faults
 IsFaultOf nodes jobs gates faults Threads = Fits nodes jobs gates faults
 
 abbrev pub IsMisfit : {J : Type 0} → ℕ → List (ℕ × J) → ℕ → List Fault → LiveFault → Type 0
-IsMisfit nodes jobs gates faults fault = IsFaultOf nodes jobs gates faults fault × ¬ Fits nodes jobs gates faults
+IsMisfit nodes jobs gates faults fault =
+    IsFaultOf nodes jobs gates faults fault × ¬ Fits nodes jobs gates faults
 
 -- threads that are not started are a group that is not run
 abbrev pub fault_by : StartFault → LiveFault

@@ -14,13 +14,16 @@ abbrev pub got : ClientState → List Notice
 got c = map (λ m. m.1) c.tray.taken
 
 -- the fact of a job that is not done holds of it, for some job that was handed in
-abbrev pub HoldsOf : {J : Type 0} → (J → J → List OrderIn → List Notice → Bool → Type 0) → J → ClientState → Type 0
+abbrev pub HoldsOf : {J : Type 0} → (J → J → List OrderIn → List Notice → Bool → Type 0) → J
+    → ClientState → Type 0
 HoldsOf {J = J} fact job client = (given : J) × fact given job (submitted client) (got client) false
 
 -- a turn keeps it for each, and then the job is done where no more is to do
-abbrev pub KeepsFact : {J : Type 0} → (J → J → List OrderIn → List Notice → Bool → Type 0) → J → ClientState → J → ClientState → Bool → Type 0
+abbrev pub KeepsFact : {J : Type 0} → (J → J → List OrderIn → List Notice → Bool → Type 0) → J
+    → ClientState → J → ClientState → Bool → Type 0
 KeepsFact {J = J} fact job client job' client' more =
-    (given : J) → fact given job (submitted client) (got client) false → fact given job' (submitted client') (got client') (not more)
+    (given : J) → fact given job (submitted client) (got client) false
+    → fact given job' (submitted client') (got client') (not more)
 
 abbrev pub is_reply : Notice → Bool
 is_reply (Reply ticket outcome) = true
@@ -45,7 +48,9 @@ abbrev pub IsFresh : ClientState → Type 0
 IsFresh c = (c.orders.put ≡ []) × (c.tray.taken ≡ []) × (c.first_ticket ≡ 0)
 
 abbrev pub AreFresh : List (List ClientState) → Type 0
-AreFresh rows = (p i : ℕ) (row : List ClientState) (c : ClientState) → slice_get rows p ≡ Some row → slice_get row i ≡ Some c → IsFresh c
+AreFresh rows =
+    (p i : ℕ) (row : List ClientState) (c : ClientState) → slice_get rows p ≡ Some row
+    → slice_get row i ≡ Some c → IsFresh c
 
 -- for each node the number of its jobs, and each job is at a node
 abbrev pub IsCount : {J : Type 0} → ℕ → List (ℕ × J) → List ℕ → Type 0

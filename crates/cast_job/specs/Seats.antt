@@ -20,17 +20,23 @@ module _ {J : Type 0} where
   ended_client e = (e.node, e.client)
 
   -- each job has a client of its node, each of which has done nothing; the clients of a node are given in their order
-  pub record IsSeating (jobs : List (ℕ × J)) (waiting : List (List ClientState)) (seats : List (Seat J)) : Type 0 where
+  pub record IsSeating (jobs : List (ℕ × J)) (waiting : List (List ClientState))
+      (seats : List (Seat J)) : Type 0 where
     pub jobs_are : map seat_job seats ≡ jobs
-    pub clients : (p : ℕ) (row : List ClientState) → slice_get waiting p ≡ Some row → (rest : List ClientState) × (row ≡ of p (map seat_client seats) ++ rest)
-    pub within : (i : ℕ) (s : Seat J) → slice_get seats i ≡ Some s → (row : List ClientState) × (slice_get waiting s.node ≡ Some row)
+    pub clients : (p : ℕ) (row : List ClientState) → slice_get waiting p ≡ Some row
+        → (rest : List ClientState) × (row ≡ of p (map seat_client seats) ++ rest)
+    pub within : (i : ℕ) (s : Seat J) → slice_get seats i ≡ Some s
+        → (row : List ClientState) × (slice_get waiting s.node ≡ Some row)
     pub fresh : (i : ℕ) (s : Seat J) → slice_get seats i ≡ Some s → IsFresh s.client
 
   -- the job came back from here with its client, and its fact holds
   abbrev pub IsEndedAs : (J → J → List OrderIn → List Notice → Bool → Type 0) → Seat J → Ended J → Type 0
-  IsEndedAs fact s e = (e.node ≡ s.node) × IsSameClient s.client e.client × fact s.job e.job (submitted e.client) (got e.client) e.done
+  IsEndedAs fact s e =
+      (e.node ≡ s.node) × IsSameClient s.client e.client
+      × fact s.job e.job (submitted e.client) (got e.client) e.done
 
-  abbrev pub AreEnded : (J → J → List OrderIn → List Notice → Bool → Type 0) → List (Seat J) → List (Ended J) → Type 0
+  abbrev pub AreEnded : (J → J → List OrderIn → List Notice → Bool → Type 0) → List (Seat J)
+      → List (Ended J) → Type 0
   AreEnded fact seats ended = (length ended ≡ length seats) × AreSame (λ s e. IsEndedAs fact s e) seats ended
 
 -- a job that isn't done marks its node
@@ -40,4 +46,6 @@ mark_by dones node false = slice_set dones node false
 
 -- where a node's jobs count as done, they are
 abbrev pub AreDone : {J : Type 0} → List (Ended J) → List Bool → Type 0
-AreDone {J} ended dones = (i : ℕ) (e : Ended J) → slice_get ended i ≡ Some e → slice_index_or dones e.node false ≡ true → e.done ≡ true
+AreDone {J} ended dones =
+    (i : ℕ) (e : Ended J) → slice_get ended i ≡ Some e → slice_index_or dones e.node false ≡ true
+    → e.done ≡ true

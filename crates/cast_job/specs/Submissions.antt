@@ -25,4 +25,5 @@ abbrev pub SubmitsNext : List Item → List Item → ClientState → ClientState
 SubmitsNext [] left client client' = (left ≡ []) × (client'.orders.put ≡ client.orders.put)
 SubmitsNext (item ∷ others) left client client' =
     ((left ≡ others) × (client'.orders.put ≡ client.orders.put ++ order_of client item ∷ []))
-    ⊎ ((left ≡ item ∷ others) × (client'.orders.put ≡ client.orders.put) × ((fault : DeskFault) × IsRefusal client item fault))
+    ⊎ ((left ≡ item ∷ others) × (client'.orders.put ≡ client.orders.put)
+    × ((fault : DeskFault) × IsRefusal client item fault))

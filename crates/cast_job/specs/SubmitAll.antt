@@ -12,7 +12,8 @@ abbrev pub HasReplies : SubmitAll → List Notice → Type 0
 HasReplies job got = (replies_in got ≡ job.replies) × (job.replies ≤ job.count)
 
 -- it has submitted the first of the items that it was given, and when it is done, all of them, and has as many replies
-pub record SubmitsGiven (given job : SubmitAll) (sent : List OrderIn) (got : List Notice) (done : Bool) : Type 0 where
+pub record SubmitsGiven (given job : SubmitAll) (sent : List OrderIn) (got : List Notice)
+    (done : Bool) : Type 0 where
   pub count : (job.count ≡ given.count) × (given.count ≡ length given.left)
   pub first : AreFirst given.left job.left sent
   pub replies : HasReplies job got

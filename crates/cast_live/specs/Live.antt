@@ -76,13 +76,14 @@ pub record FitsGroup (script : Script) : Type 0 where
   pub jobs : JobsFit script.config.nodes script.jobs
   pub plan : ArePlanned script.config.nodes script.plan.faults
 
--- these are reports of a run of the script, which fits its group: what arrives keeps to its plan, each log ends as plan and limits say, with
--- stamps from the first on, and each job of the script had a client, which submitted the first of its items; no more of them are left at its node
--- than a box has places, and none where that stopped
+-- these are reports of a run of the script, which fits its group: what arrives keeps to its plan, each log ends as plan and
+-- limits say, with the stamps that the clocks give, and each job of the script had a client, which submitted the first of its
+-- items; no more of them are left at its node than a box has places, and none where that stopped
 pub record IsRunOf (script : Script) (reports : List NodeReport) : Type 0 where
   pub fits : FitsGroup script
   pub planned : KeepsTo script.config (faults_of script.plan.faults) reports
-  pub logs : (p : ℕ) (report : NodeReport) → slice_get reports p ≡ Some report → EndsAs script.config.log_limit (crash_from p None script.plan.faults) (Some report.ended) report.log
+  pub logs : (p : ℕ) (report : NodeReport) → slice_get reports p ≡ Some report
+      → EndsAs script.config.log_limit (crash_from p None script.plan.faults) (Some report.ended) report.log
   pub stamps : AreStamped script.config reports
   -- the jobs that were handed in, and what came back of them
   pub handed : List (ℕ × SubmitAll)
@@ -92,8 +93,11 @@ pub record IsRunOf (script : Script) (reports : List NodeReport) : Type 0 where
   pub new : AreNewJobs handed
   pub served : AreServed script.config SubmitsGiven handed reports back clients
   pub origins : HaveOrigins handed reports
-  pub room : (i : ℕ) (client : ClientReport) → slice_get clients i ≡ Some client → client.left ≤ script.config.box_size
-  pub none_left : (i : ℕ) (client : ClientReport) (report : NodeReport) → slice_get clients i ≡ Some client → slice_get reports client.node ≡ Some report → report.ended ≡ Stopped → client.left ≡ 0
+  pub room : (i : ℕ) (client : ClientReport) → slice_get clients i ≡ Some client
+      → client.left ≤ script.config.box_size
+  pub none_left : (i : ℕ) (client : ClientReport) (report : NodeReport)
+      → slice_get clients i ≡ Some client → slice_get reports client.node ≡ Some report
+      → report.ended ≡ Stopped → client.left ≡ 0
 
 -- ---- its summary
 
@@ -106,13 +110,15 @@ end_word ClockFull = codes "clockfull"
 
 -- how many items node p delivered from each of these nodes, each after a blank
 abbrev pub counts_text : Config → History → ℕ → List ℕ → List ℕ
-counts_text config past p senders = flat_map (λ sender. codes " " ++ decimal (length (delivered config past p sender))) senders
+counts_text config past p senders =
+    flat_map (λ sender. codes " " ++ decimal (length (delivered config past p sender))) senders
 
 abbrev pub end_text : ℕ → EngineEnd → List ℕ
 end_text p ended = codes "node " ++ (decimal p ++ (codes " " ++ end_word ended))
 
 abbrev pub node_text : Config → History → ℕ → EngineEnd → List ℕ
-node_text config past p ended = end_text p ended ++ (counts_text config past p (range_with_len 0 config.nodes) ++ codes "\n")
+node_text config past p ended =
+    end_text p ended ++ (counts_text config past p (range_with_len 0 config.nodes) ++ codes "\n")
 
 -- the lines of the nodes from p on, which ended so
 unfoldable pub nodes_text : Config → History → ℕ → List EngineEnd → List ℕ
@@ -143,7 +149,8 @@ pub record Summarized (input : Option (List ℕ)) (said : Summary) : Type 0 wher
   pub told : IsSummaryOf script.config events said
 
 abbrev pub text_of_run : {input : Option (List ℕ)} {said : Summary} → Summarized input said → List ℕ
-text_of_run {input} {said} run = summary_text run.script.config (history run.script.config run.events) (ends_of run.reports) said
+text_of_run {input} {said} run =
+    summary_text run.script.config (history run.script.config run.events) (ends_of run.reports) said
 
 -- the writer has the summary of a run of the script that was read, and nothing else
 pub record WritesSummary (input old new : Option (List ℕ)) (said : Summary) : Type 0 where
@@ -155,7 +162,8 @@ pub record WritesSummary (input old new : Option (List ℕ)) (said : Summary) : 
 -- why the group of a script is not run: the first cause that holds, where all is well a thread that was not started
 abbrev pub IsRefusedFor : Script → LiveFault → Type 0
 IsRefusedFor script lives.Jobs = ¬ JobsFit script.config.nodes script.jobs
-IsRefusedFor script lives.Plan = JobsFit script.config.nodes script.jobs × ¬ ArePlanned script.config.nodes script.plan.faults
+IsRefusedFor script lives.Plan =
+    JobsFit script.config.nodes script.jobs × ¬ ArePlanned script.config.nodes script.plan.faults
 IsRefusedFor script lives.Threads = FitsGroup script
 IsRefusedFor script _ = ⊥
 
@@ -178,7 +186,8 @@ pub record SummaryBreaksOff (input old new : Option (List ℕ)) (failed : Bool) 
   pub front : WroteFront old new (text_of_run run)
 
 -- the summary was written, or a fault has its cause, and nothing was written but where the summary broke off
-abbrev pub Summarizes : Option (List ℕ) → Bool → Option (List ℕ) → Option (List ℕ) → Bool → Result Summary TextFault → Type 0
+abbrev pub Summarizes : Option (List ℕ) → Bool → Option (List ℕ) → Option (List ℕ) → Bool
+    → Result Summary TextFault → Type 0
 Summarizes input read_failed old new failed (Ok said) = WritesSummary input old new said
 Summarizes input read_failed old new failed (Err (faults.Live why)) = DoesNotRun input why × Keeps old new
 Summarizes input read_failed old new failed (Err faults.Write) = SummaryBreaksOff input old new failed

@@ -25,7 +25,8 @@ use Rattle.cast_text.specs.Text.{WritesRecord, Records}
 unfoldable pub lines_told : ℕ → List Event → List (Result Answer StepFault) → List Line
 lines_told index [] results = []
 lines_told index (event ∷ events) [] = []
-lines_told index (event ∷ events) (result ∷ results) = lines_for index event result ++ lines_told (index + 1) events results
+lines_told index (event ∷ events) (result ∷ results) =
+    lines_for index event result ++ lines_told (index + 1) events results
 
 abbrev pub run_record : Config → List Event → List (Result Answer StepFault) → List Line
 run_record config events results = head_of config ∷ (lines_told 0 events results ++ End ∷ [])
@@ -40,9 +41,14 @@ record_of_accepted config events = run_record config events (replies config even
 
 pub record RecordsReplay (config : Config) (events : List Event) : Type 0 where
   -- whatever running the text of that script writes, to its end, is that record (a text that is too long for an input is not run)
-  pub replays : (old new : Option (List ℕ)) → WritesRecord (Some (script_text config events)) old new → Appends old new (record_text (record_of_accepted config events))
+  pub replays : (old new : Option (List ℕ))
+      → WritesRecord (Some (script_text config events)) old new
+      → Appends old new (record_text (record_of_accepted config events))
   -- that text is refused for want of memory alone
-  pub not_refused : (read_failed failed : Bool) (old new : Option (List ℕ)) (fault : ScriptFault) → Records (Some (script_text config events)) read_failed old new failed (Err (faults.Script fault)) → fault ≡ Memory
+  pub not_refused : (read_failed failed : Bool) (old new : Option (List ℕ)) (fault : ScriptFault)
+      → Records (Some (script_text config events)) read_failed old new failed (Err (faults.Script fault))
+      → fault ≡ Memory
   pub good : verdict (record_text (record_of_accepted config events)) ≡ Good
   -- where all events are accepted, no line of it is a refusal
-  pub none_refused : history config events ≡ reverse events → All (λ line. is_refusal line ≡ false) (record_of_accepted config events)
+  pub none_refused : history config events ≡ reverse events
+      → All (λ line. is_refusal line ≡ false) (record_of_accepted config events)

@@ -6,4 +6,6 @@ use Rattle.cast_carrier.specs.Lists.{AreSame}
 
 -- each thread gave what it promised
 abbrev pub AreKept : {T P : Type 0} → Promise.Ghosts P T → List (PromisedHandle T P) → List T → Type 0
-AreKept {T} {P} g threads back = (length back ≡ length threads) × AreSame (λ (h : PromisedHandle T P) (x : T). g.kept_by h.promise x) threads back
+AreKept {T} {P} g threads back =
+    (length back ≡ length threads)
+    × AreSame (λ (h : PromisedHandle T P) (x : T). g.kept_by h.promise x) threads back

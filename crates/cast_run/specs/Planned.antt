@@ -42,7 +42,8 @@ is_same_frame frame other = other.from == frame.from && other.seq == frame.seq
 abbrev pub times_arrived : Frame → Trail → ℕ
 times_arrived frame trail = count_by (is_same_frame frame) (arrivals_in trail)
 
--- it is not lost; as many are made for its target after it as it is delayed by; and it arrives at most once, or twice where it is repeated
+-- it is not lost; as many are made for its target after it as it is delayed by; and it arrives at most once, or twice where it is
+-- repeated
 abbrev pub Allows : Fate → ℕ → ℕ → Type 0
 Allows fate later times = (fate.lost ≡ false) × (fate.delay ≤ later) × (times ≤ copies fate.twice)
 
@@ -55,15 +56,19 @@ LetsThrough faults nodes made times frame =
 abbrev pub frames_made : Config → ℕ → Trail → List Frame
 frames_made config p trail = map (λ made. made.frame) (made_in config p trail)
 
--- a frame that arrived at a node, which took these steps, is of a node of the group, and the faults of that node's frames let it through
+-- a frame that arrived at a node, which took these steps, is of a node of the group, and the faults of that node's frames let it
+-- through
 abbrev pub Arrives : Config → (ℕ → List Fault) → (ℕ → Trail) → Trail → Frame → Type 0
 Arrives config faults trails trail frame =
     (frame.from < config.nodes)
-    × LetsThrough (faults frame.from) config.nodes (frames_made config frame.from (trails frame.from)) (times_arrived frame trail) frame
+    × LetsThrough (faults frame.from) config.nodes
+    (frames_made config frame.from (trails frame.from)) (times_arrived frame trail) frame
 
 -- each node has a report, its log tells of the steps that it took, and the plan let each frame through that arrived by them
 pub record KeepsTo (config : Config) (faults : ℕ → List Fault) (reports : List NodeReport) : Type 0 where
   pub size : length reports ≡ config.nodes
   pub trails : ℕ → Trail
-  pub logs : (p : ℕ) (report : NodeReport) → slice_get reports p ≡ Some report → IsLogOf config p (trails p) report.log report.node
-  pub arrivals : (q : ℕ) → q < config.nodes → EachArrival (λ stamp frame. Arrives config faults trails (trails q) frame) (trails q)
+  pub logs : (p : ℕ) (report : NodeReport) → slice_get reports p ≡ Some report
+      → IsLogOf config p (trails p) report.log report.node
+  pub arrivals : (q : ℕ) → q < config.nodes
+      → EachArrival (λ stamp frame. Arrives config faults trails (trails q) frame) (trails q)

@@ -24,7 +24,8 @@ pub record RunsScript (input : Option (List ℕ)) (run : FinishedRun) : Type 0 w
   pub ran : IsRunOf script run.report.reports
 
 abbrev pub RefusesRun : Option (List ℕ) → Bool → TextFault → Type 0
-RefusesRun input failed fault = IsOfScript input failed fault ⊎ ((script : Script) × IsScriptIn input script × IsOfRunning script fault)
+RefusesRun input failed fault =
+    IsOfScript input failed fault ⊎ ((script : Script) × IsScriptIn input script × IsOfRunning script fault)
 
 abbrev pub IsTold : Output → FinishedRun → Type 0
 IsTold (File kept) run = Unit {0}
@@ -33,4 +34,6 @@ IsTold (Summary said) run = IsSummaryOf run.report.config run.assembly.events sa
 abbrev pub output_text : Output → FinishedRun → List ℕ
 output_text (File Record) run = record_text (record_of_accepted run.report.config run.assembly.events)
 output_text (File Replay) run = script_text run.report.config run.assembly.events
-output_text (Summary said) run = summary_text run.report.config (history run.report.config run.assembly.events) (ends_of run.report.reports) said
+output_text (Summary said) run =
+    summary_text run.report.config (history run.report.config run.assembly.events)
+    (ends_of run.report.reports) said

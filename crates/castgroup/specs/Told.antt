@@ -25,7 +25,8 @@ abbrev pub fault_told : TextFault → TextFault → TextFault
 fault_told first faults.Memory = faults.Memory
 fault_told first other = first
 
-abbrev pub IsToldOfBoth : {S : Type 0} → (S → TextFault) → Result (Unit {0}) S → Result (Unit {0}) S → TextFault → Type 0
+abbrev pub IsToldOfBoth : {S : Type 0} → (S → TextFault) → Result (Unit {0}) S → Result (Unit {0}) S
+    → TextFault → Type 0
 IsToldOfBoth fault (Err first) (Err other) told = told ≡ fault_told (fault first) (fault other)
 IsToldOfBoth fault (Err first) (Ok done) told = told ≡ fault first
 IsToldOfBoth fault (Ok done) (Err other) told = told ≡ fault other

@@ -20,12 +20,15 @@ use Rattle.example_ledger.specs.Sheets.{BookState, IsSheetOf}
 unfoldable pub applied_at : ℕ → List Event → List (Result Answer StepFault) → List Message
 applied_at p [] results = []
 applied_at p (event ∷ events) [] = []
-applied_at p (event ∷ events) (result ∷ results) = deliveries_for p event result ++ applied_at p events results
+applied_at p (event ∷ events) (result ∷ results) =
+    deliveries_for p event result ++ applied_at p events results
 
 -- these are the books of so many nodes, each by the replies to its node's events
-pub record AreBooksOf (nodes : ℕ) (events : List Event) (results : List (Result Answer StepFault)) (books : List BookState) : Type 0 where
+pub record AreBooksOf (nodes : ℕ) (events : List Event) (results : List (Result Answer StepFault))
+    (books : List BookState) : Type 0 where
   pub size : length books ≡ nodes
-  pub each : (p : ℕ) (book : BookState) → slice_get books p ≡ Some book → book.journal ≡ applied_at p events results
+  pub each : (p : ℕ) (book : BookState) → slice_get books p ≡ Some book
+      → book.journal ≡ applied_at p events results
   pub sheets : (p : ℕ) (book : BookState) → slice_get books p ≡ Some book → IsSheetOf book.sheet book.journal
 
 abbrev pub AppliesPrefixes : History → List BookState → Type 0
@@ -39,7 +42,8 @@ AppliesDelivered config past books =
     → of_sender s book.journal ≡ delivered config past p s
 
 abbrev pub KeepsSheets : List BookState → Type 0
-KeepsSheets books = (p : ℕ) (book : BookState) → slice_get books p ≡ Some book → IsSheetOf book.sheet book.journal
+KeepsSheets books =
+    (p : ℕ) (book : BookState) → slice_get books p ≡ Some book → IsSheetOf book.sheet book.journal
 
 abbrev pub LiveSheetsAgree : Config → History → List BookState → Type 0
 LiveSheetsAgree config past books =

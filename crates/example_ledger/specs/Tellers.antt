@@ -33,7 +33,8 @@ pub record KeepsBook (book : BookState) (notices : List Notice) : Type 0 where
 
 -- the fact that a teller keeps about itself: its items are those that it was given, and the first of them are ordered; its book
 -- is that of the notices that it got; and once it is done, no item is left, and it has applied as many messages as it waits for
-pub record TellerFact (given teller : Teller) (sent : List OrderIn) (got : List Notice) (done : Bool) : Type 0 where
+pub record TellerFact (given teller : Teller) (sent : List OrderIn) (got : List Notice)
+    (done : Bool) : Type 0 where
   pub same : teller.expected ≡ given.expected
   pub ordered : AreFirst given.orders teller.orders sent
   pub book : KeepsBook teller.book got
@@ -43,11 +44,14 @@ abbrev pub IsNewTeller : Teller → Type 0
 IsNewTeller teller = TellerFact teller teller [] [] false
 
 abbrev pub AreNewTellers : List (ℕ × Teller) → Type 0
-AreNewTellers tellers = (i node : ℕ) (teller : Teller) → slice_get tellers i ≡ Some (told_job node teller) → IsNewTeller teller
+AreNewTellers tellers =
+    (i node : ℕ) (teller : Teller) → slice_get tellers i ≡ Some (told_job node teller) → IsNewTeller teller
 
 -- the item is one of those that a teller at node s was given
 abbrev pub IsGiven : List (ℕ × Teller) → ℕ → Item → Type 0
-IsGiven tellers s item = (i : ℕ) × (teller : Teller) × (slice_get tellers i ≡ Some (told_job s teller)) × Contains teller.orders item
+IsGiven tellers s item =
+    (i : ℕ) × (teller : Teller) × (slice_get tellers i ≡ Some (told_job s teller))
+    × Contains teller.orders item
 
 abbrev pub OrdersAreGiven : Config → History → List (ℕ × Teller) → Type 0
 OrdersAreGiven config past tellers = (s : ℕ) → s < config.nodes → All (IsGiven tellers s) (stream past s)
@@ -58,8 +62,11 @@ TellersApplyPrefixes config past tellers =
     → IsPrefixOf (map item_of (of_sender s teller.book.journal)) (stream past s)
 
 abbrev pub TellersKeepSheets : List Teller → Type 0
-TellersKeepSheets tellers = (i : ℕ) (teller : Teller) → slice_get tellers i ≡ Some teller → IsSheetOf teller.book.sheet teller.book.journal
+TellersKeepSheets tellers =
+    (i : ℕ) (teller : Teller) → slice_get tellers i ≡ Some teller
+    → IsSheetOf teller.book.sheet teller.book.journal
 
 abbrev pub LogsEnd : Config → List Fault → List NodeReport → Type 0
 LogsEnd config faults reports =
-    (p : ℕ) (report : NodeReport) → slice_get reports p ≡ Some report → EndsAs config.log_limit (crash_from p None faults) (Some report.ended) report.log
+    (p : ℕ) (report : NodeReport) → slice_get reports p ≡ Some report
+    → EndsAs config.log_limit (crash_from p None faults) (Some report.ended) report.log

@@ -23,7 +23,8 @@ all_links n = flat_map (links_from n) (range_with_len 0 n)
 
 -- the frames of this kind on the way, from number `first` on by steps
 abbrev pub frames_on : Link → FrameKind → ℕ → ℕ → Frames
-frames_on link kind first step = record { kind = kind; from = link.from; to = link.to; first = first; step = step }
+frames_on link kind first step =
+    record { kind = kind; from = link.from; to = link.to; first = first; step = step }
 
 abbrev pub lost_every : ℕ → Link → List Fault
 lost_every step link = Lose (frames_on link Carry 0 step) ∷ Lose (frames_on link Took 0 step) ∷ []
