@@ -5,8 +5,8 @@ use Rattle.std.specs.Io.KnownBytes.{Appends, Keeps, append_known}
 use Rattle.std.proofs.KnownBytes.{Appends-kept}
 use Rattle.cast_text.specs.declared.fault.TextFault.{TextFault}
 use Rattle.cast_text.specs.declared.fault.TextFault.TheVariants.{Write}
-use Rattle.cast_console.specs.Made.{Makes, Refuses}
-use Rattle.cast_console.proofs.Cutting.{nothing_held}
+use Rattle.cast_console.specs.Made.{Makes, Refuses, MayFail}
+use Rattle.cast_console.proofs.Cutting.{nothing_held, makes_some}
 use Rattle.cast_console.specs.declared.texts.Done.{Done}
 use Rattle.cast_console.specs.declared.texts.Done.TheVariants.{Written, Judged}
 use Rattle.cast_console.specs.declared.texts.TextCommand.{TextCommand}
@@ -40,3 +40,10 @@ refuses_handed command input failed done (Ok said) refused read err = tt
 refuses_handed command input failed done (Err fault) refused read (inl same) = subst (λ r. IfErr r (Refuses command input failed)) same refused
 refuses_handed command input failed (Ok said) (Err fault) refused read (inr broken) = subst (Refuses command input failed) (sym broken.1) read
 refuses_handed command input failed (Err why) (Err fault) refused read (inr broken) = absurd cc
+
+pub may_handed : (command : TextCommand) (input old mid : Option (List ℕ)) (done handed : Result Done TextFault) → IfErr done (MayFail command input) → IfOk done (Makes command input old mid)
+    → IfErr handed (λ fault. (done ≡ Err fault) ⊎ (IsOk done × (fault ≡ Write))) → IfErr handed (MayFail command input)
+may_handed command input old mid done (Ok said) may made err = tt
+may_handed command input old mid done (Err fault) may made (inl same) = subst (λ r. IfErr r (MayFail command input)) same may
+may_handed command input old mid (Ok said) (Err fault) may made (inr broken) = subst (MayFail command input) (sym broken.1) (makes_some command input old mid said made)
+may_handed command input old mid (Err why) (Err fault) may made (inr broken) = absurd cc

@@ -2,7 +2,7 @@
 ghost use Rattle.std.specs.Prelude.{◌≡◌, [], false, IfOk, IfErr, OnOk};
 ghost use Rattle.std.specs.Io.Buffered.{writer_buffer, writer_inner};
 ghost use Rattle.cast_text.specs.Text.{TakesInput, Tells};
-ghost use Rattle.cast_console.specs.Made.{Makes, Refuses, BreaksOff};
+ghost use Rattle.cast_console.specs.Made.{Makes, Refuses, MayFail, BreaksOff};
 ghost use Rattle.cast_console.specs.Statuses.{status_after};
 
 use crate::explain::{explain_fault, explain_verdict};
@@ -67,7 +67,8 @@ impl TextCommand {
         ensures read { OnOk result (reader.new.failed ≡ false) }
         ensures refused { IfErr result (Refuses self (R.remaining reader.old.inner)
             reader.new.failed) }
-        ensures front { IfErr result (λ _. BreaksOff self (R.remaining reader.old.inner)
+        ensures may { IfErr result (MayFail self (R.remaining reader.old.inner)) }
+        ensures front { IfErr result (λ fault. BreaksOff fault self (R.remaining reader.old.inner)
             (W.contents writer.old.inner) (W.contents writer.new.inner)) }
         ensures taken { TakesInput (R.remaining reader.old.inner)
             (R.remaining reader.new.inner) }
@@ -95,7 +96,8 @@ impl TextCommand {
         ensures read { OnOk result.0 (reader.new.failed ≡ false) }
         ensures refused { IfErr result.0 (Refuses self (R.remaining reader.old.inner)
             reader.new.failed) }
-        ensures front { IfErr result.0 (λ _. BreaksOff self (R.remaining reader.old.inner)
+        ensures may { IfErr result.0 (MayFail self (R.remaining reader.old.inner)) }
+        ensures front { IfErr result.0 (λ fault. BreaksOff fault self (R.remaining reader.old.inner)
             (W.contents (writer_inner buffer)) (W.contents result.1)) }
         ensures taken { TakesInput (R.remaining reader.old.inner)
             (R.remaining reader.new.inner) }

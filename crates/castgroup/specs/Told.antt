@@ -1,8 +1,8 @@
 -- What is told of a run in threads.
 --     status_of_run said            the status of a run of which this was summarized
---     fault_told first other        which of two faults is told
+--     stop_told fault first other   which of two stops, each with a fault, is told
 --     IsToldOfBoth fault a b told   which is told where the one output, the other, or both were not written
-use Rattle.std.specs.Prelude.{◌≡◌, Bool, true, false, Result, Ok, Err}
+use Rattle.std.specs.Prelude.{◌≡◌, Bool, true, false, if◌then◌else◌, Result, Ok, Err}
 use Rattle.cast_console.specs.declared.status.Status.{Status}
 use Rattle.cast_console.specs.declared.status.Status.TheVariants.{Good, Bad, Restless}
 use Rattle.cast_live.specs.declared.summary.Summary.{Summary}
@@ -20,14 +20,17 @@ status_by verdicts.Good true = Good
 abbrev pub status_of_run : Summary → Status
 status_of_run said = status_by said.verdict said.rest
 
--- want of memory, or else the first
-abbrev pub fault_told : TextFault → TextFault → TextFault
-fault_told first faults.Memory = faults.Memory
-fault_told first other = first
+abbrev pub is_memory : TextFault → Bool
+is_memory faults.Memory = true
+is_memory fault = false
+
+-- the other where it is want of memory, or else the first
+abbrev pub stop_told : {S : Type 0} → (S → TextFault) → S → S → S
+stop_told fault first other = if is_memory (fault other) then other else first
 
 abbrev pub IsToldOfBoth : {S : Type 0} → (S → TextFault) → Result (Unit {0}) S → Result (Unit {0}) S
-    → TextFault → Type 0
-IsToldOfBoth fault (Err first) (Err other) told = told ≡ fault_told (fault first) (fault other)
-IsToldOfBoth fault (Err first) (Ok done) told = told ≡ fault first
-IsToldOfBoth fault (Ok done) (Err other) told = told ≡ fault other
+    → S → Type 0
+IsToldOfBoth fault (Err first) (Err other) told = told ≡ stop_told fault first other
+IsToldOfBoth fault (Err first) (Ok done) told = told ≡ first
+IsToldOfBoth fault (Ok done) (Err other) told = told ≡ other
 IsToldOfBoth fault (Ok done) (Ok also) told = ⊥

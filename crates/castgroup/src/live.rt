@@ -1,12 +1,12 @@
 //! The command `live`: a script's group in threads, the files that are kept of the run, and its summary.
-ghost use Rattle.std.specs.Prelude.{◌≡◌, ◌⊎◌, [], true, false, IfOk, IfErr, OnOk, OnErr, IsOk};
+ghost use Rattle.std.specs.Prelude.{◌≡◌, [], true, false, IfOk, IfErr, OnOk, OnErr, IsOk};
 ghost use Rattle.std.specs.Io.Buffered.{writer_buffer, writer_inner};
 ghost use Rattle.std.specs.Io.KnownBytes.{Appends, append_known};
 ghost use Rattle.cast_live.specs.Live.{IsFinished, IsSummaryOf};
 ghost use Rattle.cast_text.specs.Text.{TakesInput, Tells, WroteFront};
 ghost use Rattle.cast_console.specs.Made.{IsCut};
 ghost use Rattle.castgroup.specs.Ran.{IsTold, RefusesRun, RunsScript, output_text};
-ghost use Rattle.castgroup.specs.Told.{IsToldOfBoth, fault_told, status_of_run};
+ghost use Rattle.castgroup.specs.Told.{IsToldOfBoth, stop_told, status_of_run};
 
 use crate::progress::{ProgressReporter, due_deliveries};
 use cast_command::{Call, RunFiles};
@@ -79,8 +79,7 @@ struct Stop<'a> {
 impl<'a> Stop<'a> {
     // Which of two is told: the other where it is want of memory, else this one.
     fn or_memory(self, other: Stop<'a>) -> Stop<'a>
-        ensures fault { result.fault ≡ fault_told self.entry.fault other.entry.fault }
-        ensures whole { (result ≡ self.entry) ⊎ (result ≡ other.entry) }
+        ensures { result ≡ stop_told (λ one. one.fault) self.entry other.entry }
     {
         match other.fault {
             TextFault::Memory => other,
@@ -240,8 +239,8 @@ fn warn_of_length<'a, R: Eprint>(
 // Where neither the record nor the replay is written, want of memory is told first, and else the record's fault.
 fn both_kept<'a>(record: Result<(), Stop<'a>>, replay: Result<(), Stop<'a>>) -> Result<(), Stop<'a>>
     ensures ok { OnOk result (IsOk «record».entry × IsOk replay.entry) }
-    ensures err { IfErr result (λ stop.
-        IsToldOfBoth (λ one. one.fault) «record».entry replay.entry stop.fault) }
+    ensures err { IfErr result
+        (IsToldOfBoth (λ one. one.fault) «record».entry replay.entry) }
 {
     match (record, replay) {
         (Err(record), Err(replay)) => Err(record.or_memory(replay)),
