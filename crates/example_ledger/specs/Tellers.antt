@@ -2,13 +2,17 @@
 --     KeepsBook book notices      the book is that of these notices
 --     TellerFact                  what a teller keeps of itself
 --     AreNewTellers tellers       none of these has ordered or applied anything
+--     nodes_of tellers            the nodes at which they are
+--     orders_of tellers           what each of them has to order
+--     items_given tellers         how many items that is, of all together
+--     WaitFor count tellers       each waits for so many messages
 --     IsGiven tellers s item      the item is one that a teller at node s was given
 --     OrdersAreGiven              each item that a node ordered was given to a teller there
 --     TellersApplyPrefixes        what a teller applied of a sender is a prefix of what that sender ordered
 --     TellersKeepSheets tellers   each sheet is the sheet of what was applied
 --     LogsEnd config faults       each node's log ends as plan and limit say
 use Rattle.std.specs.Prelude.{◌≡◌, ℕ, ◌<◌, ◌≤◌, List, [], length, map, slice_get, Bool, true, false, None, Some}
-use Rattle.std.specs.List.{All, Contains}
+use Rattle.std.specs.List.{All, Contains, sum_by}
 use Rattle.cast_message.specs.declared.config.Config.{Config}
 use Rattle.cast_message.specs.declared.message.Item.{Item}
 use Rattle.cast_model.specs.History.{History, stream}
@@ -46,6 +50,22 @@ IsNewTeller teller = TellerFact teller teller [] [] false
 abbrev pub AreNewTellers : List (ℕ × Teller) → Type 0
 AreNewTellers tellers =
     (i node : ℕ) (teller : Teller) → slice_get tellers i ≡ Some (told_job node teller) → IsNewTeller teller
+
+-- the nodes of these tellers, in order
+abbrev pub nodes_of : List (ℕ × Teller) → List ℕ
+nodes_of tellers = map (λ t. t.0) tellers
+
+-- what each of these tellers has to order
+abbrev pub orders_of : List (ℕ × Teller) → List (List Item)
+orders_of tellers = map (λ t. t.1.orders) tellers
+
+-- how many items that is, of all tellers together
+abbrev pub items_given : List (ℕ × Teller) → ℕ
+items_given tellers = sum_by length (orders_of tellers)
+
+-- each of these tellers is done once it has applied so many messages
+abbrev pub WaitFor : ℕ → List (ℕ × Teller) → Type 0
+WaitFor count tellers = All (λ t. t.1.expected ≡ count) tellers
 
 -- the item is one of those that a teller at node s was given
 abbrev pub IsGiven : List (ℕ × Teller) → ℕ → Item → Type 0

@@ -1,8 +1,8 @@
 //! What happens in the example: who orders what, and a list of events in which frames are lost, repeated and reordered and a
 //! node crashes.
-ghost use Rattle.std.specs.Prelude.{◌≡◌, ◌<◌, IfOk, map};
+ghost use Rattle.std.specs.Prelude.{◌≡◌, ◌<◌, ◌∷◌, [], IfOk, IsOk, length, map};
 ghost use Rattle.example_ledger.specs.Story.{all_links, loses_every_second};
-ghost use Rattle.example_ledger.specs.Tellers.{AreNewTellers};
+ghost use Rattle.example_ledger.specs.Tellers.{AreNewTellers, WaitFor, items_given, nodes_of, orders_of};
 ghost use Rattle.example_ledger.specs.Transfers.{account_count};
 
 use crate::teller::Teller;
@@ -28,7 +28,8 @@ const LINKS: &[(u8, u8)] = &[(0, 1), (0, 2), (1, 0), (1, 2), (2, 0), (2, 1)];
 
 /// Three nodes, of which one may crash.
 pub fn config() -> Result<Config, ConfigFault>
-    ensures { IfOk result (λ config. (config.nodes ≡ 3) × (config.faults ≡ 1)) }
+    ensures ok { IsOk result }
+    ensures size { IfOk result (λ config. (config.nodes ≡ 3) × (config.faults ≡ 1)) }
 {
     Config::check(
         u64::from(NODES),
@@ -42,8 +43,10 @@ pub fn config() -> Result<Config, ConfigFault>
     )
 }
 
-/// What the client of each node orders, by node. One item says no transfer.
-pub fn orders(alloc: Global) -> Result<[List<Item>; NODES as usize], AllocError> {
+/// What the client of each node orders, by node: two items, two, and one. One of them says no transfer.
+pub fn orders(alloc: Global) -> Result<[List<Item>; NODES as usize], AllocError>
+    ensures { IfOk result (λ orders. map length orders ≡ 2 ∷ 2 ∷ 1 ∷ []) }
+{
     let mut first = List::new(alloc);
     first.push(transfer(alloc, ADA, BEN, 30)?)?;
     first.push(transfer(alloc, ADA, CLEO, 20)?)?;
@@ -63,7 +66,11 @@ fn transfer(alloc: Global, from: u8, to: u8, amount: u16) -> Result<Item, AllocE
 
 /// A teller at each node, which orders the node's items and waits until all items are delivered.
 pub fn tellers(alloc: Global) -> Result<Vec<(NodeId, Teller)>, AllocError>
-    ensures { IfOk result (λ tellers. AreNewTellers tellers.items) }
+    ensures new { IfOk result (λ tellers. AreNewTellers tellers.items) }
+    ensures nodes { IfOk result (λ tellers. nodes_of tellers.items ≡ 0 ∷ 1 ∷ 2 ∷ []) }
+    ensures given { IfOk result (λ tellers.
+        map length (orders_of tellers.items) ≡ 2 ∷ 2 ∷ 1 ∷ []) }
+    ensures waits { IfOk result (λ tellers. WaitFor (items_given tellers.items) tellers.items) }
 {
     let orders = orders(alloc)?;
     let mut count: usize = 0;

@@ -1,7 +1,7 @@
 //! A client in a thread of its own, which orders transfers and keeps a book by what its node tells it.
 ghost use Rattle.std.specs.Prelude.{◌≡◌, ◌↔◌, ◌<◌, ◌≤◌, ◌++◌, ◌∷◌, ◌+◌, [], length, IsTrue, IsFalse};
 ghost use Rattle.cast_desk.specs.Desk.{IsSameClient};
-ghost use Rattle.cast_job.specs.Jobs.{HoldsOf, KeepsFact, got};
+ghost use Rattle.cast_job.specs.Jobs.{HoldsOf, KeepsFact, Listens, got};
 ghost use Rattle.cast_job.specs.Submissions.{SubmitsNext};
 ghost use Rattle.cast_merge.specs.Told.{told};
 
@@ -28,14 +28,16 @@ impl ClientJob for Teller {
 
     ghost fact = { TellerFact };
 
-    // When the teller is done, and what every job's turn does; that its next item is ordered, unless the desk refuses it, and that
-    // a notice at most is taken.
+    // When the teller is done, and what every job's turn does; that its next item is ordered, unless the desk refuses it; that a
+    // notice is taken, where the book has room, unless the tray is empty, and no more than one.
     fn turn<R: Wait>(&mut self, rt: &R, client: &mut Client) -> bool
         requires { HoldsOf TellerFact self.old client.old }
         ensures ends { IsFalse result ↔ (self.new.orders ≡ [])
             × (self.new.expected ≤ length self.new.book.journal) }
         ensures same { IsSameClient client.old client.new }
         ensures fact { KeepsFact TellerFact self.old client.old self.new client.new result }
+        ensures listens { length self.old.book.journal < self.old.book.room
+            → Listens client.old client.new }
         ensures one_notice { length client.new.tray.taken ≤ length client.old.tray.taken + 1 }
         ensures next { SubmitsNext self.old.orders self.new.orders client.old client.new }
     {
@@ -76,6 +78,8 @@ impl Teller {
             × (self.new.expected ≡ self.old.expected) }
         ensures same { IsSameClient client.old client.new }
         ensures orders { client.new.orders ≡ client.old.orders }
+        ensures listens { length self.old.book.journal < self.old.book.room
+            → Listens client.old client.new }
         ensures one { length client.new.tray.taken ≤ length client.old.tray.taken + 1 }
         ensures book { self.new.book.journal ≡ told (got client.new) }
     {
