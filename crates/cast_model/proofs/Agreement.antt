@@ -251,11 +251,17 @@ at_most config past accepted j values by (x ∷ xs) distinct_values all =
     let total = pigeonhole (x ∷ xs) (top.0 ∷ lower) distinct_values within in
     omega (arith, few, short, total)
 
--- so at most k, where the faults are fewer than k: of the values in replies, and of those that nodes show
+-- so at most k, where the faults are fewer than k
 at_most_choices : (config : Config) (past : History) → IsAccepted config past → config.faults < config.choices → (j : ℕ) (values : List ℕ) → ((v : ℕ) → Member v values → DecidedBy config past j v) → AtMost config.choices values
 at_most_choices config past accepted fewer j values by chosen distinct_values all =
     let bound = at_most config past accepted j values by chosen distinct_values all in
     omega (arith, bound)
+
+-- both of the values in replies, and the second also of those that nodes show
+pub decided_at_most_one_more : (config : Config) (events : List Event) (j : ℕ) → AtMost (config.faults + 1) (decided (replies config events) j)
+unfolding IsAccepted
+decided_at_most_one_more config events j =
+    at_most config (history config events) (IsAccepted-history_from config [] events tt) j (decided (replies config events) j) (decided_from config [] events j)
 
 pub decided_at_most_choices : (config : Config) → config.faults < config.choices → (events : List Event) (j : ℕ) → AtMost config.choices (decided (replies config events) j)
 unfolding IsAccepted

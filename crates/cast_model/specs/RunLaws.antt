@@ -11,7 +11,7 @@ use Rattle.cast_message.specs.Limits.{fault_factor}
 use Rattle.cast_model.specs.History.{History, stream, acked, taken}
 use Rattle.cast_model.specs.Delivery.{nodes_of, delivered, decision}
 use Rattle.cast_model.specs.Replies.{IsAccepted, AtMost, answered, decided_at, history, replies}
-use Rattle.cast_model.specs.Headline.{DeliversPrefixes, DeliversNothingAfterClose, DecidesProposals, DecidesFewValues}
+use Rattle.cast_model.specs.Headline.{DeliversPrefixes, DeliversNothingAfterClose, DecidesProposals, DecidesFewValues, DecidesWithinFaults}
 
 abbrev pub AllRunsDeliverPrefixes : Type 0
 AllRunsDeliverPrefixes = (config : Config) (events : List Event) → DeliversPrefixes config events (replies config events)
@@ -24,6 +24,9 @@ AllRunsDecideProposals = (config : Config) (events : List Event) → DecidesProp
 
 abbrev pub AllRunsDecideFewValues : Type 0
 AllRunsDecideFewValues = (config : Config) (events : List Event) → DecidesFewValues config (replies config events)
+
+abbrev pub AllRunsDecideWithinFaults : Type 0
+AllRunsDecideWithinFaults = (config : Config) (events : List Event) → DecidesWithinFaults config (replies config events)
 
 -- what was answered as delivered is what a node has delivered, one that crashed too
 abbrev pub AllRunsAnswerWhatIsDelivered : Type 0
@@ -42,7 +45,8 @@ decisions_shown config past j = filter_map (λ q. decision config past q j) (nod
 -- a value that a node shows as decided was proposed in its instance by a node of the group
 abbrev pub AllNodesShowProposals : Type 0
 AllNodesShowProposals = (config : Config) (past : History) → IsAccepted config past →
-    (q j v : ℕ) → decision config past q j ≡ Some v → (s : ℕ) × (s < config.nodes) × Contains (stream past s) (Propose j v)
+    (q j v : ℕ) → decision config past q j ≡ Some v →
+    (s : ℕ) × (s < config.nodes) × Contains (stream past s) (Propose j v)
 
 -- nodes show at most k values of an instance, where the faults are fewer than k
 abbrev pub AllNodesShowFewValues : Type 0

@@ -1,7 +1,7 @@
 //! A whole run: the replies to a list of events, and the world after them.
 ghost use Rattle.std.specs.Prelude.{◌≡◌, IfOk};
 ghost use Rattle.cast_model.specs.Replies.{history, replies, is_want_of_memory};
-ghost use Rattle.cast_model.specs.Headline.{DeliversPrefixes, DeliversNothingAfterClose, DecidesProposals, DecidesFewValues};
+ghost use Rattle.cast_model.specs.Headline.{DeliversPrefixes, DeliversNothingAfterClose, DecidesProposals, DecidesFewValues, DecidesWithinFaults};
 ghost use Rattle.cast_world.specs.Group.{Stands};
 
 use crate::world::World;
@@ -21,9 +21,11 @@ pub fn run_events(
     ensures prefix { IfOk result (λ run. DeliversPrefixes config events.now run.1) }
     ensures closed { IfOk result (λ run. DeliversNothingAfterClose events.now run.1) }
 
-    // Each decided value was proposed in its instance, and where the faults are fewer than k, at most k are decided.
+    // Each decided value was proposed in its instance, and where the faults are fewer than k, at most k are decided, whatever k is
+    // one more than there are tolerated faults.
     ensures proposed { IfOk result (λ run. DecidesProposals config events.now run.1) }
     ensures few { IfOk result (λ run. DecidesFewValues config run.1) }
+    ensures within { IfOk result (λ run. DecidesWithinFaults config run.1) }
 {
     let mut world = World::new(alloc, config)?;
     let mut replies = List::with_capacity(alloc, events.len())?;

@@ -5,7 +5,7 @@ use Rattle.cast_model.proofs.Shown.{answered-decided}
 use Rattle.cast_model.proofs.AtRest.{acked_taken}
 use Rattle.cast_model.proofs.Sound.{sound}
 use Rattle.cast_model.proofs.Closed.{answered_closed}
-use Rattle.cast_model.proofs.Agreement.{decided_in_stream, decided_at_most_choices, shown_in_stream, shown_at_most_choices}
+use Rattle.cast_model.proofs.Agreement.{decided_in_stream, decided_at_most_choices, decided_at_most_one_more, shown_in_stream, shown_at_most_choices}
 use Rattle.cast_model.proofs.NoFaults.{no_faults_no_modes}
 use Rattle.cast_model.proofs.keeps_order_and_agrees.Goals as goal
 
@@ -22,6 +22,9 @@ returns-clause-proposed c config events j v in_values =
 
 pub returns-clause-few : goal.returns-clause-few
 returns-clause-few c config events fewer = decided_at_most_choices config fewer events
+
+pub returns-clause-within : goal.returns-clause-within
+returns-clause-within c = decided_at_most_one_more
 
 pub returns-clause-shown : goal.returns-clause-shown
 returns-clause-shown c = answered-delivered

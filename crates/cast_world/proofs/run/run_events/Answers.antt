@@ -1,11 +1,11 @@
 use Rattle.std.proofs.Common.{◌∙◌, ◌++◌, ◌∷◌, [], take, sym, ap, subst}
 use Rattle.cast_message.specs.declared.message.Item.TheVariants.{Propose}
 use Rattle.cast_model.specs.Replies.{history, replies}
-use Rattle.cast_model.specs.Headline.{DeliversPrefixes, DeliversNothingAfterClose, DecidesProposals, DecidesFewValues}
+use Rattle.cast_model.specs.Headline.{DeliversPrefixes, DeliversNothingAfterClose, DecidesProposals, DecidesFewValues, DecidesWithinFaults}
 use Rattle.cast_model.proofs.Members.{Member-Contains, Contains-Member}
 use Rattle.cast_model.proofs.Answered.{answered_is_prefix}
 use Rattle.cast_model.proofs.Closed.{answered_closed}
-use Rattle.cast_model.proofs.Agreement.{decided_in_stream, decided_at_most_choices}
+use Rattle.cast_model.proofs.Agreement.{decided_in_stream, decided_at_most_choices, decided_at_most_one_more}
 use Rattle.cast_world.specs.Group.{Stands}
 use Rattle.cast_world.proofs.Running.{run_begun, settled, replies_more, history_more, whole_replies}
 use Rattle.cast_world.proofs.run.run_events.Goals as goal
@@ -42,3 +42,7 @@ returns-clause-proposed c =
 pub returns-clause-few : goal.returns-clause-few
 returns-clause-few c =
     subst (DecidesFewValues c.args.config) (sym (whole_replies c.args.config c.args.events.now c.loop-event.event-index c.loop-event.replies c.loop-event-test.false c.loop-event.invariant.replied)) (λ fewer. decided_at_most_choices c.args.config fewer c.args.events.now)
+
+pub returns-clause-within : goal.returns-clause-within
+returns-clause-within c =
+    subst (DecidesWithinFaults c.args.config) (sym (whole_replies c.args.config c.args.events.now c.loop-event.event-index c.loop-event.replies c.loop-event-test.false c.loop-event.invariant.replied)) (decided_at_most_one_more c.args.config c.args.events.now)
