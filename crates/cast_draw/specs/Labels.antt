@@ -1,12 +1,13 @@
 -- What stands beside a mark: at most eight letters, with dots where more were cut.
---     item_label item      a text where all bytes are printable, else their digits; instance and value of a proposal; `close`
+--     item_label item      a text where all bytes are printing ASCII, else their digits; instance and value of a proposal; `close`
 --     value_label n        a decided value
 --     escaped bytes        the bytes as XML writes them within an element
-use Rattle.std.specs.Prelude.{ℕ, ◌&&◌, ◌==◌, Bool, true, false, List, [], ◌∷◌, ◌++◌, length, take, codes, decimal, flat_map, nat_lt, nat_le, if◌then◌else◌}
+use Rattle.std.specs.Prelude.{ℕ, ◌==◌, Bool, true, false, List, [], ◌∷◌, ◌++◌, length, take, codes, decimal, flat_map, nat_lt, if◌then◌else◌}
 use Rattle.std.specs.List.{list_all}
 use Rattle.cast_message.specs.declared.message.Item.{Item}
 use Rattle.cast_message.specs.declared.message.Item.TheVariants.{Data, Propose, Close}
 use Rattle.cast_words.specs.Hex.{hex}
+use Rattle.cast_words.specs.Shown.{is_printing}
 
 -- three dots in one letter, where a label was cut
 abbrev pub dots : Bool → List ℕ
@@ -16,10 +17,6 @@ dots false = []
 -- eight letters at most
 abbrev pub cut : List ℕ → List ℕ
 cut text = take 8 text ++ dots (nat_lt 8 (length text))
-
--- a byte that a person reads as a letter
-abbrev pub is_printable : ℕ → Bool
-is_printable byte = nat_le 32 byte && nat_le byte 126
 
 -- the letters that XML has other uses for: & < > " '
 abbrev pub escape_of : ℕ → List ℕ
@@ -41,7 +38,7 @@ abbrev pub hex_label : List ℕ → List ℕ
 hex_label bytes = hex (take 4 bytes) ++ dots (nat_lt 4 (length bytes))
 
 abbrev pub data_label : List ℕ → List ℕ
-data_label bytes = if list_all is_printable bytes then text_label bytes else hex_label bytes
+data_label bytes = if list_all is_printing bytes then text_label bytes else hex_label bytes
 
 abbrev pub proposal_label : ℕ → ℕ → List ℕ
 proposal_label instance value = cut (decimal instance ++ 58 ∷ decimal value)

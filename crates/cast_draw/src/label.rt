@@ -1,11 +1,12 @@
 //! What stands beside a mark: at most eight letters, whatever the bytes are.
 ghost use Rattle.std.specs.Prelude.{◌≡◌, ◌++◌, OnOk, take};
 ghost use Rattle.std.specs.List.{list_all};
-ghost use Rattle.cast_draw.specs.Labels.{item_label, value_label, proposal_label, data_label, text_label, hex_label, dots, is_printable, escaped, escape_of};
+ghost use Rattle.cast_draw.specs.Labels.{item_label, value_label, proposal_label, data_label, text_label, hex_label, dots, escaped, escape_of};
+ghost use Rattle.cast_words.specs.Shown.{is_printing};
 
 use crate::ink::Ink;
 use cast_message::Item;
-use cast_words::prefix;
+use cast_words::{is_printing, prefix};
 use itoa::Buffer;
 use std::alloc::AllocError;
 
@@ -68,7 +69,7 @@ fn put_dots(ink: &mut Ink, is_cut: bool) -> Result<(), AllocError>
 fn put_data(ink: &mut Ink, bytes: &[u8]) -> Result<(), AllocError>
     ensures { OnOk result (ink.new ≡ ink.old ++ data_label bytes.now) }
 {
-    if are_printable(bytes) {
+    if are_printing(bytes) {
         put_text(ink, bytes)
     } else {
         put_digits(ink, bytes)
@@ -90,16 +91,10 @@ fn put_digits(ink: &mut Ink, bytes: &[u8]) -> Result<(), AllocError>
     put_dots(ink, bytes.len() > LETTERS / 2)
 }
 
-fn are_printable(bytes: &[u8]) -> bool
-    ensures { result ≡ list_all is_printable bytes.now }
+fn are_printing(bytes: &[u8]) -> bool
+    ensures { result ≡ list_all is_printing bytes.now }
 {
-    bytes.iter().all(|byte| is_printable(*byte))
-}
-
-fn is_printable(byte: u8) -> bool
-    ensures { result ≡ is_printable byte }
-{
-    (byte >= b' ') & (byte <= b'~')
+    bytes.iter().all(|byte| is_printing(*byte))
 }
 
 // Puts the bytes as XML writes them within an element.

@@ -15,6 +15,6 @@ pub use hex::hex_digit;
 pub use meter::{Failed, Meter};
 pub use mode::{mode_name, mode_named};
 pub use numbers::number;
-pub use shown::{escaped, prefix};
+pub use shown::{escaped, is_printing, prefix};
 pub use unhex::bytes_of;
 pub use writing::{WriteFault, Written, write_bytes, write_hex, write_number};

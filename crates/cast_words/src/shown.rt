@@ -26,8 +26,8 @@ fn put_byte(text: &mut String, byte: u8) -> Result<(), AllocError>
     }
 }
 
-// From the blank to the tilde.
-fn is_printing(byte: u8) -> bool
+/// Whether a byte is printing ASCII: from the blank to the tilde.
+pub fn is_printing(byte: u8) -> bool
     ensures { result ≡ is_printing byte }
 {
     (byte >= b' ') & (byte <= b'~')

@@ -1,8 +1,8 @@
 //! The words that are written, read back; bytes as they are shown; a reader that fails.
 use cast_message::Mode;
 use cast_words::{
-    Failed, Meter, bytes_of, escaped, hex_digit, mode_name, number, prefix, write_bytes, write_hex,
-    write_number,
+    Failed, Meter, bytes_of, escaped, hex_digit, is_printing, mode_name, number, prefix,
+    write_bytes, write_hex, write_number,
 };
 use std::io::{self, Error, ErrorKind, Read};
 use std::test::Fail;
@@ -44,6 +44,8 @@ fn reads_words(rt: HostRuntime) -> Result<(), Fail> {
 #[test]
 fn shows_bytes(rt: HostRuntime) -> Result<(), Fail> {
     assert!(rt; escaped(rt.alloc(), b"a ~\n\x7f")?.as_str() == "a ~\\x0a\\x7f");
+    assert!(rt; is_printing(b'~'));
+    assert!(rt; !is_printing(b'\n'));
     assert!(rt; prefix(b"abc", 2) == b"ab".as_slice());
     assert!(rt; prefix(b"abc", 4) == b"abc".as_slice());
     assert!(rt; hex_digit(9) == b'9');
