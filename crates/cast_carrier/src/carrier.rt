@@ -91,8 +91,9 @@ impl Carrier {
 
     /// Carries one parcel: what is due by it is handed on, in the order in which it came, and waits no longer; and then the
     /// parcel itself, unless it is lost, or waits behind the others as its fate delays it. What is handed on is lost only where
-    /// the inbox was full, or is none; a copy also where there is no memory for its bytes. Answers whether there was a parcel;
-    /// else nothing changed, and all that an engine that has ended put was taken.
+    /// the inbox was full, or is none; a copy also where there is no memory for its bytes; and what is to wait where there is no
+    /// memory to keep it. Answers whether there was a parcel; else nothing changed, and all that an engine that has ended put was
+    /// taken.
     pub fn carry<R: Wait>(&mut self, rt: &R) -> bool
         ensures same { IsSameCarrier self.old self.new }
         ensures one { CarriesOne self.old self.new result }
@@ -125,9 +126,10 @@ impl Carrier {
     }
 }
 
-/// Runs a carrier until its engine has ended, or the group was stopped, and the outbox is empty, and says so on the board.
+/// Runs a carrier until its engine has ended, or the run was given up, and the outbox is empty, and says so on the board.
 pub fn run_carrier<R: Wait>(rt: &R, mut carrier: Carrier, board: &Board, node: usize) -> Carrier
-    ensures { IsSameCarrier carrier result }
+    ensures same { IsSameCarrier carrier result }
+    ensures empty { HasTakenOfEnded result.outbox.ended result.outbox.taken }
 {
     let mut waiting = Waiting::new();
     for _ in rt.forever() {

@@ -1,5 +1,5 @@
 //! The streams of a command, which remember what the system said when they failed, and the input once more.
-ghost use Rattle.std.specs.Prelude.{◌≡◌, true, IsErr};
+ghost use Rattle.std.specs.Prelude.{◌≡◌, true, IfErr, IsErr, None, OnOk, Some};
 ghost use Rattle.std.specs.Io.{ReadsAtMost};
 ghost use Rattle.std.specs.Io.KnownBytes.{ReadConsumes};
 ghost use Rattle.cast_console.specs.Streams.{is_unopened, stream_remaining};
@@ -179,7 +179,9 @@ impl<F: Read + Drop, S: Read + Drop> Read for Source<'_, F, S> {
 
 // Remembers the error of a call that failed, and hands on what came of the call.
 fn remember<T>(error: &mut Option<io::Error>, outcome: io::Result<T>) -> io::Result<T>
-    ensures { result ≡ outcome }
+    ensures handed { result ≡ outcome }
+    ensures noted { IfErr outcome (λ failure. error.new ≡ Some failure) }
+    ensures kept { OnOk outcome (error.new ≡ error.old) }
 {
     if let Err(failure) = &outcome {
         *error = Some(*failure);
@@ -196,17 +198,23 @@ pub struct Heard<W> {
 
 impl<W> Heard<W> {
     /// The writer, which has not failed so far.
-    pub fn new(inner: W) -> Heard<W> {
+    pub fn new(inner: W) -> Heard<W>
+        ensures { (result.inner ≡ inner) × (result.error ≡ None) }
+    {
         Heard { inner, error: None }
     }
 
     /// The writer itself.
-    pub fn inner(&self) -> &W {
+    pub fn inner(&self) -> &W
+        ensures { result.now ≡ self.now.inner }
+    {
         &self.inner
     }
 
     /// What the system said when the writer failed last.
-    pub fn error(&self) -> Option<io::Error> {
+    pub fn error(&self) -> Option<io::Error>
+        ensures { result ≡ self.now.error }
+    {
         self.error
     }
 }

@@ -259,6 +259,7 @@ impl Journal {
 
     /// Ends the engine, where it has not ended: as its log says, or else as if no turn were left.
     pub fn close(&mut self)
+        ensures kept { IsSome self.old.ended → self.new ≡ self.old }
         ensures halts { Halts self.old self.new }
         ensures ended { IsSome self.new.ended }
         ensures cause { self.old.ended ≡ None →

@@ -80,8 +80,8 @@ fn line_words(alloc: Global, line: TextLine<'_>) -> Result<String, AllocError> {
     format!(in alloc; "{shown}, with no line feed behind it")
 }
 
-// The line with this number, counted from 1; the last is what stands after the last line feed, if only nothing, and so is each
-// one after it.
+// The line with this number, counted from 1; the last is what stands after the last line feed, be it nothing. Each one after that
+// is empty, and not ended.
 fn line_at(text: &[u8], number: u64) -> TextLine<'_> {
     find_line(text, number).unwrap_or(TextLine {
         bytes: &[],

@@ -1,3 +1,4 @@
 pub mod NewJobs
+pub mod Shapes
 pub mod Silence
 pub mod Plans

@@ -1,4 +1,7 @@
 //! Configurations, of which a run names what is not as usual.
+ghost use Rattle.std.specs.Prelude.{◌≡◌, IfOk};
+ghost use Rattle.run_setup.specs.Shapes.{HasShape};
+
 use cast_message::{Config, ConfigFault, MOST_ENTRIES, MOST_ITEMS, Mode};
 
 /// The values of a configuration in basic mode, before its check.
@@ -15,7 +18,11 @@ pub struct Shape {
 impl Shape {
     /// A group with so many nodes, faults and choices. A log takes as many entries as one can, a box has 64 places, and clocks
     /// begin at 0.
-    pub fn new(nodes: u64, faults: u64, choices: u64) -> Shape {
+    pub fn new(nodes: u64, faults: u64, choices: u64) -> Shape
+        ensures counts { (result.nodes ≡ nodes) × (result.faults ≡ faults)
+            × (result.choices ≡ choices) }
+        ensures usual { (result.box_size ≡ 64) × (result.first_stamp ≡ 0) }
+    {
         Shape {
             nodes,
             faults,
@@ -27,7 +34,9 @@ impl Shape {
     }
 
     /// The configuration with these values and 4,096 items at most.
-    pub fn config(&self) -> Result<Config, ConfigFault> {
+    pub fn config(&self) -> Result<Config, ConfigFault>
+        ensures { IfOk result (HasShape self.now) }
+    {
         Config::check(
             self.nodes,
             self.faults,
