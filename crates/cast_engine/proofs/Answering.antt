@@ -22,7 +22,7 @@ use Rattle.cast_carrier.specs.Lists.{Has}
 use Rattle.cast_engine.specs.Runs.{Read, Moved, Served, Denied, Run, mark, trail_of, log_of, orders_of, order_by, entry_by, IsRead, IsRun, is_order, origin_of}
 use Rattle.cast_engine.specs.Journals.{Rises, IsStampedAfter}
 use Rattle.cast_engine.specs.Serving.{is_of, origin_in, entries_of, orders_by, before, HasOriginOf, IsOriginIn, IsAnswered, IsAnsweredBy, Matches}
-use Rattle.cast_carrier.proofs.Lists.{has_left, has_last, has_snoc, has_none}
+use Rattle.cast_carrier.proofs.Lists.{has_left, has_last, has_snoc, has_none, has_filter}
 
 module _ {A B : Type 0} where
   pub matches_snoc : (R : A → B → Type 0) (xs : List A) (ys : List B) (x : A) (y : B) → Matches R xs ys → R x y → Matches R (xs ++ x ∷ []) (ys ++ y ∷ [])
@@ -49,15 +49,6 @@ module _ {A : Type 0} where
       step : (b : Bool) (y : A) (l m : List A) → l ≡ m ++ (if f x then x ∷ [] else []) → (if b then y ∷ l else l) ≡ (if b then y ∷ m else m) ++ (if f x then x ∷ [] else [])
       step true y l m e = ap (λ l. y ∷ l) e
       step false y l m e = e
-
-  has_filter : (f : A → Bool) (xs : List A) (x : A) → Has (filter f xs) x → Has xs x
-  has_filter f [] x h = h
-  has_filter f (y ∷ xs) x h = step (f y) (λ k. has_filter f xs x k) h
-    where
-      step : (b : Bool) → (Has (filter f xs) x → Has xs x) → Has (if b then y ∷ filter f xs else filter f xs) x → Has (y ∷ xs) x
-      step true on (zero, e) = (zero, e)
-      step true on (suc i, e) = let it = on (i, e) in (suc it.0, it.1)
-      step false on k = let it = on k in (suc it.0, it.1)
 
 -- rising stamps of a log with one entry more
 pub rises_front : (log : List Entry) (first clock : ℕ) (e : Entry) → Rises first (log ++ e ∷ []) clock → (c : ℕ) × Rises first log c × IsStampedAfter c e × (clock ≡ e.stamp)

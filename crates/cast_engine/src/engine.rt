@@ -28,7 +28,8 @@ pub enum Turn {
     Idle,
     /// All engines are quiet, so that the engine has ended, if it had not otherwise in this turn.
     Stopped,
-    /// The engine has ended otherwise, in this turn or in one before, and not all engines are known to be quiet.
+    /// The engine has ended otherwise, in this turn or in one before, and not all engines are known to be quiet. Also answered
+    /// to a turn that comes after `Stopped`.
     Ended,
 }
 
@@ -47,7 +48,7 @@ pub struct Engine {
     resend: Resend,
     // How many turns are left.
     turns: u64,
-    // No order comes any more: no job was left, and the desk was empty.
+    // No order is taken any more: no job was left, and the desk was empty or the engine has ended.
     no_orders: bool,
     // No notice is taken any more: no job was left, and each tray was full.
     trays_full: bool,
@@ -130,7 +131,7 @@ impl Engine {
             }) }
     {
         let journal = Journal::new(alloc, config, me, crash)?;
-        let places = first_places(alloc, clients_of(&boxes.desk))?;
+        let places = first_places(alloc, count_clients(&boxes.desk))?;
         let resend = Resend::new(alloc, config)?;
         Ok(Engine {
             journal,
@@ -147,9 +148,9 @@ impl Engine {
     }
 
     /// Takes one turn: passes the gate, puts the parcel that waits, takes one and acknowledges it, takes an order, sends a slot
-    /// that is due, and puts notices: of each no more than one, and of parcels no more than three (`few`). `Ended` is answered
-    /// once the log or the clock is full, the node has crashed, or no turn is left, `Stopped` where all engines are quiet; `Idle`
-    /// only where nothing of that was done (`idle`).
+    /// that is due, and puts notices: of each no more than one, of notices one for each client, and of parcels put no more than
+    /// three (`few`). `Ended` is answered once the log or the clock is full, the node has crashed, or no turn is left, `Stopped`
+    /// where all engines are quiet; `Idle` only where nothing of that was done (`idle`).
     #[tactic(auto, using(crate::proofs::Again::desk_same))]
     pub fn turn<G: Gate, R: Wait>(
         &mut self,
@@ -191,7 +192,8 @@ impl Engine {
         self.inbox.end(putter);
     }
 
-    /// What the engine leaves. One that has not ended, as it was told to stop, ends here as if no turn were left.
+    /// What the engine leaves. One that has not ended, as the run was given up, ends here: as its log says, or else as if no turn
+    /// were left.
     pub fn into_parts(self) -> EngineParts
         ensures ends { (result.outbox ≡ self.outbox) × (result.inbox ≡ self.inbox)
             × (result.desk ≡ self.desk) }
@@ -265,7 +267,7 @@ impl Engine {
         let exchanged = self.exchange(rt, board, quiet);
         let jobs_ended = quiet.jobs_ended(board);
         let ordered = self.take_order(rt);
-        let sent = self.resend_due(rt, board);
+        let sent = self.send_next(rt, board);
         let told = self.notify(rt);
         self.note_served(jobs_ended, ordered, told);
         quiet.write(board, jobs_ended && !ordered && self.is_settled(board));
@@ -388,9 +390,10 @@ impl Engine {
         true
     }
 
-    // Sends a slot that is due, to the next peer in cyclic order that has not ended and to which one is. Answers whether it did.
+    // Begins a turn of what is sent, and sends a slot that is due, to the next peer in cyclic order that has not ended and to which
+    // one is. Answers whether it did.
     #[tactic(auto, using(crate::proofs::Again::desk_same))]
-    fn resend_due<R: Wait>(&mut self, rt: &R, board: &Board) -> bool
+    fn send_next<R: Wait>(&mut self, rt: &R, board: &Board) -> bool
         ensures same { IsSameEngine self.old self.new }
         ensures few { DoesFew 0 0 1 0 self.old self.new }
         ensures idle { IsFalse result → HasSameBoxes self.old self.new }
@@ -520,7 +523,7 @@ fn owes(node: &Node, peer: usize) -> bool {
     }
 }
 
-fn clients_of(desk: &Option<Desk>) -> usize
+fn count_clients(desk: &Option<Desk>) -> usize
     ensures { result ≡ length (trays_at desk.now) }
 {
     match desk {
@@ -565,7 +568,7 @@ fn brought_by(frame: &Frame) -> Received {
     }
 }
 
-// Puts a parcel into the outbox, or keeps it where that is full.
+// Puts a parcel into the outbox, or keeps it where that is full. Answers whether it was put.
 fn hand<R: Wait>(
     rt: &R,
     outbox: &mut Putter<Parcel>,

@@ -5,18 +5,18 @@
 //! under way, and again, until the logs are full. Two things tell of that, and the engine then sleeps in turns that find nothing.
 //!
 //! - Word of a slot that was acknowledged before, as a frame comes twice only where it was sent twice, or a plan repeats it. The
-//!   engine sleeps twice as long as before, and half as long once no such word has come for a while: as the timer of TCP backs
+//!   engine sleeps twice as long as before, and half as long once little such word has come for a while: as the timer of TCP backs
 //!   off, whose acknowledgements tell the same (Karn and Partridge, 1987; RFC 6298).
 //! - A peer's silence, before any word can come: so much was sent again to it since its last frame that not all of it is lost. It
 //!   may have no processor for the moment. A silence that goes on is a link on which all is lost, which no sleep mends.
-use crate::resend::LAST_SENT;
+use crate::resend::TURNS_UNTIL_AGAIN;
 use cast_carrier::{Pause, SHORT_NAP};
 
 // An engine that does not hurry gives up the processor for so many turns in succession that what it owes is sent again in less.
 // After them nothing is owed but to engines that have ended, or the outbox stays full or memory is wanting, and it waits for others
 // alone.
 const AT_EASE: Pause = Pause {
-    patience: 2 * LAST_SENT as u64,
+    patience: 2 * TURNS_UNTIL_AGAIN as u64,
     nap: SHORT_NAP,
 };
 
@@ -29,7 +29,7 @@ const FIRST_NAP: u64 = SHORT_NAP;
 const LONG_NAP: u64 = 128 * SHORT_NAP;
 
 // Of slots that were sent within so many turns an engine has word before it sends them again.
-const PERIOD: u64 = LAST_SENT as u64;
+const PERIOD: u64 = TURNS_UNTIL_AGAIN as u64;
 
 // After so many periods without haste it sleeps half as long.
 const CALM_PERIODS: u64 = 4;
@@ -74,7 +74,7 @@ impl Unanswered {
 pub struct Haste {
     // How long it sleeps, in microseconds; 0 where it does not hurry.
     nap: u64,
-    // How many periods have passed since that changed.
+    // How many periods have passed since that was set last.
     calm: u64,
     // How many turns of this period have passed.
     turns: u64,

@@ -17,10 +17,7 @@ pub struct Quiet {
 impl Quiet {
     /// An engine that is not quiet. Its room is made here.
     pub fn new(alloc: Global, node: usize, engines: usize) -> Result<Quiet, AllocError> {
-        let mut seen = Vec::new(alloc);
-        for _engine in 0..engines {
-            seen.push(QuietWord::BUSY)?;
-        }
+        let seen = vec![in alloc; QuietWord::BUSY; engines]?;
         Ok(Quiet {
             node,
             changes: 0,
@@ -41,7 +38,7 @@ impl Quiet {
         }
     }
 
-    /// Notes that the inbox was found empty.
+    /// Notes that the inbox was found empty, or is looked at no more.
     pub fn found_nothing(&mut self) {
         self.unread = false;
     }

@@ -52,7 +52,7 @@ AreFresh rows =
     (p i : ℕ) (row : List ClientState) (c : ClientState) → slice_get rows p ≡ Some row
     → slice_get row i ≡ Some c → IsFresh c
 
--- for each node the number of its jobs, and each job is at a node
+-- for each of so many nodes the number of its jobs, which is 4 at most
 abbrev pub IsCount : {J : Type 0} → ℕ → List (ℕ × J) → List ℕ → Type 0
 IsCount {J} nodes jobs counts =
     (length counts ≡ nodes)

@@ -1,7 +1,6 @@
 //! Why threads are not started, and how a run tells it.
 use cast_script::LiveFault;
 use std::alloc::AllocError;
-use std::convert::From;
 
 /// Why threads are not started.
 #[derive(Clone, Copy, Debug, PartialEq, Eq)]

@@ -16,8 +16,8 @@ pub trait ClientJob {
     ghost fact: { Self → Self → List OrderIn → List Notice → Bool → Type 0 };
 
     /// One turn, in which the job may submit orders and take notices. Answers whether there is more to do: once it answers
-    /// false the job is done, and it is not called again. Once its engine is found to have ended it is called once more, where it
-    /// is not done and has turns left. The client stays the client that it is (`same`).
+    /// false the job is done, and it is not called again. Once its engine is found to have ended, or the run to be given up, it is
+    /// called once more, where it is not done and has turns left. The client stays the client that it is (`same`).
     fn turn<R: Wait>(&mut self, rt: &R, client: &mut Client) -> bool
         requires { HoldsOf fact self.old client.old }
         ensures same { IsSameClient client.old client.new }

@@ -6,8 +6,7 @@ ghost use Rattle.cast_job.specs.declared.jobs.Ended.{Ended};
 ghost use Rattle.cast_job.specs.Faults.{JobsFit};
 ghost use Rattle.cast_job.specs.Jobs.{submitted, got, AreFresh, AreEnough, IsCount};
 ghost use Rattle.cast_carrier.specs.Lists.{IsRoomFor};
-ghost use Rattle.cast_job.specs.Seats.{mark_by};
-ghost use Rattle.cast_job.specs.Seats.{IsSeating, IsEndedAs};
+ghost use Rattle.cast_job.specs.Seats.{mark_by, AreDone, IsSeating, IsEndedAs};
 
 use crate::desks::FreeClients;
 use crate::fault::StartFault;
@@ -59,7 +58,8 @@ pub type JobThread<J> = PromisedHandle<Ended<J>, JobBack<J>>;
 // Calls in which its client puts an order or takes a notice a job makes so many in succession before it gives up the processor.
 const MOST_CALLS: u64 = 8;
 
-// Calls `turn` until it answers false, `turns` calls were made, or the engine has ended and one more call was made.
+// Calls `turn` until it answers false, `turns` calls were made, or the engine has ended, or the run was given up, and one more call
+// was made.
 fn run_job<J: ClientJob, R: Wait>(rt: &R, board: &Board, seat: Seat<J>, turns: u64) -> Ended<J>
     requires { J.fact seat.job seat.job (submitted seat.client) (got seat.client) false }
     ensures { IsEndedAs J.fact seat result }
@@ -153,8 +153,7 @@ pub fn start_jobs<J: ClientJob + Send + Drop + 'static, R: Threads + Wait + Copy
 /// Marks the nodes of which a job is not done.
 pub fn mark_undone<J>(dones: &mut Vec<bool>, ended: &[Ended<J>])
     ensures length { length dones.new.items ≡ length dones.old.items }
-    ensures done { (i : ℕ) (e : Ended J) → slice_get ended.now i ≡ Some e →
-        slice_index_or dones.new.items e.node false ≡ true → e.done ≡ true }
+    ensures done { AreDone ended.now dones.new.items }
 {
     for one in ended {
         mark(dones, one.node, one.done);
