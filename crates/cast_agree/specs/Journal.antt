@@ -20,16 +20,20 @@ counted_all counted (m ∷ ms) = counted_all (counted_after counted m.sender m.i
 
 unfoldable pub decisions_all : Counted → List Message → List Decision
 decisions_all counted [] = []
-decisions_all counted (m ∷ ms) = option_to_list (decision_by counted m.sender m.item) ++ decisions_all (counted_after counted m.sender m.item) ms
+decisions_all counted (m ∷ ms) =
+    option_to_list (decision_by counted m.sender m.item)
+    ++ decisions_all (counted_after counted m.sender m.item) ms
 
 -- what is kept of a proposal
 abbrev pub before_of : Counted → Item → List Before
-before_of counted (Propose instance value) = record { instance = instance; tally = map.get counted.tallies instance } ∷ []
+before_of counted (Propose instance value) =
+    record { instance = instance; tally = map.get counted.tallies instance } ∷ []
 before_of counted _ = []
 
 unfoldable pub befores_all : Counted → List Message → List Before
 befores_all counted [] = []
-befores_all counted (m ∷ ms) = before_of counted m.item ++ befores_all (counted_after counted m.sender m.item) ms
+befores_all counted (m ∷ ms) =
+    before_of counted m.item ++ befores_all (counted_after counted m.sender m.item) ms
 
 -- a tally that is there takes its value of before, or goes
 abbrev pub with_before : Counted → ℕ → Option Tally → Counted

@@ -15,7 +15,8 @@ has_proposed [] sender = false
 has_proposed (p ∷ ps) sender = sender == p.0 || has_proposed ps sender
 
 abbrev pub with_item : ℕ → List (ℕ × ℕ) → ℕ → Item → List (ℕ × ℕ)
-with_item j ps sender (Propose instance value) = if instance == j && not (has_proposed ps sender) then ps ++ (sender, value) ∷ [] else ps
+with_item j ps sender (Propose instance value) =
+    if instance == j && not (has_proposed ps sender) then ps ++ (sender, value) ∷ [] else ps
 with_item j ps sender _ = ps
 
 abbrev pub proposals : ℕ → List (ℕ × Item) → List (ℕ × ℕ)
@@ -39,10 +40,12 @@ settled quorum ps = if nat_le quorum (length ps) then Some (least (take quorum (
 -- the decision that a proposal completes
 abbrev pub settled_by : ℕ → ℕ → List (ℕ × ℕ) → ℕ → ℕ → Option Decision
 settled_by quorum j ps sender value =
-    if not (has_proposed ps sender) && length ps + 1 == quorum then Some (record { instance = j; value = least (values ps ++ value ∷ []) }) else None
+    if not (has_proposed ps sender) && length ps + 1 == quorum
+    then Some (record { instance = j; value = least (values ps ++ value ∷ []) }) else None
 
 abbrev pub DecidesLeast : Type 0
 DecidesLeast =
     (quorum : ℕ) → 0 < quorum → (past : List (ℕ × Item)) (j : ℕ) →
     (decision (counted_of quorum past) j ≡ settled quorum (proposals j past))
-    × ((sender value : ℕ) → decision_by (counted_of quorum past) sender (Propose j value) ≡ settled_by quorum j (proposals j past) sender value)
+    × ((sender value : ℕ) → decision_by (counted_of quorum past) sender (Propose j value)
+    ≡ settled_by quorum j (proposals j past) sender value)

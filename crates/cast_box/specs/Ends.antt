@@ -58,11 +58,13 @@ pub record GatheredBox (T : Type 0) : Type 0 where
 module _ {T : Type 0} where
   -- the same putter of the same box, whatever it has put since
   abbrev pub IsSamePutter : PutterEnd T → PutterEnd T → Type 0
-  IsSamePutter old new = (new.home ≡ old.home) × (new.size ≡ old.size) × (new.putters ≡ old.putters) × (new.number ≡ old.number)
+  IsSamePutter old new =
+      (new.home ≡ old.home) × (new.size ≡ old.size) × (new.putters ≡ old.putters) × (new.number ≡ old.number)
 
   -- the taker of the same box, with the same putters ended, whatever it has taken since
   abbrev pub IsSameTaker : TakerEnd T → TakerEnd T → Type 0
-  IsSameTaker old new = (new.home ≡ old.home) × (new.size ≡ old.size) × (new.putters ≡ old.putters) × (new.ended ≡ old.ended)
+  IsSameTaker old new =
+      (new.home ≡ old.home) × (new.size ≡ old.size) × (new.putters ≡ old.putters) × (new.ended ≡ old.ended)
 
   -- this item was taken, which a putter had put, or none was
   abbrev pub TakesItem : TakerEnd T → Option T → TakerEnd T → Type 0
@@ -74,7 +76,8 @@ module _ {T : Type 0} where
   abbrev pub AreSamePutters : List (PutterEnd T) → List (PutterEnd T) → Type 0
   AreSamePutters old new =
       (length new ≡ length old)
-      × ((a : ℕ) (p : PutterEnd T) → slice_get new a ≡ Some p → (was : PutterEnd T) × (slice_get old a ≡ Some was) × IsSamePutter was p)
+      × ((a : ℕ) (p : PutterEnd T) → slice_get new a ≡ Some p
+      → (was : PutterEnd T) × (slice_get old a ≡ Some was) × IsSamePutter was p)
 
   -- these are all the ends of one box, the putters in the order of their numbers
   abbrev pub AreAllEnds : List (PutterEnd T) → TakerEnd T → Type 0
@@ -94,7 +97,8 @@ module _ {T : Type 0} where
   -- the ends know the limits of their box, no putter has put anything, and nothing was taken
   abbrev pub AreNew : List (PutterEnd T) → TakerEnd T → Type 0
   AreNew putters taker =
-      ((a : ℕ) (p : PutterEnd T) → slice_get putters a ≡ Some p → (p.size ≡ taker.size) × (p.putters ≡ taker.putters) × (p.put ≡ []))
+      ((a : ℕ) (p : PutterEnd T) → slice_get putters a ≡ Some p
+      → (p.size ≡ taker.size) × (p.putters ≡ taker.putters) × (p.put ≡ []))
       × (taker.taken ≡ [])
 
   -- at one moment of the call the box held `size` items, all of its putters, and this putter's among them were the last
@@ -102,7 +106,7 @@ module _ {T : Type 0} where
   abbrev pub WasFull : PutterEnd T → Type 0
   WasFull p = Held p.size (HasOwn p.putters p.number p.put)
 
-  -- where it is the only putter of its box, it has put as many items as the box has places
+  -- where it is the only putter of its box, it has put at least as many items as the box has places
   abbrev pub FilledItAlone : PutterEnd T → Type 0
   FilledItAlone p = p.putters ≡ 1 → p.size ≤ length p.put
 

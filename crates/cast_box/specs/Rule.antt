@@ -10,23 +10,55 @@ use Rattle.cast_box.specs.declared.rule.Role.TheVariants.{Putting, Taking, Gathe
 module _ {T : Type 0} where
   -- the putter of this number, and what it has put
   abbrev pub putter : ℕ → ℕ → ℕ → List T → Known T
-  putter size putters number put = record { role = Putting; size = size; putters = putters; number = number; put = put; taken = []; ended = []; left = [] }
+  putter size putters number put =
+      record {
+        role = Putting;
+        size = size;
+        putters = putters;
+        number = number;
+        put = put;
+        taken = [];
+        ended = [];
+        left = [];
+      }
 
   -- the taker knows how many putters were made, what it has taken, and what those have put that have ended
   abbrev pub taker : ℕ → ℕ → ℕ → List (ℕ × T) → List (List T) → Known T
-  taker size putters made taken ended = record { role = Taking; size = size; putters = putters; number = made; put = []; taken = taken; ended = ended; left = [] }
+  taker size putters made taken ended =
+      record {
+        role = Taking;
+        size = size;
+        putters = putters;
+        number = made;
+        put = [];
+        taken = taken;
+        ended = ended;
+        left = [];
+      }
 
   -- the one end that is left once all putters have ended
   abbrev pub gatherer : List (ℕ × T) → List (List T) → List (ℕ × T) → Known T
-  gatherer taken ended left = record { role = Gathering; size = 0; putters = 0; number = 0; put = []; taken = taken; ended = ended; left = left }
+  gatherer taken ended left =
+      record {
+        role = Gathering;
+        size = 0;
+        putters = 0;
+        number = 0;
+        put = [];
+        taken = taken;
+        ended = ended;
+        left = left;
+      }
 
   -- an end that was given up
   abbrev pub spent : Known T
-  spent = record { role = Ended; size = 0; putters = 0; number = 0; put = []; taken = []; ended = []; left = [] }
+  spent =
+      record { role = Ended; size = 0; putters = 0; number = 0; put = []; taken = []; ended = []; left = [] }
 
   -- What an end's knowledge `v` has to do with the box. `reader` is the taker's pass; seat a is the pass of putter a, where
   -- that putter was made and has not ended; put a is what putter a has put.
-  module _ (reader : ℕ) (seat : ℕ → Option ℕ) (put : ℕ → List T) (taken items : List (ℕ × T)) (size putters : ℕ) where
+  module _ (reader : ℕ) (seat : ℕ → Option ℕ) (put : ℕ → List T) (taken items : List (ℕ × T))
+      (size putters : ℕ) where
     pub record IsPutter (pass : ℕ) (v : Known T) : Type 0 where
       pub sits : seat v.number ≡ some pass
       pub put_is : v.put ≡ put v.number
@@ -65,7 +97,8 @@ module _ {T : Type 0} where
     pub fair : (a : ℕ) → of a (taken ++ items) ≡ put a
     pub room : length items ≤ size
     pub within : (a : ℕ) → putters ≤ a → put a ≡ []
-    pub fits : (pass : ℕ) (v : Known T) → get_elem? views pass ≡ some v → Fits reader seat put taken items size putters pass v
+    pub fits : (pass : ℕ) (v : Known T) → get_elem? views pass ≡ some v
+        → Fits reader seat put taken items size putters pass v
 
   -- what a step tells, of what the end knew before, the item with its putter's number, and what the end knows after
   abbrev pub Puts : Known T → ℕ × T → Known T → Type 0
@@ -75,7 +108,9 @@ module _ {T : Type 0} where
   Takes v m w = (w ≡ taker v.size v.putters v.number (v.taken ++ m ∷ []) v.ended) × (m.0 < v.number)
 
   abbrev pub Closes : Known T → ℕ × T → Known T → Type 0
-  Closes v m w = (w ≡ gatherer v.taken v.ended w.left) × IsFair v.ended v.taken (m ∷ w.left) × (length (m ∷ w.left) ≤ v.size)
+  Closes v m w =
+      (w ≡ gatherer v.taken v.ended w.left) × IsFair v.ended v.taken (m ∷ w.left)
+      × (length (m ∷ w.left) ≤ v.size)
 
   abbrev pub Empties : Known T → ℕ × T → Known T → Type 0
   Empties v m w = (w ≡ gatherer v.taken v.ended w.left) × (v.left ≡ m ∷ w.left)

@@ -16,14 +16,16 @@ pub record ClientState : Type 0 where
   pub orders : PutterEnd OrderIn
   pub tray : TakerEnd Notice
 
--- the client is an end of the same boxes, with the same number
+-- the client is an end of the same boxes, with the same number and first ticket
 abbrev pub IsSameClient : ClientState → ClientState → Type 0
 IsSameClient old new =
-    (new.number ≡ old.number) × (new.first_ticket ≡ old.first_ticket) × IsSamePutter old.orders new.orders × IsSameTaker old.tray new.tray
+    (new.number ≡ old.number) × (new.first_ticket ≡ old.first_ticket) × IsSamePutter old.orders new.orders
+    × IsSameTaker old.tray new.tray
 
 -- the orders carry the client's number and, in turn, the tickets from `first` on
 abbrev pub AreInTurn : ℕ → ℕ → List OrderIn → Type 0
-AreInTurn client first orders = (i : ℕ) (o : OrderIn) → slice_get orders i ≡ Some o → (o.client ≡ client) × (o.ticket ≡ first + i)
+AreInTurn client first orders =
+    (i : ℕ) (o : OrderIn) → slice_get orders i ≡ Some o → (o.client ≡ client) × (o.ticket ≡ first + i)
 
 -- the ticket that the client gives next
 abbrev pub next_ticket : ClientState → ℕ
@@ -36,31 +38,39 @@ counted taken = min (length taken) (2 ^ 64 - 1)
 -- why the item was handed back: the desk's box was full, or the ticket to come is 2^64 - 1, which is never given; only
 -- where it isn't is the box tried
 abbrev pub IsRefusal : ClientState → Item → DeskFault → Type 0
-IsRefusal c item (Full back) = (back ≡ item) × (next_ticket c + 1 < 2 ^ 64) × WasFull c.orders × FilledItAlone c.orders
+IsRefusal c item (Full back) =
+    (back ≡ item) × (next_ticket c + 1 < 2 ^ 64) × WasFull c.orders × FilledItAlone c.orders
 IsRefusal c item (Tickets back) = (back ≡ item) × (next_ticket c + 1 ≡ 2 ^ 64)
 
 -- the notice was put into the tray of this client, or found it full; no other tray changed
-abbrev pub IsPutAt : List (PutterEnd Notice) → ℕ → Notice → Result (Unit {0}) (Refused Notice) → List (PutterEnd Notice) → Type 0
+abbrev pub IsPutAt : List (PutterEnd Notice) → ℕ → Notice → Result (Unit {0}) (Refused Notice)
+    → List (PutterEnd Notice) → Type 0
 IsPutAt old client notice result new =
     (was : PutterEnd Notice) × (now : PutterEnd Notice)
     × (slice_get old client ≡ Some was) × (new ≡ slice_set old client now) × IsSamePutter was now
-    × MatchResult result (λ _. now.put ≡ was.put ++ notice ∷ []) (λ full. (full.item ≡ notice) × (now.put ≡ was.put) × WasFull was × FilledItAlone was)
+    × MatchResult result (λ _. now.put ≡ was.put ++ notice ∷ [])
+    (λ full. (full.item ≡ notice) × (now.put ≡ was.put) × WasFull was × FilledItAlone was)
 
 -- these are all the ends of a desk's boxes, the clients in the order of their numbers
-pub record IsDeskOf (clients : List ClientState) (orders : TakerEnd OrderIn) (trays : List (PutterEnd Notice)) : Type 0 where
+pub record IsDeskOf (clients : List ClientState) (orders : TakerEnd OrderIn) (trays : List (PutterEnd Notice))
+    : Type 0 where
   pub desk : AreAllEnds (map (λ c. c.orders) clients) orders
   pub width : length trays ≡ length clients
-  pub tray : (c : ℕ) (client : ClientState) (tray : PutterEnd Notice) → slice_get clients c ≡ Some client → slice_get trays c ≡ Some tray
+  pub tray : (c : ℕ) (client : ClientState) (tray : PutterEnd Notice) → slice_get clients c ≡ Some client
+      → slice_get trays c ≡ Some tray
       → AreAllEnds (tray ∷ []) client.tray
   pub number : (c : ℕ) (client : ClientState) → slice_get clients c ≡ Some client → client.number ≡ c
 
 -- nothing was submitted and nothing taken, no notice was given and none taken, all boxes have `size` places, and each tray
 -- has one putter
-pub record IsNewDesk (size first_ticket : ℕ) (clients : List ClientState) (orders : TakerEnd OrderIn) (trays : List (PutterEnd Notice)) : Type 0 where
+pub record IsNewDesk (size first_ticket : ℕ) (clients : List ClientState) (orders : TakerEnd OrderIn)
+    (trays : List (PutterEnd Notice)) : Type 0 where
   pub client : (c : ℕ) (client : ClientState) → slice_get clients c ≡ Some client
-      → (client.first_ticket ≡ first_ticket) × (client.orders.put ≡ []) × (client.orders.size ≡ size) × (client.orders.putters ≡ orders.putters) × (client.tray.taken ≡ []) × (client.tray.size ≡ size)
+      → (client.first_ticket ≡ first_ticket) × (client.orders.put ≡ []) × (client.orders.size ≡ size)
+      × (client.orders.putters ≡ orders.putters) × (client.tray.taken ≡ []) × (client.tray.size ≡ size)
   pub desk : (orders.taken ≡ []) × (orders.size ≡ size)
-  pub tray : (c : ℕ) (tray : PutterEnd Notice) → slice_get trays c ≡ Some tray → (tray.put ≡ []) × (tray.size ≡ size) × (tray.putters ≡ 1)
+  pub tray : (c : ℕ) (tray : PutterEnd Notice) → slice_get trays c ≡ Some tray
+      → (tray.put ≡ []) × (tray.size ≡ size) × (tray.putters ≡ 1)
 
 abbrev pub IsClients : ℕ → Type 0
 IsClients clients = (0 < clients) × (clients ≤ 4)

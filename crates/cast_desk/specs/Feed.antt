@@ -22,7 +22,8 @@ orders_in (Refused origin fault) = 0
 
 -- the reply to an order that was taken with this number
 abbrev pub reply_of : ℕ → Event → Option Origin → ℕ → List Notice
-reply_of client (Order node item) (Some origin) number = if origin.client == client then Reply origin.ticket (Ok number) ∷ [] else []
+reply_of client (Order node item) (Some origin) number =
+    if origin.client == client then Reply origin.ticket (Ok number) ∷ [] else []
 reply_of client _ _ number = []
 
 abbrev pub refusal_of : ℕ → Origin → StepFault → List Notice
@@ -38,7 +39,8 @@ told_by client number (Refused origin fault) = refusal_of client origin fault
 
 abbrev pub feed_from : ℕ → ℕ → List Entry → List Notice
 feed_from client number [] = []
-feed_from client number (e ∷ es) = told_by client number e.kind ++ feed_from client (number + orders_in e.kind) es
+feed_from client number (e ∷ es) =
+    told_by client number e.kind ++ feed_from client (number + orders_in e.kind) es
 
 abbrev pub feed : List Entry → ℕ → List Notice
 feed log client = feed_from client 0 log

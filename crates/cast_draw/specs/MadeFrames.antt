@@ -14,7 +14,8 @@ fate_after Shown false = Shown
 
 abbrev pub with_arrival_of : List MadeFrame → ℕ → Bool → Option MadeFrame → List MadeFrame
 with_arrival_of frames seq is_shown None = frames
-with_arrival_of frames seq is_shown (Some frame) = slice_set frames seq (record frame { fate = fate_after frame.fate is_shown })
+with_arrival_of frames seq is_shown (Some frame) =
+    slice_set frames seq (record frame { fate = fate_after frame.fate is_shown })
 
 abbrev pub with_arrival : List MadeFrame → ℕ → Bool → List MadeFrame
 with_arrival frames seq is_shown = with_arrival_of frames seq is_shown (slice_get frames seq)

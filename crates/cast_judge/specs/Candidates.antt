@@ -25,7 +25,8 @@ abbrev pub count_decided : List Candidate → ℕ
 count_decided candidates = length (filter (λ candidate. candidate.decided) candidates)
 
 abbrev pub with_candidate : List Candidate → ℕ → List Candidate
-with_candidate candidates value = if list_any (is_for value) candidates then candidates else candidates ++ proposed_as value ∷ []
+with_candidate candidates value =
+    if list_any (is_for value) candidates then candidates else candidates ++ proposed_as value ∷ []
 
 abbrev pub decision_at : List Candidate → ℕ → Option ℕ → List Candidate
 decision_at candidates value None = candidates

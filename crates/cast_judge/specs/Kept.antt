@@ -35,10 +35,15 @@ abbrev pub has_value : List ℕ → ℕ → Bool
 has_value values value = list_any (λ other. other == value) values
 
 abbrev pub count_with : List Candidate → ℕ → ℕ
-count_with candidates value = if is_decided candidates value then count_decided candidates else count_decided candidates + 1
+count_with candidates value =
+    if is_decided candidates value then count_decided candidates else count_decided candidates + 1
 
 abbrev pub with_proposal : Instance → Proposal → Instance
-with_proposal instance proposal = record { proposers = instance.proposers ++ proposal.node ∷ []; candidates = with_candidate instance.candidates proposal.value }
+with_proposal instance proposal =
+    record {
+      proposers = instance.proposers ++ proposal.node ∷ [];
+      candidates = with_candidate instance.candidates proposal.value;
+    }
 
 abbrev pub changed : Instance → Addition → Instance
 changed instance (adds.Proposed proposal) = with_proposal instance proposal
@@ -49,7 +54,9 @@ other_at entries j = unwrap_or (lookup (is_at (nat_cmp j)) entries) no_instance
 
 -- an instance of the row, or one past it
 abbrev pub instance_at : Instances → ℕ → Instance
-instance_at instances j = if nat_lt j (length instances.row.items) then slice_index_or instances.row.items j no_instance else other_at instances.others.entries j
+instance_at instances j =
+    if nat_lt j (length instances.row.items) then slice_index_or instances.row.items j no_instance
+    else other_at instances.others.entries j
 
 -- instance q, where this is added to instance j
 abbrev pub changed_at : ℕ → Addition → ℕ → Instance → Instance
@@ -57,12 +64,14 @@ changed_at j addition q instance = if q == j then changed instance addition else
 
 -- what line adds to instance q
 abbrev pub item_changes : ℕ → Item → ℕ → Instance → Instance
-item_changes sender (Propose j w) q instance = changed_at j (adds.Proposed (record { node = sender; value = w })) q instance
+item_changes sender (Propose j w) q instance =
+    changed_at j (adds.Proposed (record { node = sender; value = w })) q instance
 item_changes sender item q instance = instance
 
 abbrev pub instance_after : Line → ℕ → Instance → Instance
 instance_after (Broadcast message) q instance = item_changes message.sender message.item q instance
-instance_after (Decided node decision) q instance = changed_at decision.instance (adds.Decided decision.value) q instance
+instance_after (Decided node decision) q instance =
+    changed_at decision.instance (adds.Decided decision.value) q instance
 instance_after line q instance = instance
 
 -- ---- nodes
@@ -89,7 +98,8 @@ abbrev pub one_more : ℕ → ℕ
 one_more count = min (count + 1) 18446744073709551615
 
 abbrev pub with_delivery : KeptNode → ℕ → KeptNode
-with_delivery node s = record node { delivered = slice_set node.delivered s (one_more (slice_index node.delivered s)) }
+with_delivery node s =
+    record node { delivered = slice_set node.delivered s (one_more (slice_index node.delivered s)) }
 
 abbrev pub with_crash : KeptNode → KeptNode
 with_crash node = record node { crashed = true }
@@ -97,8 +107,10 @@ with_crash node = record node { crashed = true }
 abbrev pub nodes_after : List KeptNode → Line → List KeptNode
 nodes_after nodes (Head n f k) = replicate n nobody
 nodes_after nodes (Head2 n f k mode) = replicate n nobody
-nodes_after nodes (Broadcast message) = slice_set nodes message.sender (with_item (node_at nodes message.sender) message.item)
-nodes_after nodes (Delivered node message) = slice_set nodes node (with_delivery (node_at nodes node) message.sender)
+nodes_after nodes (Broadcast message) =
+    slice_set nodes message.sender (with_item (node_at nodes message.sender) message.item)
+nodes_after nodes (Delivered node message) =
+    slice_set nodes node (with_delivery (node_at nodes node) message.sender)
 nodes_after nodes (Crashed node) = slice_set nodes node (with_crash (node_at nodes node))
 nodes_after nodes line = nodes
 
@@ -149,7 +161,8 @@ is_out_of_place kept line = is_out_at kept.stage (length kept.nodes.items) line
 abbrev pub breaks_prefix : Kept → Line → Bool
 breaks_prefix kept (Broadcast m) = not (m.number == length (node_at kept.nodes.items m.sender).items)
 breaks_prefix kept (Delivered q m) =
-    not (m.number == slice_index (node_at kept.nodes.items q).delivered m.sender) || not (has_item (node_at kept.nodes.items m.sender).items m.number m.item)
+    not (m.number == slice_index (node_at kept.nodes.items q).delivered m.sender)
+    || not (has_item (node_at kept.nodes.items m.sender).items m.number m.item)
 breaks_prefix kept line = false
 
 abbrev pub is_after_close : Kept → Line → Bool
@@ -157,11 +170,14 @@ is_after_close kept (Broadcast m) = (node_at kept.nodes.items m.sender).closed
 is_after_close kept line = false
 
 abbrev pub is_not_proposed : Kept → Line → Bool
-is_not_proposed kept (Decided q d) = not (list_any (is_for d.value) (instance_at kept.instances d.instance).candidates)
+is_not_proposed kept (Decided q d) =
+    not (list_any (is_for d.value) (instance_at kept.instances d.instance).candidates)
 is_not_proposed kept line = false
 
 abbrev pub is_of_too_many : Kept → Line → Bool
-is_of_too_many kept (Decided q d) = nat_lt kept.faults kept.choices && nat_lt kept.choices (count_with (instance_at kept.instances d.instance).candidates d.value)
+is_of_too_many kept (Decided q d) =
+    nat_lt kept.faults kept.choices && nat_lt kept.choices
+    (count_with (instance_at kept.instances d.instance).candidates d.value)
 is_of_too_many kept line = false
 
 abbrev pub is_after_crash : Kept → Line → Bool

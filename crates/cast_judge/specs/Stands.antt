@@ -48,5 +48,6 @@ pub record StandsFor (past : List Line) (kept : Kept) : Type 0 where
   pub size : length kept.nodes.items ≡ (group_of past).nodes
   pub few : length kept.nodes.items ≤ 64
   pub nodes : (p : ℕ) → p < length kept.nodes.items → StandsForNode past p (node_at kept.nodes.items p)
-  pub numbered : (message : Message) → has_broadcast past message ≡ has_item (items_of past message.sender) message.number message.item
+  pub numbered : (message : Message) → has_broadcast past message
+      ≡ has_item (items_of past message.sender) message.number message.item
   pub instances : (j : ℕ) → StandsForInstance past j (instance_at kept.instances j)

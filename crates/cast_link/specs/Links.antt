@@ -3,7 +3,7 @@
 --     with_given link kept       a slot more is given
 --     with_acknowledged link slot      a slot is owed no more
 --     without_last link          the slot given last is taken back, where it is owed
---     IsLeastFrom owed at slot   the least slot owed from `at` on
+--     IsLeastFrom owed from slot the least slot owed from `from` on
 --     owed_map base places       the owed slots, where places stand for the slots from base on
 --     link_of base places        the same as a link
 --     is_acknowledged link slot  the slot was given and is not owed
@@ -32,7 +32,7 @@ module _ {X : Type 0} where
       then record { given = link.given - 1; owed = map.remove link.owed (link.given - 1) }
       else link
 
-  -- slot is the least one owed that isn't below `at`, or `None` where there is none
+  -- slot is the least one owed that isn't below `from`, or `None` where there is none
   abbrev pub IsLeastFrom : map.FinMap nat_cmp X → ℕ → Option ℕ → Type 0
   IsLeastFrom owed from result =
       MatchOption result

@@ -131,7 +131,8 @@ rest_text false = codes "rest no\n"
 
 abbrev pub summary_text : Config → History → List EngineEnd → Summary → List ℕ
 summary_text config past ends said =
-    nodes_text config past 0 ends ++ (rest_text said.rest ++ (codes "verdict " ++ (verdict_text said.verdict ++ 10 ∷ [])))
+    nodes_text config past 0 ends
+    ++ (rest_text said.rest ++ (codes "verdict " ++ (verdict_text said.verdict ++ 10 ∷ [])))
 
 -- rest is told where the group is at rest after these events, and the record of them is good
 pub record IsSummaryOf (config : Config) (events : List Event) (said : Summary) : Type 0 where

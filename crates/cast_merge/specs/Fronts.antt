@@ -28,17 +28,22 @@ events_left fronts = map event_at (merged_left fronts)
 -- each earlier one has a greater stamp, and no later one has a smaller
 pub record IsFirst (fronts : List Front) (place : ℕ) : Type 0 where
   pub within : place < length fronts
-  pub earlier : (k : ℕ) (d : Front) → k < place → (slice_index_or fronts place d).stamp < (slice_index_or fronts k d).stamp
-  pub later : (k : ℕ) (d : Front) → place ≤ k → k < length fronts → (slice_index_or fronts place d).stamp ≤ (slice_index_or fronts k d).stamp
+  pub earlier : (k : ℕ) (d : Front) → k < place
+      → (slice_index_or fronts place d).stamp < (slice_index_or fronts k d).stamp
+  pub later : (k : ℕ) (d : Front) → place ≤ k → k < length fronts
+      → (slice_index_or fronts place d).stamp ≤ (slice_index_or fronts k d).stamp
 
 pub record FirstIn (fronts : List Front) (from end : ℕ) (first : First) : Type 0 where
   pub after : from ≤ first.place
   pub below : first.place < end
   pub within : first.place < length fronts
   pub stamp : (d : Front) → (slice_index_or fronts first.place d).stamp ≡ first.stamp
-  pub earlier : (k : ℕ) (d : Front) → from ≤ k → k < first.place → first.stamp < (slice_index_or fronts k d).stamp
-  pub later : (k : ℕ) (d : Front) → first.place ≤ k → k < end → k < length fronts → first.stamp ≤ (slice_index_or fronts k d).stamp
+  pub earlier : (k : ℕ) (d : Front) → from ≤ k → k < first.place
+      → first.stamp < (slice_index_or fronts k d).stamp
+  pub later : (k : ℕ) (d : Front) → first.place ≤ k → k < end → k < length fronts
+      → first.stamp ≤ (slice_index_or fronts k d).stamp
 
 pub record AreFirsts (fronts : List Front) (firsts : List First) : Type 0 where
-  pub each : (g : ℕ) (d : First) → g < length firsts → FirstIn fronts (g * 8) (g * 8 + 8) (slice_index_or firsts g d)
+  pub each : (g : ℕ) (d : First) → g < length firsts
+      → FirstIn fronts (g * 8) (g * 8 + 8) (slice_index_or firsts g d)
   pub all : length fronts ≤ length firsts * 8

@@ -71,7 +71,8 @@ pub record HasOrdered (log : List Entry) (client ticket : ℕ) (item : Item) : T
   pub there : slice_get log place ≡ Some entry
   pub node : ℕ
   pub outcome : Outcome
-  pub kind : entry.kind ≡ StepEntry (Order node item) (Some (record { client = client; ticket = ticket })) outcome
+  pub kind : entry.kind ≡ StepEntry (Order node item)
+      (Some (record { client = client; ticket = ticket })) outcome
 
 -- where the reply to an order is a number, that is the item's number in the stream of its node
 abbrev pub TellsNumbers : Type 0

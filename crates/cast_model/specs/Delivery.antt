@@ -41,7 +41,8 @@ tells_of copies s i (Took slot) = is_pair (copy_at copies slot) s i
 -- p, which holds the pair, knows that r holds it: r is p or the sender, or a frame from r told it, of those that arrived at p,
 -- which gave r these copies
 abbrev pub is_told : List FirstCopy → List Frame → ℕ → ℕ → ℕ → ℕ → Bool
-is_told copies arrived p s i r = r == p || r == s || list_any (λ frame. frame.from == r && tells_of copies s i frame.body) arrived
+is_told copies arrived p s i r =
+    r == p || r == s || list_any (λ frame. frame.from == r && tells_of copies s i frame.body) arrived
 
 unfoldable pub knows : History → ℕ → ℕ → ℕ → ℕ → Bool
 knows past p s i r = is_told (given past p r) (arrivals past p) p s i r
@@ -86,7 +87,8 @@ pub record Concerned : Type 0 where
 
 abbrev pub concerned_by : History → Option Frame → Option Concerned
 concerned_by past None = None
-concerned_by past (Some frame) = Some (record { node = frame.to; sender = sender_in (given past frame.to frame.from) frame.body })
+concerned_by past (Some frame) =
+    Some (record { node = frame.to; sender = sender_in (given past frame.to frame.from) frame.body })
 
 unfoldable pub concerned : History → Event → Option Concerned
 concerned past (Order node item) = Some (record { node = node; sender = node })
@@ -95,7 +97,8 @@ concerned past _ = None
 
 -- the messages of s whose turn comes at q by an event
 unfoldable pub turns : Config → History → Event → ℕ → ℕ → List Message
-turns config past event q s = slice_range (broadcast (event ∷ past) s) (next config past q s) (next config (event ∷ past) q s)
+turns config past event q s =
+    slice_range (broadcast (event ∷ past) s) (next config past q s) (next config (event ∷ past) q s)
 
 abbrev pub turns_of : Config → History → Event → Option Concerned → List Message
 turns_of config past event None = []
@@ -114,7 +117,8 @@ is_node (Some c) q = c.node == q
 unfoldable pub delivery_log : Config → History → ℕ → List Message
 delivery_log config [] q = []
 delivery_log config (event ∷ past) q =
-    delivery_log config past q ++ (if is_node (concerned past event) q then deliveries config past event else [])
+    delivery_log config past q ++ (if is_node (concerned past event) q
+    then deliveries config past event else [])
 
 -- the value that an item proposes in an instance
 abbrev pub value_in : ℕ → Item → Option ℕ
@@ -132,7 +136,9 @@ least (x ∷ xs) = fold min x xs
 
 -- the decision where the votes of instance j are complete, with the last of them just delivered
 abbrev pub decision_by : Config → ℕ → List ℕ → List Decision
-decision_by config j values = if length values == config.nodes - config.faults then record { instance = j; value = least values } ∷ [] else []
+decision_by config j values =
+    if length values == config.nodes - config.faults
+    then record { instance = j; value = least values } ∷ [] else []
 
 abbrev pub decision_on : Config → List Message → Item → List Decision
 decision_on config log (Propose instance value) = decision_by config instance (votes instance log)
@@ -152,10 +158,14 @@ log_of config past (Some c) = delivery_log config past c.node
 unfoldable pub outcome : Config → History → Event → Outcome
 outcome config past event =
     let news = deliveries config past event in
-    record { deliveries = news; decisions = decisions_of config (log_of config past (concerned past event)) news }
+    record {
+      deliveries = news;
+      decisions = decisions_of config (log_of config past (concerned past event)) news;
+    }
 
 -- what q decided in instance j: the least of the votes that completed it, once they were delivered
 unfoldable pub decision : Config → History → ℕ → ℕ → Option ℕ
 decision config past q j =
     let values = votes j (delivery_log config past q) in
-    if nat_le (config.nodes - config.faults) (length values) then Some (least (take (config.nodes - config.faults) values)) else None
+    if nat_le (config.nodes - config.faults) (length values)
+    then Some (least (take (config.nodes - config.faults) values)) else None

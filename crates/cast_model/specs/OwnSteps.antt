@@ -70,7 +70,8 @@ own_acked steps r slot = list_any (λ frame. frame.from == r && is_took_of slot 
 
 -- the slots given to q that q has not acknowledged to it, ascending
 unfoldable pub own_owed : ℕ → Steps → ℕ → List ℕ
-own_owed me steps q = filter (λ slot. not (own_acked steps q slot)) (range_with_len 0 (length (own_given me steps q)))
+own_owed me steps q =
+    filter (λ slot. not (own_acked steps q slot)) (range_with_len 0 (length (own_given me steps q)))
 
 -- of a pair that it holds, it knows that r holds it
 unfoldable pub own_knows : ℕ → Steps → ℕ → ℕ → ℕ → Bool
@@ -85,11 +86,13 @@ own_known_enough mode config me steps s i = are_enough mode config.faults (own_k
 
 -- it may deliver the pair once its turn has come
 unfoldable pub own_is_ready : Config → ℕ → Steps → ℕ → ℕ → Bool
-own_is_ready config me steps s i = has_pair (own_copies me steps) s i && own_known_enough config.mode config me steps s i
+own_is_ready config me steps s i =
+    has_pair (own_copies me steps) s i && own_known_enough config.mode config me steps s i
 
 -- how many messages of s, from its first on, it may deliver: no more than it holds
 unfoldable pub own_next : Config → ℕ → Steps → ℕ → ℕ
-own_next config me steps s = prefix_len (own_is_ready config me steps s) (range_with_len 0 (length (held me steps)))
+own_next config me steps s =
+    prefix_len (own_is_ready config me steps s) (range_with_len 0 (length (held me steps)))
 
 -- the message of a held pair
 unfoldable pub message_at : List Held → ℕ → ℕ → Option Message
@@ -112,7 +115,8 @@ own_concerned me steps _ = None
 
 abbrev pub own_turns : Config → ℕ → Steps → Step → Option ℕ → List Message
 own_turns config me steps step None = []
-own_turns config me steps step (Some s) = messages_from (held me (step ∷ steps)) s (own_next config me steps s) (own_next config me (step ∷ steps) s)
+own_turns config me steps step (Some s) =
+    messages_from (held me (step ∷ steps)) s (own_next config me steps s) (own_next config me (step ∷ steps) s)
 
 -- the messages that a step after these delivers
 unfoldable pub own_deliveries : Config → ℕ → Steps → Step → List Message
@@ -125,43 +129,58 @@ own_log config me (step ∷ steps) = own_log config me steps ++ own_deliveries c
 
 -- none of these messages is a proposal of the sender in instance j
 abbrev pub is_first_vote : ℕ → List Message → ℕ → Bool
-is_first_vote j seen sender = not (list_any (λ message. message.sender == sender && is_some (value_in j message.item)) seen)
+is_first_vote j seen sender =
+    not (list_any (λ message. message.sender == sender && is_some (value_in j message.item)) seen)
 
 -- the values proposed in instance j by these messages, in order, where seen came before: a sender's second proposal isn't counted
 unfoldable pub first_votes : ℕ → List Message → List Message → List ℕ
 first_votes j seen [] = []
 first_votes j seen (message ∷ messages) =
-    (if is_first_vote j seen message.sender then votes j (message ∷ []) else []) ++ first_votes j (seen ++ message ∷ []) messages
+    (if is_first_vote j seen message.sender then votes j (message ∷ []) else [])
+    ++ first_votes j (seen ++ message ∷ []) messages
 
 abbrev pub own_decision_on : Config → List Message → Message → Item → List Decision
 own_decision_on config log message (Propose instance value) =
-    if is_first_vote instance log message.sender then decision_by config instance (first_votes instance [] (log ++ message ∷ [])) else []
+    if is_first_vote instance log message.sender
+    then decision_by config instance (first_votes instance [] (log ++ message ∷ [])) else []
 own_decision_on config log message _ = []
 
 -- the decisions by these deliveries, one after another, where log was delivered before
 unfoldable pub own_decisions_of : Config → List Message → List Message → List Decision
 own_decisions_of config log [] = []
-own_decisions_of config log (message ∷ messages) = own_decision_on config log message message.item ++ own_decisions_of config (log ++ message ∷ []) messages
+own_decisions_of config log (message ∷ messages) =
+    own_decision_on config log message message.item ++ own_decisions_of config (log ++ message ∷ []) messages
 
 -- what a step after these delivers and decides
 unfoldable pub own_outcome : Config → ℕ → Steps → Step → Outcome
 own_outcome config me steps step =
-    let news = own_deliveries config me steps step in record { deliveries = news; decisions = own_decisions_of config (own_log config me steps) news }
+    let news = own_deliveries config me steps step in
+    record { deliveries = news; decisions = own_decisions_of config (own_log config me steps) news }
 
 -- what it decided in instance j
 unfoldable pub own_decision : Config → ℕ → Steps → ℕ → Option ℕ
 own_decision config me steps j =
     let values = first_votes j [] (own_log config me steps) in
-    if nat_le (config.nodes - config.faults) (length values) then Some (least (take (config.nodes - config.faults) values)) else None
+    if nat_le (config.nodes - config.faults) (length values)
+    then Some (least (take (config.nodes - config.faults) values)) else None
 
 -- the message in a slot. The default stands where there is no such slot, and no accepted step names one
 unfoldable pub message_in : List Held → ℕ → Message
-message_in hs slot = (slice_index_or hs slot (record { message = record { sender = 0; number = 0; item = Close }; source = 0 })).message
+message_in hs slot =
+    (slice_index_or hs slot
+    (record { message = record { sender = 0; number = 0; item = Close }; source = 0 })).message
 
 -- the frame that a step after these makes
 unfoldable pub own_made : ℕ → Steps → Step → List Frame
-own_made me steps (Sent to slot) = record { from = me; seq = frame_count steps; to = to; body = Carry slot (message_in (own_given me steps to) slot) } ∷ []
-own_made me steps (Acknowledged to slot) = record { from = me; seq = frame_count steps; to = to; body = Took slot } ∷ []
+own_made me steps (Sent to slot) =
+    record {
+      from = me;
+      seq = frame_count steps;
+      to = to;
+      body = Carry slot (message_in (own_given me steps to) slot);
+    } ∷ []
+own_made me steps (Acknowledged to slot) =
+    record { from = me; seq = frame_count steps; to = to; body = Took slot } ∷ []
 own_made me steps _ = []
 
 -- the frames that it made, in order
@@ -186,7 +205,8 @@ own_fault config me steps step = first_fault (step_causes config me (own_view me
 
 -- the answer to an accepted step
 unfoldable pub own_answer : Config → ℕ → Steps → Step → Answer
-own_answer config me steps (Ordered item) = AnswerOrdered (length (own_items steps)) (own_outcome config me steps (Ordered item))
+own_answer config me steps (Ordered item) =
+    AnswerOrdered (length (own_items steps)) (own_outcome config me steps (Ordered item))
 own_answer config me steps (Sent to slot) = AnswerSent (frame_count steps)
 own_answer config me steps (Acknowledged to slot) = AnswerSent (frame_count steps)
 own_answer config me steps (Arrived frame) = AnswerArrived me (own_outcome config me steps (Arrived frame))
@@ -199,12 +219,15 @@ own_reply config me steps step = reply_by (own_fault config me steps step) (own_
 -- what a frame brings could stand in a frame made for this node
 abbrev pub is_possible_body : Config → ℕ → Steps → ℕ → FrameBody → Bool
 is_possible_body config me steps from (Carry slot message) =
-    nat_lt message.sender config.nodes && not (message.sender == me) && nat_lt message.number config.item_limit && nat_lt slot (config.nodes * config.item_limit)
+    nat_lt message.sender config.nodes && not (message.sender == me) && nat_lt message.number config.item_limit
+    && nat_lt slot (config.nodes * config.item_limit)
 is_possible_body config me steps from (Took slot) = nat_lt slot (length (own_given me steps from))
 
 -- some node of a group could have made the frame for this node
 unfoldable pub is_possible : Config → ℕ → Steps → Frame → Bool
-is_possible config me steps frame = nat_lt frame.from config.nodes && not (frame.from == me) && is_possible_body config me steps frame.from frame.body
+is_possible config me steps frame =
+    nat_lt frame.from config.nodes && not (frame.from == me)
+    && is_possible_body config me steps frame.from frame.body
 
 abbrev pub is_ignored : Config → ℕ → Steps → Step → Bool
 is_ignored config me steps (Arrived frame) = not (is_possible config me steps frame)
@@ -215,21 +238,27 @@ nothing = record { deliveries = []; decisions = [] }
 
 -- the reply of the node to whatever is asked of it after these steps: a frame that no node could have made brings nothing
 unfoldable pub node_reply : Config → ℕ → Steps → Step → Result Answer StepFault
-node_reply config me steps step = reply_by (own_fault config me steps step) (if is_ignored config me steps step then AnswerArrived me nothing else own_answer config me steps step)
+node_reply config me steps step =
+    reply_by (own_fault config me steps step)
+    (if is_ignored config me steps step then AnswerArrived me nothing else own_answer config me steps step)
 
 -- and its steps after it
 unfoldable pub node_after : Config → ℕ → Steps → Step → Steps
-node_after config me steps step = if is_some (own_fault config me steps step) || is_ignored config me steps step then steps else step ∷ steps
+node_after config me steps step =
+    if is_some (own_fault config me steps step) || is_ignored config me steps step then steps else step ∷ steps
 
 -- no step is refused or skipped where it stands
 unfoldable pub IsOwnAccepted : Config → ℕ → Steps → Type 0
 IsOwnAccepted config me [] = Unit {0}
-IsOwnAccepted config me (step ∷ steps) = IsOwnAccepted config me steps × (own_fault config me steps step ≡ None) × (is_ignored config me steps step ≡ false)
+IsOwnAccepted config me (step ∷ steps) =
+    IsOwnAccepted config me steps × (own_fault config me steps step ≡ None)
+    × (is_ignored config me steps step ≡ false)
 
 -- the event after past is this step of the node
 pub data IsStep (past : History) (me : ℕ) : Event → Step → Type 0 where
   orders : (item : Item) → IsStep past me (Order me item) (Ordered item)
   sends : (to slot : ℕ) → IsStep past me (Send me to slot) (Sent to slot)
   acknowledges : (to slot : ℕ) → IsStep past me (Ack me to slot) (Acknowledged to slot)
-  takes : (from seq : ℕ) (frame : Frame) → slice_get (frames past from) seq ≡ Some frame → frame.to ≡ me → IsStep past me (Arrive from seq) (Arrived frame)
+  takes : (from seq : ℕ) (frame : Frame) → slice_get (frames past from) seq ≡ Some frame → frame.to ≡ me
+      → IsStep past me (Arrive from seq) (Arrived frame)
   stops : IsStep past me (Crash me) Stopped

@@ -62,7 +62,10 @@ step_causes config me view (Ordered item) =
     ∷ record { holds = list_any is_close view.stream; refusal = Closed }
     ∷ record { holds = is_too_long item; refusal = TooLong }
     ∷ record { holds = is_second_proposal view.stream item; refusal = AlreadyProposed }
-    ∷ record { holds = not (is_close item) && nat_le (config.item_limit - 1) (length view.stream); refusal = StreamFull }
+    ∷ record {
+      holds = not (is_close item) && nat_le (config.item_limit - 1) (length view.stream);
+      refusal = StreamFull;
+    }
     ∷ []
 step_causes config me view (Sent to slot) =
     no_node config to

@@ -49,8 +49,10 @@ causes_of_arrival config past (Some frame) = step_causes config frame.to (view_o
 unfoldable pub causes : Config → History → Event → List Cause
 causes config past (Order p item) = no_node config p ∷ step_causes config p (view_of past p) (Ordered item)
 causes config past (Send p q slot) = no_node config p ∷ step_causes config p (view_of past p) (Sent q slot)
-causes config past (Ack p q slot) = no_node config p ∷ step_causes config p (view_of past p) (Acknowledged q slot)
-causes config past (Arrive from seq) = no_node config from ∷ causes_of_arrival config past (slice_get (frames past from) seq)
+causes config past (Ack p q slot) =
+    no_node config p ∷ step_causes config p (view_of past p) (Acknowledged q slot)
+causes config past (Arrive from seq) =
+    no_node config from ∷ causes_of_arrival config past (slice_get (frames past from) seq)
 causes config past (Crash p) = no_node config p ∷ step_causes config p (view_of past p) Stopped
 
 -- the refusal of an event after past
@@ -66,7 +68,8 @@ unfoldable pub answer : Config → History → Event → Answer
 answer config past (Order p item) = AnswerOrdered (length (stream past p)) (outcome config past (Order p item))
 answer config past (Send p q slot) = AnswerSent (length (frames past p))
 answer config past (Ack p q slot) = AnswerSent (length (frames past p))
-answer config past (Arrive from seq) = AnswerArrived (target_of (slice_get (frames past from) seq)) (outcome config past (Arrive from seq))
+answer config past (Arrive from seq) =
+    AnswerArrived (target_of (slice_get (frames past from) seq)) (outcome config past (Arrive from seq))
 answer config past (Crash p) = Down
 
 abbrev pub reply_by : Option StepFault → Answer → Result Answer StepFault
@@ -99,7 +102,8 @@ accepted config events = reverse (history config events)
 
 unfoldable pub replies_from : Config → History → List Event → List (Result Answer StepFault)
 replies_from config past [] = []
-replies_from config past (event ∷ events) = reply config past event ∷ replies_from config (after config past event) events
+replies_from config past (event ∷ events) =
+    reply config past event ∷ replies_from config (after config past event) events
 
 -- the replies to these events, in order
 abbrev pub replies : Config → List Event → List (Result Answer StepFault)
@@ -131,7 +135,8 @@ is_from s message = message.sender == s
 unfoldable pub answered : List Event → List (Result Answer StepFault) → ℕ → ℕ → List Message
 answered [] results q s = []
 answered (event ∷ events) [] q s = []
-answered (event ∷ events) (result ∷ results) q s = filter (is_from s) (deliveries_for q event result) ++ answered events results q s
+answered (event ∷ events) (result ∷ results) q s =
+    filter (is_from s) (deliveries_for q event result) ++ answered events results q s
 
 abbrev pub decisions_in_answer : Answer → List Decision
 decisions_in_answer (AnswerOrdered number outcome) = outcome.decisions
@@ -163,18 +168,22 @@ decisions_for q event (Err refusal) = []
 unfoldable pub decided_at : List Event → List (Result Answer StepFault) → ℕ → ℕ → List ℕ
 decided_at [] results q j = []
 decided_at (event ∷ events) [] q j = []
-decided_at (event ∷ events) (result ∷ results) q j = filter_map (value_for j) (decisions_for q event result) ++ decided_at events results q j
+decided_at (event ∷ events) (result ∷ results) q j =
+    filter_map (value_for j) (decisions_for q event result) ++ decided_at events results q j
 
 abbrev pub IsPrefixOf : {X : Type 0} → List X → List X → Type 0
 IsPrefixOf {X} xs ys = (rest : List X) × (xs ++ rest ≡ ys)
 
 -- a close stands in the last place alone
 abbrev pub IsClosedOnlyAtEnd : List Message → Type 0
-IsClosedOnlyAtEnd messages = (i : ℕ) (message : Message) → slice_get messages i ≡ Some message → message.item ≡ Close → suc i ≡ length messages
+IsClosedOnlyAtEnd messages =
+    (i : ℕ) (message : Message) → slice_get messages i ≡ Some message → message.item ≡ Close
+    → suc i ≡ length messages
 
 -- at most k pairwise different values stand in the list
 abbrev pub AtMost : ℕ → List ℕ → Type 0
-AtMost k values = (chosen : List ℕ) → IsDistinct nat_eq chosen → All (Contains values) chosen → length chosen ≤ k
+AtMost k values =
+    (chosen : List ℕ) → IsDistinct nat_eq chosen → All (Contains values) chosen → length chosen ≤ k
 
 -- refused for its cause or, where there is none, for want of memory
 abbrev pub IsRefused : Option StepFault → StepFault → Type 0

@@ -25,7 +25,8 @@ owed past p q = filter (λ slot. not (acked past p q slot)) (range_with_len 0 (l
 
 -- no live node owes another live node
 pub record Rest (config : Config) (past : History) : Type 0 where
-  pub settled : (p q : ℕ) → p < config.nodes → q < config.nodes → IsTrue (is_live past p) → IsTrue (is_live past q) → p ≢ q → owed past p q ≡ []
+  pub settled : (p q : ℕ) → p < config.nodes → q < config.nodes → IsTrue (is_live past p)
+      → IsTrue (is_live past q) → p ≢ q → owed past p q ≡ []
 
 -- A slot to be sent in a round.
 pub record Due : Type 0 where
@@ -34,14 +35,16 @@ pub record Due : Type 0 where
   pub slot : ℕ
 
 unfoldable pub due_between : History → ℕ → ℕ → List Due
-due_between past p q = if p == q then [] else map (λ slot. record { from = p; to = q; slot = slot }) (owed past p q)
+due_between past p q =
+    if p == q then [] else map (λ slot. record { from = p; to = q; slot = slot }) (owed past p q)
 
 unfoldable pub live_nodes : Config → History → List ℕ
 live_nodes config past = filter (is_live past) (nodes_of config)
 
 -- the slots that live nodes owe live nodes, by the giver, then the taker, ascending
 unfoldable pub due : Config → History → List Due
-due config past = flat_map (λ p. flat_map (λ q. due_between past p q) (live_nodes config past)) (live_nodes config past)
+due config past =
+    flat_map (λ p. flat_map (λ q. due_between past p q) (live_nodes config past)) (live_nodes config past)
 
 -- how many frames p makes for these: one by each Send and one by each Ack of its own
 unfoldable pub frames_for : List Due → ℕ → ℕ
@@ -81,17 +84,22 @@ pub record Live (config : Config) (past : History) (p : ℕ) : Type 0 where
 
 -- all live nodes hold the same pairs
 abbrev pub HoldTheSame : Config → History → Type 0
-HoldTheSame config past = (p q s i : ℕ) → Live config past p → Live config past q → has_pair (first past p) s i ≡ true → has_pair (first past q) s i ≡ true
+HoldTheSame config past =
+    (p q s i : ℕ) → Live config past p → Live config past q → has_pair (first past p) s i ≡ true
+    → has_pair (first past q) s i ≡ true
 
 -- the events are accepted, one after the other
 unfoldable pub AreAccepted : Config → History → List Event → Type 0
 AreAccepted config past [] = Unit {0}
-AreAccepted config past (event ∷ events) = (fault config past event ≡ None) × AreAccepted config (event ∷ past) events
+AreAccepted config past (event ∷ events) =
+    (fault config past event ≡ None) × AreAccepted config (event ∷ past) events
 
 -- the same up to the first at a node whose frames are full
 unfoldable pub AcceptedUntilFull : Config → History → List Event → Type 0
 AcceptedUntilFull config past [] = Unit {0}
-AcceptedUntilFull config past (event ∷ events) = ((fault config past event ≡ None) × AcceptedUntilFull config (event ∷ past) events) ⊎ (fault config past event ≡ Some FramesFull)
+AcceptedUntilFull config past (event ∷ events) =
+    ((fault config past event ≡ None) × AcceptedUntilFull config (event ∷ past) events)
+    ⊎ (fault config past event ≡ Some FramesFull)
 
 -- no more nodes have crashed than are tolerated
 abbrev pub HaveFewCrashed : Config → History → Type 0
@@ -104,4 +112,6 @@ FewCrashedIn Uniform config past = 0 < config.faults → HaveFewCrashed config p
 
 -- of how many nodes a proposal of instance j stands in what p delivered
 unfoldable pub proposers : Config → History → ℕ → ℕ → ℕ
-proposers config past p j = count_by (λ s. list_any (λ message. proposes_in j message.item) (delivered config past p s)) (nodes_of config)
+proposers config past p j =
+    count_by (λ s. list_any (λ message. proposes_in j message.item) (delivered config past p s))
+    (nodes_of config)

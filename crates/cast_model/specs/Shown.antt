@@ -12,12 +12,17 @@ item_of message = message.item
 
 -- what q delivered from s, exactly where both are nodes
 abbrev pub ShowsDelivered : Config → History → ℕ → ℕ → Option (List Item) → Type 0
-ShowsDelivered config past q s shown = MatchOption shown (config.nodes ≤ max q s) (λ items. (max q s < config.nodes) × (items ≡ map item_of (delivered config past q s)))
+ShowsDelivered config past q s shown =
+    MatchOption shown (config.nodes ≤ max q s)
+    (λ items. (max q s < config.nodes) × (items ≡ map item_of (delivered config past q s)))
 
 -- what p broadcast, exactly where it is a node
 abbrev pub ShowsStream : Config → History → ℕ → Option (List Item) → Type 0
-ShowsStream config past p shown = MatchOption shown (config.nodes ≤ p) (λ items. (p < config.nodes) × (items ≡ stream past p))
+ShowsStream config past p shown =
+    MatchOption shown (config.nodes ≤ p) (λ items. (p < config.nodes) × (items ≡ stream past p))
 
 -- how many slots p owes q, exactly where both are nodes and not the same
 abbrev pub ShowsOwed : Config → History → ℕ → ℕ → Option ℕ → Type 0
-ShowsOwed config past p q shown = MatchOption shown ((config.nodes ≤ max p q) ⊎ (p ≡ q)) (λ count. (max p q < config.nodes) × (p ≢ q) × (count ≡ length (owed past p q)))
+ShowsOwed config past p q shown =
+    MatchOption shown ((config.nodes ≤ max p q) ⊎ (p ≡ q))
+    (λ count. (max p q < config.nodes) × (p ≢ q) × (count ≡ length (owed past p q)))

@@ -87,16 +87,19 @@ copy_of h = record { sender = h.message.sender; number = h.message.number; sourc
 
 abbrev pub held_by_body : List Held → ℕ → FrameBody → List Held
 held_by_body before r (Carry slot message) =
-    if has_pair (map copy_of before) message.sender message.number then [] else record { message = message; source = r } ∷ []
+    if has_pair (map copy_of before) message.sender message.number then []
+    else record { message = message; source = r } ∷ []
 held_by_body before r (Took slot) = []
 
 -- what a step newly brings
 abbrev pub held_by : List Held → ℕ → ℕ → Step → List Held
-held_by before me ordered (Ordered item) = record { message = record { sender = me; number = ordered; item = item }; source = me } ∷ []
+held_by before me ordered (Ordered item) =
+    record { message = record { sender = me; number = ordered; item = item }; source = me } ∷ []
 held_by before me ordered (Arrived frame) = held_by_body before frame.from frame.body
 held_by before me ordered _ = []
 
 -- what the node holds, in the order in which it first held it: another's item is that of the first Carry that brought its pair
 unfoldable pub held : ℕ → Steps → List Held
 held me [] = []
-held me (step ∷ steps) = let before = held me steps in before ++ held_by before me (length (own_items steps)) step
+held me (step ∷ steps) =
+    let before = held me steps in before ++ held_by before me (length (own_items steps)) step

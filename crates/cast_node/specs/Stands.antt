@@ -39,7 +39,8 @@ owed_in me steps q slot =
 
 -- node r is known to hold the pair, which is held
 abbrev pub is_known_in : Config → ℕ → Steps → ℕ → ℕ → ℕ → Bool
-is_known_in config me steps s i r = has_pair (own_copies me steps) s i && (nat_lt r config.nodes && own_knows me steps s i r)
+is_known_in config me steps s i r =
+    has_pair (own_copies me steps) s i && (nat_lt r config.nodes && own_knows me steps s i r)
 
 -- how many slots were given to q, and the messages of those that q has not acknowledged
 pub record StandsOut (me : ℕ) (steps : Steps) (q : ℕ) (link : Link Message) : Type 0 where

@@ -20,7 +20,8 @@ pub record BeginsWithLine (bytes more : List ℕ) (line : Line) : Type 0 where
 abbrev pub SaysDelivery : List ℕ → Delivery → Type 0
 SaysDelivery bytes d =
     (word more : List ℕ) (item : Item) → d.rest.now ≡ word ++ more → item_of word ≡ Some item
-    → BeginsWithLine bytes more (Delivered d.node (record { sender = d.sender; number = d.number; item = item }))
+    → BeginsWithLine bytes more
+    (Delivered d.node (record { sender = d.sender; number = d.number; item = item }))
 
 -- the bytes are a word that names the node, a blank and the rest
 pub record BeginsWithNode (bytes : List ℕ) (node : ℕ) (rest : List ℕ) : Type 0 where

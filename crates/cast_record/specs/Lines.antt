@@ -16,7 +16,8 @@ use Rattle.cast_record.specs.declared.line.Line.{Line}
 use Rattle.cast_record.specs.declared.line.Line.TheVariants.{Head, Head2, Broadcast, Delivered, Decided, Crashed, Refused}
 
 abbrev pub head_by : Mode → ℕ → ℕ → ℕ → Line
-head_by Basic nodes faults choices = if nat_le nodes 16 then Head nodes faults choices else Head2 nodes faults choices Basic
+head_by Basic nodes faults choices =
+    if nat_le nodes 16 then Head nodes faults choices else Head2 nodes faults choices Basic
 head_by Uniform nodes faults choices = Head2 nodes faults choices Uniform
 
 -- `cast/1` where the mode is basic and there are at most 16 nodes, else `cast/2`
@@ -29,7 +30,8 @@ outcome_lines node outcome = map (Delivered node) outcome.deliveries ++ map (Dec
 
 -- An accepted event. An answer that is not one to the event leaves nothing.
 abbrev pub answer_lines : Event → Answer → List Line
-answer_lines (Order node item) (Ordered number outcome) = Broadcast (record { sender = node; number = number; item = item }) ∷ outcome_lines node outcome
+answer_lines (Order node item) (Ordered number outcome) =
+    Broadcast (record { sender = node; number = number; item = item }) ∷ outcome_lines node outcome
 answer_lines (Arrive from seq) (Arrived node outcome) = outcome_lines node outcome
 answer_lines (Crash node) Down = Crashed node ∷ []
 answer_lines event answer = []

@@ -37,7 +37,9 @@ pub record IsMigrated (text new : List ℕ) : Type 0 where
 
 -- the text begins with no such head
 abbrev pub HasNoHead : List ℕ → Type 0
-HasNoHead text = (nodes faults choices : ℕ) (rest : List ℕ) → IsWithin (Head nodes faults choices) → text ≡ line_text (Head nodes faults choices) ++ 10 ∷ rest → ⊥
+HasNoHead text =
+    (nodes faults choices : ℕ) (rest : List ℕ) → IsWithin (Head nodes faults choices)
+    → text ≡ line_text (Head nodes faults choices) ++ 10 ∷ rest → ⊥
 
 abbrev pub Migrates : List ℕ → Result (Vec ℕ) MigrateFault → Type 0
 Migrates text (Ok new) = IsMigrated text new.items

@@ -20,7 +20,8 @@ IsMessageWithin m = (m.sender < 256) × (m.number < 2 ^ 64) × IsItemWithin m.it
 
 -- 1 to `most` nodes, of which fewer may crash, and 1 to that many values
 abbrev pub IsGroupWithin : ℕ → ℕ → ℕ → ℕ → Type 0
-IsGroupWithin most nodes faults choices = (1 ≤ nodes) × (nodes ≤ most) × (faults < nodes) × (1 ≤ choices) × (choices ≤ nodes)
+IsGroupWithin most nodes faults choices =
+    (1 ≤ nodes) × (nodes ≤ most) × (faults < nodes) × (1 ≤ choices) × (choices ≤ nodes)
 
 -- uniform mode, only where fewer than half may crash
 abbrev pub IsModeWithin : Mode → ℕ → ℕ → Type 0
@@ -29,7 +30,8 @@ IsModeWithin Uniform nodes faults = 2 * faults < nodes
 
 abbrev pub IsWithin : Line → Type 0
 IsWithin (Head nodes faults choices) = IsGroupWithin 16 nodes faults choices
-IsWithin (Head2 nodes faults choices mode) = IsGroupWithin 64 nodes faults choices × IsModeWithin mode nodes faults
+IsWithin (Head2 nodes faults choices mode) =
+    IsGroupWithin 64 nodes faults choices × IsModeWithin mode nodes faults
 IsWithin (Broadcast message) = IsMessageWithin message
 IsWithin (Delivered node message) = (node < 256) × IsMessageWithin message
 IsWithin (Decided node decision) = (node < 256) × (decision.instance < 2 ^ 64) × (decision.value < 2 ^ 64)

@@ -112,10 +112,12 @@ refused_by words = do
 
 -- the numbers of a head are outside their ranges
 abbrev pub is_outside : ℕ → ℕ → ℕ → ℕ → Bool
-is_outside most nodes faults choices = nat_lt nodes 1 || nat_lt most nodes || nat_le nodes faults || nat_lt choices 1 || nat_lt nodes choices
+is_outside most nodes faults choices =
+    nat_lt nodes 1 || nat_lt most nodes || nat_le nodes faults || nat_lt choices 1 || nat_lt nodes choices
 
 abbrev pub head_within : ℕ → ℕ → ℕ → Option Line
-head_within nodes faults choices = if is_outside 16 nodes faults choices then None else Some (Head nodes faults choices)
+head_within nodes faults choices =
+    if is_outside 16 nodes faults choices then None else Some (Head nodes faults choices)
 
 abbrev pub head_by : List ℕ × List ℕ × List ℕ → Option Line
 head_by words = do
@@ -130,7 +132,9 @@ is_mode_outside Basic nodes faults = false
 is_mode_outside Uniform nodes faults = nat_le (nodes - faults) faults
 
 abbrev pub head2_within : ℕ → ℕ → ℕ → Mode → Option Line
-head2_within nodes faults choices mode = if is_outside 64 nodes faults choices || is_mode_outside mode nodes faults then None else Some (Head2 nodes faults choices mode)
+head2_within nodes faults choices mode =
+    if is_outside 64 nodes faults choices || is_mode_outside mode nodes faults then None
+    else Some (Head2 nodes faults choices mode)
 
 abbrev pub head2_by : List ℕ × List ℕ × List ℕ × List ℕ → Option Line
 head2_by words = do
@@ -153,7 +157,8 @@ short_line_named name words =
 abbrev pub line_named : List ℕ → Words → Option Line
 line_named name words =
     if bytes_eq name (codes "d") then option_and_then delivered_by (four_of words) else (
-    if bytes_eq name (codes "b") then option_and_then broadcast_by (three_of words) else short_line_named name words)
+    if bytes_eq name (codes "b") then option_and_then broadcast_by (three_of words)
+    else short_line_named name words)
 
 -- the line of one word
 abbrev pub end_named : List ℕ → Option Line

@@ -121,13 +121,15 @@ is_ended (line ∷ past) = is_end line
 -- The first line is a head, and no other; nothing stands after the end; each node is one of the group.
 abbrev pub is_out_of_place : List Line → Line → Bool
 is_out_of_place [] line = not (is_head line)
-is_out_of_place (last ∷ past) line = is_end last || is_head line || not (names_below (group_of (last ∷ past)).nodes line)
+is_out_of_place (last ∷ past) line =
+    is_end last || is_head line || not (names_below (group_of (last ∷ past)).nodes line)
 
 -- A broadcast has the number of broadcasts of its node before it. A delivery has the number of deliveries there from that
 -- sender before it, and was broadcast before it.
 abbrev pub breaks_prefix : List Line → Line → Bool
 breaks_prefix past (Broadcast message) = not (message.number == broadcasts_of past message.sender)
-breaks_prefix past (Delivered node message) = not (message.number == deliveries_of past node message.sender) || not (has_broadcast past message)
+breaks_prefix past (Delivered node message) =
+    not (message.number == deliveries_of past node message.sender) || not (has_broadcast past message)
 breaks_prefix past _ = false
 
 -- a broadcast of a node that closed before it
@@ -144,7 +146,8 @@ is_not_proposed past _ = false
 abbrev pub is_of_too_many : List Line → Line → Bool
 is_of_too_many past (Decided node decision) =
     let group = group_of past in
-    nat_lt group.faults group.choices && nat_lt group.choices (length (different (decision.value ∷ values_in past decision.instance)))
+    nat_lt group.faults group.choices && nat_lt group.choices
+    (length (different (decision.value ∷ values_in past decision.instance)))
 is_of_too_many past _ = false
 
 -- something of a node that crashed before it

@@ -22,10 +22,12 @@ message_words m = decimal m.sender ∷ decimal m.number ∷ item_word m.item ∷
 
 abbrev pub line_words : Line → List (List ℕ)
 line_words (Head nodes faults choices) = codes "cast/1" ∷ decimal nodes ∷ decimal faults ∷ decimal choices ∷ []
-line_words (Head2 nodes faults choices mode) = codes "cast/2" ∷ decimal nodes ∷ decimal faults ∷ decimal choices ∷ mode_word mode ∷ []
+line_words (Head2 nodes faults choices mode) =
+    codes "cast/2" ∷ decimal nodes ∷ decimal faults ∷ decimal choices ∷ mode_word mode ∷ []
 line_words (Broadcast message) = codes "b" ∷ message_words message
 line_words (Delivered node message) = codes "d" ∷ decimal node ∷ message_words message
-line_words (Decided node decision) = codes "v" ∷ decimal node ∷ decimal decision.instance ∷ decimal decision.value ∷ []
+line_words (Decided node decision) =
+    codes "v" ∷ decimal node ∷ decimal decision.instance ∷ decimal decision.value ∷ []
 line_words (Crashed node) = codes "x" ∷ decimal node ∷ []
 line_words (Refused index code) = codes "r" ∷ decimal index ∷ decimal code ∷ []
 line_words End = codes "end" ∷ []

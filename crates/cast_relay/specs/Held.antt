@@ -17,7 +17,10 @@ pub record Held : Type 0 where
   pub numbers : List (set.FinSet nat_cmp)
 
 abbrev pub held_code : Coded Held
-held_code = code_by (ℕ × (ℕ × List (set.FinSet nat_cmp))) (coded× coded_ℕ (coded× coded_ℕ (coded_list (set.code coded_ℕ)))) (λ h. (h.me, (h.own, h.numbers))) (λ p. record { me = p.0; own = p.1.0; numbers = p.1.1 }) (λ _. refl)
+held_code =
+    code_by (ℕ × (ℕ × List (set.FinSet nat_cmp)))
+    (coded× coded_ℕ (coded× coded_ℕ (coded_list (set.code coded_ℕ)))) (λ h. (h.me, (h.own, h.numbers)))
+    (λ p. record { me = p.0; own = p.1.0; numbers = p.1.1 }) (λ _. refl)
 
 abbrev pub numbers_of : List (set.FinSet nat_cmp) → ℕ → set.FinSet nat_cmp
 numbers_of sets sender = slice_index_or sets sender set.empty
@@ -26,10 +29,12 @@ abbrev pub holds : Held → ℕ → ℕ → Bool
 holds held sender number = set.contains (numbers_of held.numbers sender) number
 
 abbrev pub with_pair : Held → ℕ → ℕ → Held
-with_pair held sender number = record held { numbers = slice_set held.numbers sender (set.insert (numbers_of held.numbers sender) number) }
+with_pair held sender number =
+    record held { numbers = slice_set held.numbers sender (set.insert (numbers_of held.numbers sender) number) }
 
 abbrev pub without_pair : Held → ℕ → ℕ → Held
-without_pair held sender number = record held { numbers = slice_set held.numbers sender (set.remove (numbers_of held.numbers sender) number) }
+without_pair held sender number =
+    record held { numbers = slice_set held.numbers sender (set.remove (numbers_of held.numbers sender) number) }
 
 abbrev pub with_own : Held → Held
 with_own held = record (with_pair held held.me held.own) { own = held.own + 1 }

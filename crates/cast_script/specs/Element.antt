@@ -68,7 +68,8 @@ close_of [] = Some Close
 close_of _ = None
 
 abbrev pub item_named : List ℕ → List Data → Option Item
-item_named name ds = among ((codes "data", data_of) ∷ (codes "propose", proposal_of) ∷ (codes "close", close_of) ∷ []) name ds
+item_named name ds =
+    among ((codes "data", data_of) ∷ (codes "propose", proposal_of) ∷ (codes "close", close_of) ∷ []) name ds
 
 abbrev pub item_of : List Data → Option Item
 item_of ds = by_name item_named ds
@@ -113,7 +114,8 @@ settle_of _ = None
 abbrev pub event_named : List ℕ → List Data → Option ScriptEvent
 event_named name ds =
     among (
-    (codes "order", λ places. option_map Core (order_of places)) ∷ (codes "send", send_of) ∷ (codes "ack", ack_of)
+    (codes "order", λ places. option_map Core (order_of places)) ∷ (codes "send", send_of)
+    ∷ (codes "ack", ack_of)
     ∷ (codes "arrive", arrive_of) ∷ (codes "crash", crash_of) ∷ (codes "settle", settle_of) ∷ []
     ) name ds
 
@@ -165,7 +167,8 @@ engine_crash_of ds = both node_of number_of Crash ds
 
 abbrev pub fault_named : List ℕ → List Data → Option Fault
 fault_named name ds =
-    among ((codes "lose", lose_of) ∷ (codes "repeat", repeat_of) ∷ (codes "delay", delay_of) ∷ (codes "crash", engine_crash_of) ∷ []) name ds
+    among ((codes "lose", lose_of) ∷ (codes "repeat", repeat_of) ∷ (codes "delay", delay_of)
+    ∷ (codes "crash", engine_crash_of) ∷ []) name ds
 
 abbrev pub fault_at : List Data → Option Fault
 fault_at ds = by_name fault_named ds

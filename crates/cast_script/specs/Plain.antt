@@ -36,8 +36,10 @@ AreCells old [] rest = old ≡ Token.end_array ∷ rest
 AreCells old (d ∷ ds) rest = (next : List Token) × IsCell old d next × AreCells next ds rest
 
 -- where an answer is given, the first tokens are cells that say it, up to the end of their array
-abbrev pub GivesCells : {A : Type 0} → (List Data → Option A) → List Token → Result A Unread → List Token → Type 0
-GivesCells said old result rest = IfOk result (λ x. (ds : List Data) × AreCells old ds rest × (said ds ≡ Some x))
+abbrev pub GivesCells : {A : Type 0} → (List Data → Option A) → List Token → Result A Unread
+    → List Token → Type 0
+GivesCells said old result rest =
+    IfOk result (λ x. (ds : List Data) × AreCells old ds rest × (said ds ≡ Some x))
 
 abbrev pub IsEvent : List Token → ScriptEvent → List Token → Type 0
 IsEvent old event rest =

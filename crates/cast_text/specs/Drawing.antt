@@ -22,7 +22,8 @@ pub record DrawingBreaksOff (window : Window) (input old new : Option (List ℕ)
   pub front : WroteFront old new (picture_of script window)
 
 -- The picture was written, or a fault has its cause, and nothing was written but where the writing broke off.
-abbrev pub Draws : Window → Option (List ℕ) → Bool → Option (List ℕ) → Option (List ℕ) → Bool → Result (Unit {0}) TextFault → Type 0
+abbrev pub Draws : Window → Option (List ℕ) → Bool → Option (List ℕ) → Option (List ℕ) → Bool
+    → Result (Unit {0}) TextFault → Type 0
 Draws window input read_failed old new failed (Ok done) = WritesDrawing window input old new
 Draws window input read_failed old new failed (Err faults.Write) = DrawingBreaksOff window input old new failed
 Draws window input read_failed old new failed (Err fault) = IsOfScript input read_failed fault × Keeps old new

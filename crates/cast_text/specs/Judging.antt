@@ -25,7 +25,8 @@ pub record VerdictBreaksOff (input old new : Option (List ℕ)) (failed : Bool) 
   pub front : WroteFront old new (verdict_text said ++ 10 ∷ [])
 
 -- The line was written, or a fault has its cause, and nothing was written but where the line broke off.
-abbrev pub Judges : Option (List ℕ) → Bool → Option (List ℕ) → Option (List ℕ) → Bool → Result Verdict TextFault → Type 0
+abbrev pub Judges : Option (List ℕ) → Bool → Option (List ℕ) → Option (List ℕ) → Bool
+    → Result Verdict TextFault → Type 0
 Judges input read_failed old new failed (Ok said) = SaysVerdict input old new said
 Judges input read_failed old new failed (Err faults.Write) = VerdictBreaksOff input old new failed
 Judges input read_failed old new failed (Err fault) = IsOfInput input read_failed fault × Keeps old new

@@ -8,7 +8,8 @@ use Rattle.cast_text.specs.Text.{input_limit, IsOfInput, WroteFront}
 
 -- these are the bytes with their head changed, where they are known
 abbrev pub IsInputMigrated : Option (List ℕ) → List ℕ → Type 0
-IsInputMigrated input migrated = IfSome input (λ bytes. (length bytes ≤ input_limit) × IsMigrated bytes migrated)
+IsInputMigrated input migrated =
+    IfSome input (λ bytes. (length bytes ≤ input_limit) × IsMigrated bytes migrated)
 
 -- the writer has the bytes that were read with their head changed, and nothing else
 pub record WritesMigrated (input old new : Option (List ℕ)) : Type 0 where
@@ -24,8 +25,10 @@ pub record MigratedBreaksOff (input old new : Option (List ℕ)) (failed : Bool)
   pub front : WroteFront old new migrated
 
 -- The text was written, or a fault has its cause, and nothing was written but where the writing broke off.
-abbrev pub Migrates : Option (List ℕ) → Bool → Option (List ℕ) → Option (List ℕ) → Bool → Result (Unit {0}) TextFault → Type 0
+abbrev pub Migrates : Option (List ℕ) → Bool → Option (List ℕ) → Option (List ℕ) → Bool
+    → Result (Unit {0}) TextFault → Type 0
 Migrates input read_failed old new failed (Ok done) = WritesMigrated input old new
-Migrates input read_failed old new failed (Err faults.NotV1) = IfSome input (λ bytes. (length bytes ≤ input_limit) × HasNoHead bytes) × Keeps old new
+Migrates input read_failed old new failed (Err faults.NotV1) =
+    IfSome input (λ bytes. (length bytes ≤ input_limit) × HasNoHead bytes) × Keeps old new
 Migrates input read_failed old new failed (Err faults.Write) = MigratedBreaksOff input old new failed
 Migrates input read_failed old new failed (Err fault) = IsOfInput input read_failed fault × Keeps old new

@@ -38,11 +38,17 @@ tried_by (Some refusal) one past rest = record { took = one ∷ []; past = past;
 unfoldable pub tried : Config → ℕ → History → List Event → Left
 tried config index past [] = record { took = []; past = past; stopped = false }
 tried config index past (event ∷ events) =
-    tried_by (fault config past event) (Taken index event (reply config past event)) past (tried config index (event ∷ past) events)
+    tried_by (fault config past event) (Taken index event (reply config past event)) past
+    (tried config index (event ∷ past) events)
 
 -- what one event leaves
 abbrev pub one_left : Config → ℕ → History → Event → Left
-one_left config index past event = record { took = Taken index event (reply config past event) ∷ []; past = after config past event; stopped = is_some (fault config past event) }
+one_left config index past event =
+    record {
+      took = Taken index event (reply config past event) ∷ [];
+      past = after config past event;
+      stopped = is_some (fault config past event);
+    }
 
 -- what one round leaves
 abbrev pub round_left : Config → ℕ → History → Left
@@ -63,12 +69,17 @@ settled config index past =
 abbrev pub left_by : Config → ℕ → History → ScriptEvent → Left
 left_by config index past (Core event) = one_left config index past event
 left_by config index past Settle =
-    record { took = SettleBegun ∷ ((settled config index past).took ++ SettleEnded index ∷ []); past = (settled config index past).past; stopped = false }
+    record {
+      took = SettleBegun ∷ ((settled config index past).took ++ SettleEnded index ∷ []);
+      past = (settled config index past).past;
+      stopped = false;
+    }
 
 unfoldable pub played_from : Config → ℕ → History → List ScriptEvent → List Played
 played_from config index past [] = []
 played_from config index past (event ∷ events) =
-    (left_by config index past event).took ++ played_from config (index + 1) (left_by config index past event).past events
+    (left_by config index past event).took
+    ++ played_from config (index + 1) (left_by config index past event).past events
 
 abbrev pub played : Script → List Played
 played script = played_from script.config 0 [] script.events
@@ -80,27 +91,36 @@ Seeing O = O → O → Result (Unit {0}) TextFault → List Played → Type 0
 -- What an observer sees comes to the end of what it saw, and after a failure nothing is seen. Memory may be wanted at any time.
 pub record Observes {O : Type 0} (saw : Seeing O) (ready : O → Type 0) : Type 0 where
   pub none : (o : O) → ready o → saw o o (Ok tt) []
-  pub more : (o p q : O) (result : Result (Unit {0}) TextFault) (first rest : List Played) → saw o p (Ok tt) first → saw p q result rest → saw o q result (first ++ rest)
-  pub broken : (o p : O) (why : TextFault) (first rest : List Played) → saw o p (Err why) first → saw o p (Err why) (first ++ rest)
+  pub more : (o p q : O) (result : Result (Unit {0}) TextFault) (first rest : List Played)
+      → saw o p (Ok tt) first → saw p q result rest → saw o q result (first ++ rest)
+  pub broken : (o p : O) (why : TextFault) (first rest : List Played) → saw o p (Err why) first
+      → saw o p (Err why) (first ++ rest)
   pub wants : (o : O) (whole : List Played) → ready o → saw o o (Err Memory) whole
 
 -- a send, an acknowledgement, or an arrival that delivers and decides nothing, which is accepted, is nothing to it
 abbrev pub Overlooks : {O : Type 0} → Seeing O → (O → Type 0) → O → Type 0
-Overlooks saw ready o = (index : ℕ) (event : Event) (answer : Answer) → ready o → IsSilent (Ok answer) → saw o o (Ok tt) (Taken index event (Ok answer) ∷ [])
+Overlooks saw ready o =
+    (index : ℕ) (event : Event) (answer : Answer) → ready o → IsSilent (Ok answer)
+    → saw o o (Ok tt) (Taken index event (Ok answer) ∷ [])
 
 -- Some events were taken, up to the first that is refused, and an observer saw them: whether none was, and what they left.
 abbrev pub Plays : {O : Type 0} → Seeing O → Config → Left → State → O → O → Result Bool TextFault → Type 0
-Plays saw config left world old new (Ok all) = (all ≡ not left.stopped) × Stands config left.past world × saw old new (Ok tt) left.took
+Plays saw config left world old new (Ok all) =
+    (all ≡ not left.stopped) × Stands config left.past world × saw old new (Ok tt) left.took
 Plays saw config left world old new (Err fault) = saw old new (Err fault) left.took
 
 -- the same of what a script's event leaves
-abbrev pub PlaysAll : {O : Type 0} → Seeing O → Config → Left → State → O → O → Result (Unit {0}) TextFault → Type 0
+abbrev pub PlaysAll : {O : Type 0} → Seeing O → Config → Left → State → O → O
+    → Result (Unit {0}) TextFault → Type 0
 PlaysAll saw config left world old new (Ok done) = Stands config left.past world × saw old new (Ok tt) left.took
 PlaysAll saw config left world old new (Err fault) = saw old new (Err fault) left.took
 
 -- An event was taken with this reply, and an observer saw it, unless memory was wanted: whether it was accepted.
-abbrev pub ShowsReply : {O : Type 0} → Seeing O → ℕ → Event → Result Answer StepFault → O → O → Result Bool TextFault → Type 0
-ShowsReply saw index event reply old new (Ok accepted) = (is_want_of_memory reply ≡ false) × (accepted ≡ is_ok reply) × saw old new (Ok tt) (Taken index event reply ∷ [])
+abbrev pub ShowsReply : {O : Type 0} → Seeing O → ℕ → Event → Result Answer StepFault → O → O
+    → Result Bool TextFault → Type 0
+ShowsReply saw index event reply old new (Ok accepted) =
+    (is_want_of_memory reply ≡ false) × (accepted ≡ is_ok reply)
+    × saw old new (Ok tt) (Taken index event reply ∷ [])
 ShowsReply saw index event reply old new (Err fault) =
     ((is_want_of_memory reply ≡ false) × saw old new (Err fault) (Taken index event reply ∷ []))
     ⊎ ((is_want_of_memory reply ≡ true) × ((whole : List Played) → saw old new (Err fault) whole))

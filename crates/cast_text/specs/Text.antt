@@ -43,7 +43,8 @@ Writes old new failed (Ok done) text = WroteAll old new failed text
 Writes old new failed (Err broken) text = BreaksOff broken old new failed text
 
 -- the same of a meter before and after a call, by what its writer contains
-abbrev pub Puts : {W : Type 0} → (W → Option (List ℕ)) → Meter W → Meter W → Result (Unit {0}) TextFault → List ℕ → Type 0
+abbrev pub Puts : {W : Type 0} → (W → Option (List ℕ)) → Meter W → Meter W → Result (Unit {0}) TextFault
+    → List ℕ → Type 0
 Puts contents old new result text = Writes (contents old.inner) (contents new.inner) new.failed result text
 
 -- the script is what the bytes say, where they are known
@@ -59,7 +60,8 @@ pub record WritesRecord (input old new : Option (List ℕ)) : Type 0 where
 
 -- where memory was wanted, the last line of the record was not begun
 abbrev pub StopsBeforeEnd : TextFault → Option (List ℕ) → Option (List ℕ) → Script → Type 0
-StopsBeforeEnd broken old new script = broken ≡ faults.Memory → WroteFront old new (record_text (unended_of script))
+StopsBeforeEnd broken old new script =
+    broken ≡ faults.Memory → WroteFront old new (record_text (unended_of script))
 
 -- the record of the script that was read broke off
 pub record RecordBreaksOff (broken : TextFault) (input old new : Option (List ℕ)) (failed : Bool) : Type 0 where
@@ -77,14 +79,18 @@ IsOfInput input read_failed fault = ⊥
 
 -- the same of reading a script
 abbrev pub IsOfScript : Option (List ℕ) → Bool → TextFault → Type 0
-IsOfScript input read_failed (faults.Script fault) = IfSome input (λ bytes. (length bytes ≤ input_limit) × Reads (Err fault) bytes)
+IsOfScript input read_failed (faults.Script fault) =
+    IfSome input (λ bytes. (length bytes ≤ input_limit) × Reads (Err fault) bytes)
 IsOfScript input read_failed fault = IsOfInput input read_failed fault
 
 -- The record was written, or a fault has its cause, and nothing was written but where the record broke off.
-abbrev pub Records : Option (List ℕ) → Bool → Option (List ℕ) → Option (List ℕ) → Bool → Result (Unit {0}) TextFault → Type 0
+abbrev pub Records : Option (List ℕ) → Bool → Option (List ℕ) → Option (List ℕ) → Bool
+    → Result (Unit {0}) TextFault → Type 0
 Records input read_failed old new failed (Ok done) = WritesRecord input old new
 Records input read_failed old new failed (Err faults.Write) = RecordBreaksOff faults.Write input old new failed
-Records input read_failed old new failed (Err faults.Memory) = (IsOfScript input read_failed faults.Memory × Keeps old new) ⊎ RecordBreaksOff faults.Memory input old new failed
+Records input read_failed old new failed (Err faults.Memory) =
+    (IsOfScript input read_failed faults.Memory × Keeps old new)
+    ⊎ RecordBreaksOff faults.Memory input old new failed
 Records input read_failed old new failed (Err fault) = IsOfScript input read_failed fault × Keeps old new
 
 -- What failed is told, and nothing else is: a fault names the stream that failed, and no other did; want of memory is `Memory` alone.
@@ -101,5 +107,7 @@ abbrev pub TakesInput : Option (List ℕ) → Option (List ℕ) → Type 0
 TakesInput old new = (bytes : List ℕ) × Consumes old new bytes × (length bytes ≤ input_limit + 1)
 
 -- both, of a call that has a writer too
-abbrev pub UsesStreams : {R T : Type 0} → (R → Option (List ℕ)) → Meter R → Meter R → Bool → Result T TextFault → Type 0
-UsesStreams remaining old new write_failed result = Tells result new.failed write_failed × TakesInput (remaining old.inner) (remaining new.inner)
+abbrev pub UsesStreams : {R T : Type 0} → (R → Option (List ℕ)) → Meter R → Meter R → Bool
+    → Result T TextFault → Type 0
+UsesStreams remaining old new write_failed result =
+    Tells result new.failed write_failed × TakesInput (remaining old.inner) (remaining new.inner)
