@@ -30,7 +30,7 @@ impl<T> Model for SolePutter<T> {
       put = sent p.producer;
     } };
 
-    // So a producer that knows of no free slot has sent as many items as the ring has slots.
+    // So a producer that knows of no free slot has sent at least as many items as the ring has slots.
     ghost invariant = { λ p. producer_capacity p.producer
         ≤ known_free p.producer + length (sent p.producer) };
 }

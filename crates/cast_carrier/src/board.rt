@@ -1,4 +1,5 @@
-//! The stop board: what engines tell each other of their quiet. No contract speaks of it.
+//! The stop board: what engines tell each other of their quiet and their end, carriers of what was put, and jobs of their end. No
+//! contract speaks of it.
 //!
 //! An engine that owes nothing is quiet, and whoever makes a frame owes until it is acknowledged: so where all are quiet, no
 //! frame that is under way makes anyone owe more. That does not hold of frames of an engine that has crashed, or ended otherwise
@@ -30,7 +31,7 @@ impl QuietWord {
     }
 }
 
-// What one engine tells the others.
+// What the board has of one engine.
 #[derive(Drop)]
 struct Signals {
     // Its word of its quiet.
@@ -44,7 +45,7 @@ struct Signals {
     jobs: AtomicU64,
 }
 
-/// What each engine tells the others.
+/// What the board has of each engine.
 #[derive(Drop)]
 pub struct Board {
     // Whether the run was given up.

@@ -1,4 +1,4 @@
-//! The faults that a carrier acts on, by the target of their frames: so a frame is a step over the faults of its own link, however
+//! The faults that a carrier acts on, by the target of their frames: so a frame takes a step for each fault of its own link, however
 //! many the plan has for others.
 ghost use Rattle.std.specs.Prelude.{◌≡◌, ◌≢◌, [], IfOk, OnErr};
 ghost use Rattle.std.specs.List.{filter};
@@ -59,7 +59,7 @@ impl CarrierFaults {
     }
 }
 
-// The faults of the frames for a target, in their order, or want of memory, which none never wants.
+// The faults of the frames for a target, in their order, or want of memory, but never where there are none.
 fn faults_to(alloc: Global, to: usize, faults: &[Fault]) -> Result<Vec<Fault>, AllocError>
     ensures ok { IfOk result (λ row. row.items ≡ filter (is_to to) faults.now) }
     ensures err { OnErr result (filter (is_to to) faults.now ≢ []) }

@@ -74,7 +74,7 @@ fn least(earliest: Option<u64>, entries: u64) -> Option<u64>
     }
 }
 
-/// The faults of the frames of a node, in their order, or want of memory, which none never wants.
+/// The faults of the frames of a node, in their order, or want of memory, but never where there are none.
 pub fn faults_from(alloc: Global, node: NodeId, faults: &[Fault]) -> Result<Vec<Fault>, AllocError>
     ensures ok { IfOk result (λ own. own.items ≡ filter (is_from node) faults.now) }
     ensures err { OnErr result (filter (is_from node) faults.now ≢ []) }

@@ -139,12 +139,12 @@ pub fn draw_command<'a>(alloc: Global) -> Result<Command<'a>, AllocError> {
 fn place<'a>(
     alloc: Global,
     name: &'static str,
-    value: &'static str,
+    value_name: &'static str,
     help: &'static str,
 ) -> Arg<'a> {
     Arg::new(alloc, name)
         .long(name)
-        .value_name(value)
+        .value_name(value_name)
         .value_parser(value_parser!(u64))
         .help(help)
 }

@@ -8,8 +8,8 @@ mod source;
 mod status;
 mod texts;
 
-pub use explain::{explain_fault, explain_output, explain_verdict, tell};
+pub use explain::{explain_fault, explain_output, tell};
 pub use output::hand_on;
 pub use source::{Failure, Heard, Source, StreamName, open_source};
 pub use status::{Status, refuse};
-pub use texts::{Done, TextCommand, write_text};
+pub use texts::{TextCommand, write_text};

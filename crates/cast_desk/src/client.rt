@@ -17,23 +17,22 @@ pub enum DeskFault {
     /// The desk was full at one moment of the call.
     #[error("the desk is full")]
     Full(Item),
-    /// All tickets up to 2^64 - 2 were given.
+    /// The next ticket would be 2^64 - 1, which is never given.
     #[error("all tickets were given")]
     Tickets(Item),
 }
 
 /// A client's ends of its boxes. To contracts it is its number, its first ticket and these ends; the orders that it has put
-/// carry its number and, in turn, the tickets from its first ticket on. The ends may be taken out where the client ends, but
-/// nothing can be put through them past the client.
+/// carry its number and, in turn, the tickets from its first ticket on. Where the client ends, `into_ends` hands its ends out.
 #[derive(Drop)]
 pub struct Client {
     pub(crate) number: u64,
     pub(crate) first_ticket: u64,
     pub(crate) next_ticket: u64,
-    /// Its putter at the desk.
-    pub orders: Putter<OrderIn>,
-    /// The taker of its tray.
-    pub tray: Taker<Notice>,
+    // Its putter at the desk.
+    pub(crate) orders: Putter<OrderIn>,
+    // The taker of its tray.
+    pub(crate) tray: Taker<Notice>,
     // How many notices it has taken, as far as a `u64` counts.
     pub(crate) taken: u64,
 }
@@ -115,7 +114,7 @@ impl Client {
     }
 
     /// Takes the notice at the front of the client's tray. It answers nothing only where the tray was empty at one moment of
-    /// the call. It may spin behind a node that stalls in `notify`.
+    /// the call. It waits for no other thread, as a tray is a box with one putter.
     pub fn next<R: Wait>(&mut self, rt: &R) -> Option<Notice>
         ensures same { IsSameClient self.old self.new }
         ensures orders { self.new.orders ≡ self.old.orders }

@@ -45,7 +45,7 @@ impl Desk {
     }
 
     /// Puts the notice into the tray of this client, by its number among those of the desk. Where that tray was full at one
-    /// moment of the call, the notice comes back and nothing was put. It may spin behind a client that stalls in `next`.
+    /// moment of the call, the notice comes back and nothing was put. It waits for no other thread.
     pub fn notify<R: Wait>(
         &mut self,
         rt: &R,

@@ -91,7 +91,7 @@ fn put_diamond(
     put_decision(ink, Cell::below(spot, place)?, index, node, decision)
 }
 
-// The decision of this place is brought by the delivery.
+// Whether the decision at this place is brought by the delivery.
 fn is_brought(message: &Message, decisions: &[Decision], place: usize) -> bool
     ensures count { brought message.now (drop place decisions.now) ≡ (if result then 1 else 0) }
     ensures within { result ≡ true → place < length decisions.now }
@@ -102,10 +102,10 @@ fn is_brought(message: &Message, decisions: &[Decision], place: usize) -> bool
     }
 }
 
-fn proposes(item: &Item, place: u64) -> bool
-    ensures { result ≡ proposes_in place item.now }
+fn proposes(item: &Item, wanted: u64) -> bool
+    ensures { result ≡ proposes_in wanted item.now }
 {
-    matches!(item, Item::Propose { instance, .. } if *instance == place)
+    matches!(item, Item::Propose { instance, .. } if *instance == wanted)
 }
 
 /// From the column of an event with so many boxes and diamonds to the next.

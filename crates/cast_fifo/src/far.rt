@@ -42,6 +42,7 @@ pub fn ready_in_map(far: &BTreeMap<u64, Waiting>, first: u64) -> usize
     ensures value { result ≡ length (run_from first far.now.entries) }
     ensures small { result < 2 ^ 63 }
 {
+    // (for the proof alone: what the contract of `len` says)
     let _most = far.len();
     let mut count = 0;
     for (number, waiting) in far {

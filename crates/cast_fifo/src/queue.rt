@@ -182,6 +182,7 @@ impl Queue {
         if number != self.next {
             return Ok(messages);
         }
+        // (for the proof alone: what the contract of `len` says)
         let _most = self.far.len();
         for turn in number..u64::MAX {
             let Some(item) = self.item_due(number, turn) else {

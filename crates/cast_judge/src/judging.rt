@@ -9,7 +9,7 @@ use cast_record::Verdict;
 use std::alloc::{AllocError, Global};
 
 /// The most bytes of a line that is not whole yet. The longest line of the grammar has 2,084.
-const LONGEST_LINE: usize = 4_096;
+const MOST_UNFINISHED: usize = 4_096;
 
 /// All pieces together have fewer bytes.
 const MOST_BYTES: u64 = 1 << 63;
@@ -238,7 +238,7 @@ impl Judging {
     fn is_too_long(&self, part: &[u8]) -> bool
         ensures { result ≡ nat_lt 4096 (length self.now.tail.items + length part.now) }
     {
-        part.len() > LONGEST_LINE || self.tail.len() > LONGEST_LINE - part.len()
+        part.len() > MOST_UNFINISHED || self.tail.len() > MOST_UNFINISHED - part.len()
     }
 
     // Lets go of the unfinished line, which offends.

@@ -1,8 +1,7 @@
 //! What is kept of the lines read so far.
 ghost use Rattle.std.specs.Prelude.{◌≡◌, ℕ, ◌<◌, ◌≤◌, length, replicate, slice_set, slice_index, IfSome, OnOk, MatchOption};
 ghost use Rattle.cast_record.specs.WordLines.{line_said};
-ghost use Rattle.cast_judge.specs.Kept.{is_ended_at};
-ghost use Rattle.cast_judge.specs.Kept.{Delivers, IsDue, node_at, has_item, nobody, instance_at, item_changes, with_item, Keeps, IsNew};
+ghost use Rattle.cast_judge.specs.Kept.{is_ended_at, Delivers, IsDue, node_at, has_item, nobody, instance_at, item_changes, with_item, Keeps, IsNew};
 
 use crate::instances::{Addition, Instances, Proposal};
 use crate::kept_node::{KeptNode, new_nodes, put_crash, put_delivery, put_item};
@@ -97,7 +96,8 @@ impl Kept {
     }
 
     /// Takes a delivery that breaks no rule, where its rest begins with the word that is kept of its item, and a line feed. It
-    /// tells where in the rest the line ends, behind its line feed. Any other line changes nothing.
+    /// tells where in the rest the line ends, behind its line feed. It may always answer `None`: then nothing changed, and the line
+    /// is to be judged as any other.
     pub fn deliver(&mut self, delivery: &Delivery<'_>) -> Option<usize>
         ensures { Delivers self.old self.new delivery.now result }
     {

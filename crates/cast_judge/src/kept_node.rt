@@ -53,7 +53,8 @@ impl KeptNode {
         }
     }
 
-    /// Where the bytes begin with the word that is kept of the item of this number, and a line feed: the place behind these.
+    /// Where the bytes begin with the word that is kept of the item of this number, and a line feed: the place behind these. `None`
+    /// says nothing of the bytes.
     pub fn end_of_word(&self, number: u64, bytes: &[u8]) -> Option<usize>
         ensures { IfSome result (BeginsWithWord self.now.items number bytes.now) }
     {

@@ -18,8 +18,8 @@ pub fn find_line_feed(bytes: &[u8]) -> Option<usize>
     memchr(b'\n', bytes)
 }
 
-/// Takes a line `d` that breaks no rule, and its line feed, off the front of the bytes, and tells what follows. None changes
-/// nothing.
+/// Takes a line `d` that breaks no rule, and its line feed, off the front of the bytes, and tells what follows. It may always
+/// answer `None`: then nothing changed.
 pub fn take_delivery<'a>(kept: &mut Kept, bytes: &'a [u8]) -> Option<&'a [u8]>
     ensures { Takes bytes.now kept.old kept.new (option_map (λ after. after.now) result) }
 {

@@ -80,7 +80,7 @@ fn give(link: &mut LinkOut<u32>, goes: bool, place: u32) -> Result<(), AllocErro
     if !goes {
         return Ok(());
     }
-    // As many slots as a `u64` counts are never given: each takes memory.
+    // As many slots as a `u64` counts are never given: a message that is held takes one at most.
     if link.given() == u64::MAX {
         return Err(AllocError);
     }

@@ -78,7 +78,7 @@ impl Outgoing {
         ensures err { OnErr result (self.new ≡ self.old) }
     {
         let place = self.messages.len();
-        // As many messages as a `u32` counts are never given: each takes memory.
+        // As many messages as a `u32` counts are never given: a node holds at most 64 times 4,096, and gives each once.
         if place > u32::MAX as usize {
             return Err(AllocError);
         }

@@ -16,7 +16,7 @@ use std::marker::Model;
 const MOST_DIGITS: usize = 2 * PAYLOAD_LIMIT;
 
 /// How long the name is that stands before the value of an item, `data:` or `prop:`.
-const NAME: usize = 5;
+const NAME_LENGTH: usize = 5;
 
 /// How many digits are looked at before the first of them that is none may end it.
 const BLOCK: usize = 64;
@@ -101,7 +101,7 @@ fn data_item(alloc: Global, word: &[u8]) -> Result<Item, AllocError>
     requires { HasData (item_of word.now) }
     ensures { IfOk result (λ item. item_of word.now ≡ Some item) }
 {
-    match bytes_of(alloc, &word[NAME..])? {
+    match bytes_of(alloc, &word[NAME_LENGTH..])? {
         Some(bytes) => Ok(Item::Data(Payload::new(Bytes::from_vec(bytes)?))),
         None => unreachable!(),
     }
@@ -113,10 +113,10 @@ fn kind(word: &[u8]) -> Option<ItemKind>
     if word == b"close".as_slice() {
         return Some(ItemKind::Close);
     }
-    if word.len() < NAME {
+    if word.len() < NAME_LENGTH {
         return None;
     }
-    kind_named(&word[..NAME], &word[NAME..])
+    kind_named(&word[..NAME_LENGTH], &word[NAME_LENGTH..])
 }
 
 fn kind_named(name: &[u8], rest: &[u8]) -> Option<ItemKind>

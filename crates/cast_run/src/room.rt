@@ -1,4 +1,4 @@
-//! The lists that a run gives back, whose room is made before the threads start: once they have ended, nothing wants memory.
+//! The lists that the end of a run fills, whose room is made before the threads start: once they have ended, nothing wants memory.
 ghost use Rattle.std.specs.Prelude.{IfOk};
 ghost use Rattle.cast_run.specs.Rooms.{HasEndRoom, HasRoom};
 

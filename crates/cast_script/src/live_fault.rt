@@ -3,7 +3,6 @@ ghost use Rattle.std.specs.Prelude.{◌≡◌};
 ghost use Rattle.cast_script.specs.LiveFaults.{live_code};
 
 use std::alloc::AllocError;
-use std::convert::From;
 use thiserror::Error;
 
 /// Why a group is not run. The first three causes are tried in this order, before anything is started, and the first that holds

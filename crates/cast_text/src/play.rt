@@ -13,7 +13,8 @@ use cast_world::{World, is_want_of_memory};
 
 /// Is shown what is taken as a script is played. `saw` says what came of calls from one state of it to another: what they
 /// showed, in order, and whether one failed. By the laws of `Observes` what is shown comes to the end of what was, and after a
-/// failure nothing is; so `play` promises of any observer that it was shown all that the script plays, or failed on the way.
+/// failure nothing is; so `play` promises of any observer that it was shown all that the script plays, unless it failed or
+/// memory was wanting.
 pub trait Observer {
     /// What came of calls that showed this.
     ghost saw: { Self → Self → Result (Unit {0}) AnyFault → List Played → Type 0 };

@@ -11,6 +11,7 @@ pub fn tell_ranges(events: &[ScriptEvent])
     ensures ranges { HaveScriptRanges events.now }
     ensures few { length events.now < 2 ^ 64 }
 {
+    // (for the proof alone: what the contract of `len` says)
     let _count = events.len();
     for event in events {
         tell_script_range(event);

@@ -36,7 +36,7 @@ fn unhexed(alloc: Global, digits: &[u8]) -> Result<Option<Vec<u8>>, AllocError>
 }
 
 // Puts the bytes that the digits stand for into a place that is half as long, and answers whether all are digits. Each byte
-// goes the same way, with no branch, so that the compiler may take many at once; so what is no digit shows at the end.
+// goes the same way, and none ends the loop, so that the compiler may take many at once; so what is no digit shows at the end.
 fn put_bytes(digits: &[u8], bytes: &mut [u8]) -> bool
     requires { length digits.now ≡ 2 * length bytes.old }
     ensures { unhex digits.now ≡ (if result then Some bytes.new else None) }

@@ -60,7 +60,7 @@ fn find_due(alloc: Global, world: &World) -> Result<DueSlots, AllocError>
     let live = world.live_nodes();
     let mut due = DueSlots::new(alloc);
     for giver in 0..world.node_count() {
-        if world.is_up(NodeId(giver)) {
+        if world.is_live(NodeId(giver)) {
             add_due_from(world, NodeId(giver), &live, &mut due)?;
         }
     }
@@ -83,7 +83,7 @@ fn add_due_from(
         return Ok(());
     }
     for taker in 0..world.node_count() {
-        if world.is_up(NodeId(taker)) {
+        if world.is_live(NodeId(taker)) {
             add_due_between(world, giver, NodeId(taker), due)?;
         }
     }

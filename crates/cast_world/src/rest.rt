@@ -48,7 +48,7 @@ impl World {
     {
         let mut live = GroupSet::new();
         for node in 0..self.node_count() {
-            if self.is_up(NodeId(node)) {
+            if self.is_live(NodeId(node)) {
                 live.insert(NodeId(node));
             }
         }

@@ -1,5 +1,5 @@
-//! Rounds: every slot that a live node owes another is sent, taken and acknowledged. Two of them without a loss bring rest,
-//! where all live nodes have delivered the same.
+//! Rounds: every slot that a live node owes another is sent, taken and acknowledged. Two of them in which no event is refused bring
+//! rest; what live nodes have delivered and decided there, `at_rest` says.
 ghost use Rattle.std.specs.Prelude.{◌≡◌, ℕ, ◌<◌, ◌+◌, ◌^◌, ◌++◌, ◌==◌, ◌||◌, cond, IfOk, OnOk, OnErr, length, slice_index_or};
 ghost use Rattle.cast_message.specs.declared.config.Config.{Config as Settings};
 ghost use Rattle.cast_model.specs.History.{History};

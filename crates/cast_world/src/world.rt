@@ -271,7 +271,7 @@ impl World {
     }
 
     /// Whether a node has not crashed.
-    pub(crate) fn is_up(&self, node: NodeId) -> bool
+    pub(crate) fn is_live(&self, node: NodeId) -> bool
         requires { node < length self.now.nodes }
         ensures { result ≡ (node_at self.now node).live }
     {

@@ -226,10 +226,10 @@ fn keep<'a, R: Runtime + AllocGlobal>(
 // Says so where a file was written whose text is longer than this program reads.
 fn warn_of_length<'a, R: Eprint>(
     rt: &R,
-    kept: Result<u64, Stop<'a>>,
+    written: Result<u64, Stop<'a>>,
     file: RunFile,
 ) -> Result<(), Stop<'a>> {
-    if kept? > INPUT_LIMIT as u64 {
+    if written? > INPUT_LIMIT as u64 {
         // Where standard error fails there is nowhere left to say so.
         let _ = eprintln!(rt; "castgroup: {}", file.warning());
     }

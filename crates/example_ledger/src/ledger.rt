@@ -33,7 +33,8 @@ pub fn run_ledger(alloc: Global, config: Config, events: &[Event]) -> Result<Led
         AppliesDelivered config (history config events.now) ledger.books.items) }
     ensures sheets { IfOk result (λ ledger. KeepsSheets ledger.books.items) }
 
-    // Whether the group rests, and at rest live nodes have the same sheet.
+    // Whether the group rests; and at rest live nodes have the same sheet, in uniform mode where no fault is tolerated or no more
+    // nodes have crashed than are.
     ensures rest { IfOk result (λ ledger.
         IsTrue ledger.at_rest ↔ Rest config (history config events.now)) }
     ensures agree { IfOk result (λ ledger. IsTrue ledger.at_rest

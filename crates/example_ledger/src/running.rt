@@ -18,7 +18,7 @@ use std::alloc::Global;
 use std::sync::Wait;
 use std::thread::Threads;
 
-// How many turns a node may take before it gives up.
+// How many turns a node, and how many calls a teller, may take before it gives up.
 const TURNS: u64 = 4_000_000;
 
 /// What a group in threads has come to.
@@ -34,10 +34,10 @@ pub struct RunningLedger {
     pub assembly: Assembly,
 }
 
-/// Runs a group in threads as `run_live` does, with a plan of what goes wrong and at most 4,000,000 turns a node, and merges what
-/// its nodes logged. Whether it has come to rest, `assembly.world` says. It is refused as `run_live` refuses it: for a teller at
-/// a node that does not exist, more than 4 at one, or a plan that names a node that does not exist or a node's link to itself;
-/// for want of memory; for a thread that isn't started.
+/// Runs a group in threads as `run_live` does, with a plan of what goes wrong, at most 4,000,000 turns a node and as many calls of a
+/// teller, and merges what its nodes logged. Whether it has come to rest, `assembly.world` says. It is refused as `run_live`
+/// refuses it: for a teller at a node that does not exist, more than 4 at one, or a plan that names a node that does not exist or
+/// a node's link to itself; for want of memory; for a thread that isn't started.
 pub fn run_tellers<R: Threads + Wait + Copy + Send + 'static>(
     rt: R,
     alloc: Global,

@@ -73,7 +73,7 @@ impl Keeper {
     }
 }
 
-/// Submits items and never takes a notice; it is done with the last that its desk had room for.
+/// Submits items and never takes a notice; it is done once all are submitted. One that its desk has no room for is tried again.
 #[derive(Drop)]
 pub struct Silent {
     left: Submissions,

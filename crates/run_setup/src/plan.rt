@@ -1,7 +1,6 @@
 //! Plans of what goes wrong.
 ghost use Rattle.std.specs.Prelude.{◌≡◌, ◌++◌, ◌∷◌, [], IfOk, OnOk};
 ghost use Rattle.std.specs.List.{flat_map};
-ghost use Rattle.cast_message.specs.declared.message.FrameKind.TheVariants.{};
 ghost use Rattle.run_setup.specs.Plans.{frames_on, links_from, all_links, lost_every};
 
 use cast_message::{List, NodeId};
@@ -23,14 +22,15 @@ impl Link {
         Fault::Lose(self.frames(kind, first, step))
     }
 
-    /// Every `step`th frame of this kind, from number `first` on, is handed on twice.
+    /// Every `step`th frame of this kind is handed on twice, from number `first` on, or that one alone where the step is 0.
     pub fn repeat(self, kind: FrameKind, first: u64, step: u64) -> Fault
         ensures { result ≡ Fault.Repeat (frames_on self kind first step) }
     {
         Fault::Repeat(self.frames(kind, first, step))
     }
 
-    /// Every `step`th frame of this kind, from number `first` on, is kept until `count` more frames were taken.
+    /// Every `step`th frame of this kind, from number `first` on, or that one alone where the step is 0, is kept until `count` more
+    /// frames of either kind were taken for its target.
     pub fn delay(self, kind: FrameKind, first: u64, step: u64, count: u64) -> Fault
         ensures { result ≡ Fault.Delay (frames_on self kind first step) count }
     {
