@@ -9,5 +9,5 @@ mod shape;
 
 pub use clients::{Keeper, Silent};
 pub use jobs::{data_items, submit_each};
-pub use plan::{Link, links, lose_every, no_faults, one_fault};
+pub use plan::{Link, crash_after, links, lose_every, no_faults, one_fault};
 pub use shape::Shape;

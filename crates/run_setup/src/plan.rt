@@ -51,6 +51,16 @@ impl Link {
     }
 }
 
+/// The node crashes once its log has so many entries.
+pub fn crash_after(node: u8, entries: u64) -> Fault
+    ensures { result ≡ Fault.Crash node entries }
+{
+    Fault::Crash {
+        node: NodeId(node),
+        entries,
+    }
+}
+
 /// All ways between these nodes.
 pub fn links(alloc: Global, nodes: u8) -> Result<Vec<Link>, AllocError>
     ensures { IfOk result (λ links. links.items ≡ all_links nodes) }

@@ -2,12 +2,11 @@
 use crate::runs::{TURNS, run_jobs};
 use crate::seen::see;
 use anyhow::Result;
-use cast_message::{Event, NodeId};
+use cast_message::Event;
 use cast_node::EntryKind;
 use cast_report::{EngineEnd, NodeReport};
 use cast_run::{LiveRun, SubmitAll};
-use cast_script::Fault;
-use run_setup::{Shape, lose_every, one_fault};
+use run_setup::{Shape, crash_after, lose_every, one_fault};
 use std::alloc::Global;
 use std::sync::Wait;
 use std::thread::Threads;
@@ -25,8 +24,7 @@ fn run_crash<R: Threads + Wait + Copy + Send + 'static>(
     entries: u64,
 ) -> Result<LiveRun<SubmitAll>> {
     let mut plan = lose_every(alloc, 2, 2)?;
-    let node = NodeId(1);
-    plan.faults.push(Fault::Crash { node, entries })?;
+    plan.faults.push(crash_after(1, entries))?;
     let mut shape = Shape::new(2, 0, 1);
     shape.box_size = 4;
     run_jobs(rt, alloc, shape, &plan, &[0, 1], 20, TURNS)
@@ -78,11 +76,7 @@ pub fn as_the_last_thing<R: Threads + Wait + Print + Copy + Send + 'static>(
     alloc: Global,
     row: &str,
 ) -> Result<()> {
-    let crash = Fault::Crash {
-        node: NodeId(0),
-        entries: 3,
-    };
-    let plan = one_fault(alloc, crash)?;
+    let plan = one_fault(alloc, crash_after(0, 3))?;
     for _run in 0..TIMES {
         let run = run_jobs(rt, alloc, Shape::new(2, 0, 1), &plan, &[0], 1, TURNS)?;
         let in_place = run

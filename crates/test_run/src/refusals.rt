@@ -1,9 +1,8 @@
 //! What `run_live` refuses before it starts a thread, in the order in which it asks.
 use anyhow::Result;
-use cast_message::NodeId;
 use cast_run::{LiveFault, OpenGate, run_live};
-use cast_script::{Fault, FaultPlan, FrameKind};
-use run_setup::{Link, Shape, no_faults, one_fault, submit_each};
+use cast_script::{FaultPlan, FrameKind};
+use run_setup::{Link, Shape, crash_after, no_faults, one_fault, submit_each};
 use std::alloc::Global;
 use std::sync::Wait;
 use std::thread::Threads;
@@ -15,10 +14,7 @@ pub fn live_refusals<R: Threads + Wait + Print + Copy + Send + 'static>(
     row: &str,
 ) -> Result<()> {
     let itself = Link { from: 0, to: 0 }.lose(FrameKind::Carry, 0, 1);
-    let nobody = Fault::Crash {
-        node: NodeId(2),
-        entries: 0,
-    };
+    let nobody = crash_after(2, 0);
     let answers = [
         refusal(rt, alloc, &[2], 2, no_faults(alloc))?,
         refusal(rt, alloc, &[0, 0, 0, 0, 0], 2, no_faults(alloc))?,

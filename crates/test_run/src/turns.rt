@@ -4,8 +4,8 @@ use anyhow::Result;
 use cast_desk::Client;
 use cast_message::NodeId;
 use cast_run::{ClientJob, Gate, run_live};
-use cast_script::{Fault, FaultPlan};
-use run_setup::{Shape, no_faults, one_fault};
+use cast_script::FaultPlan;
+use run_setup::{Shape, crash_after, no_faults, one_fault};
 use std::alloc::{AllocError, Global};
 use std::sync::atomic::{AtomicU64, Ordering};
 use std::sync::{Arc, Wait};
@@ -49,8 +49,7 @@ pub fn never_done<R: Threads + Wait + Print + Copy + Send + 'static>(
     row: &str,
 ) -> Result<()> {
     let calls = count_calls(rt, alloc, &no_faults(alloc), 5, 5)?;
-    let node = NodeId(0);
-    let plan = one_fault(alloc, Fault::Crash { node, entries: 0 })?;
+    let plan = one_fault(alloc, crash_after(0, 0))?;
     let called = count_calls(rt, alloc, &plan, 0, u64::MAX)? > 0;
     println!(&rt; "{row}: {calls} calls in 5 turns, called where its node crashed {called}")?;
     Ok(())

@@ -3,10 +3,8 @@ use crate::gates::wait_for;
 use crate::runs::TURNS;
 use crate::seen::see;
 use anyhow::Result;
-use cast_message::NodeId;
 use cast_run::{Gate, run_live};
-use cast_script::Fault;
-use run_setup::{Shape, one_fault, submit_each};
+use run_setup::{Shape, crash_after, one_fault, submit_each};
 use std::alloc::{AllocError, Global};
 use std::sync::atomic::{AtomicU64, Ordering};
 use std::sync::{Arc, Wait};
@@ -61,11 +59,7 @@ pub fn crash_with_a_frame_under_way<R: Threads + Wait + Print + Copy + Send + 's
     alloc: Global,
     row: &str,
 ) -> Result<()> {
-    let crash = Fault::Crash {
-        node: NodeId(0),
-        entries: 2,
-    };
-    let plan = one_fault(alloc, crash)?;
+    let plan = one_fault(alloc, crash_after(0, 2))?;
     let config = Shape::new(3, 1, 2).config()?;
     let jobs = submit_each(alloc, &[0], 1)?;
     let run = run_live(rt, alloc, config, &plan, jobs, late_gates(alloc)?, TURNS)?;
