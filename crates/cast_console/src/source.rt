@@ -1,7 +1,7 @@
 //! The streams of a command, which remember what the system said when they failed, and the input once more.
 ghost use Rattle.std.specs.Prelude.{◌≡◌, true, IfErr, IsErr, None, OnOk, Some};
-ghost use Rattle.std.specs.Io.{ReadsAtMost};
-ghost use Rattle.std.specs.Io.KnownBytes.{ReadConsumes};
+ghost use Rattle.std.specs.Io.{ReadsAtMost, WritesAtMost};
+ghost use Rattle.std.specs.Io.KnownBytes.{Keeps, ReadConsumes, WriteAppends};
 ghost use Rattle.cast_console.specs.Streams.{is_unopened, stream_remaining};
 
 use cast_command::Call;
@@ -136,7 +136,8 @@ impl<'a, F: Read + Drop, S: Read + Drop> Source<'a, F, S> {
 
     // Keeps what was read, as long as there is memory for it.
     fn keep(&mut self, piece: &[u8])
-        ensures { self.new.stream ≡ self.old.stream }
+        ensures stream { self.new.stream ≡ self.old.stream }
+        ensures error { self.new.error ≡ self.old.error }
     {
         if let Again::Kept(bytes) = &mut self.again {
             if bytes.extend_from_slice(piece).is_err() {
@@ -165,6 +166,8 @@ impl<F: Read + Drop, S: Read + Drop> Read for Source<'_, F, S> {
         ensures bytes { ReadConsumes (stream_remaining F.remaining S.remaining self.old.stream)
             (stream_remaining F.remaining S.remaining self.new.stream) result buf.new }
         ensures unopened { is_unopened self.old.stream ≡ true → IsErr result }
+        ensures noted { IfErr result (λ failure. self.new.error ≡ Some failure) }
+        ensures kept { OnOk result (self.new.error ≡ self.old.error) }
     {
         let outcome = match &mut self.stream {
             Stream::File(file) => file.read(buf),
@@ -222,11 +225,21 @@ impl<W> Heard<W> {
 impl<W: Write> Write for Heard<W> {
     ghost contents = { λ w. W.contents w.inner };
 
-    fn write(&mut self, buf: &[u8]) -> io::Result<usize> {
+    fn write(&mut self, buf: &[u8]) -> io::Result<usize>
+        ensures bound { WritesAtMost result buf.now }
+        ensures bytes { WriteAppends (W.contents self.old.inner) (W.contents self.new.inner)
+            result buf.now }
+        ensures noted { IfErr result (λ failure. self.new.error ≡ Some failure) }
+        ensures kept { OnOk result (self.new.error ≡ self.old.error) }
+    {
         remember(&mut self.error, self.inner.write(buf))
     }
 
-    fn flush(&mut self) -> io::Result<()> {
+    fn flush(&mut self) -> io::Result<()>
+        ensures bytes { Keeps (W.contents self.old.inner) (W.contents self.new.inner) }
+        ensures noted { IfErr result (λ failure. self.new.error ≡ Some failure) }
+        ensures kept { OnOk result (self.new.error ≡ self.old.error) }
+    {
         remember(&mut self.error, self.inner.flush())
     }
 }

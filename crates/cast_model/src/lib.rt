@@ -11,11 +11,11 @@ ghost use Rattle.cast_model.specs.RestLaws.{DecidesTheSameAtRest, DecidesWhatIsP
 ghost use Rattle.cast_model.specs.RestLaws.{NodesMakeTheFrames, NodesDeliverAsTheGroup, NodesDecideAsTheGroup, NodesOweAsTheGroup, NodesKnowHoldersAsTheGroup, NodesKnowWhoHoldsAsTheGroup};
 
 /// What a node delivers from a sender is a prefix of what that sender broadcast, with nothing after its close; each
-/// decided value was proposed in its instance; and where the faults are fewer than k, at most k values are decided, whatever k is
-/// one more than there are tolerated faults (Chaudhuri 1993). What the replies say of deliveries is what each node has delivered,
-/// and what they say of decisions what it shows as decided, each once; that values were proposed and are at most k holds of what
-/// nodes show as decided too, and what is acknowledged was taken. Where no fault is tolerated, the replies are the same in uniform
-/// mode as in basic mode.
+/// decided value was proposed in its instance; and where the faults are fewer than k, at most k values are decided in it. Whatever
+/// k is, at most one value more is decided than there are tolerated faults (Chaudhuri 1993). What the replies say of deliveries is
+/// what each node has delivered, and what they say of decisions what it shows as decided, each once; that values were proposed and
+/// are at most k holds of what nodes show as decided too, and what is acknowledged was taken. Where no fault is tolerated, the
+/// replies are the same in uniform mode as in basic mode.
 pub fn keeps_order_and_agrees()
     ensures prefix { AllRunsDeliverPrefixes }
     ensures closed { AllRunsCloseStreams }

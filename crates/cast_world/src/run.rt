@@ -21,8 +21,8 @@ pub fn run_events(
     ensures prefix { IfOk result (λ run. DeliversPrefixes config events.now run.1) }
     ensures closed { IfOk result (λ run. DeliversNothingAfterClose events.now run.1) }
 
-    // Each decided value was proposed in its instance, and where the faults are fewer than k, at most k are decided, whatever k is
-    // one more than there are tolerated faults.
+    // Each decided value was proposed in its instance. Where the faults are fewer than k, at most k are decided in it; and whatever k
+    // is, at most one more than there are tolerated faults.
     ensures proposed { IfOk result (λ run. DecidesProposals config events.now run.1) }
     ensures few { IfOk result (λ run. DecidesFewValues config run.1) }
     ensures within { IfOk result (λ run. DecidesWithinFaults config run.1) }

@@ -21,7 +21,8 @@ impl Shape {
     pub fn new(nodes: u64, faults: u64, choices: u64) -> Shape
         ensures counts { (result.nodes ≡ nodes) × (result.faults ≡ faults)
             × (result.choices ≡ choices) }
-        ensures usual { (result.box_size ≡ 64) × (result.first_stamp ≡ 0) }
+        ensures usual { (result.log_limit ≡ 65536) × (result.box_size ≡ 64)
+            × (result.first_stamp ≡ 0) }
     {
         Shape {
             nodes,
