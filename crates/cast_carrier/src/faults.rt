@@ -1,10 +1,9 @@
 //! The faults that a carrier acts on, by the target of their frames: so a frame takes a step for each fault of its own link, however
 //! many the plan has for others.
-ghost use Rattle.std.specs.Prelude.{◌≡◌, ◌≢◌, [], IfOk, OnErr};
-ghost use Rattle.std.specs.List.{filter};
-ghost use Rattle.cast_carrier.specs.Plans.{is_to};
+ghost use Rattle.std.specs.Prelude.{◌≡◌, IfOk};
 ghost use Rattle.cast_carrier.specs.Fates.{AreByTarget, AreFatedAlike};
 
+use crate::plan::{LinkEnd, faults_at};
 use cast_message::NodeId;
 use cast_script::Fault;
 use std::alloc::{AllocError, Global};
@@ -42,7 +41,7 @@ impl CarrierFaults {
     {
         let mut rows = Vec::with_capacity(alloc, targets)?;
         for to in 0..targets {
-            rows.push(faults_to(alloc, to, &faults)?)?;
+            rows.push(faults_at(alloc, LinkEnd::Target, to, &faults)?)?;
         }
         Ok(CarrierFaults { all: faults, rows })
     }
@@ -56,30 +55,5 @@ impl CarrierFaults {
             Some(row) => row.as_slice(),
             None => self.all.as_slice(),
         }
-    }
-}
-
-// The faults of the frames for a target, in their order, or want of memory, but never where there are none.
-fn faults_to(alloc: Global, to: usize, faults: &[Fault]) -> Result<Vec<Fault>, AllocError>
-    ensures ok { IfOk result (λ row. row.items ≡ filter (is_to to) faults.now) }
-    ensures err { OnErr result (filter (is_to to) faults.now ≢ []) }
-{
-    let mut row = Vec::new(alloc);
-    for fault in faults {
-        if is_to(to, fault) {
-            row.push(*fault)?;
-        }
-    }
-    Ok(row)
-}
-
-fn is_to(to: usize, fault: &Fault) -> bool
-    ensures { result ≡ is_to to fault.now }
-{
-    match fault {
-        Fault::Lose(frames) | Fault::Repeat(frames) | Fault::Delay { frames, .. } => {
-            usize::from(frames.to.0) == to
-        }
-        Fault::Crash { .. } => false,
     }
 }

@@ -1,7 +1,7 @@
 //! What a plan may name, and what it says of each node.
 ghost use Rattle.std.specs.Prelude.{◌≡◌, ◌≢◌, [], ◌↔◌, None, IsTrue, IfOk, OnErr};
 ghost use Rattle.std.specs.List.{filter};
-ghost use Rattle.cast_carrier.specs.Plans.{ArePlanned, IsPlanned, IsLink, crash_by, crash_from, is_from, least};
+ghost use Rattle.cast_carrier.specs.Plans.{ArePlanned, IsPlanned, IsLink, crash_by, crash_from, is_from, is_at, least};
 
 use cast_message::NodeId;
 use cast_script::Fault;
@@ -79,21 +79,47 @@ pub fn faults_from(alloc: Global, node: NodeId, faults: &[Fault]) -> Result<Vec<
     ensures ok { IfOk result (λ own. own.items ≡ filter (is_from node) faults.now) }
     ensures err { OnErr result (filter (is_from node) faults.now ≢ []) }
 {
+    faults_at(alloc, LinkEnd::Maker, usize::from(node.0), faults)
+}
+
+/// An end of a link.
+#[derive(Clone, Copy, Debug)]
+pub(crate) enum LinkEnd {
+    /// The node that makes the frames.
+    Maker,
+    /// The node that they are for.
+    Target,
+}
+
+/// The faults of frames whose link has this node at that end, in their order, or want of memory, but never where there are none.
+pub(crate) fn faults_at(
+    alloc: Global,
+    end: LinkEnd,
+    node: usize,
+    faults: &[Fault],
+) -> Result<Vec<Fault>, AllocError>
+    ensures ok { IfOk result (λ own. own.items ≡ filter (is_at end node) faults.now) }
+    ensures err { OnErr result (filter (is_at end node) faults.now ≢ []) }
+{
     let mut own = Vec::new(alloc);
     for fault in faults {
-        if is_from(node, *fault) {
+        if is_at(end, node, *fault) {
             own.push(*fault)?;
         }
     }
     Ok(own)
 }
 
-fn is_from(node: NodeId, fault: Fault) -> bool
-    ensures { result ≡ is_from node fault }
+fn is_at(end: LinkEnd, node: usize, fault: Fault) -> bool
+    ensures { result ≡ is_at end node fault }
 {
     match fault {
         Fault::Lose(frames) | Fault::Repeat(frames) | Fault::Delay { frames, .. } => {
-            frames.from == node
+            let at = match end {
+                LinkEnd::Maker => frames.from,
+                LinkEnd::Target => frames.to,
+            };
+            usize::from(at.0) == node
         }
         Fault::Crash { .. } => false,
     }

@@ -40,10 +40,7 @@ module _ (limit : ℕ) (crash : Option ℕ) (log : List Entry) (ends : EndsAs li
   pub ends_more : (e : Entry) → is_crash e.kind ≡ false → ((n : ℕ) → crash ≡ Some n → length log < n) → EndsAs limit crash None (log ++ e ∷ [])
   ends_more e quiet safe = record {
     within = let l = longer e in omega arith;
-    full = λ h. absurd cc;
-    below = λ h. absurd cc;
-    rested = λ h. absurd cc;
-    used_up = λ h. absurd cc;
+    full = λ h. absurd cc; below = λ h. absurd cc; rested = λ h. absurd cc; used_up = λ h. absurd cc;
     due = λ h n is. let s = safe n is in let l = longer e in omega arith;
     last = λ i x at c. ⊎_elim (λ (y : slice_get log i ≡ Some x). let no : None ≡ Some Crashed = (ends.last i x y c).2 in absurd cc)
         (λ (y : (i ≡ length log) × (e ≡ x)). absurd (false≢true (sym quiet ∙ ap (λ (z : Entry). is_crash z.kind) y.1 ∙ c))) (get_snoc log e x i at);
@@ -53,10 +50,7 @@ module _ (limit : ℕ) (crash : Option ℕ) (log : List Entry) (ends : EndsAs li
   pub ends_crash : (e : Entry) → is_crash e.kind ≡ true → crash ≡ Some (length log) → EndsAs limit crash (Some Crashed) (log ++ e ∷ [])
   ends_crash e loud due = record {
     within = let l = longer e in omega arith;
-    full = λ h. absurd cc;
-    below = λ h. absurd cc;
-    rested = λ h. absurd cc;
-    used_up = λ h. absurd cc;
+    full = λ h. absurd cc; below = λ h. absurd cc; rested = λ h. absurd cc; used_up = λ h. absurd cc;
     due = λ h n is. absurd (h refl);
     last = λ i x at c. ⊎_elim (λ (y : slice_get log i ≡ Some x). let no : None ≡ Some Crashed = (ends.last i x y c).2 in absurd cc)
         (λ (y : (i ≡ length log) × (e ≡ x)). let l = longer e in (omega (arith, y.0), due ∙ ap (λ n. Some n) (sym y.0), refl)) (get_snoc log e x i at);
