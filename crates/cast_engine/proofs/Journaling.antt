@@ -1,5 +1,5 @@
 -- A journal that logs one entry more.
-use Rattle.std.proofs.Common.{◌≡◌, ℕ, ◌+◌, ◌<◌, ◌≤◌, Bool, true, false, List, [], ◌∷◌, ◌++◌, length, slice_get, Option, Some, None, sym, refl, ap, ◌∙◌, subst, ⊎_elim, arith}
+use Rattle.std.proofs.Common.{◌≡◌, ◌≢◌, ℕ, ◌+◌, ◌<◌, ◌≤◌, Bool, true, false, List, [], ◌∷◌, ◌++◌, length, slice_get, Option, Some, None, sym, refl, ap, ◌∙◌, subst, ⊎_elim, arith}
 use Rattle.std.specs.Prelude.{if◌then◌else◌}
 use Rattle.std.specs.FinMap as finite
 use Rattle.std.proofs.lemmas.Bool.{false≢true}
@@ -19,7 +19,7 @@ use Rattle.cast_node.specs.declared.entry.EntryKind.{EntryKind}
 use Rattle.cast_node.specs.Kept.{Kept, link_to, is_enough}
 use Rattle.cast_node.specs.Turns.{Told, told, released, unmoved, kept_after, arrived_body, carried, acknowledged, may_arrive, with_taken, with_knower, taken_up, Gives}
 use Rattle.cast_report.specs.declared.report.EngineEnd.{EngineEnd}
-use Rattle.cast_report.specs.declared.report.EngineEnd.TheVariants.{Crashed}
+use Rattle.cast_report.specs.declared.report.EngineEnd.TheVariants.{Crashed, LogFull, ClockFull, AllStopped, TurnLimit}
 use Rattle.cast_report.specs.Linked.{event_of}
 use Rattle.cast_message.specs.declared.message.FrameKind.{FrameKind}
 use Rattle.cast_message.specs.declared.message.FrameKind.TheVariants as kinds
@@ -37,25 +37,31 @@ module _ (limit : ℕ) (crash : Option ℕ) (log : List Entry) (ends : EndsAs li
   longer : (e : Entry) → length (log ++ e ∷ []) ≡ length log + 1
   longer e = length-append log (e ∷ [])
 
-  pub ends_more : (e : Entry) → is_crash e.kind ≡ false → ((n : ℕ) → crash ≡ Some n → length log < n) → EndsAs limit crash None (log ++ e ∷ [])
-  ends_more e quiet safe = record {
+  -- one entry more, with which an engine ends only where it is its crash
+  by_entry : (e : Entry) (ended : Option EngineEnd) → ((end : EngineEnd) → ended ≡ Some end → end ≡ Crashed)
+      → (is_crash e.kind ≡ true → (crash ≡ Some (length log)) × (ended ≡ Some Crashed))
+      → (ended ≢ Some Crashed → (n : ℕ) → crash ≡ Some n → length log < n) → (ended ≡ Some Crashed → is_crash e.kind ≡ true)
+      → EndsAs limit crash ended (log ++ e ∷ [])
+  by_entry e ended only loud due crashed = record {
     within = let l = longer e in omega arith;
-    full = λ h. absurd cc; below = λ h. absurd cc; rested = λ h. absurd cc; used_up = λ h. absurd cc;
-    due = λ h n is. let s = safe n is in let l = longer e in omega arith;
+    full = λ h. let no = only LogFull h in absurd cc;
+    below = λ h. let no = only ClockFull h in absurd cc;
+    rested = λ h. let no = only AllStopped h in absurd cc;
+    used_up = λ h. let no = only TurnLimit h in absurd cc;
+    due = λ h n is. let s = due h n is in let l = longer e in omega arith;
     last = λ i x at c. ⊎_elim (λ (y : slice_get log i ≡ Some x). let no : None ≡ Some Crashed = (ends.last i x y c).2 in absurd cc)
-        (λ (y : (i ≡ length log) × (e ≡ x)). absurd (false≢true (sym quiet ∙ ap (λ (z : Entry). is_crash z.kind) y.1 ∙ c))) (get_snoc log e x i at);
-    crashed = λ h. absurd cc;
+        (λ (y : (i ≡ length log) × (e ≡ x)).
+        let own = loud (ap (λ (z : Entry). is_crash z.kind) y.1 ∙ c) in
+        let l = longer e in
+        (omega (arith, y.0), own.0 ∙ ap (λ n. Some n) (sym y.0), own.1)) (get_snoc log e x i at);
+    crashed = λ h. (length log, e, get_middle log e [], crashed h);
   }
 
+  pub ends_more : (e : Entry) → is_crash e.kind ≡ false → ((n : ℕ) → crash ≡ Some n → length log < n) → EndsAs limit crash None (log ++ e ∷ [])
+  ends_more e quiet safe = by_entry e None (λ end h. absurd cc) (λ loud. absurd (false≢true (sym quiet ∙ loud))) (λ h. safe) (λ h. absurd cc)
+
   pub ends_crash : (e : Entry) → is_crash e.kind ≡ true → crash ≡ Some (length log) → EndsAs limit crash (Some Crashed) (log ++ e ∷ [])
-  ends_crash e loud due = record {
-    within = let l = longer e in omega arith;
-    full = λ h. absurd cc; below = λ h. absurd cc; rested = λ h. absurd cc; used_up = λ h. absurd cc;
-    due = λ h n is. absurd (h refl);
-    last = λ i x at c. ⊎_elim (λ (y : slice_get log i ≡ Some x). let no : None ≡ Some Crashed = (ends.last i x y c).2 in absurd cc)
-        (λ (y : (i ≡ length log) × (e ≡ x)). let l = longer e in (omega (arith, y.0), due ∙ ap (λ n. Some n) (sym y.0), refl)) (get_snoc log e x i at);
-    crashed = λ h. (length log, e, get_middle log e [], loud);
-  }
+  ends_crash e loud due = by_entry e (Some Crashed) (λ end h. cc) (λ _. (due, refl)) (λ h. absurd (h refl)) (λ h. loud)
 
 -- a step other than a crash leaves a node alive
 either_live : (b : Bool) (x y : Told) (live : Bool) → x.kept.live ≡ live → y.kept.live ≡ live → (if b then x else y).kept.live ≡ live

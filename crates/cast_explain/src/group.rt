@@ -13,10 +13,9 @@ use std::alloc::{AllocError, Global};
 
 /// Why no group is run of the script in these bytes; none exactly where this is not the first cause that holds of it.
 pub fn group_words(alloc: Global, name: &str, bytes: &[u8], fault: LiveFault) -> Explanation
-    ensures some { IfOk result (λ words. IfSome words (λ _. IsNoGroup bytes.now fault)) }
+    ensures some { IfOk result (λ words. IfSome words (λ text.
+        IsNoGroup bytes.now fault × IsNamed name.now (string_bytes text))) }
     ensures none { IfOk result (λ words. IfNone words (IsNoGroup bytes.now fault → ⊥)) }
-    ensures named { IfOk result (λ words. IfSome words (λ text.
-        IsNamed name.now (string_bytes text))) }
 {
     let script = match read_script(alloc, bytes) {
         Ok(script) => script,

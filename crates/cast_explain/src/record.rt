@@ -32,10 +32,9 @@ struct TextLine<'a> {
 
 /// Which line of the text breaks which rule, in words; none exactly where that is not the verdict on these bytes.
 pub fn verdict_words(alloc: Global, name: &str, text: &[u8], line: u64, rule: u64) -> Explanation
-    ensures some { IfOk result (λ words. IfSome words (λ _. verdict text.now ≡ Bad line rule)) }
+    ensures some { IfOk result (λ words. IfSome words (λ said.
+        (verdict text.now ≡ Bad line rule) × NamesLine name.now line rule (string_bytes said))) }
     ensures none { IfOk result (λ words. IfNone words (verdict text.now ≢ Bad line rule)) }
-    ensures named { IfOk result (λ words. IfSome words (λ text.
-        NamesLine name.now line rule (string_bytes text))) }
 {
     match judge(alloc, text)? {
         Verdict::Bad {
@@ -52,10 +51,9 @@ pub fn verdict_words(alloc: Global, name: &str, text: &[u8], line: u64, rule: u6
 
 /// Why a text has no head of the first format; none exactly where these bytes have one.
 pub fn head_words(alloc: Global, name: &str, text: &[u8]) -> Explanation
-    ensures some { IfOk result (λ words. IfSome words (λ _. HasNoHead text.now)) }
+    ensures some { IfOk result (λ words. IfSome words (λ said.
+        HasNoHead text.now × IsNamed name.now (string_bytes said))) }
     ensures none { IfOk result (λ words. IfNone words (HasNoHead text.now → ⊥)) }
-    ensures named { IfOk result (λ words. IfSome words (λ text.
-        IsNamed name.now (string_bytes text))) }
 {
     match migrate(alloc, text) {
         Ok(_) => return Ok(None),

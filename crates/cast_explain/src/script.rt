@@ -15,10 +15,9 @@ use std::alloc::{AllocError, Global};
 /// Why these bytes are refused as a script with this fault; none exactly where they are not, as where the fault is want of
 /// memory.
 pub fn script_words(alloc: Global, name: &str, bytes: &[u8], fault: ScriptFault) -> Explanation
-    ensures some { IfOk result (λ words. IfSome words (λ _. IsNoScript bytes.now fault)) }
+    ensures some { IfOk result (λ words. IfSome words (λ text.
+        IsNoScript bytes.now fault × IsNamed name.now (string_bytes text))) }
     ensures none { IfOk result (λ words. IfNone words (IsNoScript bytes.now fault → ⊥)) }
-    ensures named { IfOk result (λ words. IfSome words (λ text.
-        IsNamed name.now (string_bytes text))) }
 {
     let found = match read_script(alloc, bytes) {
         Ok(_) => return Ok(None),

@@ -58,8 +58,18 @@ made_of s w = record {
   box_size = s.box_size;
   first_stamp = s.first_stamp;
   mode = s.mode;
-  some_node = w.0; nodes_in_range = w.1; faults_in_range = w.2; some_choice = w.3; choices_in_range = w.4; some_item = w.5;
-  items_in_range = w.6; some_entry = w.7; log_in_range = w.8; some_place = w.9; box_in_range = w.10; mode_in_range = w.11;
+  some_node = w.0;
+  nodes_in_range = w.1;
+  faults_in_range = w.2;
+  some_choice = w.3;
+  choices_in_range = w.4;
+  some_item = w.5;
+  items_in_range = w.6;
+  some_entry = w.7;
+  log_in_range = w.8;
+  some_place = w.9;
+  box_in_range = w.10;
+  mode_in_range = w.11;
 }
 
 abbrev within_of : (c : Config) (turns : ℕ) → AreWithin (settings_in c turns)

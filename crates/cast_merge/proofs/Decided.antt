@@ -10,7 +10,7 @@ use Rattle.cast_message.specs.declared.message.Message.{Message}
 use Rattle.cast_message.specs.declared.message.Decision.{Decision}
 use Rattle.cast_model.specs.History.{History}
 use Rattle.cast_model.specs.Delivery.{nodes_of, decision}
-use Rattle.cast_model.specs.Replies.{IsPrefixOf, value_for}
+use Rattle.cast_model.specs.Headline.{IsPrefixOf, value_for}
 use Rattle.cast_model.specs.RunLaws.{decisions_shown}
 use Rattle.cast_model.specs.Steps.{Step, Ordered, Sent, Acknowledged, Arrived, Stopped, Steps, steps_of}
 use Rattle.cast_model.specs.OwnSteps.{own_log, own_deliveries, own_outcome, own_answer, own_decision, own_decision_on, own_decisions_of}

@@ -10,7 +10,8 @@ use Rattle.cast_message.specs.declared.event.Event.TheVariants.{Order, Send, Ack
 use Rattle.cast_message.specs.declared.event.Outcome.{Outcome}
 use Rattle.cast_message.specs.declared.event.StepFault.{StepFault}
 use Rattle.cast_message.specs.declared.event.Answer.TheVariants.{Arrived as AnswerArrived}
-use Rattle.cast_model.specs.Replies.{IsPrefixOf, reply_by}
+use Rattle.cast_model.specs.Headline.{IsPrefixOf}
+use Rattle.cast_model.specs.Replies.{reply_by}
 use Rattle.cast_model.specs.Steps.{Step, Steps}
 use Rattle.cast_model.specs.OwnSteps.{own_answer, own_fault, is_ignored, nothing, node_reply, node_after}
 use Rattle.cast_node.specs.declared.entry.Entry.{Entry}

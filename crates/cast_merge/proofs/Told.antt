@@ -8,7 +8,7 @@ use Rattle.cast_message.specs.declared.message.Item.{Item}
 use Rattle.cast_message.specs.declared.message.Message.{Message}
 use Rattle.cast_message.specs.declared.message.Decision.{Decision}
 use Rattle.cast_model.specs.History.{History, stream, broadcast}
-use Rattle.cast_model.specs.Replies.{IsPrefixOf, is_from}
+use Rattle.cast_model.specs.Headline.{IsPrefixOf, is_from}
 use Rattle.cast_model.specs.Shown.{item_of}
 use Rattle.cast_model.specs.Steps.{Step, Ordered, Sent, Acknowledged, Arrived, Stopped, Steps, steps_of}
 use Rattle.cast_model.specs.OwnSteps.{own_log, own_deliveries, own_outcome, own_answer}

@@ -19,7 +19,7 @@ use Rattle.cast_message.specs.declared.message.Message.{Message}
 use Rattle.cast_message.specs.declared.message.Decision.{Decision}
 use Rattle.cast_model.specs.History.{History, stream}
 use Rattle.cast_model.specs.Delivery.{decision}
-use Rattle.cast_model.specs.Replies.{IsPrefixOf, is_from, value_for}
+use Rattle.cast_model.specs.Headline.{IsPrefixOf, is_from, value_for}
 use Rattle.cast_model.specs.Shown.{item_of}
 use Rattle.cast_box.specs.Lists.{StartsWith}
 use Rattle.cast_node.specs.declared.entry.Entry.{Entry}

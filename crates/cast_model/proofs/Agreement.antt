@@ -15,7 +15,8 @@ use Rattle.cast_message.specs.declared.message.Message.{Message}
 use Rattle.cast_model.specs.History.{History, items_ordered, stream}
 use Rattle.cast_model.specs.Delivery.{nodes_of, value_in, votes, least, delivery_log, decision}
 use Rattle.cast_model.specs.RunLaws.{decisions_shown}
-use Rattle.cast_model.specs.Replies.{fault, history, replies, decided, IsAccepted, is_from, AtMost}
+use Rattle.cast_model.specs.Headline.{decided, is_from, AtMost}
+use Rattle.cast_model.specs.Replies.{fault, history, replies, IsAccepted}
 use Rattle.cast_model.proofs.Members.{Member, here, there, Member-one, Member-uncons, Member-append_left, Member-append_right, list_any-Member, Member-list_any, filter-Member, Member-get_or, place_of_Member}
 use Rattle.cast_model.proofs.Accepted.{Order-node}
 use Rattle.cast_model.proofs.Answered.{IsAccepted-history_from}

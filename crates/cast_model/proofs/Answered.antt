@@ -12,7 +12,8 @@ use Rattle.cast_message.specs.declared.message.Message.{Message}
 use Rattle.cast_message.specs.declared.message.Frame.{Frame}
 use Rattle.cast_model.specs.History.{History, broadcast, frames}
 use Rattle.cast_model.specs.Delivery.{concerned, concerned_by, turns_of, deliveries, is_node, delivery_log, delivered, outcome}
-use Rattle.cast_model.specs.Replies.{fault, answer, reply, reply_by, after, after_by, history_from, history, replies_from, replies, IsAccepted, deliveries_at, deliveries_for, is_from, answered, target_of, IsPrefixOf}
+use Rattle.cast_model.specs.Headline.{deliveries_at, deliveries_for, is_from, answered, IsPrefixOf}
+use Rattle.cast_model.specs.Replies.{fault, answer, reply, reply_by, after, after_by, history_from, history, replies_from, replies, IsAccepted, target_of}
 use Rattle.cast_model.proofs.Prefix.{delivery_log-front, delivered_is_prefix}
 
 -- what was accepted stays so

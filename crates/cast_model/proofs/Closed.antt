@@ -13,7 +13,8 @@ use Rattle.cast_message.specs.declared.message.Message.{Message}
 use Rattle.cast_model.specs.History.{History, items_ordered, stream, numbered, broadcast}
 use Rattle.cast_model.specs.Delivery.{delivered}
 use Rattle.cast_message.specs.Items.{is_close}
-use Rattle.cast_model.specs.Replies.{causes, fault, IsAccepted, IsClosedOnlyAtEnd, replies, history, answered}
+use Rattle.cast_model.specs.Headline.{IsClosedOnlyAtEnd, answered}
+use Rattle.cast_model.specs.Replies.{causes, fault, IsAccepted, replies, history}
 use Rattle.cast_model.proofs.Members.{here, there, list_any-Member, Member-slice_get}
 use Rattle.cast_model.proofs.Accepted.{no_cause}
 use Rattle.cast_model.proofs.Fronts.{length-numbered}

@@ -14,7 +14,8 @@ use Rattle.cast_message.specs.declared.message.Message.{Message}
 use Rattle.cast_message.specs.Items.{proposes_in}
 use Rattle.cast_model.specs.History.{History, stream, numbered, broadcast}
 use Rattle.cast_model.specs.Delivery.{nodes_of, is_ready, delivered, delivery_log, votes, value_in, decision}
-use Rattle.cast_model.specs.Replies.{IsAccepted, is_from}
+use Rattle.cast_model.specs.Headline.{is_from}
+use Rattle.cast_model.specs.Replies.{IsAccepted}
 use Rattle.cast_model.specs.Rounds.{Rest, Live, FewCrashedIn, proposers}
 use Rattle.cast_model.proofs.Members.{Member, Member-filter, filter-Member, Member-list_any}
 use Rattle.cast_model.proofs.Ready.{both_same}

@@ -13,7 +13,8 @@ use Rattle.cast_message.specs.declared.message.Message.{Message}
 use Rattle.cast_message.specs.declared.message.Decision.{Decision}
 use Rattle.cast_model.specs.History.{History}
 use Rattle.cast_model.specs.Delivery.{Concerned, concerned, turns_of, deliveries, is_node, delivery_log, value_in, votes, least, decision, decision_on, decisions_of, log_of, outcome}
-use Rattle.cast_model.specs.Replies.{fault, answer, reply, reply_by, after, after_by, history_from, replies_from, decisions_in, decisions_in_answer, value_for, decided}
+use Rattle.cast_model.specs.Headline.{decisions_in, decisions_in_answer, value_for, decided}
+use Rattle.cast_model.specs.Replies.{fault, answer, reply, reply_by, after, after_by, history_from, replies_from}
 use Rattle.cast_model.proofs.Members.{Member, here, there, Member-append, Member-uncons, Member-if}
 
 -- the evidence for a decided value

@@ -11,7 +11,8 @@ use Rattle.cast_message.specs.declared.message.Item.TheVariants.{Data, Propose, 
 use Rattle.cast_message.specs.declared.message.Message.{Message}
 use Rattle.cast_model.specs.History.{History}
 use Rattle.cast_model.specs.Delivery.{value_in, votes, decision_by, decision_on, decisions_of, delivery_log}
-use Rattle.cast_model.specs.Replies.{IsAccepted, is_from}
+use Rattle.cast_model.specs.Headline.{is_from}
+use Rattle.cast_model.specs.Replies.{IsAccepted}
 use Rattle.cast_model.specs.OwnSteps.{is_first_vote, first_votes, own_decision_on, own_decisions_of}
 use Rattle.cast_model.proofs.Members.{some-Member, Member-list_any, filter-Member}
 use Rattle.cast_model.proofs.Votes.{votes_from, votes-append, proposes_once}

@@ -10,7 +10,7 @@ use Rattle.cast_message.specs.declared.config.Config.{Config}
 use Rattle.cast_message.specs.declared.message.Message.{Message}
 use Rattle.cast_model.specs.History.{FirstCopy, has_pair}
 use Rattle.cast_model.specs.Delivery.{is_pair}
-use Rattle.cast_model.specs.Replies.{is_from}
+use Rattle.cast_model.specs.Headline.{is_from}
 use Rattle.cast_model.specs.Steps.{Step, Steps, Held, copy_of, held}
 use Rattle.cast_model.specs.OwnSteps.{own_copies, own_is_ready, own_next, message_at, messages_from, own_delivered, own_concerned, own_turns, own_deliveries, own_log, IsOwnAccepted}
 use Rattle.cast_model.proofs.Members.{Member, here, there}

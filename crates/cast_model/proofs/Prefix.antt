@@ -11,7 +11,8 @@ use Rattle.cast_message.specs.declared.event.Event.{Event}
 use Rattle.cast_message.specs.declared.message.Message.{Message}
 use Rattle.cast_model.specs.History.{History, items_ordered, stream, numbered, broadcast, has_pair, first}
 use Rattle.cast_model.specs.Delivery.{is_ready, next, delivered, Concerned, concerned, turns, turns_of, deliveries, is_node, delivery_log}
-use Rattle.cast_model.specs.Replies.{IsAccepted, is_from, IsPrefixOf}
+use Rattle.cast_model.specs.Headline.{is_from, IsPrefixOf}
+use Rattle.cast_model.specs.Replies.{IsAccepted}
 use Rattle.cast_model.proofs.Members.{Member}
 use Rattle.cast_model.proofs.Growth.{stream-more}
 use Rattle.cast_model.proofs.Sound.{Sound, sound, held_in_stream}

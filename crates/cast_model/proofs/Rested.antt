@@ -11,7 +11,8 @@ use Rattle.cast_message.specs.declared.message.Item.{Item}
 use Rattle.cast_message.specs.declared.message.Message.{Message}
 use Rattle.cast_model.specs.History.{History, is_live, stream, numbered, broadcast}
 use Rattle.cast_model.specs.Delivery.{is_ready, is_known_enough, delivered, delivery_log, votes, value_in}
-use Rattle.cast_model.specs.Replies.{IsAccepted, is_from}
+use Rattle.cast_model.specs.Headline.{is_from}
+use Rattle.cast_model.specs.Replies.{IsAccepted}
 use Rattle.cast_model.specs.Rounds.{Rest}
 use Rattle.cast_model.proofs.Members.{Member, here, there, Member-filter, filter-Member}
 use Rattle.cast_model.proofs.Sound.{sound}

@@ -18,7 +18,8 @@ use Rattle.cast_model.specs.History.{History, frames}
 use Rattle.cast_model.specs.Delivery.{concerned, concerned_by, turns_of, deliveries, delivery_log, value_in, votes, least, decision, decision_by, decisions_of, log_of, outcome}
 use Rattle.cast_model.specs.Steps.{Steps}
 use Rattle.cast_model.specs.OwnSteps.{is_first_vote, first_votes, own_decision_on, own_decisions_of, own_log, own_decision}
-use Rattle.cast_model.specs.Replies.{IsAccepted, fault, answer, reply, reply_by, after, history_from, history, replies_from, replies, deliveries_at, deliveries_for, decisions_at, decisions_for, value_for, decided_at, target_of}
+use Rattle.cast_model.specs.Headline.{deliveries_at, deliveries_for, decisions_at, decisions_for, value_for, decided_at}
+use Rattle.cast_model.specs.Replies.{IsAccepted, fault, answer, reply, reply_by, after, history_from, history, replies_from, replies, target_of}
 use Rattle.cast_model.proofs.Answered.{IsAccepted-history_from, delivery_log-after}
 use Rattle.cast_model.proofs.FirstVotes.{VotesOnce, once_front, first_votes-last, first_votes-all, own_decisions-all, log_votes_once}
 

@@ -12,7 +12,8 @@ use Rattle.cast_message.specs.declared.message.Message.{Message}
 use Rattle.cast_message.specs.Limits.{fault_factor}
 use Rattle.cast_model.specs.History.{History, is_live, has_pair, first, broadcast}
 use Rattle.cast_model.specs.Delivery.{nodes_of, knows, known_by, is_known_enough, is_ready, next, delivered}
-use Rattle.cast_model.specs.Replies.{IsAccepted, IsPrefixOf}
+use Rattle.cast_model.specs.Headline.{IsPrefixOf}
+use Rattle.cast_model.specs.Replies.{IsAccepted}
 use Rattle.cast_model.specs.Rounds.{Rest, HaveFewCrashed}
 use Rattle.cast_model.proofs.Members.{Member, some-Member, there, here, Member-uncons, Member-list_any, list_any-Member, filter-Member}
 use Rattle.cast_model.proofs.Fronts.{prefix_len-mono}

@@ -15,7 +15,8 @@ use Rattle.cast_message.specs.Items.{proposes_in}
 use Rattle.cast_model.specs.History.{History, items_ordered, stream, numbered, broadcast}
 use Rattle.cast_model.specs.Delivery.{value_in, votes, delivery_log}
 use Rattle.cast_model.specs.Refusals.{is_second_proposal}
-use Rattle.cast_model.specs.Replies.{causes, fault, IsAccepted, is_from, IsPrefixOf}
+use Rattle.cast_model.specs.Headline.{is_from, IsPrefixOf}
+use Rattle.cast_model.specs.Replies.{causes, fault, IsAccepted}
 use Rattle.cast_model.proofs.Members.{here, there}
 use Rattle.cast_model.proofs.Accepted.{no_cause}
 use Rattle.cast_model.proofs.Prefix.{delivery_log-front, delivered_is_prefix}

@@ -5,7 +5,8 @@ use Rattle.cast_message.specs.declared.config.Mode.TheVariants.{Uniform}
 use Rattle.cast_message.specs.declared.event.Event.{Event}
 use Rattle.cast_model.specs.History.{History, broadcast, has_pair, first, frames}
 use Rattle.cast_model.specs.Delivery.{delivered, decision, knows, known_by}
-use Rattle.cast_model.specs.Replies.{IsAccepted, IsPrefixOf, reply, after}
+use Rattle.cast_model.specs.Headline.{IsPrefixOf}
+use Rattle.cast_model.specs.Replies.{IsAccepted, reply, after}
 use Rattle.cast_model.specs.Rounds.{owed, Rest, Live, HoldTheSame, HaveFewCrashed, FewCrashedIn, AreAccepted, AcceptedUntilFull, due, plan, after_round, proposers}
 use Rattle.cast_model.specs.Steps.{Step, steps_of}
 use Rattle.cast_model.specs.OwnSteps.{IsStep, node_reply, node_after, own_frames, own_delivered, own_decision, own_owed, own_knows, own_known_by}

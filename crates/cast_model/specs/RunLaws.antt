@@ -10,8 +10,8 @@ use Rattle.cast_message.specs.declared.message.Item.TheVariants.{Propose}
 use Rattle.cast_message.specs.Limits.{fault_factor}
 use Rattle.cast_model.specs.History.{History, stream, acked, taken}
 use Rattle.cast_model.specs.Delivery.{nodes_of, delivered, decision}
-use Rattle.cast_model.specs.Replies.{IsAccepted, AtMost, answered, decided_at, history, replies}
-use Rattle.cast_model.specs.Headline.{DeliversPrefixes, DeliversNothingAfterClose, DecidesProposals, DecidesFewValues, DecidesWithinFaults}
+use Rattle.cast_model.specs.Headline.{AtMost, answered, decided_at, DeliversPrefixes, DeliversNothingAfterClose, DecidesProposals, DecidesFewValues, DecidesWithinFaults}
+use Rattle.cast_model.specs.Replies.{IsAccepted, history, replies}
 
 abbrev pub AllRunsDeliverPrefixes : Type 0
 AllRunsDeliverPrefixes = (config : Config) (events : List Event) → DeliversPrefixes config events (replies config events)

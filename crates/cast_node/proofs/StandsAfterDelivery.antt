@@ -8,7 +8,7 @@ use Rattle.std.proofs.lemmas.List.Elements.{filter-append}
 use Rattle.cast_message.specs.declared.config.Config.{Config}
 use Rattle.cast_message.specs.declared.message.Item.{Item}
 use Rattle.cast_message.specs.declared.message.Message.{Message}
-use Rattle.cast_model.specs.Replies.{is_from}
+use Rattle.cast_model.specs.Headline.{is_from}
 use Rattle.cast_model.specs.Steps.{Step, Steps, held}
 use Rattle.cast_model.specs.OwnSteps.{own_known_enough, own_is_ready, own_next, own_turns, own_deliveries, own_log, own_outcome, own_decisions_of, messages_from}
 use Rattle.cast_model.proofs.Members.{Member}

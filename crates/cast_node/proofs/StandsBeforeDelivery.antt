@@ -15,7 +15,7 @@ use Rattle.cast_message.specs.declared.config.Config.{Config}
 use Rattle.cast_message.specs.declared.message.Item.{Item}
 use Rattle.cast_message.specs.declared.message.Message.{Message}
 use Rattle.cast_model.specs.History.{has_pair}
-use Rattle.cast_model.specs.Replies.{is_from}
+use Rattle.cast_model.specs.Headline.{is_from}
 use Rattle.cast_model.specs.Steps.{Step, Steps, own_items, frame_count, Held, held}
 use Rattle.cast_model.specs.OwnSteps.{own_live, own_copies, own_given, own_acked, own_knows, own_is_ready, own_taken, own_concerned, own_log, IsOwnAccepted}
 use Rattle.cast_model.proofs.OwnGrowth.{brought, held-more, own_given-more}

@@ -22,7 +22,7 @@ use Rattle.cast_message.specs.declared.message.FrameBody.{FrameBody}
 use Rattle.cast_message.specs.declared.message.FrameBody.TheVariants.{Carry, Took}
 use Rattle.cast_model.specs.History.{FirstCopy, has_pair, copy_at, is_carry_of, is_took_of}
 use Rattle.cast_model.specs.Delivery.{is_pair, tells_of}
-use Rattle.cast_model.specs.Replies.{is_from}
+use Rattle.cast_model.specs.Headline.{is_from}
 use Rattle.cast_model.specs.Steps.{each, Step, Ordered, Sent, Acknowledged, Arrived, Stopped, Steps, item_of as items_of, own_items, frame_count, frames_in, frame_of, Held, copy_of, held_by_body, held}
 use Rattle.cast_model.specs.OwnSteps.{own_live, own_copies, own_given, own_given_copies, own_taken, own_acked, own_knows, own_is_ready, own_next, own_concerned, own_turns, own_deliveries, own_log, own_outcome, own_decisions_of, message_in, messages_from, nothing, is_ignored, is_possible, is_possible_body, IsOwnAccepted}
 use Rattle.cast_model.proofs.Members.{Member-list_any, list_any-Member}

@@ -16,7 +16,8 @@ use Rattle.cast_message.specs.declared.message.Item.{Item}
 use Rattle.cast_message.specs.declared.message.Message.{Message}
 use Rattle.cast_model.specs.History.{has_pair}
 use Rattle.cast_model.specs.Shown.{item_of}
-use Rattle.cast_model.specs.Replies.{IsRefused, is_from}
+use Rattle.cast_model.specs.Headline.{is_from}
+use Rattle.cast_model.specs.Replies.{IsRefused}
 use Rattle.cast_model.specs.Steps.{Step, Steps, own_items, frame_count, Held, held}
 use Rattle.cast_model.specs.OwnSteps.{own_live, own_copies, own_given, own_taken, own_acked, own_owed, own_knows, own_is_ready, message_at, message_in, own_log, own_fault, node_reply, node_after, IsOwnAccepted}
 use Rattle.cast_link.specs.Links.{Link}

@@ -11,7 +11,8 @@ use Rattle.cast_message.specs.declared.event.StepFault.{StepFault}
 use Rattle.cast_message.specs.Limits.{fault_factor}
 use Rattle.cast_model.specs.History.{History, stream, is_live}
 use Rattle.cast_model.specs.Delivery.{delivery_log}
-use Rattle.cast_model.specs.Replies.{fault, reply, after, after_by, history_from, replies, replies_from, decided}
+use Rattle.cast_model.specs.Headline.{decided}
+use Rattle.cast_model.specs.Replies.{fault, reply, after, after_by, history_from, replies, replies_from}
 use Rattle.cast_model.specs.Rounds.{Due, due, events_for, plan_from, plan}
 use Rattle.cast_record.specs.declared.line.Line.{Line}
 use Rattle.cast_record.specs.declared.line.Line.TheVariants.{Head, Head2, End}

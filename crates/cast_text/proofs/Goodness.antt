@@ -15,7 +15,8 @@ use Rattle.cast_message.specs.declared.message.Message.{Message}
 use Rattle.cast_message.specs.declared.message.Decision.{Decision}
 use Rattle.cast_model.specs.History.{History, stream, is_live, broadcast, numbered}
 use Rattle.cast_model.specs.Delivery.{concerned, turns, deliveries, is_node, delivery_log, next, outcome}
-use Rattle.cast_model.specs.Replies.{reply, after, history, replies, IsAccepted, is_from, decided, decisions_in, value_for}
+use Rattle.cast_model.specs.Headline.{is_from, decided, decisions_in, value_for}
+use Rattle.cast_model.specs.Replies.{reply, after, history, replies, IsAccepted}
 use Rattle.cast_model.proofs.Members.{Member, Member-append_left, Member-append_right}
 use Rattle.cast_model.proofs.Agreement.{node_in, filter_map-Member, decided_at_most_choices, decided_in_stream}
 use Rattle.cast_model.proofs.Answered.{IsAccepted-history_from}

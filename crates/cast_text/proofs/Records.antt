@@ -17,7 +17,8 @@ use Rattle.cast_message.specs.declared.message.Frame.{Frame}
 use Rattle.cast_model.specs.History.{History, stream, is_live, frames, items_ordered, given}
 use Rattle.cast_model.specs.Delivery.{concerned, concerned_by, sender_in, delivery_log, outcome}
 use Rattle.cast_model.specs.Refusals.{Cause, no_node, first_fault, is_too_long}
-use Rattle.cast_model.specs.Replies.{fault, causes, causes_of_arrival, answer, reply, reply_by, after, after_by, replies, IsAccepted, is_from, decided, decisions_in, target_of}
+use Rattle.cast_model.specs.Headline.{is_from, decided, decisions_in}
+use Rattle.cast_model.specs.Replies.{fault, causes, causes_of_arrival, answer, reply, reply_by, after, after_by, replies, IsAccepted, target_of}
 use Rattle.cast_message.specs.StepCode.{step_code}
 use Rattle.cast_model.proofs.Members.{Member, here, there, Member-append, Member-slice_get, Member-when, Member-one}
 use Rattle.cast_model.proofs.Accepted.{no_cause, Order-node}

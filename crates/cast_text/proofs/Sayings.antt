@@ -14,7 +14,7 @@ use Rattle.cast_message.specs.declared.message.Message.{Message}
 use Rattle.cast_message.specs.declared.message.Decision.{Decision}
 use Rattle.cast_message.specs.Items.{is_close, proposes_in}
 use Rattle.cast_model.specs.Refusals as refused
-use Rattle.cast_model.specs.Replies as replies
+use Rattle.cast_model.specs.Headline as headline
 use Rattle.cast_model.proofs.Members.{Member, here, there, Member-uncons, Member-Contains, list_any-Member}
 use Rattle.cast_record.specs.declared.line.Line.{Line}
 use Rattle.cast_record.specs.declared.line.Line.TheVariants.{Head, Head2, Broadcast, Delivered, Decided, Crashed, Refused, End}
@@ -220,7 +220,7 @@ all_contained : (bound xs : List ℕ) → ((w : ℕ) → Member w xs → Member 
 all_contained bound [] h = tt
 all_contained bound (x ∷ xs) h = (Member-Contains x bound (h x here), all_contained bound xs (λ w m. h w (there m)))
 
-pub few_different : (k : ℕ) (bound xs : List ℕ) → replies.AtMost k bound → ((w : ℕ) → Member w xs → Member w bound) → length (said.different xs) ≤ k
+pub few_different : (k : ℕ) (bound xs : List ℕ) → headline.AtMost k bound → ((w : ℕ) → Member w xs → Member w bound) → length (said.different xs) ≤ k
 few_different k bound xs few within =
     few (said.different xs) (different_distinct xs) (All-from_recursion (Contains bound) (said.different xs) (all_contained bound (said.different xs) (λ w m. within w (different_Member w xs m))))
 
@@ -240,7 +240,7 @@ not_many f k n few = go (nat_lt f k) refl
 module _ (config : Config) (streams : ℕ → List Item) (counts : ℕ → ℕ → ℕ) (live : ℕ → Bool) (values : ℕ → List ℕ) (xs : List Line) (h : Says config streams counts live values xs) where
   -- a decision
   pub decision_sound : (q : ℕ) (d : Decision) (s : ℕ) → q < config.nodes → live q ≡ true → Member (Propose d.instance d.value) (streams s) → Member d.value (values d.instance)
-      → (config.faults < config.choices → replies.AtMost config.choices (values d.instance)) → said.broken xs (Decided q d) ≡ None
+      → (config.faults < config.choices → headline.AtMost config.choices (values d.instance)) → said.broken xs (Decided q d) ≡ None
   decision_sound q d s node up proposed decided few =
       let line = Decided q d in
       let bound : (w : ℕ) → Member w (d.value ∷ said.values_in xs d.instance) → Member w (values d.instance) =

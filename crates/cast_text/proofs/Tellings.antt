@@ -11,7 +11,7 @@ use Rattle.cast_message.specs.declared.message.Item.TheVariants.{Propose}
 use Rattle.cast_message.specs.declared.message.Message.{Message}
 use Rattle.cast_message.specs.declared.message.Decision.{Decision}
 use Rattle.cast_model.specs.History.{numbered}
-use Rattle.cast_model.specs.Replies as replies
+use Rattle.cast_model.specs.Headline as headline
 use Rattle.cast_model.proofs.Members.{Member, here, there, Member-uncons, Member-slice_get}
 use Rattle.cast_record.specs.declared.line.Line.{Line}
 use Rattle.cast_record.specs.declared.line.Line.TheVariants.{Broadcast, Delivered, Decided, Crashed, Refused}
@@ -224,7 +224,7 @@ range_is_next items s a b =
     (next_of (b - a) a s items (drop a items) (λ k. get_drop a k items))
 
 -- those of another sender are none of them
-pub filter_next : (items : List Item) (s a s' : ℕ) (news : List Message) → AreNext items s a news → length (filter (replies.is_from s') news) ≡ one_if (nat_eq s s') (length news)
+pub filter_next : (items : List Item) (s a s' : ℕ) (news : List Message) → AreNext items s a news → length (filter (headline.is_from s') news) ≡ one_if (nat_eq s s') (length news)
 filter_next items s a s' [] next = go (nat_eq s s')
   where
     go : (b : Bool) → 0 ≡ one_if b 0
@@ -232,7 +232,7 @@ filter_next items s a s' [] next = go (nat_eq s s')
     go false = refl
 filter_next items s a s' (m ∷ ms) next = go (nat_eq m.sender s') (nat_eq s s') (ap (λ t. nat_eq t s') next.0) (filter_next items s (suc a) s' ms next.3)
   where
-    go : (b d : Bool) → b ≡ d → length (filter (replies.is_from s') ms) ≡ one_if d (length ms) → length (cond b (m ∷ filter (replies.is_from s') ms) (filter (replies.is_from s') ms)) ≡ one_if d (suc (length ms))
+    go : (b d : Bool) → b ≡ d → length (filter (headline.is_from s') ms) ≡ one_if d (length ms) → length (cond b (m ∷ filter (headline.is_from s') ms) (filter (headline.is_from s') ms)) ≡ one_if d (suc (length ms))
     go true true e ih = omega (arith, ih)
     go true false e ih = absurd (cc)
     go false true e ih = absurd (cc)
@@ -247,7 +247,7 @@ pub record IsDue (st : ℕ → List Item) (v : ℕ → List ℕ) (d : Decision) 
   pub decided : Member d.value (v d.instance)
 
 pub decide_all : (config : Config) (st : ℕ → List Item) (c : ℕ → ℕ → ℕ) (l : ℕ → Bool) (v : ℕ → List ℕ) (xs : List Line) (q : ℕ) (ds : List Decision) → AreWithin st → q < config.nodes → l q ≡ true
-    → ((j : ℕ) → config.faults < config.choices → replies.AtMost config.choices (v j)) → ((d : Decision) → Member d ds → IsDue st v d) → Says config st c l v xs → Follows config st c l v xs (map (Decided q) ds)
+    → ((j : ℕ) → config.faults < config.choices → headline.AtMost config.choices (v j)) → ((d : Decision) → Member d ds → IsDue st v d) → Says config st c l v xs → Follows config st c l v xs (map (Decided q) ds)
 decide_all config st c l v xs q [] w node up few due h = record { lines = xs; goes = goes_none xs; says = h }
 decide_all config st c l v xs q (d ∷ ds) w node up few due h =
     let one = due d here in

@@ -1,8 +1,6 @@
 //! Playing a script: its events are taken one by one, of a settle those of two rounds, and an observer is shown each.
 ghost use Rattle.std.specs.Prelude.{List, [], ◌∷◌, Result, Ok, OnOk, IsTrue};
-ghost use Rattle.cast_message.specs.declared.config.Config.{Config as Settings};
-ghost use Rattle.cast_model.specs.History.{History};
-ghost use Rattle.cast_world.specs.Group.{Stands};
+ghost use Rattle.cast_world.specs.Group.{Stands, StandingFor};
 ghost use Rattle.cast_text.specs.declared.fault.TextFault.{TextFault as AnyFault};
 ghost use Rattle.cast_text.specs.Played.{Played, Taken, SettleBegun, SettleEnded, tried, one_left, round_left, settled, left_by, played, Observes, Overlooks, Plays, PlaysAll, ShowsReply};
 
@@ -74,9 +72,8 @@ fn play_script_event<O: Observer>(
 ) -> Result<(), TextFault>
     requires { O.ready observer.old }
     ensures ready { OnOk result (O.ready observer.new) }
-    ensures plays { (config : Settings) (past : History) → Stands config past world.old →
-        PlaysAll O.saw config (left_by config index past event.now) world.new observer.old
-        observer.new result }
+    ensures plays { StandingFor world.old (λ config past. PlaysAll O.saw config
+        (left_by config index past event.now) world.new observer.old observer.new result) }
 {
     match event {
         ScriptEvent::Core(event) => {
@@ -99,9 +96,8 @@ fn play_rounds<O: Observer>(
 ) -> Result<(), TextFault>
     requires { O.ready observer.old }
     ensures ready { OnOk result (O.ready observer.new) }
-    ensures plays { (config : Settings) (past : History) → Stands config past world.old →
-        PlaysAll O.saw config (settled config index past) world.new observer.old observer.new
-        result }
+    ensures plays { StandingFor world.old (λ config past. PlaysAll O.saw config
+        (settled config index past) world.new observer.old observer.new result) }
 {
     if play_round(world, index, observer)? {
         let _accepted = play_round(world, index, observer)?;
@@ -117,9 +113,8 @@ fn play_round<O: Observer>(
 ) -> Result<bool, TextFault>
     requires { O.ready observer.old }
     ensures ready { OnOk result (O.ready observer.new) }
-    ensures plays { (config : Settings) (past : History) → Stands config past world.old →
-        Plays O.saw config (round_left config index past) world.new observer.old observer.new
-        result }
+    ensures plays { StandingFor world.old (λ config past. Plays O.saw config
+        (round_left config index past) world.new observer.old observer.new result) }
 {
     let mut due = world.due()?;
     'slots: while let Some(slot) = due.pop_front() {
@@ -140,9 +135,8 @@ fn play_events<O: Observer>(
 ) -> Result<bool, TextFault>
     requires { O.ready observer.old }
     ensures ready { OnOk result (O.ready observer.new) }
-    ensures plays { (config : Settings) (past : History) → Stands config past world.old →
-        Plays O.saw config (tried config index past events.now) world.new observer.old
-        observer.new result }
+    ensures plays { StandingFor world.old (λ config past. Plays O.saw config
+        (tried config index past events.now) world.new observer.old observer.new result) }
 {
     for event in events {
         if !play_event(world, index, event, observer)? {
@@ -161,9 +155,8 @@ fn play_event<O: Observer>(
 ) -> Result<bool, TextFault>
     requires { O.ready observer.old }
     ensures ready { OnOk result (O.ready observer.new) }
-    ensures plays { (config : Settings) (past : History) → Stands config past world.old →
-        Plays O.saw config (one_left config index past event.now) world.new observer.old
-        observer.new result }
+    ensures plays { StandingFor world.old (λ config past. Plays O.saw config
+        (one_left config index past event.now) world.new observer.old observer.new result) }
 {
     // (most events are silent)
     if observer.overlooks_silence() {

@@ -11,8 +11,8 @@ use Rattle.cast_message.specs.declared.event.StepFault.{StepFault}
 use Rattle.cast_message.specs.declared.message.Message.{Message}
 use Rattle.cast_model.specs.History.{History, broadcast}
 use Rattle.cast_model.specs.Delivery.{delivered}
-use Rattle.cast_model.specs.Headline.{DeliversPrefixes}
-use Rattle.cast_model.specs.Replies.{IsPrefixOf, answered, deliveries_for, is_from, after, history, replies, replies_from}
+use Rattle.cast_model.specs.Headline.{DeliversPrefixes, IsPrefixOf, answered, deliveries_for, is_from}
+use Rattle.cast_model.specs.Replies.{after, history, replies, replies_from}
 use Rattle.cast_model.proofs.Answered.{answered-delivered}
 use Rattle.example_ledger.specs.Applied.{applied_at, AreBooksOf}
 use Rattle.cast_merge.specs.Told.{of_sender}

@@ -5,7 +5,7 @@ use Rattle.std.specs.List.{filter, sum_by}
 use Rattle.std.proofs.lemmas.List.{ext_get_or}
 use Rattle.std.proofs.lemmas.List.Filters.{sum_by-filter_both, length-filter_both}
 use Rattle.cast_message.specs.declared.message.Message.{Message}
-use Rattle.cast_model.specs.Replies.{is_from}
+use Rattle.cast_model.specs.Headline.{is_from}
 use Rattle.example_ledger.specs.declared.book.Sheet.{Sheet}
 use Rattle.cast_merge.specs.Told.{of_sender}
 use Rattle.example_ledger.specs.Transfers.{transfer_in}

@@ -12,7 +12,7 @@ use Rattle.cast_message.specs.declared.event.StepFault.{StepFault}
 use Rattle.cast_message.specs.declared.message.Message.{Message}
 use Rattle.cast_model.specs.History.{History, broadcast}
 use Rattle.cast_model.specs.Delivery.{delivered}
-use Rattle.cast_model.specs.Replies.{IsPrefixOf, deliveries_for}
+use Rattle.cast_model.specs.Headline.{IsPrefixOf, deliveries_for}
 use Rattle.cast_model.specs.Rounds.{Live}
 use Rattle.cast_merge.specs.Told.{of_sender}
 use Rattle.example_ledger.specs.Sheets.{BookState, IsSheetOf}

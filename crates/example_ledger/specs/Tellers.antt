@@ -16,7 +16,7 @@ use Rattle.std.specs.List.{All, Contains, sum_by}
 use Rattle.cast_message.specs.declared.config.Config.{Config}
 use Rattle.cast_message.specs.declared.message.Item.{Item}
 use Rattle.cast_model.specs.History.{History, stream}
-use Rattle.cast_model.specs.Replies.{IsPrefixOf}
+use Rattle.cast_model.specs.Headline.{IsPrefixOf}
 use Rattle.cast_model.specs.Shown.{item_of}
 use Rattle.cast_desk.specs.declared.notice.Notice.{Notice}
 use Rattle.cast_desk.specs.declared.desk.OrderIn.{OrderIn}

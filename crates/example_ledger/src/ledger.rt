@@ -1,6 +1,7 @@
 //! The ledger of a group: a list of events goes in, and the book of each node comes out.
 ghost use Rattle.std.specs.Prelude.{◌≡◌, ◌↔◌, ◌≤◌, ◌++◌, IsTrue, IfOk, OnOk, length};
-ghost use Rattle.cast_model.specs.Replies.{history, replies, deliveries_for};
+ghost use Rattle.cast_model.specs.Headline.{deliveries_for};
+ghost use Rattle.cast_model.specs.Replies.{history, replies};
 ghost use Rattle.cast_model.specs.Rounds.{Rest, FewCrashedIn};
 ghost use Rattle.cast_world.specs.Group.{Stands};
 ghost use Rattle.example_ledger.specs.Applied.{AppliesPrefixes, AppliesDelivered, KeepsSheets, LiveSheetsAgree, AreBooksOf, applied_at};

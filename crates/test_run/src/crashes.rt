@@ -56,11 +56,7 @@ pub fn at_each_entry<R: Threads + Wait + Print + Copy + Send + 'static>(
 ) -> Result<()> {
     for entries in 0..=MOST {
         let run = run_crash(rt, alloc, entries)?;
-        let in_place = run
-            .report
-            .reports()
-            .get(1)
-            .is_some_and(|node| ends_in_crash(node, entries));
+        let in_place = crashes_after(&run, 1, entries);
         let good = see(alloc, &run.report)?.is_good();
         if !(in_place && good) {
             println!(&rt; "{row}: after {entries} entries: in place {in_place}, good {good}")?;
@@ -79,12 +75,7 @@ pub fn as_the_last_thing<R: Threads + Wait + Print + Copy + Send + 'static>(
     let plan = one_fault(alloc, crash_after(0, 3))?;
     for _run in 0..TIMES {
         let run = run_jobs(rt, alloc, Shape::new(2, 0, 1), &plan, &[0], 1, TURNS)?;
-        let in_place = run
-            .report
-            .reports()
-            .get(0)
-            .is_some_and(|node| ends_in_crash(node, 3));
-        if !in_place {
+        if !crashes_after(&run, 0, 3) {
             println!(&rt; "{row}: node 0 did not crash")?;
         }
     }
@@ -92,7 +83,14 @@ pub fn as_the_last_thing<R: Threads + Wait + Print + Copy + Send + 'static>(
     Ok(())
 }
 
-// Whether the log has so many entries before a crash, which is the last.
+// Whether the node's log has so many entries before a crash, which is the last.
+fn crashes_after(run: &LiveRun<SubmitAll>, node: usize, entries: u64) -> bool {
+    run.report
+        .reports()
+        .get(node)
+        .is_some_and(|node| ends_in_crash(node, entries))
+}
+
 fn ends_in_crash(node: &NodeReport, entries: u64) -> bool {
     let log = node.log.as_slice();
     let Some(last) = log.last() else {

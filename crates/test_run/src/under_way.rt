@@ -59,8 +59,8 @@ pub fn crash_with_a_frame_under_way<R: Threads + Wait + Print + Copy + Send + 's
     alloc: Global,
     row: &str,
 ) -> Result<()> {
-    let plan = one_fault(alloc, crash_after(0, 2))?;
     let config = Shape::new(3, 1, 2).config()?;
+    let plan = one_fault(alloc, crash_after(0, 2))?;
     let jobs = submit_each(alloc, &[0], 1)?;
     let run = run_live(rt, alloc, config, &plan, jobs, late_gates(alloc)?, TURNS)?;
     let seen = see(alloc, &run.report)?;

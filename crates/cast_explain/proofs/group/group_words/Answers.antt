@@ -10,9 +10,11 @@ returns-clause-some c =
     let faults = script.plan.faults in
     let found = c.in-Some.found in
     let by_gates = subst (λ gates. IsMisfit nodes c.as_slice.result.now gates faults found) c.nodes-gates.ensures c.in-Some.ensures.misfit in
-    rw (sym (same_cause found c.args.fault (search rules)))
-    (record {
-      script = script;
-      reads = c.in-Ok.ensures;
-      misfit = subst (λ jobs. IsMisfit nodes jobs nodes faults found) c.as_slice.ensures by_gates;
-    })
+    rw (sym (same_cause found c.args.fault (search rules))) (
+      record {
+        script = script;
+        reads = c.in-Ok.ensures;
+        misfit = subst (λ jobs. IsMisfit nodes jobs nodes faults found) c.as_slice.ensures by_gates;
+      },
+      c.in_ok-named.ensures.begins,
+    )

@@ -5,4 +5,4 @@ use Rattle.cast_explain.proofs.script.script_words.Goals as goal
 pub returns : goal.returns
 returns c =
     rw (sym (same_fault c.in-Err.found c.args.fault (search rules)))
-    (record { some = record { reads = c.in-Err.ensures; own = search rules }; none = search rules; named = c.in_ok-named.ensures.begins })
+    (record { some = (record { reads = c.in-Err.ensures; own = search rules }, c.in_ok-named.ensures.begins); none = search rules })
