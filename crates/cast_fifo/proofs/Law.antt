@@ -7,7 +7,7 @@ use Rattle.std.proofs.Common.{sym, ap, ◌∙◌, subst, arith, inl, inr, true�
 use Rattle.std.proofs.Math.ListN.{length-set}
 use Rattle.std.proofs.lemmas.Bool.Decides.{nat_tests, eqb_tells}
 use Rattle.cast_message.proofs.Tests.{turned_about}
-use Rattle.cast_message.proofs.Booleans.{or_false}
+use Rattle.cast_message.proofs.Booleans.{or_assoc, or_comm, or_false}
 use Rattle.cast_message.specs.declared.message.Item.{Item}
 use Rattle.cast_message.specs.declared.message.Item.TheVariants.{Close}
 use Rattle.cast_message.specs.declared.message.Message.{Message}
@@ -27,19 +27,10 @@ some_if true x = refl
 some_if false x = refl
 
 hold_order : (o h p : Bool) → ((o || h) || p) ≡ (o || (p || h))
-hold_order true h p = refl
-hold_order false true true = refl
-hold_order false true false = refl
-hold_order false false true = refl
-hold_order false false false = refl
+hold_order o h p = sym (or_assoc o h p) ∙ ap (λ b. o || b) (or_comm h p)
 
 offer_order : (o h p : Bool) → ((o || h) || p) ≡ ((p || o) || h)
-offer_order true h true = refl
-offer_order true h false = refl
-offer_order false true true = refl
-offer_order false true false = refl
-offer_order false false true = refl
-offer_order false false false = refl
+offer_order o h p = or_comm (o || h) p ∙ or_assoc p o h
 
 -- a pair has an item where it was offered or held
 came_by : (calls : List Call) (s i : ℕ) → is_some (item_of calls s i) ≡ (list_any (is_offer_of s i) calls || list_any (is_hold_of s i) calls)
@@ -98,16 +89,6 @@ by_mark false true false false f = refl
 by_mark false false m true f = absurd (true≢false (sym (f refl)))
 by_mark false false m false f = refl
 
-by_offer : (o x p : Bool) → ((p || o) || x) ≡ ((o || x) || p)
-by_offer true true true = refl
-by_offer true true false = refl
-by_offer true false true = refl
-by_offer true false false = refl
-by_offer false true true = refl
-by_offer false true false = refl
-by_offer false false true = refl
-by_offer false false false = refl
-
 next_kept : (held : Held) (k : ℕ) (item : Item) → (with_item held k item).next ≡ held.next
 next_kept held k item = go (came held k)
   where
@@ -157,7 +138,7 @@ module _ (nodes : ℕ) (past : List Call) (may : MayBeCalled nodes past) where
       let same_item : (i : ℕ) → item_of calls s i ≡ with_one (item_of past s) k m.item i = λ i. ap (λ b. first_of (item_of past s i) (if b then Some m.item else None)) (pair_of_own s k i true) in
       let kept = same_stands (with_one (item_of past s) k m.item) (item_of calls s) (is_ready past s) (is_ready past s) mid same_item (λ i. refl) (holds (item_of past s) (is_ready past s) held k m.item h (ready_came past s)) in
       let t = knows (item_of calls s) (is_ready past s) (is_ready calls s) mid k kept (own_item s k m.item (item_of past s k))
-      (λ i. by_offer (list_any (is_offer_of s i) past) (list_any (is_hold_of s i) past && list_any (is_mark_of s i) past) (s == s && k == i) ∙ ap (λ b. is_ready past s i || b) (pair_of_own s k i true ∙ turned_about k i))
+      (λ i. sym (offer_order (list_any (is_offer_of s i) past) (list_any (is_hold_of s i) past && list_any (is_mark_of s i) past) (s == s && k == i)) ∙ ap (λ b. is_ready past s i || b) (pair_of_own s k i true ∙ turned_about k i))
       (ready_came calls s) in
       let next = next_kept held k m.item in
       record {
