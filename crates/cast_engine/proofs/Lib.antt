@@ -2,7 +2,7 @@ pub mod Journaling
 pub mod Running
 pub mod Fed
 pub mod Staying
-pub mod Telling
+pub mod EndedLogs
 pub mod Answering
 pub mod Stamping
 pub mod Again

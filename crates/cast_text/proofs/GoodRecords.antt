@@ -32,8 +32,8 @@ use Rattle.cast_text.specs.Played.{Played, Taken, SettleBegun, SettleEnded, Left
 use Rattle.cast_text.specs.Recorded.{lines_of, record_of}
 use Rattle.cast_text.specs.RecordLaws.{lines_of-append}
 use Rattle.cast_record.proofs.WritingLemmas.{record_text-append}
-use Rattle.cast_text.proofs.Sayings.{end_sound}
-use Rattle.cast_text.proofs.Tellings.{goes_none, goes_one, goes_then}
+use Rattle.cast_text.proofs.SaidSoFar.{end_sound}
+use Rattle.cast_text.proofs.GoodLines.{goes_none, goes_one, goes_then}
 use Rattle.cast_text.proofs.Goodness.{counts, Told, Grown}
 use Rattle.cast_text.proofs.Records.{event_grows}
 

@@ -27,8 +27,8 @@ use Rattle.cast_record.specs.declared.line.Line.{Line}
 use Rattle.cast_record.specs.declared.line.Line.TheVariants.{Delivered, Decided}
 use Rattle.cast_record.specs.Lines.{outcome_lines}
 use Rattle.cast_record.specs.Ranges.{IsItemWithin}
-use Rattle.cast_text.proofs.Sayings.{Says}
-use Rattle.cast_text.proofs.Tellings.{Goes, goes_none, goes_then, says_as, one_if, AreWithin, Follows, AreNext, deliver_all, range_is_next, filter_next, IsDue, decide_all}
+use Rattle.cast_text.proofs.SaidSoFar.{Says}
+use Rattle.cast_text.proofs.GoodLines.{Goes, goes_none, goes_then, says_as, one_if, AreWithin, Follows, AreNext, deliver_all, range_is_next, filter_next, IsDue, decide_all}
 
 -- how many messages of s are in what q delivered
 abbrev pub counts : Config → History → ℕ → ℕ → ℕ

@@ -4,8 +4,8 @@ pub mod Whole
 pub mod JudgingLemmas
 pub mod MigratingLemmas
 pub mod DrawingLemmas
-pub mod Sayings
-pub mod Tellings
+pub mod SaidSoFar
+pub mod GoodLines
 pub mod Goodness
 pub mod Records
 pub mod GoodRecords

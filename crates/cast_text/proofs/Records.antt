@@ -29,8 +29,8 @@ use Rattle.cast_record.specs.declared.line.Line.TheVariants.{Broadcast, Crashed,
 use Rattle.cast_record.specs.Lines.{outcome_lines, refusal_lines, lines_for}
 use Rattle.cast_record.specs.Ranges.{IsItemWithin, IsWithin}
 use Rattle.cast_text.specs.Ranges.{HasItemRange, HasEventRange}
-use Rattle.cast_text.proofs.Sayings.{Says, broadcast_sound, crash_sound, refusal_sound}
-use Rattle.cast_text.proofs.Tellings.{goes_none, goes_one, goes_then, says_as, says_broadcast, says_crash, says_refusal}
+use Rattle.cast_text.proofs.SaidSoFar.{Says, broadcast_sound, crash_sound, refusal_sound}
+use Rattle.cast_text.proofs.GoodLines.{goes_none, goes_one, goes_then, says_as, says_broadcast, says_crash, says_refusal}
 use Rattle.cast_text.proofs.Goodness.{counts, Told, Grown, accepted_of, history_on, decided_kept, outcome_follows}
 
 -- ---- what a refused event leaves

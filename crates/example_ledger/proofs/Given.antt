@@ -31,7 +31,7 @@ use Rattle.cast_run.specs.Serves.{AreServed, IsServed, HaveOrigins}
 use Rattle.cast_world.specs.Group.{State, Stands, node_at}
 use Rattle.example_ledger.specs.declared.teller.Teller.{Teller}
 use Rattle.example_ledger.specs.Tellers.{TellerFact, IsGiven, OrdersAreGiven}
-use Rattle.example_ledger.proofs.Telling.{something_at}
+use Rattle.example_ledger.proofs.EndedTellers.{something_at}
 
 -- ---- from the log of a node to its stream
 

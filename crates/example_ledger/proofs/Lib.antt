@@ -1,5 +1,5 @@
 pub mod Applying
 pub mod Summing
-pub mod Telling
+pub mod EndedTellers
 pub mod Given
 pub mod Making

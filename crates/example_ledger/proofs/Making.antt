@@ -8,7 +8,7 @@ use Rattle.std.proofs.lemmas.Simd.{map-map}
 use Rattle.cast_message.specs.declared.message.Item.{Item}
 use Rattle.example_ledger.specs.declared.teller.Teller.{Teller}
 use Rattle.example_ledger.specs.Tellers.{IsNewTeller, AreNewTellers, WaitFor, items_given, nodes_of, orders_of}
-use Rattle.example_ledger.proofs.Telling.{tellers_with}
+use Rattle.example_ledger.proofs.EndedTellers.{tellers_with}
 
 -- a teller's node and its items
 abbrev pub given_at : ℕ × Teller → ℕ × List Item

@@ -2,7 +2,7 @@ use Rattle.std.proofs.Common.{◌≡◌, subst}
 use Rattle.cast_model.specs.Replies.{history, replies}
 use Rattle.cast_world.specs.Group.{Stands}
 use Rattle.example_ledger.proofs.Given.{orders_are_given}
-use Rattle.example_ledger.proofs.Telling.{tellers_apply_prefixes, tellers_keep_sheets}
+use Rattle.example_ledger.proofs.EndedTellers.{tellers_apply_prefixes, tellers_keep_sheets}
 use Rattle.example_ledger.proofs.running.run_tellers.Goals as goal
 
 pub returns-clause-world : goal.returns-clause-world

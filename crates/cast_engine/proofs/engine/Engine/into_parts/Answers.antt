@@ -1,6 +1,6 @@
 use Rattle.std.proofs.Common.{refl, subst, sym}
 use Rattle.cast_engine.proofs.Staying.{leaves, stays_halt, same_halt}
-use Rattle.cast_engine.proofs.Telling.{leaves_tell, leaves_told}
+use Rattle.cast_engine.proofs.EndedLogs.{leaves_tell, leaves_told}
 use Rattle.cast_engine.specs.Engines.{EngineState, Leaves}
 use Rattle.cast_engine.proofs.engine.Engine.into_parts.Goals as goal
 

@@ -27,7 +27,7 @@ use Rattle.cast_judge.proofs.StandingLemmas.{numbered_on}
 use Rattle.cast_judge.proofs.TestLemmas.{same_number}
 use Rattle.cast_judge.proofs.TextLemmas.{line_goes}
 use Rattle.cast_record.proofs.WritingLemmas.{record_text-append}
-use Rattle.cast_text.proofs.Sayings.{Says, delivery_sound, decision_sound}
+use Rattle.cast_text.proofs.SaidSoFar.{Says, delivery_sound, decision_sound}
 
 -- ---- lines that break no rule
 
