@@ -57,11 +57,15 @@ pub fn castgroup_command<'a>(
 
 // The flag that each command takes.
 fn explain_flag<'a>(alloc: Global) -> Arg<'a> {
-    Arg::new(alloc, "explain")
-        .long("explain")
+    let help = "Say in one more line on standard error where a fault is, and why";
+    flag(alloc, "explain", help).global(true)
+}
+
+fn flag<'a>(alloc: Global, name: &'static str, help: &'static str) -> Arg<'a> {
+    Arg::new(alloc, name)
+        .long(name)
         .action(ArgAction::SetTrue)
-        .global(true)
-        .help("Say in one more line on standard error where a fault is, and why")
+        .help(help)
 }
 
 fn script<'a>(alloc: Global) -> Arg<'a> {
@@ -92,29 +96,37 @@ fn live_command<'a>(alloc: Global) -> Result<Command<'a>, AllocError> {
             "Runs a script's group in threads, by its plan and jobs, and writes what became of it",
         )
         .after_help(ENDS)
-        .arg(file(alloc, "record", "Also write the record of the run to FILE"))?
-        .arg(file(
+        .arg(option(
+            alloc,
+            "record",
+            "FILE",
+            "Also write the record of the run to FILE",
+        ))?
+        .arg(option(
             alloc,
             "replay",
+            "FILE",
             "Also write to FILE a script that runs the same step by step",
         ))?
-        .arg(progress_flag(alloc))?
+        .arg(flag(
+            alloc,
+            "progress",
+            "Say on standard error each second how far the run is, as on a terminal",
+        ))?
         .arg(script(alloc))
 }
 
-// An option that names a file to be written.
-fn file<'a>(alloc: Global, name: &'static str, help: &'static str) -> Arg<'a> {
+// An option that takes a value.
+fn option<'a>(
+    alloc: Global,
+    name: &'static str,
+    value_name: &'static str,
+    help: &'static str,
+) -> Arg<'a> {
     Arg::new(alloc, name)
         .long(name)
-        .value_name("FILE")
+        .value_name(value_name)
         .help(help)
-}
-
-fn progress_flag<'a>(alloc: Global) -> Arg<'a> {
-    Arg::new(alloc, "progress")
-        .long("progress")
-        .action(ArgAction::SetTrue)
-        .help("Say on standard error each second how far the run is, as on a terminal")
 }
 
 fn migrate_command<'a>(alloc: Global) -> Result<Command<'a>, AllocError> {
@@ -142,9 +154,5 @@ fn place<'a>(
     value_name: &'static str,
     help: &'static str,
 ) -> Arg<'a> {
-    Arg::new(alloc, name)
-        .long(name)
-        .value_name(value_name)
-        .value_parser(value_parser!(u64))
-        .help(help)
+    option(alloc, name, value_name, help).value_parser(value_parser!(u64))
 }
