@@ -1,5 +1,6 @@
 -- What is told of a run in threads.
 --     status_of_run said            the status of a run of which this was summarized
+--     is_output_fault fault         an output stops with it: its stream failed, or memory was wanting
 --     stop_told fault first other   which of two stops, each with a fault, is told
 --     IsToldOfBoth fault a b told   which is told where the one output, the other, or both were not written
 use Rattle.std.specs.Prelude.{◌≡◌, Bool, true, false, if◌then◌else◌, Result, Ok, Err}
@@ -23,6 +24,11 @@ status_of_run said = status_by said.verdict said.rest
 abbrev pub is_memory : TextFault → Bool
 is_memory faults.Memory = true
 is_memory fault = false
+
+abbrev pub is_output_fault : TextFault → Bool
+is_output_fault faults.Write = true
+is_output_fault faults.Memory = true
+is_output_fault fault = false
 
 -- the other where it is want of memory, or else the first
 abbrev pub stop_told : {S : Type 0} → (S → TextFault) → S → S → S

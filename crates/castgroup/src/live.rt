@@ -1,12 +1,12 @@
 //! The command `live`: a script's group in threads, the files that are kept of the run, and its summary.
-ghost use Rattle.std.specs.Prelude.{◌≡◌, [], true, false, IfOk, IfErr, OnOk, OnErr, IsOk};
+ghost use Rattle.std.specs.Prelude.{◌≡◌, [], None, Ok, Err, true, false, IfOk, IfErr, OnOk, OnErr, IsOk};
 ghost use Rattle.std.specs.Io.Buffered.{writer_buffer, writer_inner};
 ghost use Rattle.std.specs.Io.KnownBytes.{Appends, append_known};
 ghost use Rattle.cast_live.specs.Live.{IsFinished, IsSummaryOf};
 ghost use Rattle.cast_text.specs.Text.{TakesInput, Tells, WroteFront};
 ghost use Rattle.cast_console.specs.Made.{IsCut};
 ghost use Rattle.castgroup.specs.Ran.{IsTold, RefusesRun, RunsScript, output_text};
-ghost use Rattle.castgroup.specs.Told.{IsToldOfBoth, stop_told, status_of_run};
+ghost use Rattle.castgroup.specs.Told.{IsToldOfBoth, stop_told, is_output_fault, status_of_run};
 
 use crate::progress::{ProgressReporter, due_deliveries};
 use cast_command::{Call, RunFiles};
@@ -216,6 +216,8 @@ fn keep<'a, R: Runtime + AllocGlobal>(
     file: RunFile,
 ) -> Result<u64, Stop<'a>>
     requires { IsFinished run.now }
+    ensures unnamed { path.entry ≡ None → result ≡ Ok 0 }
+    ensures stop { IfErr result (λ stop. is_output_fault stop.fault ≡ true) }
 {
     match path {
         Some(path) => write_file(rt, path, run, file),
@@ -228,7 +230,10 @@ fn warn_of_length<'a, R: Eprint>(
     rt: &R,
     written: Result<u64, Stop<'a>>,
     file: RunFile,
-) -> Result<(), Stop<'a>> {
+) -> Result<(), Stop<'a>>
+    ensures ok { OnOk written.entry (IsOk result) }
+    ensures err { IfErr written.entry (λ stop. result ≡ Err stop) }
+{
     if written? > INPUT_LIMIT as u64 {
         // Where standard error fails there is nowhere left to say so.
         let _ = eprintln!(rt; "castgroup: {}", file.warning());
@@ -256,6 +261,8 @@ fn write_file<'a, R: Runtime + AllocGlobal>(
     kept: RunFile,
 ) -> Result<u64, Stop<'a>>
     requires { IsFinished run.now }
+    ensures fault { IfErr result (λ stop. is_output_fault stop.fault ≡ true) }
+    ensures name { IfErr result (λ stop. stop.output.name ≡ StreamName.File path.entry) }
 {
     let stop = |fault, error| {
         Err(Stop {
@@ -285,7 +292,8 @@ fn tell_summary<'a, R: Runtime + AllocGlobal>(
     run: &FinishedRun,
 ) -> Result<Summary, Stop<'a>>
     requires { IsFinished run.now }
-    ensures { IfOk result (IsSummaryOf run.now.report.config run.now.assembly.events) }
+    ensures said { IfOk result (IsSummaryOf run.now.report.config run.now.assembly.events) }
+    ensures fault { IfErr result (λ stop. is_output_fault stop.fault ≡ true) }
 {
     let stop = |fault, error| {
         Err(Stop {
