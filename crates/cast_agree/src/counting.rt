@@ -3,7 +3,7 @@ use crate::tally::Tally;
 use cast_message::Decision;
 
 /// What was counted of an instance before.
-#[derive(Debug, Drop)]
+#[derive(Drop)]
 pub struct Before {
     pub instance: u64,
     /// Nothing, where there was no tally.
@@ -11,7 +11,7 @@ pub struct Before {
 }
 
 /// What `Agree::count_all` counted, and how to take it back.
-#[derive(Debug, Drop)]
+#[derive(Drop)]
 pub struct Counting {
     /// The decisions that were completed, in order.
     pub decisions: Vec<Decision>,

@@ -21,7 +21,7 @@ use std::marker::Model;
 use tally::Tally;
 
 /// The proposals counted, by instance.
-#[derive(Debug, Drop)]
+#[derive(Drop)]
 pub struct Agree {
     alloc: Global,
     // How many distinct senders decide an instance.

@@ -10,7 +10,7 @@ use std::marker::Model;
 use std::sync::Wait;
 
 /// An item that found the box full.
-#[derive(Debug, Drop)]
+#[derive(Drop)]
 pub struct Full<T> {
     pub item: T,
 }

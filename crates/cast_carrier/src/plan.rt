@@ -83,7 +83,7 @@ pub fn faults_from(alloc: Global, node: NodeId, faults: &[Fault]) -> Result<Vec<
 }
 
 /// An end of a link.
-#[derive(Clone, Copy, Debug)]
+#[derive(Clone, Copy)]
 pub(crate) enum LinkEnd {
     /// The node that makes the frames.
     Maker,

@@ -24,7 +24,7 @@ pub const FOR_VALUES: u64 = 20;
 pub const FARTHEST: u64 = 1_099_511_627_776;
 
 /// A point of the sheet.
-#[derive(Clone, Copy, Debug)]
+#[derive(Clone, Copy)]
 pub struct Spot {
     pub x: u64,
     pub y: u64,
@@ -52,7 +52,7 @@ impl Spot {
 
 /// A place for a box or a diamond below a node's line. There are three in a row below one another, and then three more to the
 /// right of them.
-#[derive(Clone, Copy, Debug)]
+#[derive(Clone, Copy)]
 pub struct Cell {
     /// The column that the place stands in.
     pub x: u64,

@@ -8,7 +8,7 @@ use std::alloc::{AllocError, Global};
 use std::marker::Model;
 
 /// What a frame says.
-#[derive(Clone, Copy, Debug, PartialEq, Eq)]
+#[derive(Clone, Copy, PartialEq, Eq)]
 pub enum Cargo {
     /// It carries this message.
     Message(Pair),
@@ -17,7 +17,7 @@ pub enum Cargo {
 }
 
 /// What became of a frame.
-#[derive(Clone, Copy, Debug, PartialEq, Eq)]
+#[derive(Clone, Copy, PartialEq, Eq)]
 pub enum Fate {
     /// It has not arrived.
     UnderWay,
@@ -28,7 +28,7 @@ pub enum Fate {
 }
 
 /// The place of a column, in points from the left. Contracts see the number.
-#[derive(Clone, Copy, Debug)]
+#[derive(Clone, Copy)]
 pub struct Column {
     x: u64,
 }
@@ -66,7 +66,7 @@ impl Column {
 }
 
 /// A frame that was made.
-#[derive(Clone, Copy, Debug)]
+#[derive(Clone, Copy)]
 pub struct MadeFrame {
     /// The node that made it.
     pub from: NodeId,
@@ -89,7 +89,7 @@ pub struct MadeFrame {
 }
 
 /// The frames that a node made. Contracts see them in order.
-#[derive(Debug, Drop)]
+#[derive(Drop)]
 pub struct MadeFrames {
     frames: Vec<MadeFrame>,
 }

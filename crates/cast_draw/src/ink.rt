@@ -29,7 +29,7 @@ pub enum Piece<'a> {
 }
 
 /// A text that grows at its end. Contracts see its bytes.
-#[derive(Debug, Drop)]
+#[derive(Drop)]
 pub struct Ink {
     bytes: Vec<u8>,
 }

@@ -8,7 +8,7 @@ use std::alloc::{AllocError, Global};
 use std::marker::Model;
 
 /// A message by its numbers.
-#[derive(Clone, Copy, Debug, PartialEq, Eq)]
+#[derive(Clone, Copy, PartialEq, Eq)]
 pub struct Pair {
     /// Who broadcast it.
     pub sender: NodeId,
@@ -17,7 +17,7 @@ pub struct Pair {
 }
 
 /// What a node holds, and what it gives each peer.
-#[derive(Debug, Drop)]
+#[derive(Drop)]
 pub struct Links {
     me: NodeId,
     // By the sender, the numbers that are held.

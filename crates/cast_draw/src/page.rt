@@ -26,7 +26,7 @@ const BETWEEN_NAMES: u64 = 1500;
 const NAME_WIDTH: u64 = 100;
 
 /// A finished picture. Contracts see its text.
-#[derive(Debug, Drop)]
+#[derive(Drop)]
 pub struct Drawing {
     front: Ink,
     arrows: Ink,

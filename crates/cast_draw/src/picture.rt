@@ -15,7 +15,7 @@ use std::alloc::{AllocError, Global};
 /// The picture of a run. It takes the events one after another, with the replies to them; those of its window are drawn. What
 /// it keeps of the others are the frames that they made, which of them arrived, what the nodes give one another, and where a
 /// node's line ends.
-#[derive(Debug, Drop)]
+#[derive(Drop)]
 pub struct Picture {
     pub(crate) alloc: Global,
     pub(crate) config: Config,

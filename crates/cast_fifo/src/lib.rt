@@ -18,7 +18,7 @@ use std::alloc::{AllocError, Global};
 use std::marker::Model;
 
 /// What is held back of each sender.
-#[derive(Debug, Drop)]
+#[derive(Drop)]
 pub struct HoldBack {
     alloc: Global,
     senders: Vec<Queue>,

@@ -21,7 +21,7 @@ use std::collections::{BTreeMap, VecDeque};
 use std::marker::Model;
 
 /// The messages of one sender that wait for their turn.
-#[derive(Debug, Drop)]
+#[derive(Drop)]
 pub struct Queue {
     // The number whose turn is next.
     next: u64,

@@ -2,7 +2,7 @@
 use cast_message::Item;
 
 /// What is kept of a message whose turn has not come.
-#[derive(Debug, Drop)]
+#[derive(Drop)]
 pub struct Waiting {
     pub item: Item,
     /// It was marked, so that it goes as soon as its turn comes.

@@ -3,7 +3,7 @@ use cast_script::LiveFault;
 use std::alloc::AllocError;
 
 /// Why threads are not started.
-#[derive(Clone, Copy, Debug, PartialEq, Eq)]
+#[derive(Clone, Copy, PartialEq, Eq)]
 pub enum StartFault {
     /// Memory was refused.
     Memory,

@@ -7,7 +7,7 @@ use std::alloc::{AllocError, Global};
 use std::marker::Model;
 
 /// A value that was proposed.
-#[derive(Clone, Copy, Debug)]
+#[derive(Clone, Copy)]
 pub struct Candidate {
     pub value: u64,
     pub decided: bool,
@@ -15,7 +15,7 @@ pub struct Candidate {
 
 /// The values that were proposed in an instance, each once, beside whether it is decided. They lie together, so that a line
 /// of a decision reads one stretch of memory. Contracts see the list of them.
-#[derive(Debug, Drop)]
+#[derive(Drop)]
 pub struct Candidates {
     all: Vec<Candidate>,
 }

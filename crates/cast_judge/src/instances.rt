@@ -10,14 +10,14 @@ use std::alloc::{AllocError, Global};
 use std::collections::BTreeMap;
 
 /// A value that a node proposed.
-#[derive(Clone, Copy, Debug)]
+#[derive(Clone, Copy)]
 pub struct Proposal {
     pub node: NodeId,
     pub value: u64,
 }
 
 /// What was proposed and decided in an instance.
-#[derive(Debug, Drop)]
+#[derive(Drop)]
 pub struct Instance {
     /// The nodes that proposed, each once.
     pub proposers: List<NodeId>,
@@ -25,7 +25,7 @@ pub struct Instance {
 }
 
 /// What a line adds to an instance.
-#[derive(Clone, Copy, Debug)]
+#[derive(Clone, Copy)]
 pub enum Addition {
     Proposed(Proposal),
     Decided(u64),
@@ -98,7 +98,7 @@ impl Instance {
 
 /// What was proposed and decided, by the numbers of the instances. Where those begin at 0 and come in order they stand in a
 /// row, and a look-up takes the same time however many there are.
-#[derive(Debug, Drop)]
+#[derive(Drop)]
 pub struct Instances {
     /// The instances from 0 on.
     row: Vec<Instance>,

@@ -7,7 +7,7 @@ use std::alloc::{AllocError, Global};
 use std::marker::Model;
 
 /// Items, each kept as the bytes of its word. Contracts see the list of the items.
-#[derive(Debug, Drop)]
+#[derive(Drop)]
 pub struct Items {
     /// The words, one after another.
     bytes: Vec<u8>,

@@ -15,7 +15,7 @@ const MOST_UNFINISHED: usize = 4_096;
 const MOST_BYTES: u64 = 1 << 63;
 
 /// Whether the judge goes on.
-#[derive(Clone, Copy, Debug)]
+#[derive(Clone, Copy)]
 enum State {
     /// No line offended so far.
     Reading,
@@ -27,7 +27,7 @@ enum State {
 
 /// A text that is being judged. Of the text it keeps the word of each item that was broadcast, as deliveries are compared with
 /// it, and at most 4,096 bytes of an unfinished line.
-#[derive(Debug, Drop)]
+#[derive(Drop)]
 pub struct Judging {
     alloc: Global,
     state: State,

@@ -10,7 +10,7 @@ use cast_record::{Delivery, ItemWord, WordLine};
 use std::alloc::{AllocError, Global};
 
 /// How far the lines read so far go.
-#[derive(Clone, Copy, Debug)]
+#[derive(Clone, Copy)]
 pub enum Stage {
     /// There is none.
     Start,
@@ -21,7 +21,7 @@ pub enum Stage {
 }
 
 /// What is kept of the lines read so far.
-#[derive(Debug, Drop)]
+#[derive(Drop)]
 pub struct Kept {
     pub alloc: Global,
     pub stage: Stage,

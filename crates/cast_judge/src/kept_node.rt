@@ -9,7 +9,7 @@ use cast_record::ItemWord;
 use std::alloc::{AllocError, Global};
 
 /// What is kept of a node.
-#[derive(Debug, Drop)]
+#[derive(Drop)]
 pub struct KeptNode {
     /// The items that it broadcast, in order.
     pub items: Items,

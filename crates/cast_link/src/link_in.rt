@@ -9,7 +9,7 @@ use std::collections::{BTreeSet, VecDeque};
 use std::marker::Model;
 
 /// The slots taken from a peer.
-#[derive(Debug, Drop)]
+#[derive(Drop)]
 pub struct LinkIn {
     // The least slot not taken, or the greatest slot there is.
     base: u64,

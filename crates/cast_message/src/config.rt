@@ -16,7 +16,7 @@ pub enum Mode {
 }
 
 /// A configuration within the limits, each of which is a fact of the type.
-#[derive(Clone, Copy, Debug)]
+#[derive(Clone, Copy)]
 pub struct Config {
     /// How many nodes the group has, 1 to 64. They are numbered from 0.
     pub nodes: u64,

@@ -23,7 +23,7 @@ pub enum Event {
 }
 
 /// What a step delivers and decides at its node.
-#[derive(Debug, Drop)]
+#[derive(Drop)]
 pub struct Outcome {
     /// The messages delivered, all of one sender, in the order of their numbers.
     pub deliveries: List<Message>,
@@ -32,7 +32,7 @@ pub struct Outcome {
 }
 
 /// The answer to an accepted event.
-#[derive(Debug, Drop)]
+#[derive(Drop)]
 pub enum Answer {
     /// The item has this number in its node's stream, from 0 on.
     Ordered { number: u64, outcome: Outcome },

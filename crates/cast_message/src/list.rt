@@ -5,7 +5,7 @@ use std::alloc::{AllocError, Global};
 use std::marker::Model;
 
 /// A `Vec` that contracts see as its list of elements.
-#[derive(Debug, Drop)]
+#[derive(Drop)]
 pub struct List<T> {
     elements: Vec<T>,
 }

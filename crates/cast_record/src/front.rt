@@ -12,7 +12,7 @@ use cast_message::{Decision, NodeId};
 use cast_words::number;
 
 /// A line `d` at the front of a text, up to its last word. That word, and whatever follows the line, were not looked at.
-#[derive(Debug, Drop)]
+#[derive(Drop)]
 pub struct Delivery<'a> {
     pub node: NodeId,
     pub sender: NodeId,

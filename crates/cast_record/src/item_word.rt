@@ -22,7 +22,7 @@ const NAME_LENGTH: usize = 5;
 const BLOCK: usize = 64;
 
 /// What an item is, without the bytes of its data.
-#[derive(Clone, Copy, Debug, PartialEq, Eq)]
+#[derive(Clone, Copy, PartialEq, Eq)]
 pub enum ItemKind {
     Data,
     Propose { instance: u64, value: u64 },
@@ -30,7 +30,7 @@ pub enum ItemKind {
 }
 
 /// The word of an item, which no other item has. Contracts see the item.
-#[derive(Debug, Drop)]
+#[derive(Drop)]
 pub struct ItemWord<'a> {
     word: &'a [u8],
     kind: ItemKind,

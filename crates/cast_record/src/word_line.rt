@@ -15,7 +15,7 @@ use cast_message::{Decision, Message, Mode, NodeId};
 use std::alloc::{AllocError, Global};
 
 /// A line of a record, with the word of its item in place of the item.
-#[derive(Debug, Drop)]
+#[derive(Drop)]
 pub enum WordLine<'a> {
     Head {
         nodes: u64,

@@ -14,7 +14,7 @@ use std::alloc::{AllocError, Global};
 use std::marker::Model;
 
 /// Whether the pair of a message was held when it arrived.
-#[derive(Clone, Copy, Debug, PartialEq, Eq)]
+#[derive(Clone, Copy, PartialEq, Eq)]
 pub enum Taken {
     /// It was not, and is from now on.
     New,
@@ -23,7 +23,7 @@ pub enum Taken {
 }
 
 /// The pairs of sender and number that a node holds.
-#[derive(Debug, Drop)]
+#[derive(Drop)]
 pub struct Relay {
     alloc: Global,
     me: NodeId,

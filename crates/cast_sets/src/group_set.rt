@@ -6,7 +6,7 @@ use cast_message::NodeId;
 use std::marker::Model;
 
 /// A set of nodes of a group.
-#[derive(Debug, Drop)]
+#[derive(Drop)]
 pub struct GroupSet {
     // The bit of node i is bit i.
     word: u64,

@@ -12,7 +12,7 @@ use thiserror::Error;
 pub struct Failed;
 
 /// A reader or writer that remembers whether it ever failed.
-#[derive(Debug, Drop)]
+#[derive(Drop)]
 pub struct Meter<S> {
     inner: S,
     failed: bool,

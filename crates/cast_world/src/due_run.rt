@@ -4,7 +4,7 @@ ghost use Rattle.std.specs.Prelude.{◌+◌, ◌<◌, ◌^◌};
 use cast_message::NodeId;
 
 /// Slots in succession that a node owes a peer: the first, and how many more.
-#[derive(Clone, Copy, Debug)]
+#[derive(Clone, Copy)]
 pub struct Run {
     pub from: NodeId,
     pub to: NodeId,

@@ -11,7 +11,7 @@ use std::marker::Model;
 const TOO_MANY: u64 = 1 << 61;
 
 /// A slot that a live node owes another live node.
-#[derive(Clone, Copy, Debug)]
+#[derive(Clone, Copy)]
 pub struct DueSlot {
     pub from: NodeId,
     pub to: NodeId,
@@ -29,7 +29,7 @@ impl Model for DueSlot {
 }
 
 /// Slots that are due, to be taken one after another. Contracts see the list of them.
-#[derive(Debug, Drop)]
+#[derive(Drop)]
 pub struct DueSlots {
     runs: Vec<Run>,
     // The run whose turn it is; those before it were taken.

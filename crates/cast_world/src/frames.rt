@@ -23,7 +23,7 @@ const LAST_SLOT: u64 = 0xffff_ffff;
 
 /// What is kept of a frame: neither its maker nor its number, which its place tells, nor its message's item, which stands in
 /// the sender's stream.
-#[derive(Clone, Copy, Debug)]
+#[derive(Clone, Copy)]
 pub struct Mark {
     pub slot: u32,
     pub number: u16,

@@ -8,7 +8,7 @@ use cast_script::{Fault, FaultPlan, FrameKind, Frames};
 use std::alloc::{AllocError, Global};
 
 /// The way from one node to another.
-#[derive(Clone, Copy, Debug)]
+#[derive(Clone, Copy)]
 pub struct Link {
     pub from: u8,
     pub to: u8,

@@ -5,7 +5,7 @@ ghost use Rattle.run_setup.specs.Shapes.{HasShape};
 use cast_message::{Config, ConfigFault, MOST_ENTRIES, MOST_ITEMS, Mode};
 
 /// The values of a configuration in basic mode, before its check.
-#[derive(Clone, Copy, Debug)]
+#[derive(Clone, Copy)]
 pub struct Shape {
     pub nodes: u64,
     pub faults: u64,

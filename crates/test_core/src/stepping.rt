@@ -28,7 +28,7 @@ impl Worlds {
         }
         let expected = step_once_more(rt, &mut self.stepped, event)?;
         if !same_reply(&expected, &answered) {
-            bail!("{event:?}: one world answers {expected:?}, the other {answered:?}");
+            bail!("{event:?}: the worlds give other answers");
         }
         if !same_shown(&self.stepped, &self.whole) {
             bail!("after {event:?} the worlds show different groups");

@@ -4,7 +4,7 @@ ghost use Rattle.std.specs.Prelude.{◌≡◌, ◌+◌, ◌<◌, ◌^◌, IfOk};
 use crate::refused;
 use anyhow::Result;
 use cast_message::{Item, Message, NodeId};
-use cast_relay::Relay;
+use cast_relay::{Relay, Taken};
 use std::alloc::Global;
 
 pub fn relay(rt: &impl Print, alloc: Global) -> Result<()> {
@@ -55,11 +55,18 @@ fn arrive(rt: &impl Print, relay: &mut Relay) -> Result<()>
     };
     let before = relay.holds(NodeId(0), 0);
     if let Ok(taken) = relay.arrive(&message, NodeId(2)) {
-        println!(rt; "arrive: {taken:?}")?;
-        return Ok(());
+        return tell_arrival(rt, taken);
     }
     refused(rt, "arrive", relay.holds(NodeId(0), 0) == before)?;
     let taken = relay.arrive(&message, NodeId(2))?;
-    println!(rt; "arrive: {taken:?}")?;
+    tell_arrival(rt, taken)
+}
+
+fn tell_arrival(rt: &impl Print, taken: Taken) -> Result<()> {
+    let word = match taken {
+        Taken::New => "New",
+        Taken::Known => "Known",
+    };
+    println!(rt; "arrive: {word}")?;
     Ok(())
 }
