@@ -151,7 +151,7 @@ fn outcome_of(report: &GroupReport) -> Outcome {
     };
     let senders = report.config().nodes() as u8;
     for node in report.reports() {
-        let entries = node.log.as_slice().len() as u64;
+        let entries = node.log.len() as u64;
         outcome.entries = outcome.entries.saturating_add(entries);
         outcome.stopped = outcome.stopped && node.ended == EngineEnd::Stopped;
         for sender in 0..senders {

@@ -1,15 +1,18 @@
 -- What is told of a log that has one entry more.
-use Rattle.std.proofs.Common.{◌≡◌, ◌≢◌, ℕ, zero, suc, ◌+◌, ◌^◌, ◌%◌, ◌<◌, ◌≤◌, List, [], ◌∷◌, ◌++◌, length, map, take, get_or, refl, sym, ap, ◌∙◌, arith}
+use Rattle.std.proofs.Common.{◌≡◌, ◌≢◌, ℕ, zero, suc, ◌+◌, ◌^◌, ◌%◌, ◌<◌, ◌≤◌, List, [], ◌∷◌, ◌++◌, length, map, take, get_or, refl, sym, ap, ◌∙◌, arith, Bor}
 use Rattle.std.proofs.lemmas.List.{append-nil, append_assoc, map-append, take_more}
 use Rattle.cast_message.specs.declared.event.Event.{Event}
 use Rattle.cast_message.specs.declared.event.Event.TheVariants.{Order, Send, Ack, Arrive, Crash}
 use Rattle.cast_node.specs.declared.entry.Entry.{Entry}
 use Rattle.cast_node.specs.declared.entry.EntryKind.{EntryKind}
 use Rattle.cast_node.specs.declared.entry.EntryKind.TheVariants.{Step, Refused}
+use Rattle.cast_node.specs.declared.log.KindRef.{KindRef}
+use Rattle.cast_node.specs.declared.log.KindRef.TheVariants.{Sent as SentRef, Acked as AckedRef, Arrived as ArrivedRef, Whole}
+use Rattle.cast_node.specs.Logged.{shown_kind}
 use Rattle.cast_desk.specs.declared.notice.Notice.{Notice}
 use Rattle.cast_desk.specs.Feed.{feed_from, told_by, orders_in, order_count, orders_of}
 
-take_within : {A : Type 0} (xs : List A) (n : ℕ) → length (take n xs) ≤ length xs
+pub take_within : {A : Type 0} (xs : List A) (n : ℕ) → length (take n xs) ≤ length xs
 take_within [] zero = omega arith
 take_within [] (suc n) = omega arith
 take_within (x ∷ xs) zero = omega arith
@@ -64,6 +67,14 @@ fed_at client number (x ∷ xs) zero e lt is told none =
 fed_at client number (x ∷ xs) (suc i) e lt is told none =
     let same : number + orders_of (x ∷ take i xs) ≡ number + orders_in x.kind + orders_of (take i xs) = omega arith in
     fed_at client (number + orders_in x.kind) xs i e (omega arith) is (λ t. told (ap (λ n. told_by client n e.kind) same ∙ t)) (no_right (told_by client number x.kind) (feed_from client (number + orders_in x.kind) xs) none)
+
+-- a step without news tells nobody anything, and is no order
+pub silent_tells_none : (kind : KindRef) → ((whole : Bor EntryKind) → kind ≡ Whole whole → ⊥) → (client number : ℕ)
+    → (told_by client number (shown_kind kind) ≡ []) × (orders_in (shown_kind kind) ≡ 0)
+silent_tells_none (SentRef from to slot) other client number = (refl, refl)
+silent_tells_none (AckedRef from to slot) other client number = (refl, refl)
+silent_tells_none (ArrivedRef from seq) other client number = (refl, refl)
+silent_tells_none (Whole whole) other client number = absurd (other whole refl)
 
 -- something is mapped, where there is something
 pub mapped_some : {A B : Type 0} (f : A → B) (xs : List A) (i : ℕ) → i < length xs → map f xs ≢ []

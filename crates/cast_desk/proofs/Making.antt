@@ -6,33 +6,25 @@ use Rattle.cast_box.proofs.Closing.{found, map_at, each_more, both_more}
 use Rattle.cast_box.specs.Ends.{PutterEnd, TakerEnd, AreAllEnds, AreNew}
 use Rattle.cast_desk.specs.declared.desk.OrderIn.{OrderIn}
 use Rattle.cast_desk.specs.declared.notice.Notice.{Notice}
-use Rattle.cast_desk.specs.Desk.{ClientState, IsDeskOf, IsNewDesk}
-
-abbrev pub client_of : ℕ → ℕ → PutterEnd OrderIn → TakerEnd Notice → ClientState
-client_of number first p u = record { number = number; first_ticket = first; orders = p; tray = u }
-
-abbrev pub IsTray : ℕ → PutterEnd Notice → TakerEnd Notice → Type 0
-IsTray size t u = AreAllEnds (t ∷ []) u × AreNew (t ∷ []) u × (u.size ≡ size)
+use Rattle.cast_desk.specs.Desk.{ClientState, IsDeskOf, IsNewDesk, IsNewTray, new_client}
 
 pub record Made (size first : ℕ) (ps : List (PutterEnd OrderIn)) (all : List ClientState) (trays : List (PutterEnd Notice)) : Type 0 where
   pub orders : map (λ (c : ClientState). c.orders) all ≡ ps
   pub width : length trays ≡ length all
-  pub tray : (c : ℕ) (client : ClientState) (t : PutterEnd Notice) → slice_get all c ≡ Some client → slice_get trays c ≡ Some t → IsTray size t client.tray
+  pub tray : (c : ℕ) (client : ClientState) (t : PutterEnd Notice) → slice_get all c ≡ Some client → slice_get trays c ≡ Some t → IsNewTray size t client.tray
   pub client : (c : ℕ) (client : ClientState) → slice_get all c ≡ Some client → (client.number ≡ c) × (client.first_ticket ≡ first)
 
 module _ (size first : ℕ) (ps : List (PutterEnd OrderIn)) (all : List ClientState) (trays : List (PutterEnd Notice)) (m : Made size first ps all trays) where
-  pub made_more : (number : ℕ) (p : PutterEnd OrderIn) (t : PutterEnd Notice) (u : TakerEnd Notice) → number ≡ length ps → IsTray size t u
-      → Made size first (ps ++ p ∷ []) (all ++ client_of number first p u ∷ []) (trays ++ t ∷ [])
-  made_more number p t u n is =
+  pub made_more : (p : PutterEnd OrderIn) (t : PutterEnd Notice) (u : TakerEnd Notice) → IsNewTray size t u
+      → Made size first (ps ++ p ∷ []) (all ++ new_client (length all) first p u ∷ []) (trays ++ t ∷ [])
+  made_more p t u is =
       let orders_of : ClientState → PutterEnd OrderIn = λ c. c.orders in
-      let client = client_of number first p u in
-      let many : length all ≡ length ps = sym (length-map all orders_of) ∙ ap length m.orders in
-      let w = m.width in
+      let client = new_client (length all) first p u in
       record {
         orders = map-append orders_of all (client ∷ []) ∙ ap (λ l. l ++ p ∷ []) m.orders;
         width = length-append trays (t ∷ []) ∙ ap (λ n. n + 1) m.width ∙ sym (length-append all (client ∷ []));
-        tray = both_more (λ c d s. IsTray size s d.tray) all trays client t (sym m.width) m.tray is;
-        client = each_more (λ c d. (d.number ≡ c) × (d.first_ticket ≡ first)) all client m.client (n ∙ sym many, refl);
+        tray = both_more (λ c d s. IsNewTray size s d.tray) all trays client t (sym m.width) m.tray is;
+        client = each_more (λ c d. (d.number ≡ c) × (d.first_ticket ≡ first)) all client m.client (refl, refl);
       }
 
   module _ (orders : TakerEnd OrderIn) (ends : AreAllEnds ps orders) (new : AreNew ps orders) (is_size : orders.size ≡ size) where

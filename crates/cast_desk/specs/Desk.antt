@@ -2,7 +2,7 @@
 use Rattle.std.specs.Prelude.{◌≡◌, ℕ, ◌+◌, ◌-◌, ◌<◌, ◌≤◌, ◌^◌, min, List, [], ◌∷◌, ◌++◌, length, map, slice_get, slice_set, Some, Result, MatchResult}
 use Rattle.cast_box.specs.declared.opening.BoxFault.{BoxFault}
 use Rattle.cast_box.specs.declared.ends.Full.{Full as Refused}
-use Rattle.cast_box.specs.Ends.{PutterEnd, TakerEnd, IsSamePutter, IsSameTaker, AreAllEnds, WasFull, FilledItAlone, IsSize, IsFirstFault}
+use Rattle.cast_box.specs.Ends.{PutterEnd, TakerEnd, IsSamePutter, IsSameTaker, AreAllEnds, AreNew, WasFull, FilledItAlone, IsSize, IsFirstFault}
 use Rattle.cast_message.specs.declared.message.Item.{Item}
 use Rattle.cast_desk.specs.declared.desk.OrderIn.{OrderIn}
 use Rattle.cast_desk.specs.declared.notice.Notice.{Notice}
@@ -71,6 +71,16 @@ pub record IsNewDesk (size first_ticket : ℕ) (clients : List ClientState) (ord
   pub desk : (orders.taken ≡ []) × (orders.size ≡ size)
   pub tray : (c : ℕ) (tray : PutterEnd Notice) → slice_get trays c ≡ Some tray
       → (tray.put ≡ []) × (tray.size ≡ size) × (tray.putters ≡ 1)
+
+-- a client with these ends
+abbrev pub new_client : ℕ → ℕ → PutterEnd OrderIn → TakerEnd Notice → ClientState
+new_client number first orders tray =
+    record { number = number; first_ticket = first; orders = orders; tray = tray }
+
+-- these are the ends of a new tray of `size` places
+abbrev pub IsNewTray : ℕ → PutterEnd Notice → TakerEnd Notice → Type 0
+IsNewTray size putter taker =
+    AreAllEnds (putter ∷ []) taker × AreNew (putter ∷ []) taker × (taker.size ≡ size)
 
 abbrev pub IsClients : ℕ → Type 0
 IsClients clients = (0 < clients) × (clients ≤ 4)

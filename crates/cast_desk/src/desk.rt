@@ -10,7 +10,7 @@ use cast_message::Item;
 use std::sync::Wait;
 
 /// An order as the desk takes it.
-#[derive(Debug, Drop)]
+#[derive(Drop)]
 pub struct OrderIn {
     /// The number of the client at its node, from 0 on.
     pub client: u64,

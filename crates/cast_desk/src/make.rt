@@ -1,9 +1,9 @@
 //! The making of a desk with its clients, and its end.
-ghost use Rattle.std.specs.Prelude.{◌≡◌, ◌≤◌, ◌∷◌, ◌++◌, [], ℕ, length, map, slice_get, Some, IfOk, IfErr};
+ghost use Rattle.std.specs.Prelude.{◌≡◌, ◌≤◌, ◌∷◌, ◌++◌, [], ℕ, length, map, slice_get, Some, IfOk, IfErr, OnOk};
 ghost use Rattle.cast_box.specs.Lists.{of, StartsWith, IsFair};
-ghost use Rattle.cast_box.specs.Ends.{PutterEnd, AreAllEnds, AreNew, IsSize};
+ghost use Rattle.cast_box.specs.Ends.{PutterEnd, TakerEnd, AreAllEnds, IsSize};
 ghost use Rattle.cast_desk.specs.declared.notice.Notice.{Notice};
-ghost use Rattle.cast_desk.specs.Desk.{ClientState, IsDeskOf, IsNewDesk, IsClients, IsFaultOf};
+ghost use Rattle.cast_desk.specs.Desk.{ClientState, IsDeskOf, IsNewDesk, IsNewTray, IsClients, IsFaultOf, new_client};
 
 use crate::client::Client;
 use crate::desk::{Desk, OrderIn};
@@ -55,19 +55,37 @@ fn open(
     };
     let mut all = Vec::new(alloc);
     let mut trays = Vec::new(alloc);
-    let mut number = 0;
     for putter in putters {
-        let (tray_putter, tray) = make_tray(alloc, size)?;
-        trays.push(tray_putter)?;
-        all.push(Client::new(number, first_ticket, putter, tray))?;
-        number += 1;
+        add_client(alloc, size, first_ticket, putter, &mut all, &mut trays)?;
     }
     Ok((all, Desk { orders, trays }))
 }
 
+// Adds the client that has this putter at the desk, with a tray of its own.
+fn add_client(
+    alloc: Global,
+    size: u64,
+    first_ticket: u64,
+    putter: Putter<OrderIn>,
+    clients: &mut Vec<Client>,
+    trays: &mut Vec<Putter<Notice>>,
+) -> Result<(), AllocError>
+    requires { putter.put ≡ [] }
+    ensures { OnOk result ((tray : PutterEnd Notice) × (taker : TakerEnd Notice)
+        × IsNewTray size tray taker
+        × (trays.new.items ≡ trays.old.items ++ tray ∷ [])
+        × (clients.new.items ≡ clients.old.items
+        ++ new_client (length clients.old.items) first_ticket putter taker ∷ [])) }
+{
+    let number = clients.len() as u64;
+    let (tray_putter, tray) = make_tray(alloc, size)?;
+    trays.push(tray_putter)?;
+    clients.push(Client::new(number, first_ticket, putter, tray))?;
+    Ok(())
+}
+
 fn make_tray(alloc: Global, size: u64) -> Result<(Putter<Notice>, Taker<Notice>), AllocError>
-    ensures { IfOk result (λ r. AreAllEnds (r.0 ∷ []) r.1 × AreNew (r.0 ∷ []) r.1
-        × (r.1.size ≡ size)) }
+    ensures { IfOk result (λ r. IsNewTray size r.0 r.1) }
 {
     let Ok((putters, taker)) = make_box::<Notice>(alloc, size, 1) else {
         return Err(AllocError);

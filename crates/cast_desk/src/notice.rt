@@ -2,7 +2,7 @@
 use cast_message::{Decision, Message, StepFault};
 
 /// What a client is told.
-#[derive(Debug, Drop)]
+#[derive(Drop)]
 pub enum Notice {
     /// The client's order with this ticket was taken, with this number among the orders of its node, or was refused.
     Reply {

@@ -5,21 +5,23 @@ ghost use Rattle.cast_desk.specs.Feed.{feed as feed_of, told_by, reply_of, refus
 
 use crate::notice::Notice;
 use cast_message::{Event, List, Outcome, StepFault};
-use cast_node::{Entry, EntryKind, Origin};
+use cast_node::{EntryKind, KindRef, Log, Origin};
 use std::alloc::{AllocError, Global};
 
 /// What the client of this number is told of a log, entry by entry: first the reply to its own order, with the number of
 /// orders before it in the log or with the fault for which it was refused; then each message that the step delivered; then
 /// each decision that it took. Memory is wanted only where the client is told something.
-pub fn feed(alloc: Global, log: &[Entry], client: u64) -> Result<List<Notice>, AllocError>
+pub fn feed(alloc: Global, log: &Log, client: u64) -> Result<List<Notice>, AllocError>
     ensures ok { IfOk result (λ notices. notices ≡ feed_of log.now client) }
     ensures err { OnErr result (feed_of log.now client ≢ []) }
 {
     let mut notices = List::new(alloc);
     let mut orders = 0;
-    for entry in log {
-        tell(&mut notices, client, orders, &entry.kind)?;
-        orders = orders.wrapping_add(orders_in(&entry.kind));
+    for place in 0..log.len() {
+        if let KindRef::Whole(kind) = log.entry(place).kind {
+            tell(&mut notices, client, orders, kind)?;
+            orders = orders.wrapping_add(orders_in(kind));
+        }
     }
     Ok(notices)
 }

@@ -10,7 +10,7 @@ use Rattle.cast_box.proofs.Same.{putters_set, get_set}
 use Rattle.cast_node.specs.declared.entry.Entry.{Entry}
 use Rattle.cast_desk.specs.declared.notice.Notice.{Notice}
 use Rattle.cast_desk.specs.Feed.{told_by, feed_from, feed, orders_of, orders_in}
-use Rattle.cast_desk.proofs.Feeds.{take_all, counted_more, fed_more as fed_more'}
+use Rattle.cast_desk.proofs.Feeds.{take_all, take_within, orders_within, counted_more, fed_more as fed_more'}
 use Rattle.cast_engine.specs.declared.feeding.Place.{Place}
 use Rattle.cast_engine.specs.Feeding.{told_at, told_here, IsNext, IsPlaced, IsFed, told_to, AreFed, FedIn, FedAt}
 use Rattle.cast_carrier.proofs.Lists.{read_at, take_next}
@@ -112,6 +112,22 @@ module _ (client : ℕ) (log : List Entry) (place : Place) (f : IsPlaced client 
     append-nil (feed_from client 0 (take (place.entry + 1) log)) ∙ sym (fed_more' client log place.entry e lt is (feed_from client 0 (take place.entry log)) _ place.orders refl f.counted refl)
         ∙ ap (λ l. feed_from client 0 (take place.entry log) ++ l) (sym all_told),
   )
+
+-- and one past an entry of a step without news
+pub passed_silently : (client : ℕ) (log : List Entry) (place : Place) → IsPlaced client log place → place.entry < length log
+    → (e : Entry) → e ≡ get_or log place.entry e → told_by client place.orders e.kind ≡ [] → orders_in e.kind ≡ 0 → length log < 2 ^ 64
+    → (waiting : Option Notice) → waiting ≡ None
+    → IsPlaced client log (record { entry = place.entry + 1; orders = place.orders; told = 0; waiting = waiting })
+    × (told_to client log (record { entry = place.entry + 1; orders = place.orders; told = 0; waiting = waiting }) ≡ told_to client log place)
+passed_silently client log place f lt e is none no_order cap waiting quiet =
+    let at : Place → Type 0 = λ p. IsPlaced client log p × (told_to client log p ≡ told_to client log place) in
+    let told_none : slice_get (told_by client place.orders e.kind) place.told ≡ None =
+    ap (λ l. slice_get l place.told) none ∙ slice_get_past [] place.told (omega arith) in
+    let few = orders_within (take place.entry log) in
+    let short = take_within log place.entry in
+    let same : (place.orders + 0) % 18446744073709551616 ≡ place.orders = omega (arith, f.counted, few, short, cap) in
+    subst (λ n. at (record { entry = place.entry + 1; orders = n; told = 0; waiting = waiting })) same
+    (passed client log place f lt e is told_none 0 (sym no_order) cap waiting quiet)
 
 set_same : {A : Type 0} (xs : List A) (i : ℕ) (x : A) → slice_get xs i ≡ Some x → xs ≡ slice_set xs i x
 set_same [] i x e = absurd cc

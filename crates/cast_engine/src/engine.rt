@@ -13,7 +13,7 @@ use cast_box::{Full, Putter, Taker};
 use cast_carrier::{Board, Parcel, Waiting};
 use cast_desk::{Desk, OrderIn};
 use cast_message::{Config, Frame, FrameBody, FrameKind, NodeId};
-use cast_node::{Entry, EntryKind, Node};
+use cast_node::{EntryKind, KindRef, Log, Node, OpenLog};
 use cast_report::EngineEnd;
 use std::alloc::{AllocError, Global};
 use std::marker::Model;
@@ -87,7 +87,7 @@ enum Received {
 /// What an engine that ended leaves: the log and the node, the end, and the ends of its boxes.
 #[derive(Drop)]
 pub struct EngineParts {
-    pub log: Vec<Entry>,
+    pub log: Log,
     pub node: Node,
     pub ended: EngineEnd,
     pub outbox: Putter<Parcel>,
@@ -173,9 +173,7 @@ impl Engine {
         gate.pass(rt);
         let logged = self.journal.log().len();
         let moved = self.work(rt, board, quiet);
-        if let Some(entries) = self.journal.log().get(logged..) {
-            tell_gate(gate, entries);
-        }
+        tell_gate(gate, self.journal.log(), logged);
         if quiet.may_stop(board) {
             self.end(EngineEnd::Stopped);
             return Turn::Stopped;
@@ -197,9 +195,9 @@ impl Engine {
     pub fn into_parts(self) -> EngineParts
         ensures ends { (result.outbox ≡ self.outbox) × (result.inbox ≡ self.inbox)
             × (result.desk ≡ self.desk) }
-        ensures leaves { Leaves self result.log.items result.node result.ended }
-        ensures tells { Tells self result.log.items result.node }
-        ensures told { WereTold result.log.items (trays_at self.desk) }
+        ensures leaves { Leaves self result.log result.node result.ended }
+        ensures tells { Tells self result.log result.node }
+        ensures told { WereTold result.log (trays_at self.desk) }
     {
         let Engine {
             mut journal,
@@ -502,11 +500,11 @@ pub fn run_engine<G: Gate + Drop, R: Wait>(
     engine
 }
 
-// Tells the gate how many messages were delivered in these entries, where there are any.
-fn tell_gate<G: Gate>(gate: &mut G, entries: &[Entry]) {
+// Tells the gate how many messages were delivered in the entries from this place on, where there are any.
+fn tell_gate<G: Gate>(gate: &mut G, log: &OpenLog, from: usize) {
     let mut count = 0usize;
-    for entry in entries {
-        if let EntryKind::Step { outcome, .. } = &entry.kind {
+    for place in from..log.len() {
+        if let KindRef::Whole(EntryKind::Step { outcome, .. }) = log.entry(place).kind {
             count = count.saturating_add(outcome.deliveries.as_slice().len());
         }
     }

@@ -7,7 +7,7 @@ ghost use Rattle.cast_engine.specs.Feeding.{IsNext, AreFed, FedIn, FedAt, IsPlac
 use cast_box::Full;
 use cast_desk::{Desk, Notice, orders_in, own_reply};
 use cast_message::Outcome;
-use cast_node::{Entry, EntryKind};
+use cast_node::{EntryKind, KindRef, OpenLog};
 use std::alloc::{AllocError, Global};
 use std::sync::Wait;
 
@@ -40,14 +40,14 @@ pub fn first_places(alloc: Global, clients: usize) -> Result<Vec<Place>, AllocEr
 
 /// For each client that has something to be told, puts the next notice of its feed, where its tray has room and memory for it is
 /// not wanting (`told`). Answers whether one was put.
-pub fn notify_all<R: Wait>(rt: &R, desk: &mut Desk, places: &mut Vec<Place>, log: &[Entry]) -> bool
-    requires { AreFed log.now desk.old.trays.items places.old.items }
-    ensures fed { AreFed log.now desk.new.trays.items places.new.items }
+pub fn notify_all<R: Wait>(rt: &R, desk: &mut Desk, places: &mut Vec<Place>, log: &OpenLog) -> bool
+    requires { AreFed log.now.entries desk.old.trays.items places.old.items }
+    ensures fed { AreFed log.now.entries desk.new.trays.items places.new.items }
     ensures orders { desk.new.orders ≡ desk.old.orders }
     ensures trays { AreSamePutters desk.old.trays.items desk.new.trays.items }
     ensures few { TellEach 1 desk.old.trays.items desk.new.trays.items }
     ensures idle { IsFalse result → desk.new.trays.items ≡ desk.old.trays.items }
-    ensures told { AreTold log.now desk.old.trays.items desk.new.trays.items places.new.items }
+    ensures told { AreTold log.now.entries desk.old.trays.items desk.new.trays.items places.new.items }
 {
     let mut moved = false;
     for client in 0..places.len() {
@@ -57,13 +57,13 @@ pub fn notify_all<R: Wait>(rt: &R, desk: &mut Desk, places: &mut Vec<Place>, log
 }
 
 // Puts the next notice of a client's feed, where its tray has room. Answers whether it did.
-fn notify<R: Wait>(rt: &R, desk: &mut Desk, client: usize, place: &mut Place, log: &[Entry]) -> bool
-    requires { FedIn client log.now desk.old.trays.items place.old }
+fn notify<R: Wait>(rt: &R, desk: &mut Desk, client: usize, place: &mut Place, log: &OpenLog) -> bool
+    requires { FedIn client log.now.entries desk.old.trays.items place.old }
     ensures orders { desk.new.orders ≡ desk.old.orders }
-    ensures fed { FedAt client log.now desk.old.trays.items desk.new.trays.items place.new }
+    ensures fed { FedAt client log.now.entries desk.old.trays.items desk.new.trays.items place.new }
     ensures few { TellEach 1 desk.old.trays.items desk.new.trays.items }
     ensures idle { IsFalse result → desk.new.trays.items ≡ desk.old.trays.items }
-    ensures told { IsTold result client log.now
+    ensures told { IsTold result client log.now.entries
         desk.old.trays.items desk.new.trays.items place.new }
 {
     let Ok(Some(notice)) = next_notice(client as u64, place, log) else {
@@ -84,28 +84,29 @@ fn notify<R: Wait>(rt: &R, desk: &mut Desk, client: usize, place: &mut Place, lo
 
 // The next notice of a client's feed, where there is one: none only where all of the feed was told. Or want of memory, which only
 // a delivered message with bytes takes that found no full tray before, and then it stays the next.
-fn next_notice(client: u64, place: &mut Place, log: &[Entry]) -> Result<Option<Notice>, AllocError>
-    requires { IsPlaced client log.now place.old }
-    ensures placed { IsPlaced client log.now place.new }
-    ensures fed { told_to client log.now place.new ≡ told_to client log.now place.old }
+fn next_notice(client: u64, place: &mut Place, log: &OpenLog) -> Result<Option<Notice>, AllocError>
+    requires { IsPlaced client log.now.entries place.old }
+    ensures placed { IsPlaced client log.now.entries place.new }
+    ensures fed { told_to client log.now.entries place.new ≡ told_to client log.now.entries place.old }
     ensures notice { IfOk result
-        (λ found. IfSome found (λ notice. IsNext client log.now place.new notice
+        (λ found. IfSome found (λ notice. IsNext client log.now.entries place.new notice
         × (place.new.waiting ≡ None))) }
     ensures counts { IfOk result (λ found. IfSome found (λ _. place.new.told + 1 < 2 ^ 64)) }
     ensures none { IfOk result
-        (λ found. IfNone found (told_to client log.now place.new ≡ feed log.now client)) }
-    ensures err { OnErr result (takes_memory (next_at client log.now place.new) ≡ true) }
+        (λ found. IfNone found (told_to client log.now.entries place.new ≡ feed log.now.entries client)) }
+    ensures err { OnErr result (takes_memory (next_at client log.now.entries place.new) ≡ true) }
     ensures kept { OnErr result (place.old.waiting ≡ None) }
 {
     if let Some(notice) = place.waiting.take() {
         return Ok(Some(notice));
     }
     while place.entry < log.len() {
-        let kind = &log[place.entry].kind;
-        if let Some(notice) = notice_at(kind, client, place.orders, place.told)? {
-            return Ok(Some(notice));
+        if let KindRef::Whole(kind) = log.entry(place.entry).kind {
+            if let Some(notice) = notice_at(kind, client, place.orders, place.told)? {
+                return Ok(Some(notice));
+            }
+            place.orders = place.orders.wrapping_add(orders_in(kind));
         }
-        place.orders = place.orders.wrapping_add(orders_in(kind));
         place.entry += 1;
         place.told = 0;
     }

@@ -13,7 +13,7 @@ ghost use Rattle.cast_engine.specs.Journals.{MayLog, LogsStep, LogsOrder, OnlyEn
 use cast_carrier::Parcel;
 use cast_desk::OrderIn;
 use cast_message::{Config, Event, Frame, FrameKind, Item, NodeId, Outcome, StepFault};
-use cast_node::{Entry, EntryKind, Node, Origin, no_news};
+use cast_node::{Entry, EntryKind, Log, Node, OpenLog, Origin, no_news};
 use cast_report::EngineEnd;
 use std::alloc::{AllocError, Global};
 use std::marker::Model;
@@ -24,7 +24,7 @@ pub struct Journal {
     alloc: Global,
     config: Config,
     node: Node,
-    log: Vec<Entry>,
+    log: OpenLog,
     clock: u64,
     // After so many entries the engine crashes.
     crash: Option<u64>,
@@ -32,7 +32,6 @@ pub struct Journal {
 }
 
 impl Model for Journal {
-    ghost use Rattle.std.specs.Prelude.{vec_capacity};
     ghost use Rattle.cast_engine.specs.Journals.{JournalState, JournalKeeps, journal_code};
     ghost use Rattle.cast_message.specs.contracts.config.Config as configs;
     ghost use Rattle.cast_node.specs.contracts.node.Node as nodes;
@@ -47,14 +46,14 @@ impl Model for Journal {
     ghost view = { λ j. record {
       config = j.config;
       node = j.node;
-      log = j.log.items;
+      log = j.log.entries;
       clock = j.clock;
       crash = j.crash;
       ended = j.ended;
     } };
 
     ghost invariant = { λ j. JournalKeeps j.config
-        (vec_capacity j.log) j.node j.log.items j.clock j.crash j.ended };
+        j.log.room j.node j.log.entries j.clock j.crash j.ended };
 }
 
 impl Journal {
@@ -79,8 +78,7 @@ impl Journal {
         let Ok(node) = Node::new(alloc, config, me) else {
             return Err(AllocError);
         };
-        let mut log = Vec::new(alloc);
-        log.reserve(config.log_limit() as usize)?;
+        let log = OpenLog::with_room(alloc, config.log_limit() as usize)?;
         Ok(Journal {
             alloc,
             config: *config,
@@ -131,7 +129,7 @@ impl Journal {
         let crashed = self.node.crash().is_ok();
         prove!(crashed);
         let stamp = self.clock + 1;
-        self.log.push_reserved(Entry {
+        self.log.push(Entry {
             stamp,
             kind: EntryKind::Step {
                 event: Event::Crash { node: me },
@@ -163,7 +161,7 @@ impl Journal {
             from: parcel.frame.from,
             seq: parcel.frame.seq,
         };
-        self.log.push_reserved(Entry {
+        self.log.push(Entry {
             stamp,
             kind: EntryKind::Step {
                 event,
@@ -197,7 +195,7 @@ impl Journal {
         let from = self.node.id();
         let frame = frame_by(&mut self.node, kind, to, slot)?;
         let stamp = self.clock + 1;
-        self.log.push_reserved(Entry {
+        self.log.push(Entry {
             stamp,
             kind: EntryKind::Step {
                 event: event_by(kind, from, to, slot),
@@ -225,7 +223,7 @@ impl Journal {
         let stamp = self.clock + 1;
         match ask(&mut self.node, item) {
             Ok((item, outcome)) => {
-                self.log.push_reserved(Entry {
+                self.log.push(Entry {
                     stamp,
                     kind: EntryKind::Step {
                         event: Event::Order { node, item },
@@ -236,7 +234,7 @@ impl Journal {
                 self.clock = stamp;
             }
             Err(fault) => {
-                self.log.push_reserved(Entry {
+                self.log.push(Entry {
                     stamp,
                     kind: EntryKind::Refused { origin, fault },
                 });
@@ -292,16 +290,16 @@ impl Journal {
     }
 
     /// The log.
-    pub fn log(&self) -> &[Entry]
-        ensures { result.now ≡ self.now.log }
+    pub fn log(&self) -> &OpenLog
+        ensures { result.now.entries ≡ self.now.log }
     {
-        self.log.as_slice()
+        &self.log
     }
 
     /// The log, the node and the end of an engine that has ended.
-    pub fn into_parts(self) -> (Vec<Entry>, Node, EngineEnd)
+    pub fn into_parts(self) -> (Log, Node, EngineEnd)
         requires { IsSome self.ended }
-        ensures parts { (result.0.items ≡ self.log) × (result.1 ≡ self.node)
+        ensures parts { (result.0 ≡ self.log) × (result.1 ≡ self.node)
             × (self.ended ≡ Some result.2) }
         ensures rises { Rises self.config.first_stamp self.log self.clock }
         ensures ends { EndsAs self.config.log_limit self.crash self.ended self.log }
@@ -312,7 +310,7 @@ impl Journal {
             ended,
             ..
         } = self;
-        (log, node, ended.unwrap())
+        (log.close(), node, ended.unwrap())
     }
 }
 

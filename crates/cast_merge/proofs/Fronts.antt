@@ -1,5 +1,5 @@
 -- The first of all steps that are left of logs is that at hand with the least stamp, of equal ones the first log's.
-use Rattle.std.proofs.Common.{◌≡◌, ℕ, zero, suc, ◌+◌, ◌<◌, ◌≤◌, refl, sym, ◌∙◌, ap, subst, List, [], ◌∷◌, ◌++◌, length, map, take, get_or, Option, inl, inr, arith}
+use Rattle.std.proofs.Common.{◌≡◌, ℕ, zero, suc, ◌+◌, ◌-◌, ◌<◌, ◌≤◌, refl, sym, ◌∙◌, ap, subst, List, [], ◌∷◌, ◌++◌, length, map, take, get_or, Option, inl, inr, arith, drop, slice_get, Some, None, Bool, true, false}
 use Rattle.std.specs.Prelude.{slice_index_or, slice_set}
 use Rattle.std.specs.List.{remove}
 use Rattle.std.proofs.lemmas.Bool.{cases_lt}
@@ -9,13 +9,15 @@ use Rattle.cast_message.specs.declared.event.Outcome.{Outcome}
 use Rattle.cast_message.specs.declared.event.StepFault.{StepFault}
 use Rattle.cast_node.specs.declared.entry.Entry.{Entry}
 use Rattle.cast_node.specs.declared.entry.Origin.{Origin}
+use Rattle.cast_node.specs.declared.entry.EntryKind.{EntryKind}
+use Rattle.cast_node.specs.Logged.{is_step, step_event}
 use Rattle.cast_node.specs.declared.entry.EntryKind.TheVariants.{Step as StepEntry, Refused}
 use Rattle.cast_report.specs.declared.report.NodeReport.{NodeReport}
 use Rattle.cast_report.specs.Linked.{taken_of, taken}
 use Rattle.cast_merge.specs.declared.merge.First.{First}
 use Rattle.cast_merge.specs.declared.merge.Front.{Front}
 use Rattle.cast_merge.specs.ByStamp.{LoggedStep, merge, stamp_of, without_outcome, logged_steps, merged_logs, logs_of}
-use Rattle.cast_merge.specs.Fronts.{first_step, steps_left, merged_left, IsFirst, AreFirsts}
+use Rattle.cast_merge.specs.Fronts.{event_or, event_there, IsStep, HasStamp, first_step, entries_left, steps_left, merged_left, IsFirst, AreFirsts}
 use Rattle.cast_merge.proofs.Regrouping.{merge-nil, second_first, first_first, merge-assoc, merged_halves, merged_one}
 
 -- none of them goes before a step with this stamp, for the first doesn't
@@ -38,18 +40,18 @@ not_before-left : (n : ℕ) (fronts : List Front) → ((k : ℕ) (d : Front) →
 unfolding merged_left
 not_before-left n [] each = record {}
 not_before-left n (f ∷ fronts) each =
-    not_before-merge n (first_step f) (logged_steps f.rest.now) (merged_left fronts) (each zero f (omega arith)) (not_before-left n fronts (λ k d l. each (suc k) d (omega (arith, l))))
+    not_before-merge n (first_step f) (logged_steps (entries_left f)) (merged_left fronts) (each zero f (omega arith)) (not_before-left n fronts (λ k d l. each (suc k) d (omega (arith, l))))
 
 -- what is left once the step at hand of the first front is taken
-head_taken : (f : Front) (fronts : List Front) → IsFirst (f ∷ fronts) zero → merged_left (f ∷ fronts) ≡ first_step f ∷ merge stamp_of (logged_steps f.rest.now) (merged_left fronts)
+head_taken : (f : Front) (fronts : List Front) → IsFirst (f ∷ fronts) zero → merged_left (f ∷ fronts) ≡ first_step f ∷ merge stamp_of (logged_steps (entries_left f)) (merged_left fronts)
 unfolding merged_left
 head_taken f fronts first =
-    goes_first (first_step f) (logged_steps f.rest.now) (merged_left fronts) (not_before-left f.stamp fronts (λ k d l. first.later (suc k) d (omega arith) (omega (arith, l))))
+    goes_first (first_step f) (logged_steps (entries_left f)) (merged_left fronts) (not_before-left f.stamp fronts (λ k d l. first.later (suc k) d (omega arith) (omega (arith, l))))
 
 -- and that of a later one
 later_taken : (g f : Front) (fronts rest : List Front) → f.stamp < g.stamp → merged_left fronts ≡ first_step f ∷ merged_left rest → merged_left (g ∷ fronts) ≡ first_step f ∷ merged_left (g ∷ rest)
 unfolding merged_left
-later_taken g f fronts rest l is = ap (merge stamp_of (steps_left g)) is ∙ second_first stamp_of (first_step g) (first_step f) (logged_steps g.rest.now) (merged_left rest) l
+later_taken g f fronts rest l is = ap (merge stamp_of (steps_left g)) is ∙ second_first stamp_of (first_step g) (first_step f) (logged_steps (entries_left g)) (merged_left rest) l
 
 first_after : (g : Front) (fronts : List Front) (place : ℕ) → IsFirst (g ∷ fronts) (suc place) → IsFirst fronts place
 first_after g fronts place first = let w = first.within in record {
@@ -62,23 +64,23 @@ smaller_stamp : (g f : Front) (fronts : List Front) (place : ℕ) → IsFirst (g
 smaller_stamp g f fronts place first is = subst (λ (z : Front). z.stamp < g.stamp) (sym is) (first.earlier zero f (omega arith))
 
 -- the log has a further step
-pub goes_on : (fronts : List Front) (place : ℕ) (f next : Front) → IsFirst fronts place → f ≡ get_or fronts place f → logged_steps f.rest.now ≡ steps_left next → merged_left fronts ≡ first_step f ∷ merged_left (slice_set fronts place next)
+pub goes_on : (fronts : List Front) (place : ℕ) (f next : Front) → IsFirst fronts place → f ≡ get_or fronts place f → logged_steps (entries_left f) ≡ steps_left next → merged_left fronts ≡ first_step f ∷ merged_left (slice_set fronts place next)
 unfolding merged_left
 goes_on [] place f next first is left = let w = first.within in absurd (omega (arith, w))
 goes_on (g ∷ fronts) zero f next first is left =
     head_taken g fronts first
-    ∙ ap (λ (z : Front). first_step z ∷ merge stamp_of (logged_steps z.rest.now) (merged_left fronts)) (sym is)
+    ∙ ap (λ (z : Front). first_step z ∷ merge stamp_of (logged_steps (entries_left z)) (merged_left fronts)) (sym is)
     ∙ ap (λ steps. first_step f ∷ merge stamp_of steps (merged_left fronts)) left
 goes_on (g ∷ fronts) (suc place) f next first is left =
     later_taken g f fronts (slice_set fronts place next) (smaller_stamp g f fronts place first is) (goes_on fronts place f next (first_after g fronts place first) is left)
 
 -- that was its last
-pub ends_there : (fronts : List Front) (place : ℕ) (f : Front) → IsFirst fronts place → f ≡ get_or fronts place f → logged_steps f.rest.now ≡ [] → merged_left fronts ≡ first_step f ∷ merged_left (remove fronts place)
+pub ends_there : (fronts : List Front) (place : ℕ) (f : Front) → IsFirst fronts place → f ≡ get_or fronts place f → logged_steps (entries_left f) ≡ [] → merged_left fronts ≡ first_step f ∷ merged_left (remove fronts place)
 unfolding merged_left merge
 ends_there [] place f first is left = let w = first.within in absurd (omega (arith, w))
 ends_there (g ∷ fronts) zero f first is left =
     head_taken g fronts first
-    ∙ ap (λ (z : Front). first_step z ∷ merge stamp_of (logged_steps z.rest.now) (merged_left fronts)) (sym is)
+    ∙ ap (λ (z : Front). first_step z ∷ merge stamp_of (logged_steps (entries_left z)) (merged_left fronts)) (sym is)
     ∙ ap (λ steps. first_step f ∷ merge stamp_of steps (merged_left fronts)) left
 ends_there (g ∷ fronts) (suc place) f first is left =
     later_taken g f fronts (remove fronts place) (smaller_stamp g f fronts place first is) (ends_there fronts place f (first_after g fronts place first) is left)
@@ -125,6 +127,45 @@ pub tells_none : (log : List Entry) → length log ≡ 0 → logged_steps log �
 unfolding taken
 tells_none [] none = refl
 tells_none (e ∷ log) none = absurd (omega (arith, none))
+
+-- what is left of a log from an entry on begins with it
+pub begins_at : (log : List Entry) (i : ℕ) (e : Entry) → slice_get log i ≡ Some e → drop i log ≡ e ∷ drop (i + 1) log
+begins_at [] i e at = absurd cc
+begins_at (x ∷ log) zero e at = let same : x ≡ e = cc in ap (λ y. y ∷ log) same
+begins_at (x ∷ log) (suc i) e at = let same : suc (i + 1) ≡ suc i + 1 = omega arith in begins_at log i e at ∙ ap (λ n. e ∷ drop n (x ∷ log)) same
+
+-- a step, or a refused order, is there or is not
+pub step_left : (log : List Entry) (i stamp : ℕ) (e : Entry) (kind : EntryKind) → slice_get log i ≡ Some e → e.kind ≡ kind → true ≡ is_step kind → stamp ≡ e.stamp
+    → logged_steps (drop i log) ≡ record { stamp = stamp; event = event_there (slice_get log (i + 1 - 1)) } ∷ logged_steps (drop (i + 1) log)
+step_left log i stamp e (StepEntry event origin outcome) at tells is stamps =
+    let back : i + 1 - 1 ≡ i = omega arith in
+    let there : event_there (slice_get log (i + 1 - 1)) ≡ event = ap (λ n. event_there (slice_get log n)) back ∙ ap event_there at ∙ ap (λ k. event_or (step_event k)) tells in
+    begins_with_step (drop i log) (drop (i + 1) log) e event origin outcome (begins_at log i e at) tells
+    ∙ (λ j. record { stamp = sym stamps j; event = sym there j } ∷ logged_steps (drop (i + 1) log))
+step_left log i stamp e (Refused origin fault) at tells is stamps = absurd cc
+
+pub refusal_left : (log : List Entry) (i : ℕ) (e : Entry) (kind : EntryKind) → slice_get log i ≡ Some e → e.kind ≡ kind → false ≡ is_step kind
+    → logged_steps (drop (i + 1) log) ≡ logged_steps (drop i log)
+refusal_left log i e (StepEntry event origin outcome) at tells is = absurd cc
+refusal_left log i e (Refused origin fault) at tells is = begins_with_none (drop i log) (drop (i + 1) log) e origin fault (begins_at log i e at) tells
+
+pub step_there : (log : List Entry) (i stamp : ℕ) (found : Option Entry) (is : Bool) → slice_get log i ≡ found → IsStep is found → is ≡ true → HasStamp stamp found
+    → logged_steps (drop i log) ≡ record { stamp = stamp; event = event_there (slice_get log (i + 1 - 1)) } ∷ logged_steps (drop (i + 1) log)
+step_there log i stamp None is at step holds stamps = absurd step
+step_there log i stamp (Some e) is at step holds stamps = step_left log i stamp e e.kind at refl (sym holds ∙ step) stamps
+
+pub none_there : (log : List Entry) (i : ℕ) (found : Option Entry) (is : Bool) → slice_get log i ≡ found → IsStep is found → is ≡ false
+    → logged_steps (drop (i + 1) log) ≡ logged_steps (drop i log)
+none_there log i None is at step no_step = absurd step
+none_there log i (Some e) is at step no_step = refusal_left log i e e.kind at refl (sym no_step ∙ step)
+
+-- and from its end on nothing is left
+pub left_none : (log : List Entry) (i : ℕ) → length log ≤ i → logged_steps (drop i log) ≡ []
+unfolding taken
+left_none [] zero past = refl
+left_none [] (suc i) past = refl
+left_none (x ∷ log) zero past = absurd (omega arith)
+left_none (x ∷ log) (suc i) past = left_none log i (omega arith)
 
 -- no log
 pub none_left : (fronts : List Front) → length fronts ≡ 0 → merged_left fronts ≡ []

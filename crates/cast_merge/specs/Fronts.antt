@@ -1,22 +1,48 @@
 -- What is left of logs while they are merged.
 --     first_step front         the step at hand
+--     entries_left front       the entries after it
 --     steps_left front         that step, and those of the entries after it
 --     merged_left fronts       all of these steps, merged
 --     events_left fronts       their events
 --     IsFirst fronts place     of the steps at hand the one there has the least stamp, and is the first of those that have it
 --     FirstIn fronts from end first      it is so among those from one place to another, and has this stamp
 --     AreFirsts fronts firsts            these are the firsts of each eight fronts, in order
-use Rattle.std.specs.Prelude.{◌≡◌, ℕ, ◌+◌, ◌*◌, ◌<◌, ◌≤◌, List, [], ◌∷◌, length, map, slice_index_or}
+use Rattle.std.specs.Prelude.{◌≡◌, ℕ, ◌+◌, ◌-◌, ◌*◌, ◌<◌, ◌≤◌, List, [], ◌∷◌, length, map, drop, slice_get, slice_index_or, Bool, Option, Some, None}
 use Rattle.cast_message.specs.declared.event.Event.{Event}
+use Rattle.cast_message.specs.declared.event.Event.TheVariants.{Crash}
+use Rattle.cast_node.specs.declared.entry.Entry.{Entry}
+use Rattle.cast_node.specs.Logged.{is_step, step_event}
 use Rattle.cast_merge.specs.declared.merge.First.{First}
 use Rattle.cast_merge.specs.declared.merge.Front.{Front}
 use Rattle.cast_merge.specs.ByStamp.{LoggedStep, merge, stamp_of, event_at, logged_steps}
 
+-- the event of a step; the default stands where none is, and no front stands there
+abbrev pub event_or : Option Event → Event
+event_or (Some event) = event
+event_or None = Crash 0
+
+abbrev pub event_there : Option Entry → Event
+event_there (Some e) = event_or (step_event e.kind)
+event_there None = Crash 0
+
 abbrev pub first_step : Front → LoggedStep
-first_step front = record { stamp = front.stamp; event = front.event.now }
+first_step front =
+    record { stamp = front.stamp; event = event_there (slice_get front.log.now (front.next - 1)) }
+
+abbrev pub entries_left : Front → List Entry
+entries_left front = drop front.next front.log.now
+
+-- whether the entry there tells a step, and that it has this stamp
+abbrev pub IsStep : Bool → Option Entry → Type 0
+IsStep is None = ⊥
+IsStep is (Some e) = is ≡ is_step e.kind
+
+abbrev pub HasStamp : ℕ → Option Entry → Type 0
+HasStamp stamp None = ⊥
+HasStamp stamp (Some e) = stamp ≡ e.stamp
 
 abbrev pub steps_left : Front → List LoggedStep
-steps_left front = first_step front ∷ logged_steps front.rest.now
+steps_left front = first_step front ∷ logged_steps (entries_left front)
 
 unfoldable pub merged_left : List Front → List LoggedStep
 merged_left [] = []

@@ -22,3 +22,4 @@ pub mod Owing
 pub mod OwedPeers
 pub mod Through
 pub mod Words
+pub mod Logged

@@ -9,3 +9,4 @@ pub mod Taking
 pub mod Sound
 pub mod Calls
 pub mod Promise
+pub mod Logged

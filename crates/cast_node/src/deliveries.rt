@@ -22,7 +22,7 @@ use std::alloc::{AllocError, Global};
 use std::marker::Model;
 
 /// Which nodes are known to hold each pair, what waits, and what was delivered and decided.
-#[derive(Debug, Drop)]
+#[derive(Drop)]
 pub struct Deliveries {
     alloc: Global,
     mode: Mode,
@@ -61,7 +61,7 @@ impl Model for Deliveries {
 }
 
 /// The messages whose turn has come, and what counting them decides.
-#[derive(Debug, Drop)]
+#[derive(Drop)]
 struct Ready {
     messages: Vec<Message>,
     counting: Counting,

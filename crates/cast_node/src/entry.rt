@@ -2,7 +2,7 @@
 use cast_message::{Event, Outcome, StepFault};
 
 /// A client's order: the client's number among those of its node, and the ticket that it was given.
-#[derive(Clone, Copy, Debug, PartialEq, Eq)]
+#[derive(Clone, Copy, PartialEq, Eq)]
 pub struct Origin {
     /// The client's number at its node, from 0 on.
     pub client: u64,
@@ -11,7 +11,7 @@ pub struct Origin {
 }
 
 /// What an entry tells.
-#[derive(Debug, Drop)]
+#[derive(Drop)]
 pub enum EntryKind {
     /// The node took this step: an accepted event of its own, with what it delivered and decided there. An order has an
     /// origin where a client gave it.
@@ -28,7 +28,7 @@ pub enum EntryKind {
 }
 
 /// An entry of a node's log.
-#[derive(Debug, Drop)]
+#[derive(Drop)]
 pub struct Entry {
     /// What the node's clock showed. Stamps rise in a log, and a frame arrives with a greater stamp than that with which
     /// it was made (a logical clock; Lamport 1978).

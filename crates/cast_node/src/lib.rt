@@ -6,6 +6,7 @@ ghost use Rattle.cast_node.specs.Promise.{BeginsWithNothing, GoesOnBySteps, Deli
 mod deliveries;
 mod entry;
 mod giving;
+mod log;
 mod node;
 mod outgoing;
 mod slot;
@@ -13,6 +14,7 @@ mod taking;
 
 pub use deliveries::no_news;
 pub use entry::{Entry, EntryKind, Origin};
+pub use log::{EntryRef, KindRef, Log, OpenLog};
 pub use node::{Node, Numbers};
 
 /// A law of every node, whatever steps it took and whatever frames came to it: a new node stands for no steps; a node that

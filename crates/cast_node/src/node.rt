@@ -31,7 +31,7 @@ use std::alloc::{AllocError, Global};
 use std::marker::Model;
 
 /// A frame that carries a message, told by numbers.
-#[derive(Clone, Copy, Debug)]
+#[derive(Clone, Copy)]
 pub struct Numbers {
     /// Its number among the frames of its maker.
     pub seq: u64,
@@ -42,7 +42,7 @@ pub struct Numbers {
 }
 
 /// A node of a group.
-#[derive(Debug, Drop)]
+#[derive(Drop)]
 pub struct Node {
     alloc: Global,
     config: Config,

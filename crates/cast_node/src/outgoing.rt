@@ -17,7 +17,7 @@ use std::alloc::{AllocError, Global};
 use std::marker::Model;
 
 /// What a node gives each peer.
-#[derive(Debug, Drop)]
+#[derive(Drop)]
 pub struct Outgoing {
     // The messages that it gave, in the order in which it came to hold them.
     messages: Vec<Message>,

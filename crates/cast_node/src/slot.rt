@@ -34,7 +34,7 @@ impl TakesSlot for LinkIn {
 }
 
 /// No slot.
-#[derive(Clone, Copy, Debug)]
+#[derive(Clone, Copy)]
 pub struct NoSlot;
 
 impl TakesSlot for NoSlot {

@@ -16,7 +16,7 @@ use cast_sets::GroupSet;
 use std::alloc::AllocError;
 
 /// A message that a node did not hold, the node that it came from, and those that are known to hold it.
-#[derive(Debug, Drop)]
+#[derive(Drop)]
 pub struct Fresh {
     pub message: Message,
     pub source: NodeId,

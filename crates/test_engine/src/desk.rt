@@ -2,7 +2,7 @@
 use cast_box::{BoxFault, Full};
 use cast_desk::{DeskFault, Notice, OrderIn, end_desk, feed, make_desk};
 use cast_message::{Event, Item, List, Message, NodeId, Outcome};
-use cast_node::{Entry, EntryKind, Origin};
+use cast_node::{Entry, EntryKind, Log, Origin};
 use std::alloc::{AllocError, Global};
 use std::test::*;
 
@@ -84,7 +84,7 @@ fn nothing_is_left(rt: HostRuntime) -> Result<(), Fail> {
 }
 
 // The log of a node whose client 0 closed the stream.
-fn log_of_one_order(alloc: Global) -> Result<Vec<Entry>, AllocError> {
+fn log_of_one_order(alloc: Global) -> Result<Log, AllocError> {
     let node = NodeId(0);
     let mut deliveries = List::new(alloc);
     deliveries.push(Message {
@@ -92,7 +92,7 @@ fn log_of_one_order(alloc: Global) -> Result<Vec<Entry>, AllocError> {
         number: 0,
         item: Item::Close,
     })?;
-    let mut log = Vec::new(alloc);
+    let mut log = Log::new(alloc);
     log.push(Entry {
         stamp: 1,
         kind: EntryKind::Step {

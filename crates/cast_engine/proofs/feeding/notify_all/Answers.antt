@@ -13,13 +13,13 @@ pub notify-moved-requires : goal.notify-moved-requires
 notify-moved-requires g c =
     let l = c.loop-client in
     let within : l.client < length l.places.items = omega (arith, c.loop-client-test.true, c.len-client-end.ensures, l.invariant.3, l.places.ok) in
-    fed_at c.args.log.now l.desk.trays.items l.places.items l.client c.index_mut.result.now l.invariant.0 (read_at l.places.items l.client c.index_mut.result.now within c.index_mut.ensures.value)
+    fed_at c.args.log.now.entries l.desk.trays.items l.places.items l.client c.index_mut.result.now l.invariant.0 (read_at l.places.items l.client c.index_mut.result.now within c.index_mut.ensures.value)
 
 pub loop-client-preserved : goal.loop-client-preserved
 loop-client-preserved g c =
     let l = c.loop-client in
     let fed = c.notify-moved.ensures.fed in
-    let it = fed_set c.args.log.now l.desk.trays.items c.notify-moved.new.desk.trays.items l.places.items l.client c.notify-moved.new.place l.invariant.0 fed in
+    let it = fed_set c.args.log.now.entries l.desk.trays.items c.notify-moved.new.desk.trays.items l.places.items l.client c.notify-moved.new.place l.invariant.0 fed in
     let next = tells_next c.args.desk.now.trays.items l.desk.trays.items c.notify-moved.new.desk.trays.items l.client fed.1 l.invariant.4 l.invariant.5 fed.3 c.notify-moved.ensures.few in (
       it.0,
       c.notify-moved.ensures.orders ∙ l.invariant.1,
@@ -28,7 +28,7 @@ loop-client-preserved g c =
       next.0,
       next.1,
       λ quiet. let neither = or_parts l.moved c.notify-moved.result quiet in c.notify-moved.ensures.idle neither.1 ∙ l.invariant.6 neither.0,
-      told_next c.args.log.now c.args.desk.now.trays.items l.desk.trays.items c.notify-moved.new.desk.trays.items l.places.items l.client fed.1 c.notify-moved.new.place c.notify-moved.result l.invariant.5 fed.3 l.invariant.7 c.notify-moved.ensures.told,
+      told_next c.args.log.now.entries c.args.desk.now.trays.items l.desk.trays.items c.notify-moved.new.desk.trays.items l.places.items l.client fed.1 c.notify-moved.new.place c.notify-moved.result l.invariant.5 fed.3 l.invariant.7 c.notify-moved.ensures.told,
     )
 
 pub returns-clause-told : goal.returns-clause-told

@@ -1,16 +1,18 @@
-use Rattle.std.proofs.Common.{◌∙◌, sym}
-use Rattle.cast_merge.proofs.Fronts.{begins_with_step, begins_with_none, tells_none}
+use Rattle.std.proofs.Common.{◌∙◌, sym, slice_get, refl, arith}
+use Rattle.cast_merge.proofs.Fronts.{step_there, none_there, left_none}
 use Rattle.cast_merge.proofs.merge.front_of.Goals as goal
 
-pub returns-in-Step : goal.returns-in-Step
-returns-in-Step c =
-    let e = c.in-Some.entry.now in
-    sym c.loop-entry.invariant ∙ begins_with_step c.loop-entry.left.now c.in-Some.rest.now e c.in-Step.event c.in-Step.origin c.in-Step.outcome c.in-Some.ensures.cases.0 c.in-Step.is
+pub returns-then-is_step_at : goal.returns-then-is_step_at
+returns-then-is_step_at c =
+    let log = c.args.log.now in
+    let place = c.loop-place.place in
+    sym c.loop-place.invariant ∙ step_there log place c.stamp_at-stamp.result (slice_get log place) c.is_step_at.result refl c.is_step_at.ensures c.if-is_step_at.true c.stamp_at-stamp.ensures
 
-pub loop-entry-preserved : goal.loop-entry-preserved
-loop-entry-preserved c =
-    let e = c.in-Some.entry.now in
-    begins_with_none c.loop-entry.left.now c.in-Some.rest.now e c.in_default-kind.field-0 c.in_default-kind.field-1 c.in-Some.ensures.cases.0 c.in_default-kind.is ∙ c.loop-entry.invariant
+pub loop-place-preserved : goal.loop-place-preserved
+loop-place-preserved c =
+    let log = c.args.log.now in
+    let place = c.loop-place.place in
+    none_there log place (slice_get log place) c.is_step_at.result refl c.is_step_at.ensures c.if-is_step_at.false ∙ c.loop-place.invariant
 
 pub returns : goal.returns
-returns c = sym c.loop-entry.invariant ∙ tells_none c.loop-entry.left.now c.in_default.ensures.cases
+returns c = sym c.loop-place.invariant ∙ left_none c.args.log.now c.loop-place.place (omega (arith, c.loop-place-test.false, c.len-place-end.ensures))

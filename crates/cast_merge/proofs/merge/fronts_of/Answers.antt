@@ -1,5 +1,4 @@
-use Rattle.std.proofs.Common.{◌∙◌, ap, sym}
-use Rattle.cast_merge.specs.ByStamp.{logged_steps}
+use Rattle.std.proofs.Common.{◌∙◌, ap}
 use Rattle.cast_merge.specs.Fronts.{merged_left}
 use Rattle.cast_merge.proofs.Fronts.{none_read, read_more, read_none}
 use Rattle.cast_merge.proofs.merge.fronts_of.Goals.{in-Some+in_ok-push, in_default}
@@ -16,8 +15,8 @@ loop-report-preserved c =
       | in-Some+in_ok-push w ↦
           ap (λ now. merged_left now.items) w.fronts-is
           ∙ read_more c.args.reports.now c.loop-report.report-index report fronts w.push.new.self.items w.in-Some.front c.loop-report-test.true c.report-item.is w.in_ok-push.ensures.items
-          (ap logged_steps (sym c.as_slice.ensures) ∙ w.in-Some.ensures) c.loop-report.invariant
+          w.in-Some.ensures c.loop-report.invariant
       | in_default w ↦
           ap (λ now. merged_left now.items) w.fronts-is
-          ∙ read_none c.args.reports.now c.loop-report.report-index report fronts c.loop-report-test.true c.report-item.is (ap logged_steps (sym c.as_slice.ensures) ∙ w.in_default.ensures) c.loop-report.invariant
+          ∙ read_none c.args.reports.now c.loop-report.report-index report fronts c.loop-report-test.true c.report-item.is w.in_default.ensures c.loop-report.invariant
     ]

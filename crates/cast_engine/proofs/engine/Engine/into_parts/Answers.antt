@@ -9,7 +9,7 @@ returns-clause-leaves c =
     let i = c.self.inside in
     let parts = c.into_parts-log in
     let e : EngineState = record { config = i.journal.config; me = i.journal.node.me; crash = i.journal.crash; outbox = i.outbox; held = i.held; inbox = i.inbox; desk = i.desk } in
-    let P : EngineState → Type 0 = λ s. Leaves s parts.result.0.items parts.result.1 parts.result.2 in
+    let P : EngineState → Type 0 = λ s. Leaves s parts.result.0 parts.result.1 parts.result.2 in
     let j = c.close.new.self in
     let stays = stays_halt i.journal j i.outbox.put i.held i.inbox.taken i.desk i.places.items c.self.invariant c.close.ensures.halts in
     let same = same_halt i.journal j i.outbox.put i.held i.inbox.taken i.desk i.places.items c.self.invariant c.close.ensures.halts in

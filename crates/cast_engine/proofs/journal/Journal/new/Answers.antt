@@ -1,4 +1,4 @@
-use Rattle.std.proofs.Common.{ap, ◌∙◌, arith}
+use Rattle.std.proofs.Common.{ap, arith}
 use Rattle.cast_node.specs.Kept.{Kept}
 use Rattle.cast_engine.proofs.Journaling.{begun}
 use Rattle.cast_engine.proofs.journal.Journal.new.Goals as goal
@@ -6,5 +6,5 @@ use Rattle.cast_engine.proofs.journal.Journal.new.Goals as goal
 pub invariant_of-result : goal.invariant_of-result
 invariant_of-result c =
     begun c.args.config.now _ c.in-Ok.node _ c.first_stamp.result c.args.crash
-    (omega (arith, c.in_ok-reserve.ensures.ok, c.log_limit.ensures, c.new-log.ensures.len))
-    (c.in_ok-reserve.ensures.items ∙ c.new-log.ensures.items) c.first_stamp.ensures (ap (λ (k : Kept). k.live) c.in-Ok.ensures.ok)
+    (omega (arith, c.in_ok-log.ensures.room, c.log_limit.ensures))
+    c.in_ok-log.ensures.entries c.first_stamp.ensures (ap (λ (k : Kept). k.live) c.in-Ok.ensures.ok)
