@@ -18,6 +18,7 @@ use Rattle.serde_json.specs.Find.{get_member}
 use Rattle.serde_json.specs.Read.{read, of_json, of_items, of_members, max_depth, number_of}
 use Rattle.serde_json.proofs.Numbers.{number_of-decimal}
 use Rattle.serde_json.proofs.Views.{get_member-put, get_member-put_other}
+use Rattle.cast_script.specs.declared.element.Unread.{Unread}
 use Rattle.cast_script.specs.declared.script.ScriptEvent.{ScriptEvent}
 use Rattle.cast_script.specs.declared.script.Settings.{Settings}
 use Rattle.cast_script.specs.Places.{places}
@@ -26,10 +27,15 @@ use Rattle.cast_script.specs.Faults.{elements_from}
 use Rattle.cast_script.specs.Members.{is_member, all_known, has_known_members, settings_of, list_of, or_empty}
 use Rattle.cast_script.specs.Plain.{IsCell, AreCells, IsEvent, AreEvents, IsValueOf, IsLike, SaysMembers}
 use Rattle.cast_script.specs.Script.{checked, script_in, script_of}
+use Rattle.cast_script.specs.Unread.{Gives}
 
 pub ok_with : {A E : Type 0} {P Q : A → Type 0} (r : Result A E) → ((x : A) → P x → Q x) → IfOk r P → IfOk r Q
 ok_with (Ok x) f h = f x h
 ok_with (Err e) f h = tt
+
+pub gives_ok : {A : Type 0} (r : Result A Unread) (element : Option A) → Gives r element → IfOk r (λ x. element ≡ Some x)
+gives_ok (Ok x) element is = is
+gives_ok (Err unread) element is = tt
 
 pub some_or : {A E : Type 0} (P Q : A → Type 0) (o : Option A) (e : E) → ((x : A) → P x → Q x) → IfSome o P → IfOk (ok_or o e) Q
 some_or P Q None e f h = tt

@@ -111,13 +111,15 @@ abbrev pub settle_of : List Data → Option ScriptEvent
 settle_of [] = Some Settle
 settle_of _ = None
 
+-- the readers of events that are no orders, by their names
+abbrev pub other_events : List (List ℕ × (List Data → Option ScriptEvent))
+other_events =
+    (codes "send", send_of) ∷ (codes "ack", ack_of) ∷ (codes "arrive", arrive_of)
+    ∷ (codes "crash", crash_of) ∷ (codes "settle", settle_of) ∷ []
+
 abbrev pub event_named : List ℕ → List Data → Option ScriptEvent
 event_named name ds =
-    among (
-    (codes "order", λ places. option_map Core (order_of places)) ∷ (codes "send", send_of)
-    ∷ (codes "ack", ack_of)
-    ∷ (codes "arrive", arrive_of) ∷ (codes "crash", crash_of) ∷ (codes "settle", settle_of) ∷ []
-    ) name ds
+    among ((codes "order", λ places. option_map Core (order_of places)) ∷ other_events) name ds
 
 abbrev pub event_at : List Data → Option ScriptEvent
 event_at ds = by_name event_named ds

@@ -8,6 +8,7 @@
 --     IsValueOf old d rest         the first tokens are those of the value d
 --     IsLike found shown events    the members say what `shown` says, but for the events, which are these
 --     SaysMembers old d events rest     the first tokens are those of members that are so like d
+--     SaysPlain shown settings     members that are so like it say these settings, and nothing but the events
 use Rattle.std.specs.Prelude.{◌≡◌, ℕ, ◌≤◌, List, [], ◌∷◌, ◌++◌, codes, false, Option, Some, Result, Ok, IfOk}
 use Rattle.std.specs.Str.{bytes_eq}
 use Rattle.json.specs.Token.{Token}
@@ -20,7 +21,9 @@ use Rattle.cast_script.specs.declared.element.Unread.{Unread}
 use Rattle.cast_script.specs.declared.script.ScriptEvent.{ScriptEvent}
 use Rattle.cast_script.specs.Element.{event_at, event_of}
 use Rattle.cast_script.specs.Faults.{elements_from}
+use Rattle.cast_script.specs.declared.script.Settings.{Settings}
 use Rattle.cast_script.specs.Members.{has_known_members, list_of}
+use Rattle.cast_script.specs.Script.{script_of}
 
 abbrev pub IsCell : List Token → Data → List Token → Type 0
 IsCell old null rest = ⊥
@@ -68,3 +71,9 @@ SaysMembers old shown events rest =
     (ms : json.Members) × (found : Members) × (old ≡ members_tokens ms ++ rest)
     × (members_depth ms ≤ 2) × (value.of_members ms no_members ≡ Some found)
     × IsLike found shown events
+
+abbrev pub SaysPlain : Data → Settings → Type 0
+SaysPlain shown settings =
+    (found : Members) (events : List ScriptEvent) → IsLike found shown events
+    → script_of (object found)
+    ≡ Ok (record { settings = settings; events = events; plan = []; jobs = [] })

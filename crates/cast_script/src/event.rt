@@ -1,7 +1,7 @@
 //! The events of a script.
 ghost use Rattle.std.specs.Prelude.{◌≡◌, map};
 ghost use Rattle.serde_json.specs.View.{view};
-ghost use Rattle.cast_script.specs.Element.{event_of, order_of, link_slot_of, send_of, ack_of, arrive_of, crash_of, settle_of};
+ghost use Rattle.cast_script.specs.Element.{among, event_of, other_events, order_of, link_slot_of, send_of, ack_of, arrive_of, crash_of, settle_of};
 ghost use Rattle.cast_script.specs.Unread.{Gives};
 
 use crate::element::{Element, LinkSlot, Unread, node, places};
@@ -19,13 +19,22 @@ impl Element for ScriptEvent {
         let (word, others) = places.split_first().ok_or(Unread::Shape)?;
         match word.as_str().ok_or(Unread::Shape)? {
             "order" => Ok(ScriptEvent::Core(order(alloc, others)?)),
-            "send" => send(others).ok_or(Unread::Shape),
-            "ack" => ack(others).ok_or(Unread::Shape),
-            "arrive" => arrive(others).ok_or(Unread::Shape),
-            "crash" => crash(others).ok_or(Unread::Shape),
-            "settle" => settle(others).ok_or(Unread::Shape),
-            _ => Err(Unread::Shape),
+            name => other_event(name, others).ok_or(Unread::Shape),
         }
+    }
+}
+
+// The event of this name that stands in these places, where it is no order.
+fn other_event(name: &str, places: &[Value]) -> Option<ScriptEvent>
+    ensures { result ≡ among other_events name.now (map view places.now) }
+{
+    match name {
+        "send" => send(places),
+        "ack" => ack(places),
+        "arrive" => arrive(places),
+        "crash" => crash(places),
+        "settle" => settle(places),
+        _ => None,
     }
 }
 

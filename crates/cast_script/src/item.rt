@@ -1,5 +1,7 @@
 //! The items of a script.
-ghost use Rattle.std.specs.Prelude.{◌≡◌, map};
+ghost use Rattle.std.specs.Prelude.{◌≡◌, map, option_map};
+ghost use Rattle.cast_message.specs.declared.message.Item.TheVariants.{Data};
+ghost use Rattle.cast_words.specs.Unhex.{unhex};
 ghost use Rattle.serde_json.specs.View.{view};
 ghost use Rattle.cast_script.specs.Element.{item_of, data_of, proposal_of, close_of};
 ghost use Rattle.cast_script.specs.Unread.{Gives};
@@ -30,7 +32,13 @@ fn data(alloc: Global, places: &[Value]) -> Result<Item, Unread>
     let [place] = places else {
         return Err(Unread::Shape);
     };
-    let digits = place.as_str().ok_or(Unread::Shape)?;
+    data_item(alloc, place.as_str().ok_or(Unread::Shape)?)
+}
+
+/// The item of the bytes that the digits say.
+pub fn data_item(alloc: Global, digits: &str) -> Result<Item, Unread>
+    ensures { Gives result (option_map Data (unhex digits.now)) }
+{
     let bytes = bytes_of(alloc, digits.as_bytes())?.ok_or(Unread::Shape)?;
     Ok(Item::Data(Payload::new(Bytes::from_vec(bytes)?)))
 }

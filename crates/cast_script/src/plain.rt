@@ -1,23 +1,22 @@
 //! The plain case of a script, read off its tokens, one event after another, so that the value of the whole text is never
 //! kept: an object of words, numbers, empty lists and one list of events, each of these an array of words and numbers.
 //! What isn't so plain is read as a value by `reading`, which also says what is wrong with it.
-ghost use Rattle.std.specs.Prelude.{◌≡◌, ◌∷◌, List as Tokens, Some, Ok, IfOk, IfSome, option_map};
+ghost use Rattle.std.specs.Prelude.{◌≡◌, ◌∷◌, List as Tokens, Some, Ok, IfOk, IfSome, OnOk, option_map};
 ghost use Rattle.json.specs.Json.{read_key};
 ghost use Rattle.json.specs.Token.{Token as Read, begin_array, end_array, string};
-ghost use Rattle.serde_json.specs.Data.{Data, Members, unsigned as unsigned_num, object};
+ghost use Rattle.serde_json.specs.Data.{Data, Members, unsigned as unsigned_num, object, put};
 ghost use Rattle.serde_json.specs.Read.{number_of as number_in};
-ghost use Rattle.serde_json.specs.View.{view};
+ghost use Rattle.serde_json.specs.View.{view, members_view};
 ghost use Rattle.cast_script.specs.Element.{number_of, node_of, item_of, item_named, data_of, proposal_of, close_of, order_of, link_slot_of, send_of, ack_of, arrive_of, crash_of, settle_of, event_named};
-ghost use Rattle.cast_script.specs.Plain.{IsCell, GivesCells, IsEvent, AreEvents, IsValueOf, IsLike, SaysMembers};
-ghost use Rattle.cast_script.specs.Script.{Reads, said, script_of};
+ghost use Rattle.cast_script.specs.Plain.{IsCell, GivesCells, IsEvent, AreEvents, IsValueOf, IsLike, SaysMembers, SaysPlain};
+ghost use Rattle.cast_script.specs.Script.{Reads, said, script_of, settings_in};
 
 use crate::element::{LinkSlot, Unread};
+use crate::item::data_item;
 use crate::members::{has_known_members_only, list, settings};
 use crate::reading::check;
 use crate::script::{FaultPlan, Script, ScriptEvent};
-use bytes::Bytes;
-use cast_message::{Event, Item, List, NodeId, Payload};
-use cast_words::bytes_of;
+use cast_message::{Config, Event, Item, List, NodeId};
 use json::{Reader, Scratch, Token};
 use serde_json::{Map, Value};
 use std::alloc::Global;
@@ -53,27 +52,35 @@ fn script(alloc: Global, parts: Parts) -> Option<Script>
         → IsLike found (view parts.others) parts.events
         → script_of (object found) ≡ Ok (said script)) }
 {
-    if !has_known_members_only(&parts.others) {
-        return None;
-    }
-    let settings = settings(&parts.others)?;
-    let plan = list(&parts.others, "plan")?;
-    let jobs = list(&parts.others, "jobs")?;
-    if !plan.is_empty() || !jobs.is_empty() {
-        return None;
-    }
-    let Ok(config) = check(&settings) else {
-        return None;
-    };
+    let (config, turns) = limits(&parts.others)?;
     Some(Script {
         config,
-        turns: settings.turns,
+        turns,
         events: parts.events,
         plan: FaultPlan {
             faults: List::new(alloc),
         },
         jobs: List::new(alloc),
     })
+}
+
+// The configuration and the turns that the members say, where plan and jobs are empty.
+fn limits(others: &Value) -> Option<(Config, u64)>
+    ensures { IfSome result (λ r. SaysPlain (view others.now) (settings_in r.0 r.1)) }
+{
+    if !has_known_members_only(others) {
+        return None;
+    }
+    let settings = settings(others)?;
+    let plan = list(others, "plan")?;
+    let jobs = list(others, "jobs")?;
+    if !plan.is_empty() || !jobs.is_empty() {
+        return None;
+    }
+    match check(&settings) {
+        Ok(config) => Some((config, settings.turns)),
+        Err(_) => None,
+    }
 }
 
 fn members(alloc: Global, reader: &mut Reader<'_>) -> Result<Parts, Unread>
@@ -89,12 +96,26 @@ fn members(alloc: Global, reader: &mut Reader<'_>) -> Result<Parts, Unread>
         } else {
             value(alloc, reader)?
         };
-        drop(others.insert(String::from_str(alloc, name)?, value)?);
+        set_member(alloc, name, value, &mut others)?;
     }
     Ok(Parts {
         others: Value::Object(others),
         events,
     })
+}
+
+// A member of this name has the value, which takes the place of the one that it had.
+fn set_member(
+    alloc: Global,
+    name: &str,
+    value: Value,
+    members: &mut Map<String, Value>,
+) -> Result<(), Unread>
+    ensures { OnOk result (members_view members.new.entries
+        ≡ put name.now (view value) (members_view members.old.entries)) }
+{
+    drop(members.insert(String::from_str(alloc, name)?, value)?);
+    Ok(())
 }
 
 // The name of the next member, or none at the end of the object.
@@ -243,9 +264,8 @@ fn data(alloc: Global, reader: &mut Reader<'_>) -> Result<Item, Unread>
     ensures { GivesCells data_of reader.old result reader.new }
 {
     let digits = word(reader)?;
-    let bytes = bytes_of(alloc, digits.as_bytes())?.ok_or(Unread::Shape)?;
     end(reader)?;
-    Ok(Item::Data(Payload::new(Bytes::from_vec(bytes)?)))
+    data_item(alloc, digits)
 }
 
 fn proposal(reader: &mut Reader<'_>) -> Result<Item, Unread>

@@ -3,7 +3,7 @@ use cast_message::{Config, ConfigFault, Event, FrameKind, Item, List, Mode, Node
 use thiserror::Error;
 
 /// What a group is to be, and what is to happen to it.
-#[derive(Debug, Drop)]
+#[derive(Drop)]
 pub struct Script {
     pub config: Config,
     /// How many turns an engine may take, and a client's job, where the script is run by threads.
@@ -26,7 +26,7 @@ pub enum ScriptEvent {
 }
 
 /// What carriers do to frames, and when engines crash.
-#[derive(Debug, Drop)]
+#[derive(Drop)]
 pub struct FaultPlan {
     pub faults: List<Fault>,
 }
@@ -73,7 +73,7 @@ pub enum ScriptFault {
 }
 
 /// What a script says beside its lists, before any limit is asked for.
-#[derive(Clone, Copy, Debug)]
+#[derive(Clone, Copy)]
 pub struct Settings {
     pub nodes: u64,
     pub faults: u64,

@@ -2,7 +2,7 @@ use Rattle.std.proofs.Common.{◌≡◌, ◌∷◌, Some, true, false, codes, by
 use Rattle.json.specs.Token.{Token}
 use Rattle.serde_json.specs.Data.{no_members, put}
 use Rattle.serde_json.specs.View.{view, members_view}
-use Rattle.serde_json.proofs.Views.{view-Object, members_view-insert_entry}
+use Rattle.serde_json.proofs.Views.{view-Object}
 use Rattle.cast_script.proofs.PlainLemmas.{AreRead, keyed, ended, members_start, member_read, events_read, members_done, events_shorter, value_no_longer}
 use Rattle.cast_script.specs.Plain.{SaysMembers}
 use Rattle.cast_script.proofs.plain.members.Goals.{then-eq+in_ok-events, else-eq+in_ok-value}
@@ -32,7 +32,7 @@ members-preserved c =
     let next = c.next_name.new.reader in
     let key : c.members.reader ≡ Token.key name ∷ next = keyed c.members.reader next name (c.in_ok-name.ensures ∙ ap (λ o. Some (option_map (λ s. s.now) o, next)) c.in-Some.is) in
     let shown = members_view c.members.others.entries in
-    let inserted : members_view c.insert.new.self.entries ≡ put name (view c.if-eq.value) shown = ap members_view c.in_ok-insert.ensures.entries ∙ members_view-insert_entry c.members.others.entries c.in_ok-from_str.field-0 c.if-eq.value ∙ ap (λ k. put k (view c.if-eq.value) shown) c.in_ok-from_str.ensures.ok in
+    let inserted : members_view c.set_member.new.members.entries ≡ put name (view c.if-eq.value) shown = c.in_ok-set_member.ensures in
     elim c.if-eq.branch [
       | then-eq+in_ok-events w ↦
           let h = w.in_ok-events.ensures in

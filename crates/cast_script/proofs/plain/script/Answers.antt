@@ -1,16 +1,4 @@
-use Rattle.std.proofs.Common.{◌≡◌, [], Some, true, codes, map, sym, ap, ◌∙◌, arith}
-use Rattle.std.proofs.lemmas.Grind.{common_steps}
-use Rattle.serde_json.specs.View.{view}
-use Rattle.cast_script.specs.Members.{has_known_members, list_of}
-use Rattle.cast_script.proofs.PlainLemmas.{plain_script}
 use Rattle.cast_script.proofs.plain.script.Goals as goal
 
 pub returns : goal.returns
-returns c = λ found like.
-    let shown = view c.args.parts.others in
-    let known : has_known_members shown ≡ true = grind (arith, common_steps) in
-    let no_plan : c.in_ok-plan.plan.now ≡ [] = grind (arith, common_steps) in
-    let no_jobs : c.in_ok-jobs.jobs.now ≡ [] = grind (arith, common_steps) in
-    let plan : list_of (codes "plan") shown ≡ Some [] = sym c.in_ok-plan.ensures ∙ ap (λ l. Some (map view l)) no_plan in
-    let jobs : list_of (codes "jobs") shown ≡ Some [] = sym c.in_ok-jobs.ensures ∙ ap (λ l. Some (map view l)) no_jobs in
-    rw (c.new.ensures, c.new-2.ensures) (plain_script found shown c.args.parts.events c.in_ok-settings.settings _ like known (sym c.in_ok-settings.ensures) plan jobs c.in-Ok.ensures)
+returns c = λ found like. rw (c.new.ensures, c.new-2.ensures) (c.in_ok-config.ensures found c.args.parts.events like)
