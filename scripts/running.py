@@ -12,7 +12,7 @@ TOP = SCRIPTS.parent
 ROWS = TOP / "rows"
 ROW_ENDINGS = (
     *("script.json", "script.json.parts", "record", "record.parts"),
-    *("stdout", "stdout.pattern", "stderr", "stderr.pattern", "status"),
+    *("words", "stdout", "stdout.pattern", "stderr", "stderr.pattern", "status"),
 )
 # Each allocation of a program is refused in turn, up to this one: those that are run so make some hundreds.
 MOST_ALLOCATIONS = 5000

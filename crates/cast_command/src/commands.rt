@@ -1,4 +1,5 @@
 //! The commands with their arguments and texts.
+use clap::builder::ValueParser;
 use clap::{Arg, ArgAction, Command, value_parser};
 use std::alloc::{AllocError, Global};
 
@@ -43,16 +44,26 @@ pub fn castgroup_command<'a>(
     alloc: Global,
     rules: &'static str,
 ) -> Result<Command<'a>, AllocError> {
+    let command = with_command(program(alloc)?, run_command(alloc))?;
+    let command = with_command(command, judge_command(alloc, rules))?;
+    let command = with_command(command, live_command(alloc))?;
+    let command = with_command(command, migrate_command(alloc))?;
+    with_command(command, draw_command(alloc))
+}
+
+fn with_command<'a>(
+    program: Command<'a>,
+    command: Result<Command<'a>, AllocError>,
+) -> Result<Command<'a>, AllocError> {
+    program.subcommand(command?)
+}
+
+fn program<'a>(alloc: Global) -> Result<Command<'a>, AllocError> {
     Command::new(alloc, "castgroup")
         .about("A FIFO broadcast group with k-set agreement")
         .version("0.1.0")
         .subcommand_required(true)
-        .arg(explain_flag(alloc))?
-        .subcommand(run_command(alloc)?)?
-        .subcommand(judge_command(alloc, rules)?)?
-        .subcommand(live_command(alloc)?)?
-        .subcommand(migrate_command(alloc)?)?
-        .subcommand(draw_command(alloc)?)
+        .arg(explain_flag(alloc))
 }
 
 // The flag that each command takes.
@@ -91,29 +102,34 @@ fn judge_command<'a>(alloc: Global, rules: &'static str) -> Result<Command<'a>, 
 }
 
 fn live_command<'a>(alloc: Global) -> Result<Command<'a>, AllocError> {
-    Command::new(alloc, "live")
-        .about(
-            "Runs a script's group in threads, by its plan and jobs, and writes what became of it",
+    let command = Command::new(alloc, "live")
+        .about("Runs a script's group, by its plan and jobs, and writes what became of it")
+        .after_help(ENDS);
+    with_outputs(alloc, with_seeds(alloc, command)?)?.arg(script(alloc))
+}
+
+// The options that say by which seeds a group runs in place of threads.
+fn with_seeds<'a>(alloc: Global, command: Command<'a>) -> Result<Command<'a>, AllocError> {
+    let seed = "Run in one thread, by the schedule of seed N: the same run each time";
+    let times = "Run M seeds from N on, and tell of those runs that are not as one hopes";
+    let least_once = ValueParser::unsigned(1, u64::MAX);
+    command
+        .arg(option(alloc, "seed", "N", seed).value_parser(value_parser!(u64)))?
+        .arg(
+            option(alloc, "times", "M", times)
+                .value_parser(least_once)
+                .requires_arg("seed")?,
         )
-        .after_help(ENDS)
-        .arg(option(
-            alloc,
-            "record",
-            "FILE",
-            "Also write the record of the run to FILE",
-        ))?
-        .arg(option(
-            alloc,
-            "replay",
-            "FILE",
-            "Also write to FILE a script that runs the same step by step",
-        ))?
-        .arg(flag(
-            alloc,
-            "progress",
-            "Say on standard error each second how far the run is, as on a terminal",
-        ))?
-        .arg(script(alloc))
+}
+
+fn with_outputs<'a>(alloc: Global, command: Command<'a>) -> Result<Command<'a>, AllocError> {
+    let record = "Also write the record of the run to FILE";
+    let replay = "Also write to FILE a script that runs the same step by step";
+    let progress = "Say on standard error each second how far the run is, as on a terminal";
+    command
+        .arg(option(alloc, "record", "FILE", record))?
+        .arg(option(alloc, "replay", "FILE", replay))?
+        .arg(flag(alloc, "progress", progress))
 }
 
 // An option that takes a value.

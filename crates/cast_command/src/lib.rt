@@ -5,4 +5,4 @@
 mod commands;
 mod request;
 
-pub use request::{Call, Refusal, Request, RunFiles, Shown, parse};
+pub use request::{Call, Refusal, Request, RunFiles, Running, Shown, parse};

@@ -14,13 +14,24 @@ pub struct Call<'a> {
     pub explains: bool,
 }
 
-/// The files that are kept of a run in threads, where they are named.
+/// The files that are kept of a run, where they are named.
 #[derive(Clone, Copy)]
 pub struct RunFiles<'a> {
     /// The record of what happened.
     pub record: Option<&'a str>,
     /// The script that says what happened.
     pub replay: Option<&'a str>,
+}
+
+/// How a script's group runs.
+#[derive(Clone, Copy)]
+pub enum Running {
+    /// Once, in threads.
+    InThreads,
+    /// Once, by the schedule of this seed.
+    BySeed(u64),
+    /// By so many seeds, of which this is the first.
+    BySeeds { first: u64, times: u64 },
 }
 
 /// What the program is asked to do.
@@ -30,9 +41,10 @@ pub enum Request<'a> {
     Run(Call<'a>),
     /// To judge a record.
     Judge(Call<'a>),
-    /// To run the group of a script in threads.
+    /// To run the group of a script.
     Live {
         call: Call<'a>,
+        running: Running,
         files: RunFiles<'a>,
         /// Whether it is told how far the run is, also where standard error is no terminal.
         tells_progress: bool,
@@ -98,13 +110,21 @@ pub fn parse<'a>(
     rules: &'static str,
 ) -> Result<Request<'a>, Refusal> {
     let matches = castgroup_command(alloc, rules)?.try_get_matches_from(words)?;
+    request_of(alloc, rules, &matches)
+}
+
+fn request_of<'a>(
+    alloc: Global,
+    rules: &'static str,
+    matches: &ArgMatches<'a>,
+) -> Result<Request<'a>, Refusal> {
     match matches.subcommand() {
         Some(("run", inner)) => Ok(Request::Run(call_on(inner, "SCRIPT"))),
         Some(("judge", inner)) => Ok(Request::Judge(call_on(inner, "RECORD"))),
         Some(("live", inner)) => Ok(live(inner)),
         Some(("draw", inner)) => draw(alloc, inner),
         Some(("migrate", inner)) => Ok(Request::Migrate(call_on(inner, "RECORD"))),
-        // (a command line that names none was refused above)
+        // (a command line that names none was refused before)
         _ => Err(fault(castgroup_command(alloc, rules)?, "a command is wanted")),
     }
 }
@@ -119,11 +139,23 @@ fn call_on<'a>(matches: &ArgMatches<'a>, input: &str) -> Call<'a> {
 fn live<'a>(matches: &ArgMatches<'a>) -> Request<'a> {
     Request::Live {
         call: call_on(matches, "SCRIPT"),
+        running: running_of(matches),
         files: RunFiles {
             record: matches.get_str("record"),
             replay: matches.get_str("replay"),
         },
         tells_progress: matches.get_flag("progress"),
+    }
+}
+
+// (a number of times without a seed was refused with the words)
+fn running_of(matches: &ArgMatches<'_>) -> Running {
+    let seed: Option<u64> = matches.get_one("seed");
+    let times: Option<u64> = matches.get_one("times");
+    match (seed, times) {
+        (None, _) => Running::InThreads,
+        (Some(seed), None) => Running::BySeed(seed),
+        (Some(first), Some(times)) => Running::BySeeds { first, times },
     }
 }
 

@@ -1,4 +1,4 @@
--- What became of a group that ran in threads, and what is told of it.
+-- What became of a group that ran, and what is told of it.
 --     IsMergedRun config reports events    the events are the merge of these linked logs
 --     IsRunOf script reports               these are the reports of a run of the script, with a client for each of its jobs
 --     IsFinished run                       the report's logs are merged, and the world stands for the merged events

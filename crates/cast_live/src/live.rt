@@ -1,5 +1,5 @@
-//! Running the group of a script in threads, and telling what became of it.
-ghost use Rattle.std.specs.Prelude.{◌≡◌, ◌++◌, ◌∷◌, [], false, IfOk, IfErr, OnOk, map};
+//! Running the group of a script, and telling what became of it.
+ghost use Rattle.std.specs.Prelude.{◌≡◌, ◌<◌, ◌++◌, ◌∷◌, [], false, length, IfOk, IfErr, OnOk, map};
 ghost use Rattle.cast_record.specs.Text.{record_text};
 ghost use Rattle.cast_job.specs.Jobs.{told_job};
 ghost use Rattle.cast_script.specs.Replay.{script_text};
@@ -11,8 +11,12 @@ use crate::replay::{is_replayed, write_run_record};
 use crate::summary::{Summary, summarize, write_summary};
 use cast_merge::{Assembly, assemble};
 use cast_message::{Item, List, NodeId};
+use cast_node::{EntryKind, KindRef, Log};
 use cast_report::GroupReport;
-use cast_run::{CountingGate, Progress, SubmitAll, find_misfit, run_live};
+use cast_run::{
+    ClientReport, CountingGate, LiveRun, Progress, Schedule, SubmitAll, find_misfit, run_live,
+    run_scheduled,
+};
 use cast_script::{Script, write_script};
 use cast_text::{TextFault, read_script_text};
 use cast_words::Meter;
@@ -21,11 +25,13 @@ use std::io::{Read, Write};
 use std::sync::{Arc, Wait};
 use std::thread::Threads;
 
-/// What came back of a group that ran in threads, and its logs merged and taken by the group as one value.
+/// What came back of a group that ran, and its logs merged and taken by the group as one value.
 #[derive(Drop)]
 pub struct FinishedRun {
     pub report: GroupReport,
     pub assembly: Assembly,
+    /// How many orders the desks of its nodes had left.
+    pub left: u64,
 }
 
 /// Reads a script to its end, runs its group in threads, with its plan and a client for each of its jobs, and writes the
@@ -48,6 +54,28 @@ pub fn live_text<R: Read, W: Write, T: Threads + Wait + Copy + Send + 'static>(
     let script = read_script_text(alloc, reader)?;
     let progress = Progress::shared(alloc, script.config.nodes())?;
     let run = run_script(rt, alloc, script, &progress)?;
+    let summary = summarize(alloc, &run)?;
+    write_summary(&run, summary, writer)?;
+    Ok(summary)
+}
+
+/// The same of a group that runs in the calling thread, by a schedule, for so many steps at most.
+pub fn live_text_by<R: Read, W: Write, S: Schedule, T: Wait>(
+    rt: &T,
+    alloc: Global,
+    reader: &mut Meter<R>,
+    writer: &mut Meter<W>,
+    steps: u64,
+    schedule: &mut S,
+) -> Result<Summary, TextFault>
+    requires { (reader.old.failed ≡ false) × (writer.old.failed ≡ false) }
+    ensures exact { Summarizes (R.remaining reader.old.inner) reader.new.failed
+        (W.contents writer.old.inner) (W.contents writer.new.inner) writer.new.failed result }
+    ensures streams { UsesStreams R.remaining reader.old reader.new writer.new.failed result }
+{
+    let script = read_script_text(alloc, reader)?;
+    let progress = Progress::shared(alloc, script.config.nodes())?;
+    let run = run_script_by(rt, alloc, script, &progress, steps, schedule)?;
     let summary = summarize(alloc, &run)?;
     write_summary(&run, summary, writer)?;
     Ok(summary)
@@ -82,17 +110,87 @@ pub fn run_script<T: Threads + Wait + Copy + Send + 'static>(
     let gates = CountingGate::for_nodes(alloc, config.nodes(), progress)?;
     let jobs = submit_all(alloc, jobs)?;
     let run = run_live(rt, alloc, config, &plan, jobs, gates, turns)?;
-    Ok(merge_logs(alloc, run.report)?)
+    Ok(merge_logs(alloc, run)?)
 }
 
-fn merge_logs(alloc: Global, report: GroupReport) -> Result<FinishedRun, AllocError>
-    ensures report { IfOk result (λ run. run.report ≡ report) }
+/// The same in the calling thread, by a schedule, for so many steps at most: no thread is started.
+pub fn run_script_by<S: Schedule, T: Wait>(
+    rt: &T,
+    alloc: Global,
+    script: Script,
+    progress: &Arc<Progress, Global>,
+    steps: u64,
+    schedule: &mut S,
+) -> Result<FinishedRun, TextFault>
+    ensures config { IfOk result (λ run. run.report.config ≡ script.config) }
+    ensures ran { IfOk result (λ run. IsRunOf script run.report.reports) }
+    ensures ok { IfOk result IsFinished }
+    ensures err { IfErr result (IsOfRunning script) }
+{
+    let Script {
+        config,
+        turns,
+        plan,
+        jobs,
+        ..
+    } = script;
+    if let Some(misfit) = find_misfit(&config, &plan, jobs.as_slice(), config.nodes() as usize) {
+        return Err(TextFault::from(misfit));
+    }
+    let gates = CountingGate::for_nodes(alloc, config.nodes(), progress)?;
+    let jobs = submit_all(alloc, jobs)?;
+    let run = run_scheduled(
+        rt, alloc, config, &plan, jobs, gates, turns, steps, schedule,
+    )?;
+    Ok(merge_logs(alloc, run)?)
+}
+
+impl FinishedRun {
+    /// How many orders the nodes of the run refused.
+    pub fn count_refused(&self) -> u64 {
+        let mut refused = 0u64;
+        for report in self.report.reports() {
+            for place in 0..report.log.len() {
+                refused = refused.saturating_add(u64::from(is_refused(&report.log, place)));
+            }
+        }
+        refused
+    }
+}
+
+// Whether the entry at this place tells a refused order.
+fn is_refused(log: &Log, place: usize) -> bool
+    requires { place < length log.now }
+{
+    match log.entry(place).kind {
+        KindRef::Whole(EntryKind::Refused { .. }) => true,
+        _ => false,
+    }
+}
+
+fn merge_logs(alloc: Global, run: LiveRun<SubmitAll>) -> Result<FinishedRun, AllocError>
+    ensures report { IfOk result (λ finished. finished.report ≡ run.report) }
     ensures ok { IfOk result IsFinished }
 {
+    let left = count_left(run.clients.as_slice());
+    let report = run.report;
     let assembly = assemble(alloc, &report)?;
     // Reading them tells a proof that they are linked.
     let _linked = report.reports();
-    Ok(FinishedRun { report, assembly })
+    Ok(FinishedRun {
+        report,
+        assembly,
+        left,
+    })
+}
+
+// How many orders the desks of these clients had left.
+fn count_left(clients: &[ClientReport]) -> u64 {
+    let mut left = 0u64;
+    for client in clients {
+        left = left.saturating_add(client.left);
+    }
+    left
 }
 
 /// Writes the record of what happened in the run: of the merged events, and the replies to them. It takes no memory. After a

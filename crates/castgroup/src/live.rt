@@ -1,47 +1,65 @@
-//! The command `live`: a script's group in threads, the files that are kept of the run, and its summary.
+//! The command `live`: a script's group in threads or by a seed, the files that are kept of the run, and its summary.
 ghost use Rattle.std.specs.Prelude.{◌≡◌, [], None, Ok, Err, true, false, IfOk, IfErr, OnOk, OnErr, IsOk};
 ghost use Rattle.std.specs.Io.Buffered.{writer_buffer, writer_inner};
 ghost use Rattle.std.specs.Io.KnownBytes.{Appends, append_known};
-ghost use Rattle.cast_live.specs.Live.{IsFinished, IsSummaryOf};
+ghost use Rattle.cast_live.specs.Live.{IsFinished, IsOfRunning, IsRunOf, IsSummaryOf};
 ghost use Rattle.cast_text.specs.Text.{TakesInput, Tells, WroteFront};
 ghost use Rattle.cast_console.specs.Made.{IsCut};
 ghost use Rattle.castgroup.specs.Ran.{IsTold, RefusesRun, RunsScript, output_text};
 ghost use Rattle.castgroup.specs.Told.{IsToldOfBoth, stop_told, is_output_fault, status_of_run};
 
 use crate::progress::{ProgressReporter, due_deliveries};
-use cast_command::{Call, RunFiles};
+use crate::seeds::{Seeds, live_seeds};
+use cast_command::{Call, RunFiles, Running};
 use cast_console::{
     Failure, Heard, Status, StreamName, explain_fault, explain_output, hand_on, open_source,
     refuse, tell,
 };
 use cast_explain::verdict_words;
 use cast_live::{
-    Counted, FinishedRun, Summary, run_script, summarize, write_record_of, write_replay_of,
-    write_summary,
+    Counted, FinishedRun, Summary, run_script, run_script_by, summarize, write_record_of,
+    write_replay_of, write_summary,
 };
-use cast_run::Progress;
+use cast_run::{Progress, Seeded};
+use cast_script::Script;
 use cast_text::{INPUT_LIMIT, TextFault, Verdict, read_script_text};
 use cast_words::Meter;
-use std::io::{BufWriter, IsTerminal, Read, Stderr, Write};
-use std::rt::Runtime;
-use std::sync::Wait;
+use std::alloc::Global;
+use std::io::{BufWriter, Read, Stderr, Write};
+use std::rt::{Clock, Runtime};
+use std::sync::{Arc, Wait};
 use std::thread::Threads;
 use std::{fs, io};
 
-/// Runs the group of the script in the file, or of that on standard input, in threads, writes the files that are asked for,
-/// and then the summary. A file that can't be made or written takes nothing from the rest. Progress is told where that is asked
-/// for, and where standard error is a terminal.
-pub fn live_script<R: Runtime + AllocGlobal + Threads + Wait + Copy + Send + 'static>(
+/// Runs the group of the script in the file, or of that on standard input, as is asked for, writes the files that are named, and
+/// then what became of it. A file that can't be made or written takes nothing from the rest. Progress is told to a stream where
+/// one is handed in.
+pub fn live_script<R: Runtime + AllocGlobal + Threads + Wait + Clock + Copy + Send + 'static>(
     rt: &R,
     call: Call<'_>,
+    running: Running,
     files: RunFiles<'_>,
-    tells_progress: bool,
-    stderr: Stderr,
+    progress_to: Option<Stderr>,
 ) -> Status {
-    let wanted = tells_progress || stderr.is_terminal();
-    let progress_to = if wanted { Some(stderr) } else { None };
+    match running {
+        Running::InThreads => live_once(rt, call, None, files, progress_to),
+        Running::BySeed(seed) => live_once(rt, call, Some(seed), files, progress_to),
+        Running::BySeeds { first, times } => {
+            live_seeds(rt, call, Seeds { first, times }, files, progress_to)
+        }
+    }
+}
+
+// Runs the group once, in threads or by a seed, and writes its summary.
+fn live_once<R: Runtime + AllocGlobal + Threads + Wait + Copy + Send + 'static>(
+    rt: &R,
+    call: Call<'_>,
+    seed: Option<u64>,
+    files: RunFiles<'_>,
+    progress_to: Option<Stderr>,
+) -> Status {
     let mut source = open_source(rt, call);
-    let run = match run_live_script(rt, &mut Meter::new(&mut source), progress_to) {
+    let run = match run_live_script(rt, &mut Meter::new(&mut source), seed, progress_to) {
         Ok(run) => run,
         Err(fault) => {
             let status = refuse(rt, fault);
@@ -50,35 +68,64 @@ pub fn live_script<R: Runtime + AllocGlobal + Threads + Wait + Copy + Send + 'st
         }
     };
     drop(source);
-    let record = keep(rt, files.record, &run, RunFile::Record);
-    let replay = keep(rt, files.replay, &run, RunFile::Replay);
+    let kept = keep_files(rt, &run, files);
     let told = tell_summary(rt, &run);
-    // What is said comes after the summary, as there may be nobody who reads it, and the files are closed: where the program began
-    // without standard error, a file stands in its place.
-    let record = warn_of_length(rt, record, RunFile::Record);
-    let replay = warn_of_length(rt, replay, RunFile::Replay);
-    let stop = match (told, both_kept(record, replay)) {
-        (Ok(summary), Ok(())) => return tell_verdict(rt, &run, summary, call.explains),
-        (Err(summary), Err(file)) => summary.or_memory(file),
-        (Err(stop), Ok(())) | (Ok(_), Err(stop)) => stop,
-    };
+    match (told, warn_of_lengths(rt, kept)) {
+        (Ok(summary), Ok(())) => tell_verdict(rt, &run, summary, call.explains),
+        (Err(summary), Err(file)) => tell_stop(rt, summary.or_memory(file), call.explains),
+        (Err(stop), Ok(())) | (Ok(_), Err(stop)) => tell_stop(rt, stop, call.explains),
+    }
+}
+
+/// Says that an output was not written to its end, and why, where that is asked for.
+pub fn tell_stop<R: Runtime + AllocGlobal>(rt: &R, stop: Stop<'_>, explains: bool) -> Status {
     let status = refuse(rt, stop.fault);
-    if call.explains && matches!(stop.fault, TextFault::Write) {
+    if explains && matches!(stop.fault, TextFault::Write) {
         explain_output(rt, stop.output);
     }
     status
 }
 
+/// How many bytes each file of a run has, or why it was not written.
+#[derive(Clone, Copy)]
+pub struct KeptFiles<'a> {
+    record: Result<u64, Stop<'a>>,
+    replay: Result<u64, Stop<'a>>,
+}
+
+/// Writes to the files that are named.
+pub fn keep_files<'a, R: Runtime + AllocGlobal>(
+    rt: &R,
+    run: &FinishedRun,
+    files: RunFiles<'a>,
+) -> KeptFiles<'a>
+    requires { IsFinished run.now }
+{
+    KeptFiles {
+        record: keep(rt, files.record, run, RunFile::Record),
+        replay: keep(rt, files.replay, run, RunFile::Replay),
+    }
+}
+
+/// Says so where a file that was written is longer than this program reads, or answers why one was not written. What is said comes
+/// after all else is written, as there may be nobody who reads it, and the files are closed: where the program began without
+/// standard error, a file stands in its place.
+pub fn warn_of_lengths<'a, R: Eprint>(rt: &R, kept: KeptFiles<'a>) -> Result<(), Stop<'a>> {
+    let record = warn_of_length(rt, kept.record, RunFile::Record);
+    let replay = warn_of_length(rt, kept.replay, RunFile::Replay);
+    both_kept(record, replay)
+}
+
 /// Why an output was not written to its end.
 #[derive(Clone, Copy)]
-struct Stop<'a> {
-    fault: TextFault,
-    output: Failure<'a>,
+pub struct Stop<'a> {
+    pub fault: TextFault,
+    pub output: Failure<'a>,
 }
 
 impl<'a> Stop<'a> {
-    // Which of two is told: the other where it is want of memory, else this one.
-    fn or_memory(self, other: Stop<'a>) -> Stop<'a>
+    /// Which of two is told: the other where it is want of memory, else this one.
+    pub fn or_memory(self, other: Stop<'a>) -> Stop<'a>
         ensures { result ≡ stop_told (λ one. one.fault) self.entry other.entry }
     {
         match other.fault {
@@ -88,7 +135,7 @@ impl<'a> Stop<'a> {
     }
 }
 
-// The status of a run whose outputs were written. Where its record is bad, says why if that is asked for.
+// Answers the status of the run. Where its record is bad, says why if that is asked for.
 fn tell_verdict<R: Runtime + AllocGlobal>(
     rt: &R,
     run: &FinishedRun,
@@ -103,7 +150,8 @@ fn tell_verdict<R: Runtime + AllocGlobal>(
     status_of(summary)
 }
 
-fn status_of(summary: Summary) -> Status
+/// The status of a run whose outputs were written.
+pub fn status_of(summary: Summary) -> Status
     ensures { result ≡ status_of_run summary }
 {
     match (summary.verdict, summary.rest) {
@@ -113,7 +161,7 @@ fn status_of(summary: Summary) -> Status
     }
 }
 
-// Explains the verdict on the record of a run in threads.
+// Explains the verdict on the record of a run.
 fn explain_run<R: Runtime + AllocGlobal>(rt: &R, run: &FinishedRun, line: u64, rule: u64)
     requires { IsFinished run.now }
 {
@@ -132,10 +180,12 @@ fn explain_run<R: Runtime + AllocGlobal>(rt: &R, run: &FinishedRun, line: u64, r
     tell(rt, words);
 }
 
-// Reads the script and runs its group, and where that is wanted tells how far it is.
-fn run_live_script<I: Read, R: Runtime + AllocGlobal + Threads + Wait + Copy + Send + 'static>(
+/// Reads the script and runs its group, by the seed where there is one and else in threads, and tells how far it is where that is
+/// wanted.
+pub fn run_live_script<I: Read, R: Runtime + AllocGlobal + Threads + Wait + Copy + Send + 'static>(
     rt: &R,
     reader: &mut Meter<I>,
+    seed: Option<u64>,
     progress_to: Option<Stderr>,
 ) -> Result<FinishedRun, TextFault>
     requires { reader.old.failed ≡ false }
@@ -153,11 +203,38 @@ fn run_live_script<I: Read, R: Runtime + AllocGlobal + Threads + Wait + Copy + S
         Some(stderr) => ProgressReporter::start(*rt, rt.alloc(), stderr, &progress, due),
         None => None,
     };
-    let run = run_script(*rt, rt.alloc(), script, &progress);
+    let run = run_by(rt, script, &progress, seed);
     if let Some(reporter) = reporter {
         reporter.stop(rt);
     }
     run
+}
+
+// Runs the script's group by the seed, or where there is none in threads.
+fn run_by<R: Runtime + AllocGlobal + Threads + Wait + Copy + Send + 'static>(
+    rt: &R,
+    script: Script,
+    progress: &Arc<Progress, Global>,
+    seed: Option<u64>,
+) -> Result<FinishedRun, TextFault>
+    ensures config { IfOk result (λ run. run.report.config ≡ script.config) }
+    ensures ran { IfOk result (λ run. IsRunOf script run.report.reports) }
+    ensures ok { IfOk result IsFinished }
+    ensures err { IfErr result (IsOfRunning script) }
+{
+    let Some(seed) = seed else {
+        return run_script(*rt, rt.alloc(), script, progress);
+    };
+    let mut schedule = Seeded::mixed(seed);
+    let steps = most_steps(&script);
+    run_script_by(rt, rt.alloc(), script, progress, steps, &mut schedule)
+}
+
+// As many steps as the turns and calls of a group, and the parcels of its carriers, may want.
+fn most_steps(script: &Script) -> u64 {
+    let jobs = script.jobs.as_slice().len() as u64;
+    let all = jobs.saturating_add(2 * script.config.nodes());
+    script.turns.saturating_mul(all)
 }
 
 /// What is kept of a run in a file.

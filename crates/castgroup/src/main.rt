@@ -5,6 +5,7 @@
 mod command_line;
 mod live;
 mod progress;
+mod seeds;
 
 use cast_command::{Request, parse};
 use cast_console::{Status, TextCommand, write_text};
@@ -12,9 +13,9 @@ use cast_explain::RULES;
 use cast_text::Window;
 use command_line::{asks_to_explain, command_words, refuse_request, refuse_words};
 use live::live_script;
-use std::io::Stderr;
+use std::io::{IsTerminal, Stderr};
 use std::process::ExitCode;
-use std::rt::Runtime;
+use std::rt::{Clock, Runtime};
 use std::sync::Wait;
 use std::thread::Threads;
 
@@ -22,7 +23,7 @@ fn main(rt: HostRuntime) -> ExitCode {
     ExitCode::from(run(&rt, rt.stderr()).code())
 }
 
-fn run<R: Runtime + AllocGlobal + Threads + Wait + Copy + Send + 'static>(
+fn run<R: Runtime + AllocGlobal + Threads + Wait + Clock + Copy + Send + 'static>(
     rt: &R,
     stderr: Stderr,
 ) -> Status {
@@ -36,7 +37,7 @@ fn run<R: Runtime + AllocGlobal + Threads + Wait + Copy + Send + 'static>(
     }
 }
 
-fn perform<R: Runtime + AllocGlobal + Threads + Wait + Copy + Send + 'static>(
+fn perform<R: Runtime + AllocGlobal + Threads + Wait + Clock + Copy + Send + 'static>(
     rt: &R,
     request: Request<'_>,
     stderr: Stderr,
@@ -46,9 +47,14 @@ fn perform<R: Runtime + AllocGlobal + Threads + Wait + Copy + Send + 'static>(
         Request::Judge(call) => write_text(rt, TextCommand::Judge, call),
         Request::Live {
             call,
+            running,
             files,
             tells_progress,
-        } => live_script(rt, call, files, tells_progress, stderr),
+        } => {
+            let wanted = tells_progress || stderr.is_terminal();
+            let progress_to = if wanted { Some(stderr) } else { None };
+            live_script(rt, call, running, files, progress_to)
+        }
         Request::Draw { call, from, to } => write_text(
             rt,
             TextCommand::Draw(window(from, to)),

@@ -7,7 +7,7 @@ use crate::runs::TURNS;
 use anyhow::Result;
 use cast_desk::Notice;
 use cast_message::{Item, List, NodeId};
-use cast_node::EntryKind;
+use cast_node::{EntryKind, KindRef};
 use cast_run::{LiveRun, OpenGate, run_live};
 use run_setup::{Keeper, Shape, Silent, data_items, no_faults};
 use std::alloc::{AllocError, Global};
@@ -124,8 +124,11 @@ pub fn never_calls_next<R: Threads + Wait + Print + Copy + Send + 'static>(
     let run = run_silent(rt, alloc, one_silent(alloc)?)?;
     let mut steps: u64 = 0;
     for node in run.report.reports() {
-        for entry in node.log.as_slice() {
-            let step = matches!(&entry.kind, EntryKind::Step { .. });
+        for place in 0..node.log.len() {
+            let step = match node.log.entry(place).kind {
+                KindRef::Whole(EntryKind::Refused { .. }) => false,
+                _ => true,
+            };
             steps = steps.saturating_add(u64::from(step));
         }
     }

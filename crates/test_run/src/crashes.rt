@@ -3,7 +3,7 @@ use crate::runs::{TURNS, run_jobs};
 use crate::seen::see;
 use anyhow::Result;
 use cast_message::Event;
-use cast_node::EntryKind;
+use cast_node::{EntryKind, KindRef};
 use cast_report::{EngineEnd, NodeReport};
 use cast_run::{LiveRun, SubmitAll};
 use run_setup::{Shape, crash_after, lose_every, one_fault};
@@ -92,13 +92,12 @@ fn crashes_after(run: &LiveRun<SubmitAll>, node: usize, entries: u64) -> bool {
 }
 
 fn ends_in_crash(node: &NodeReport, entries: u64) -> bool {
-    let log = node.log.as_slice();
-    let Some(last) = log.last() else {
+    let Some(last) = node.log.len().checked_sub(1) else {
         return false;
     };
-    let crash = match &last.kind {
-        EntryKind::Step { event, .. } => matches!(event, Event::Crash { .. }),
-        EntryKind::Refused { .. } => false,
+    let crash = match node.log.entry(last).kind {
+        KindRef::Whole(EntryKind::Step { event, .. }) => matches!(event, Event::Crash { .. }),
+        _ => false,
     };
-    crash && log.len() as u64 - 1 == entries && node.ended == EngineEnd::Crashed
+    crash && last as u64 == entries && node.ended == EngineEnd::Crashed
 }

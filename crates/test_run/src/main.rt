@@ -1,6 +1,7 @@
-//! The worked rows of groups that run in threads, each with what came of it on one line: with no argument all of them, else
-//! those that the arguments name. Only what every schedule gives is printed. `scripts/run-rows` runs each many times over,
-//! and one of them with each allocation and each thread refused in turn.
+//! The worked rows of groups that run in threads, and of some that run by a schedule in one thread, each with what came of it on
+//! one line: with no argument all of them, else those that the arguments name. Only what every schedule gives is printed, or what
+//! the seed gives that the row names. `scripts/run-rows` runs each many times over, and one of them with each allocation and each
+//! thread refused in turn.
 #![tactic(auto)]
 
 mod clients;
@@ -11,6 +12,7 @@ mod losses;
 mod refusals;
 mod refused;
 mod runs;
+mod scheduled;
 mod seen;
 mod turns;
 mod under_way;
@@ -21,7 +23,7 @@ use std::env;
 use std::sync::Wait;
 use std::thread::Threads;
 
-const ROWS: [&str; 18] = [
+const ROWS: [&str; 20] = [
     "gates",
     "gates-of-three",
     "live-refusals",
@@ -40,6 +42,8 @@ const ROWS: [&str; 18] = [
     "crash-at-each-entry",
     "crash-as-the-last-thing",
     "crash-with-a-frame-under-way",
+    "scheduled-again-by-list",
+    "scheduled-starved",
 ];
 
 fn main(rt: HostRuntime) -> Result<()> {
@@ -80,6 +84,8 @@ fn run_row<R: Threads + Wait + Print + Copy + Send + 'static>(
         "crash-at-each-entry" => crashes::at_each_entry(rt, alloc, name),
         "crash-as-the-last-thing" => crashes::as_the_last_thing(rt, alloc, name),
         "crash-with-a-frame-under-way" => under_way::crash_with_a_frame_under_way(rt, alloc, name),
+        "scheduled-again-by-list" => scheduled::again_by_list(&rt, alloc, name),
+        "scheduled-starved" => scheduled::starved(&rt, alloc, name),
         other => bail!("{other}: no such row"),
     }
 }

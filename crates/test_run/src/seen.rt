@@ -80,6 +80,12 @@ pub fn see(alloc: Global, report: &GroupReport) -> Result<Seen> {
     })
 }
 
+/// The text of the record of what was done.
+pub fn record_text(alloc: Global, report: &GroupReport) -> Result<Vec<u8>> {
+    let assembly = assemble(alloc, report)?;
+    record_of(alloc, report.config(), &assembly)
+}
+
 fn count<T>(delivered: Option<&[T]>) -> usize {
     match delivered {
         Some(items) => items.len(),

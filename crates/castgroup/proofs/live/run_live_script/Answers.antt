@@ -4,14 +4,14 @@ use Rattle.castgroup.proofs.live.run_live_script.Goals as goal
 
 pub returns-clause-ran : goal.returns-clause-ran
 returns-clause-ran g c =
-    runs_script (g.I.Read.remaining c.args.reader.now.inner) c.in_ok-script.script c.run_script-run.result c.in_ok-script.ensures.ok c.run_script-run.ensures.config c.run_script-run.ensures.ran
+    runs_script (g.I.Read.remaining c.args.reader.now.inner) c.in_ok-script.script c.run_by-run.result c.in_ok-script.ensures.ok c.run_by-run.ensures.config c.run_by-run.ensures.ran
 
 pub returns-clause-refused : goal.returns-clause-refused
 returns-clause-refused g c =
-    run_refused (g.I.Read.remaining c.args.reader.now.inner) c.read_script_text.new.reader.failed c.in_ok-script.script c.run_script-run.result c.in_ok-script.ensures.ok c.run_script-run.ensures.err
+    run_refused (g.I.Read.remaining c.args.reader.now.inner) c.read_script_text.new.reader.failed c.in_ok-script.script c.run_by-run.result c.in_ok-script.ensures.ok c.run_by-run.ensures.err
 
 pub returns-clause-told : goal.returns-clause-told
-returns-clause-told g c = run_told c.read_script_text.new.reader.failed c.in_ok-script.script c.run_script-run.result c.in_ok-script.ensures.told.0 c.run_script-run.ensures.err
+returns-clause-told g c = run_told c.read_script_text.new.reader.failed c.in_ok-script.script c.run_by-run.result c.in_ok-script.ensures.told.0 c.run_by-run.ensures.err
 
 pub returns-in_err-progress-clause-refused : goal.returns-in_err-progress-clause-refused
 returns-in_err-progress-clause-refused g c =

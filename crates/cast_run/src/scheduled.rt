@@ -1,0 +1,84 @@
+//! A group that runs in one thread, in the order of a schedule.
+ghost use Rattle.std.specs.Prelude.{◌≡◌, ◌≤◌, [], ℕ, None, false, slice_get, Some, IfOk, IfErr, OnOk, vec_len};
+ghost use Rattle.cast_report.specs.Linked.{Linked};
+ghost use Rattle.cast_report.specs.declared.report.NodeReport.{NodeReport};
+ghost use Rattle.cast_engine.specs.Journals.{EndsAs};
+ghost use Rattle.cast_carrier.specs.Plans.{crash_from};
+ghost use Rattle.cast_job.specs.Faults.{Fits, IsFaultOf};
+ghost use Rattle.cast_job.specs.Jobs.{told_job};
+ghost use Rattle.cast_run.specs.Planned.{faults_of, KeepsTo};
+ghost use Rattle.cast_run.specs.declared.reports.ClientReport.{ClientReport};
+ghost use Rattle.cast_run.specs.Serves.{AreStamped, AreServed, HaveOrigins};
+
+use crate::prepared::prepare;
+use crate::room::Room;
+use crate::run::{LiveRun, finish};
+use crate::schedule::Schedule;
+use crate::stepped::run_by;
+use cast_engine::Gate;
+use cast_job::{ClientJob, count_fitting};
+use cast_message::{Config, NodeId};
+use cast_script::{FaultPlan, LiveFault};
+use std::alloc::Global;
+use std::sync::Wait;
+
+/// Runs a group as `run_live` does, in the calling thread: its engines, carriers and jobs take one step at a time, in the order
+/// that the schedule says. What is known of the answer is the same, clause by clause; and as no thread runs beside it, no clock is
+/// read and nothing else is drawn by lot, the same group by the same schedule has the same logs, which is tested.
+///
+/// An engine's step is a turn, a carrier's a parcel that it carries, where there is one, and a job's a call. An engine takes at
+/// most `turns` turns, and each job's `turn` is called at most `turns` times. The run ends once all have ended, and after `steps`
+/// steps in any case: an engine that has not ended then ends as one whose turns are used up, and what its carrier has not carried
+/// is lost. A gate, or a job, that waits for another waits for ever.
+///
+/// Refused is what `run_live` refuses, but for threads, of which none is started.
+pub fn run_scheduled<J: ClientJob + Drop, G: Gate + Drop, S: Schedule, R: Wait>(
+    rt: &R,
+    alloc: Global,
+    config: Config,
+    plan: &FaultPlan,
+    jobs: Vec<(NodeId, J)>,
+    gates: Vec<G>,
+    turns: u64,
+    steps: u64,
+    schedule: &mut S,
+) -> Result<LiveRun<J>, LiveFault>
+    requires facts { (i node : ℕ) (job : J) → slice_get jobs.items i ≡ Some (told_job node job)
+        → J.fact job job [] [] false }
+    ensures config { IfOk result (λ run. run.report.config ≡ config) }
+    ensures linked { IfOk result (λ run. Linked config run.report.reports) }
+    ensures planned { IfOk result (λ run.
+        KeepsTo config (faults_of plan.now.faults) run.report.reports) }
+    ensures logs { IfOk result (λ run. (p : ℕ) (report : NodeReport)
+        → slice_get run.report.reports p ≡ Some report
+        → EndsAs config.log_limit (crash_from p None plan.now.faults)
+        (Some report.ended) report.log) }
+    ensures stamps { IfOk result (λ run. AreStamped config run.report.reports) }
+    ensures jobs { IfOk result (λ run.
+        AreServed config J.fact jobs.items run.report.reports run.jobs.items run.clients.items) }
+    ensures origins { IfOk result (λ run. HaveOrigins jobs.items run.report.reports) }
+    ensures room { IfOk result (λ run. (i : ℕ) (r : ClientReport)
+        → slice_get run.clients.items i ≡ Some r → r.left ≤ config.box_size) }
+    ensures fits { OnOk result
+        (Fits config.nodes jobs.items (vec_len gates) plan.now.faults) }
+    ensures fault { IfErr result
+        (IsFaultOf config.nodes jobs.items (vec_len gates) plan.now.faults) }
+{
+    let nodes = config.nodes() as usize;
+    let counts = count_fitting(&config, plan, jobs.as_slice(), gates.len())?;
+    let counts = &counts[..nodes];
+    let room = Room::new(alloc, nodes, jobs.len())?;
+    let made = prepare(alloc, &config, plan.faults.as_slice(), turns, jobs, counts)?;
+    let (group, ended) = run_by(
+        rt,
+        alloc,
+        made.group,
+        made.seats,
+        gates,
+        &made.board,
+        turns,
+        steps,
+        schedule,
+    )?;
+    Ok(finish(rt, config, group, ended, made.rows, room))
+}
