@@ -13,7 +13,7 @@ use std::marker::Model;
 const NAMES: [&str; ACCOUNTS as usize] = ["ada", "ben", "cleo", "dan"];
 
 /// What each account has received in all, and what it has sent. Both are sums, so the order of the transfers doesn't matter.
-#[derive(Clone, Copy, Debug, PartialEq, Eq)]
+#[derive(Clone, Copy, PartialEq, Eq)]
 pub struct Sheet {
     pub received: [u64; ACCOUNTS as usize],
     pub sent: [u64; ACCOUNTS as usize],
@@ -56,7 +56,7 @@ impl Display for Sheet {
 }
 
 /// What a node has applied, in order, and the sheet of it. An item that says no transfer is applied too: it moves nothing.
-#[derive(Debug, Drop)]
+#[derive(Drop)]
 pub struct Book {
     journal: Vec<Message>,
     sheet: Sheet,

@@ -13,7 +13,7 @@ use cast_world::{World, run_events};
 use std::alloc::{AllocError, Global};
 
 /// What a group has come to after some events.
-#[derive(Debug, Drop)]
+#[derive(Drop)]
 pub struct Ledger {
     pub world: World,
     /// By node.

@@ -13,6 +13,7 @@
 #![tactic(auto)]
 
 mod book;
+mod first_path;
 mod ledger;
 mod running;
 mod story;
@@ -21,6 +22,7 @@ mod transfer;
 
 use anyhow::Result;
 use cast_message::NodeId;
+use first_path::first_path;
 use ledger::run_ledger;
 use running::run_tellers;
 use std::alloc::Global;
@@ -28,6 +30,7 @@ use std::sync::Wait;
 use std::thread::Threads;
 
 fn main(rt: HostRuntime) -> Result<()> {
+    println!(&rt; "first path: {} delivered", first_path(rt.alloc())?)?;
     step_by_step(&rt, rt.alloc())?;
     in_threads(rt, rt.alloc())
 }

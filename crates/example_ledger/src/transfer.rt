@@ -10,7 +10,7 @@ use std::alloc::{AllocError, Global};
 pub const ACCOUNTS: u8 = 4;
 
 /// An amount that goes from one account to another, or from an account to itself.
-#[derive(Clone, Copy, Debug, PartialEq, Eq)]
+#[derive(Clone, Copy, PartialEq, Eq)]
 pub struct Transfer {
     /// The account that sends it.
     pub from: u8,
