@@ -2,28 +2,9 @@
 use Rattle.std.specs.Prelude.{◌≡◌, ℕ, ◌<◌, ◌≤◌, List, [], ◌∷◌, ◌++◌, length, slice_get, Some, Option, None, MatchOption}
 use Rattle.atomic_table.specs.Seated.{TableId}
 use Rattle.crossbeam_queue.specs.Fifo.{Held}
-use denote.RawPtr.{Ptr}
-use Rattle.rtrb.specs.Shared.{Names}
-use Rattle.rtrb.specs.declared.end.End.{End}
 use Rattle.cast_box.specs.Lists.{HasOwn}
 use Rattle.cast_box.specs.declared.opening.BoxFault.{BoxFault}
 use Rattle.cast_box.specs.declared.opening.BoxFault.TheVariants.{Size, Putters, Memory}
-
--- what a box stands on: the queue that its putters share, or the ring of its only putter, by where it lies, with its capacity
-pub data Home : Type 0 where
-  on_queue : TableId → Home
-  on_ring : Ptr → Ptr → Names → ℕ → Home
-
-abbrev pub ring_of : {T A P : Type 0} → End T A P → ℕ → Home
-ring_of e capacity = on_ring e.words e.slots e.names capacity
-
-abbrev pub IsOnQueue : Home → Type 0
-IsOnQueue (on_queue table) = Unit {0}
-IsOnQueue (on_ring words slots names capacity) = ⊥
-
-abbrev pub IsOnRing : Home → Type 0
-IsOnRing (on_queue table) = ⊥
-IsOnRing (on_ring words slots names capacity) = Unit {0}
 
 -- a box of which `made` putters of `putters` were made
 pub record OpeningBox : Type 0 where
@@ -34,7 +15,7 @@ pub record OpeningBox : Type 0 where
 
 -- a putter of the box `home`, which has `size` places and `putters` putters: its number, and what it has put
 pub record PutterEnd (T : Type 0) : Type 0 where
-  pub home : Home
+  pub home : TableId
   pub size : ℕ
   pub putters : ℕ
   pub number : ℕ
@@ -43,7 +24,7 @@ pub record PutterEnd (T : Type 0) : Type 0 where
 -- the taker of the box `home`: what it has taken, with the putters' numbers, and what those putters have put that have
 -- ended, which are the first
 pub record TakerEnd (T : Type 0) : Type 0 where
-  pub home : Home
+  pub home : TableId
   pub size : ℕ
   pub putters : ℕ
   pub taken : List (ℕ × T)

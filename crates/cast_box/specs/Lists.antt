@@ -1,15 +1,11 @@
 -- Items with the numbers of their putters.
-use Rattle.std.specs.Prelude.{◌≡◌, ℕ, ◌<◌, List, [], ◌∷◌, ◌++◌, length, map, if◌then◌else◌, ◌==◌, slice_index_or}
+use Rattle.std.specs.Prelude.{◌≡◌, ℕ, ◌<◌, List, [], ◌∷◌, ◌++◌, length, if◌then◌else◌, ◌==◌, slice_index_or}
 
 module _ {T : Type 0} where
   -- the items of putter a, in order
   abbrev pub of : ℕ → List (ℕ × T) → List T
   of a [] = []
   of a (m ∷ ms) = if a == m.0 then m.1 ∷ of a ms else of a ms
-
-  -- the items of the only putter, whose number is 0
-  abbrev pub numbered : List T → List (ℕ × T)
-  numbered xs = map (λ x. (0, x)) xs
 
   -- what putter a has put, of the lists of all putters
   abbrev pub put_by : List (List T) → ℕ → List T

@@ -1,13 +1,13 @@
-//! The ends of a box, which threads hold.
-ghost use Rattle.std.specs.Prelude.{◌≡◌, ◌++◌, ◌∷◌, [], ◌≤◌, length, IfNone, OnErr, MatchResult};
+//! The ends of a box, which threads hold: a queue that they share, under the rule of `rule.rt`.
+ghost use Rattle.std.specs.Prelude.{◌≡◌, ◌++◌, ◌∷◌, [], ◌<◌, ◌≤◌, length, IsTrue, IfNone, OnErr, MatchResult};
 ghost use Rattle.cast_box.specs.Lists.{IsFair, HasTakenOfEnded};
 ghost use Rattle.cast_box.specs.Ends.{PutterEnd, TakerEnd, IsSamePutter, IsSameTaker, IsNextToEnd, HaveAllEnded, TakesItem, WasFull, FilledItAlone};
 
-use crate::gathered::{Gathered, Left};
-use crate::shared::{SharedPutter, SharedTaker};
-use crate::sole::{SolePutter, SoleTaker};
+use crate::gathered::Gathered;
+use crate::rule::{BoxPass, BoxQueue, Close, EndPutter, Put, Take};
+use std::alloc::Global;
 use std::marker::Model;
-use std::sync::Wait;
+use std::sync::{Arc, Wait};
 
 /// An item that found the box full.
 #[derive(Drop)]
@@ -19,59 +19,72 @@ pub struct Full<T> {
 /// of what it has put.
 #[derive(Drop)]
 pub struct Putter<T> {
-    pub(crate) end: Putting<T>,
-}
-
-/// A putter among others, or the only one of its box.
-#[derive(Drop)]
-pub(crate) enum Putting<T> {
-    Shared(SharedPutter<T>),
-    Sole(SolePutter<T>),
+    pub(crate) number: u64,
+    pub(crate) queue: Arc<BoxQueue<T>, Global>,
+    pub(crate) pass: BoxPass<T>,
 }
 
 impl<T> Model for Putter<T> {
+    ghost use Rattle.std.specs.Prelude.{◌≡◌, ◌<◌};
+    ghost use Rattle.std.specs.Arc.{arc_value};
+    ghost use Rattle.crossbeam_queue.specs.Passes.{view as known, IsPassOf, ruled_capacity};
     ghost use Rattle.cast_box.specs.Ends.{PutterEnd};
+    ghost use Rattle.cast_box.specs.Rule.{putter};
 
     ghost Value = { PutterEnd T };
 
-    ghost use Rattle.cast_box.specs.Chosen.{putter_of, IsPuttersHome};
+    ghost view = { λ p. record {
+      home = p.pass.table_id;
+      size = ruled_capacity (arc_value p.queue);
+      putters = (known p.pass).putters;
+      number = p.number;
+      put = (known p.pass).put;
+    } };
 
-    ghost view = { λ p. putter_of p.end };
-
-    ghost invariant = { λ p. IsPuttersHome p.end };
+    ghost invariant = { λ p. IsPassOf (arc_value p.queue) p.pass
+        × (known p.pass ≡ putter (ruled_capacity (arc_value p.queue))
+        (known p.pass).putters p.number (known p.pass).put)
+        × (p.number < (known p.pass).putters) };
 }
 
 /// The end of a box through which items are taken. To contracts it is the limits of its box, the list of what it has taken,
 /// with the putters' numbers, and what those putters have put that have ended.
 #[derive(Drop)]
 pub struct Taker<T> {
-    pub(crate) end: Taking<T>,
-}
-
-/// The taker of a box of several putters, or of one.
-#[derive(Drop)]
-pub(crate) enum Taking<T> {
-    Shared(SharedTaker<T>),
-    Sole(SoleTaker<T>),
+    pub(crate) queue: Arc<BoxQueue<T>, Global>,
+    pub(crate) pass: BoxPass<T>,
+    // The last take found nothing. The next one then looks first whether the box is empty still, which takes far less than a
+    // take that finds nothing; while items come, looking would hold up who puts them.
+    pub(crate) found_nothing: bool,
 }
 
 impl<T> Model for Taker<T> {
+    ghost use Rattle.std.specs.Prelude.{◌≡◌};
+    ghost use Rattle.std.specs.Arc.{arc_value};
+    ghost use Rattle.crossbeam_queue.specs.Passes.{view as known, IsPassOf, ruled_capacity};
     ghost use Rattle.cast_box.specs.Ends.{TakerEnd};
+    ghost use Rattle.cast_box.specs.Rule.{taker};
 
     ghost Value = { TakerEnd T };
 
-    ghost use Rattle.cast_box.specs.Chosen.{taker_of, IsTakersHome};
+    ghost view = { λ t. record {
+      home = t.pass.table_id;
+      size = ruled_capacity (arc_value t.queue);
+      putters = (known t.pass).putters;
+      taken = (known t.pass).taken;
+      ended = (known t.pass).ended;
+    } };
 
-    ghost view = { λ t. taker_of t.end };
-
-    ghost invariant = { λ t. IsTakersHome t.end };
+    ghost invariant = { λ t. IsPassOf (arc_value t.queue) t.pass
+        × (known t.pass ≡ taker (ruled_capacity (arc_value t.queue)) (known t.pass).putters
+        (known t.pass).putters (known t.pass).taken (known t.pass).ended) };
 }
 
 impl<T> Putter<T> {
     /// Puts the item at the back of the box, under this putter's number. Where the box had no room at one moment of the
     /// call, the item comes back and nothing was put: the box then held as many items as it has places, and this putter's
     /// among them were the last that it had put. So the only putter of a box gets an item back only where it has put at least
-    /// that many. Where the box has several putters, it may spin behind a thread that stalls in a put or a take.
+    /// that many. It may spin behind a thread that stalls in a put or a take.
     pub fn put<R: Wait>(&mut self, rt: &R, item: T) -> Result<(), Full<T>>
         ensures same { IsSamePutter self.old self.new }
         ensures put { MatchResult result
@@ -79,44 +92,63 @@ impl<T> Putter<T> {
             (λ full. (full.item ≡ item) × (self.new.put ≡ self.old.put) × WasFull self.old) }
         ensures sole { OnErr result (FilledItAlone self.old) }
     {
-        match &mut self.end {
-            Putting::Shared(putter) => putter.put(rt, item),
-            Putting::Sole(putter) => putter.put(item),
+        let numbered = (self.number, item);
+        match self.queue.push_as::<Put, R>(rt, &mut self.pass, numbered) {
+            Ok(()) => Ok(()),
+            Err((_, item)) => Err(Full { item }),
         }
     }
 }
 
 impl<T> Taker<T> {
     /// Takes the item at the front of the box, where it is not empty. It answers nothing only where the box was empty at
-    /// one moment of the call; so all that the putters have put that have ended was taken then. Where the box has several
-    /// putters, it may spin behind a thread that stalls in a put.
+    /// one moment of the call; so all that the putters have put that have ended was taken then. It may spin behind a thread
+    /// that stalls in a put.
     pub fn take<R: Wait>(&mut self, rt: &R) -> Option<T>
         ensures same { IsSameTaker self.old self.new }
         ensures taken { TakesItem self.old result self.new }
         ensures empty { IfNone result (HasTakenOfEnded self.old.ended self.old.taken) }
     {
-        match &mut self.end {
-            Taking::Shared(taker) => taker.take(rt),
-            Taking::Sole(taker) => taker.take(),
+        if self.is_still_empty() {
+            return None;
+        }
+        self.pop(rt)
+    }
+
+    // Whether the last take found nothing, and nor would one now: the box was empty at one moment of the call.
+    fn is_still_empty(&mut self) -> bool
+        ensures same { self.new ≡ self.old }
+        ensures empty { IsTrue result → HasTakenOfEnded self.old.ended self.old.taken }
+    {
+        self.found_nothing && self.queue.is_empty_as::<Take>(&mut self.pass)
+    }
+
+    // Takes the item at the front, where there is one.
+    fn pop<R: Wait>(&mut self, rt: &R) -> Option<T>
+        ensures same { IsSameTaker self.old self.new }
+        ensures taken { TakesItem self.old result self.new }
+        ensures empty { IfNone result (HasTakenOfEnded self.old.ended self.old.taken) }
+    {
+        match self.queue.pop_as::<Take, R>(rt, &mut self.pass) {
+            Some((_, item)) => {
+                self.found_nothing = false;
+                Some(item)
+            }
+            None => {
+                self.found_nothing = true;
+                None
+            }
         }
     }
 }
 
 impl<T: Drop> Taker<T> {
     /// Ends the putter of the next number, beginning with 0, and knows from then on what it has put. It takes no memory.
-    #[tactic(auto, using(crate::proofs::Rings::on_one))]
     pub fn end(&mut self, putter: Putter<T>)
         requires { IsNextToEnd putter self.old }
         ensures { self.new ≡ record self.old { ended = self.old.ended ++ putter.put ∷ [] } }
     {
-        match (&mut self.end, putter.end) {
-            (Taking::Shared(taker), Putting::Shared(putter)) => taker.end(putter),
-            (Taking::Sole(taker), Putting::Sole(putter)) => taker.end(putter),
-            // A box has ends of one kind.
-            (Taking::Shared(_), Putting::Sole(_)) | (Taking::Sole(_), Putting::Shared(_)) => {
-                unreachable!()
-            }
-        }
+        self.queue.absorb::<EndPutter>(&mut self.pass, putter.pass);
     }
 
     /// Ends the box, whose putters have all ended. What was taken and then what is left has each putter's items, in the
@@ -128,13 +160,12 @@ impl<T: Drop> Taker<T> {
         ensures fair { IsFair result.put result.taken result.left }
         ensures room { length result.left ≤ self.size }
     {
-        match self.end {
-            Taking::Shared(taker) => Gathered {
-                left: Left::Shared(taker.gather(rt)),
-            },
-            Taking::Sole(taker) => Gathered {
-                left: Left::Sole(taker.gather()),
-            },
-        }
+        let Taker {
+            queue,
+            mut pass,
+            ..
+        } = self;
+        let next = queue.pop_as::<Close, R>(rt, &mut pass);
+        Gathered { queue, pass, next }
     }
 }

@@ -4,33 +4,39 @@ ghost use Rattle.cast_box.specs.Lists.{IsFair};
 ghost use Rattle.cast_box.specs.Ends.{AreAllEnds};
 
 use crate::ends::{Putter, Taker};
-use crate::shared::SharedGathered;
-use crate::sole::SoleGathered;
+use crate::rule::{BoxPass, BoxQueue, Empty};
+use std::alloc::Global;
 use std::marker::Model;
-use std::sync::Wait;
+use std::sync::{Arc, Wait};
 
 /// What is left in a box that has ended. To contracts it is all that was put, by putter, all that was taken and all that is
 /// left, with the putters' numbers.
 #[derive(Drop)]
 pub struct Gathered<T> {
-    pub(crate) left: Left<T>,
-}
-
-/// What is left in a box of several putters, or of one.
-#[derive(Drop)]
-pub(crate) enum Left<T> {
-    Shared(SharedGathered<T>),
-    Sole(SoleGathered<T>),
+    pub(crate) queue: Arc<BoxQueue<T>, Global>,
+    pub(crate) pass: BoxPass<T>,
+    // The item that is handed out next. It was taken from the queue when the box ended: only a take shows what the queue
+    // holds.
+    pub(crate) next: Option<(u64, T)>,
 }
 
 impl<T> Model for Gathered<T> {
-    ghost use Rattle.cast_box.specs.Ends.{GatheredBox};
+    ghost use Rattle.std.specs.Prelude.{◌≡◌, OnSome};
+    ghost use Rattle.std.specs.Arc.{arc_value};
+    ghost use Rattle.crossbeam_queue.specs.Passes.{view as known, IsPassOf};
+    ghost use Rattle.cast_box.specs.Ends.{GatheredBox, left_from};
+    ghost use Rattle.cast_box.specs.declared.rule.Role.TheVariants.{Gathering};
 
     ghost Value = { GatheredBox T };
 
-    ghost use Rattle.cast_box.specs.Chosen.{gathered_of};
+    ghost view = { λ g. record {
+      put = (known g.pass).ended;
+      taken = (known g.pass).taken;
+      left = left_from g.next (known g.pass).left;
+    } };
 
-    ghost view = { λ g. gathered_of g.left };
+    ghost invariant = { λ g. IsPassOf (arc_value g.queue) g.pass
+        × OnSome g.next ((known g.pass).role ≡ Gathering) };
 }
 
 /// Ends a box, whose ends these all are, the putters in the order of their numbers. What was taken and then what is left
@@ -58,9 +64,8 @@ impl<T: Drop> Gathered<T> {
             ((self.old.left ≡ []) × (self.new.left ≡ []))
             (λ m. self.old.left ≡ m ∷ self.new.left) }
     {
-        match &mut self.left {
-            Left::Shared(left) => left.next_left(rt),
-            Left::Sole(left) => left.next_left(),
-        }
+        let next = self.next.take()?;
+        self.next = self.queue.pop_as::<Empty, R>(rt, &mut self.pass);
+        Some(next)
     }
 }

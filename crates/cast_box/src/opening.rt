@@ -2,13 +2,10 @@
 ghost use Rattle.std.specs.Prelude.{◌≡◌, ◌+◌, ◌<◌, [], IfOk, IfErr};
 ghost use Rattle.crossbeam_queue.specs.Passes.{view as known, IsPassOf, IsSamePass};
 ghost use Rattle.cast_box.specs.Rule.{taker};
-ghost use Rattle.cast_box.specs.Ends.{on_queue, OpeningBox, AreAllEnds, AreNew, IsSize, IsPutters, IsFaultOf};
+ghost use Rattle.cast_box.specs.Ends.{OpeningBox, AreAllEnds, AreNew, IsSize, IsPutters, IsFaultOf};
 
-use crate::ends::{Putter, Putting, Taker, Taking};
+use crate::ends::{Putter, Taker};
 use crate::rule::{BoxPass, BoxQueue, Limits, NextPutter, SetLimits};
-use crate::shared::{SharedPutter, SharedTaker};
-use crate::sole::{SolePutter, SoleTaker};
-use rtrb::RingBuffer;
 use std::alloc::{AllocError, Global};
 use std::marker::{Brand, Model};
 use std::sync::Arc;
@@ -50,33 +47,11 @@ pub fn make_box<T: Drop>(
     if putters < 1 || putters > MOST_PUTTERS {
         return Err(BoxFault::Putters);
     }
-    let opened = if putters == 1 {
-        open_sole(alloc, size as usize)
-    } else {
-        open_shared(alloc, size as usize, putters)
-    };
-    opened.map_err(|_| BoxFault::Memory)
+    open_box(alloc, size as usize, putters).map_err(|_| BoxFault::Memory)
 }
 
-// A box of one putter.
-fn open_sole<T: Drop>(alloc: Global, size: usize) -> Result<(Vec<Putter<T>>, Taker<T>), AllocError>
-    ensures { IfOk result (λ ends. AreAllEnds ends.0.items ends.1 × AreNew ends.0.items ends.1
-        × (ends.1.size ≡ size) × (ends.1.putters ≡ 1)) }
-{
-    let (producer, consumer) = RingBuffer::new(alloc, size)?;
-    let putter = Putter {
-        end: Putting::Sole(SolePutter::new(producer)),
-    };
-    let taker = Taker {
-        end: Taking::Sole(SoleTaker::new(consumer)),
-    };
-    let mut all = Vec::new(alloc);
-    all.push(putter)?;
-    Ok((all, taker))
-}
-
-// A box that several putters share.
-fn open_shared<T: Drop>(
+// A box of so many places and putters.
+fn open_box<T: Drop>(
     alloc: Global,
     size: usize,
     putters: u64,
@@ -88,11 +63,9 @@ fn open_shared<T: Drop>(
     let mut opening = Opening::new(alloc, size, putters)?;
     let mut all = Vec::new(alloc);
     for number in 0..putters {
-        let putter = Putting::Shared(opening.next_putter(number)?);
-        all.push(Putter { end: putter })?;
+        all.push(opening.next_putter(number)?)?;
     }
-    let taker = Taking::Shared(opening.into_taker());
-    Ok((all, Taker { end: taker }))
+    Ok((all, opening.into_taker()))
 }
 
 // A box whose putters are still being made.
@@ -135,11 +108,11 @@ impl<T: Drop> Opening<T> {
     }
 
     // Makes the putter of the next number.
-    fn next_putter(&mut self, number: u64) -> Result<SharedPutter<T>, AllocError>
+    fn next_putter(&mut self, number: u64) -> Result<Putter<T>, AllocError>
         requires { (number ≡ self.old.made) × (number < self.old.putters) }
         ensures { IfOk result (λ p.
             (p ≡ record {
-              home = on_queue self.old.home;
+              home = self.old.home;
               size = self.old.size;
               putters = self.old.putters;
               number = number;
@@ -149,7 +122,7 @@ impl<T: Drop> Opening<T> {
     {
         let queue = Arc::try_clone(&self.queue)?;
         let pass = self.queue.another::<NextPutter>(&mut self.pass);
-        Ok(SharedPutter {
+        Ok(Putter {
             number,
             queue,
             pass,
@@ -157,10 +130,10 @@ impl<T: Drop> Opening<T> {
     }
 
     // The taker, once all putters are made.
-    fn into_taker(self) -> SharedTaker<T>
+    fn into_taker(self) -> Taker<T>
         requires { self.made ≡ self.putters }
         ensures { result ≡ record {
-          home = on_queue self.home;
+          home = self.home;
           size = self.size;
           putters = self.putters;
           taken = [];
@@ -168,7 +141,7 @@ impl<T: Drop> Opening<T> {
         } }
     {
         let Opening { queue, pass } = self;
-        SharedTaker {
+        Taker {
             queue,
             pass,
             found_nothing: false,

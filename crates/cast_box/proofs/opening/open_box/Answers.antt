@@ -1,15 +1,15 @@
 use Rattle.std.proofs.Common.{◌≡◌, ap, ◌∙◌, sym, arith, ℕ, length, [], ◌∷◌, slice_get}
 use Rattle.std.proofs.lemmas.List.{length-append}
-use Rattle.cast_box.specs.Ends.{on_queue, PutterEnd, OpeningBox}
+use Rattle.cast_box.specs.Ends.{PutterEnd, OpeningBox}
 use Rattle.cast_box.proofs.Closing.{each_more}
-use Rattle.cast_box.proofs.opening.open_shared.Goals as goal
+use Rattle.cast_box.proofs.opening.open_box.Goals as goal
 
 pub loop-number-preserved : goal.loop-number-preserved
 loop-number-preserved g c =
     let was = c.loop-number.invariant in
     let made = c.in_ok-next_putter.ensures in
     let pushed = c.in_ok-push.ensures in
-    let fresh : OpeningBox → ℕ → PutterEnd g.row.T.Denot = λ o a. record { home = on_queue o.home; size = o.size; putters = o.putters; number = a; put = [] } in (
+    let fresh : OpeningBox → ℕ → PutterEnd g.row.T.Denot = λ o a. record { home = o.home; size = o.size; putters = o.putters; number = a; put = [] } in (
       ap (λ o. o.made) made.1,
       ap (λ o. o.size) made.1 ∙ was.1,
       ap (λ o. o.putters) made.1 ∙ was.2,

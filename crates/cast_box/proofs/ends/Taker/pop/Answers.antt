@@ -4,7 +4,7 @@ use Rattle.cast_box.specs.Ends.{TakerEnd}
 use Rattle.cast_box.specs.Lists.{HasTakenOfEnded}
 use Rattle.cast_box.proofs.Closing.{taken_of_ended}
 use Rattle.cast_box.proofs.Moves.{takes, shows_ended}
-use Rattle.cast_box.proofs.shared.SharedTaker.pop.Goals as goal
+use Rattle.cast_box.proofs.ends.Taker.pop.Goals as goal
 
 pub pop_as-requires-clause-rule : goal.pop_as-requires-clause-rule
 pop_as-requires-clause-rule g c =

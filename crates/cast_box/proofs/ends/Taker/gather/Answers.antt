@@ -1,7 +1,7 @@
 use Rattle.std.proofs.Common.{ap, ◌∙◌, sym, length}
 use Rattle.cast_box.proofs.Closing.{fair_left}
 use Rattle.cast_box.proofs.Moves.{closes, shows_all}
-use Rattle.cast_box.proofs.shared.SharedTaker.gather.Goals as goal
+use Rattle.cast_box.proofs.ends.Taker.gather.Goals as goal
 
 pub pop_as-next-requires-clause-rule : goal.pop_as-next-requires-clause-rule
 pop_as-next-requires-clause-rule g c =

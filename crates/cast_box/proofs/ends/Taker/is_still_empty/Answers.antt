@@ -4,7 +4,7 @@ use Rattle.cast_box.specs.Ends.{TakerEnd}
 use Rattle.cast_box.specs.Lists.{HasTakenOfEnded}
 use Rattle.cast_box.proofs.Closing.{taken_of_ended}
 use Rattle.cast_box.proofs.Moves.{shows_ended}
-use Rattle.cast_box.proofs.shared.SharedTaker.is_still_empty.Goals as goal
+use Rattle.cast_box.proofs.ends.Taker.is_still_empty.Goals as goal
 
 pub is_empty_as-requires-clause-rule : goal.is_empty_as-requires-clause-rule
 is_empty_as-requires-clause-rule g c = shows_ended _ _ (ap (λ v. v.role) c.self.invariant.1)

@@ -2,8 +2,8 @@ use Rattle.std.proofs.Common.{ap, ◌∙◌, sym, length, arith}
 use Rattle.crossbeam_queue.specs.Passes.{ruled_capacity, view as known}
 use Rattle.cast_box.proofs.Closing.{sole_full}
 use Rattle.cast_box.proofs.Moves.{puts_as, shows_putter}
-use Rattle.cast_box.proofs.shared.SharedPutter.put.Goals as goal
-use Rattle.cast_box.proofs.shared.SharedPutter.put.Goals.{in-Ok, in-Err}
+use Rattle.cast_box.proofs.ends.Putter.put.Goals as goal
+use Rattle.cast_box.proofs.ends.Putter.put.Goals.{in-Ok, in-Err}
 
 pub push_as-requires-clause-rule : goal.push_as-requires-clause-rule
 push_as-requires-clause-rule g c =
