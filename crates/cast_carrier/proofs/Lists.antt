@@ -11,6 +11,10 @@ module _ {A : Type 0} where
   has_left (y ∷ xs) ys x (zero, e) = (zero, e)
   has_left (y ∷ xs) ys x (suc i, e) = let it = has_left xs ys x (i, e) in (suc it.0, it.1)
 
+  pub has_right : (xs ys : List A) (x : A) → Has ys x → Has (xs ++ ys) x
+  has_right [] ys x h = h
+  has_right (y ∷ xs) ys x h = let it = has_right xs ys x h in (suc it.0, it.1)
+
   pub has_last : (xs : List A) (x : A) → Has (xs ++ x ∷ []) x
   has_last xs x = (length xs, get_middle xs x [])
 

@@ -1,11 +1,12 @@
 -- What a plan makes of the frames that a carrier takes.
 --     is_one_of frame frames                 the frame is one of these
+--     IsAmong first step ordinal             it is first, first + step, first + 2 * step ..
 --     fate_by frame faults                   what becomes of a frame by the faults of a plan
 --     fate_in faults ordinals frame          the same of the next frame for its target, where so many were taken
 --     counted_in ordinals frame              how many were taken then
 --     AreByTarget faults rows                the rows are the faults of each target's frames
 --     AreFatedAlike to some all              by some of the faults a frame for the target meets the fate that it meets by all
-use Rattle.std.specs.Prelude.{◌≡◌, ℕ, ◌+◌, ◌-◌, ◌%◌, ◌^◌, min, max, ◌==◌, nat_le, Bool, true, false, ◌&&◌, ◌||◌, if◌then◌else◌, List, [], ◌∷◌, slice_get, slice_set, Option, Some, None}
+use Rattle.std.specs.Prelude.{◌≡◌, ℕ, ◌+◌, ◌-◌, ◌*◌, ◌%◌, ◌^◌, min, max, ◌==◌, nat_le, Bool, true, false, ◌&&◌, ◌||◌, if◌then◌else◌, List, [], ◌∷◌, slice_get, slice_set, Option, Some, None}
 use Rattle.std.specs.List.{list_any, filter}
 use Rattle.std.specs.Global.{Vec}
 use Rattle.cast_message.specs.declared.message.Frame.{Frame}
@@ -33,6 +34,9 @@ abbrev pub is_among : ℕ → ℕ → ℕ → Bool
 is_among first step ordinal =
     if step == 0 then ordinal == first
     else (nat_le first ordinal && ((ordinal - first) % step) == 0)
+
+abbrev pub IsAmong : ℕ → ℕ → ℕ → Type 0
+IsAmong first step ordinal = (k : ℕ) × (ordinal ≡ first + step * k)
 
 abbrev pub is_one_of : NamedFrame → Frames → Bool
 is_one_of frame frames =

@@ -1,6 +1,6 @@
 //! What becomes of a frame by a plan.
-ghost use Rattle.std.specs.Prelude.{◌≡◌};
-ghost use Rattle.cast_carrier.specs.Fates.{is_kind, is_among, is_one_of, suffered, fate_by, fate_in, ordinal_of, one_more, counted_in};
+ghost use Rattle.std.specs.Prelude.{◌≡◌, ◌↔◌, IsTrue};
+ghost use Rattle.cast_carrier.specs.Fates.{is_kind, is_among, IsAmong, is_one_of, suffered, fate_by, fate_in, ordinal_of, one_more, counted_in};
 
 use crate::faults::CarrierFaults;
 use crate::parcel::Parcel;
@@ -125,7 +125,8 @@ fn is_kind(kind: FrameKind, other: FrameKind) -> bool
 
 // Whether the ordinal is first, first + step, first + 2 * step, ..; with no step, first alone.
 fn is_among(first: u64, step: u64, ordinal: u64) -> bool
-    ensures { result ≡ is_among first step ordinal }
+    ensures is { result ≡ is_among first step ordinal }
+    ensures multiples { IsTrue result ↔ IsAmong first step ordinal }
 {
     if step == 0 {
         return ordinal == first;

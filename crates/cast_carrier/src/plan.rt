@@ -1,7 +1,7 @@
 //! What a plan may name, and what it says of each node.
 ghost use Rattle.std.specs.Prelude.{◌≡◌, ◌≢◌, [], ◌↔◌, None, IsTrue, IfOk, OnErr};
 ghost use Rattle.std.specs.List.{filter};
-ghost use Rattle.cast_carrier.specs.Plans.{ArePlanned, IsPlanned, IsLink, crash_by, crash_from, is_from, is_at, least};
+ghost use Rattle.cast_carrier.specs.Plans.{ArePlanned, IsPlanned, IsLink, crash_by, crash_from, IsLeastCrash, is_from, is_at, least};
 
 use cast_message::NodeId;
 use cast_script::Fault;
@@ -36,9 +36,10 @@ fn is_link(nodes: u64, from: NodeId, to: NodeId) -> bool
     u64::from(from.0) < nodes && u64::from(to.0) < nodes && from != to
 }
 
-/// After how many entries the node crashes, if it is to crash.
+/// After how many entries the node crashes, if it is to crash: of several counts the least.
 pub fn crash_of(node: NodeId, faults: &[Fault]) -> Option<u64>
-    ensures { result ≡ crash_from node None faults.now }
+    ensures is { result ≡ crash_from node None faults.now }
+    ensures least { IsLeastCrash node faults.now result }
 {
     let mut crash = None;
     for fault in faults {

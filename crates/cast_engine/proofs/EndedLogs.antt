@@ -112,6 +112,7 @@ leaves_tell e log node ended l =
           }));
       received = run_received e.inbox.taken e.config.first_stamp k.run k.received;
       each_taken = k.each_taken;
+      taken_in = k.taken_in;
       stamps = subst (Follows (CameIn e.inbox.taken) e.config.first_stamp) (sym k.is_log) (run_follows e.config e.me e.inbox.taken k.run e.config.first_stamp l.clock rises k.received);
       made = run_made e.config e.me k.run ∙ ap stamps_made (sym k.is_log);
     }

@@ -91,34 +91,36 @@ live_after kept (Acknowledged to slot) h = refl
 live_after kept (Arrived frame) h = either_live (may_arrive kept frame) (arrived_body kept frame.from frame.body) (unmoved kept) kept.live (body_live kept frame.from frame.body) refl
 live_after kept Stopped h = absurd (false≢true (sym h))
 
-module _ (config : Config) (room room' : ℕ) (node node' : Kept) (log log' : List Entry) (clock stamp : ℕ) (crash : Option ℕ) (ended : Option EngineEnd) (kind : EntryKind)
-    (k : JournalKeeps config room node log clock crash ended) (running : ended ≡ None) (fits : length log < config.log_limit) (later : IsStampedAfter clock (entry stamp kind))
+module _ (config : Config) (room room' : ℕ) (node node' : Kept) (log log' : List Entry) (clock stamp : ℕ) (crash : Option ℕ) (ended : Option EngineEnd) (turns : ℕ) (kind : EntryKind)
+    (k : JournalKeeps config room node log clock crash ended turns) (running : ended ≡ None) (fits : length log < config.log_limit) (later : IsStampedAfter clock (entry stamp kind))
     (is : log' ≡ log ++ entry stamp kind ∷ []) (same : room' ≡ room) where
   rest : EndsAs config.log_limit crash None log
   rest = let P : Option EngineEnd → Type 0 = λ o. EndsAs config.log_limit crash o log in subst P running k.ends
 
-  pub keeps_logged : is_crash kind ≡ false → ((n : ℕ) → crash ≡ Some n → length log < n) → node'.live ≡ node.live → JournalKeeps config room' node' log' stamp crash ended
+  pub keeps_logged : is_crash kind ≡ false → ((n : ℕ) → crash ≡ Some n → length log < n) → node'.live ≡ node.live → JournalKeeps config room' node' log' stamp crash ended turns
   keeps_logged quiet safe live = record {
     has_room = omega (arith, k.has_room, same);
     rises = subst (λ l. Rises config.first_stamp l stamp) (sym is) (rises_more log config.first_stamp clock (entry stamp kind) k.rises later);
     ends = let P : Option EngineEnd → List Entry → Type 0 = λ o l. EndsAs config.log_limit crash o l in
         subst (λ o. P o log') (sym running) (subst (P None) (sym is) (ends_more config.log_limit crash log rest fits (entry stamp kind) quiet safe));
     lives = λ h. live ∙ k.lives h;
+    spent = λ h. let none = running in absurd cc;
   }
 
-  pub keeps_crashed : is_crash kind ≡ true → crash ≡ Some (length log) → JournalKeeps config room' node' log' stamp crash (Some Crashed)
+  pub keeps_crashed : is_crash kind ≡ true → crash ≡ Some (length log) → JournalKeeps config room' node' log' stamp crash (Some Crashed) turns
   keeps_crashed loud due = record {
     has_room = omega (arith, k.has_room, same);
     rises = subst (λ l. Rises config.first_stamp l stamp) (sym is) (rises_more log config.first_stamp clock (entry stamp kind) k.rises later);
     ends = subst (λ l. EndsAs config.log_limit crash (Some Crashed) l) (sym is) (ends_crash config.log_limit crash log rest fits (entry stamp kind) loud due);
     lives = λ h. absurd (h refl);
+    spent = λ h. absurd cc;
   }
 
 pub gives_live : (kept new : Kept) (step : Step) (answer : Answer) → Gives kept step (Ok answer) new → is_stop step ≡ false → new.live ≡ kept.live
 gives_live kept new step answer g h = ap (λ (k : Kept). k.live) g.2 ∙ live_after kept step h
 
-abbrev pub state : Config → Kept → List Entry → ℕ → Option ℕ → Option EngineEnd → JournalState
-state config node log clock crash ended = record { config = config; node = node; log = log; clock = clock; crash = crash; ended = ended }
+abbrev pub state : Config → Kept → List Entry → ℕ → Option ℕ → Option EngineEnd → ℕ → JournalState
+state config node log clock crash ended turns = record { config = config; node = node; log = log; clock = clock; crash = crash; ended = ended; turns = turns }
 
 -- a node that makes a frame goes on
 pub making_goes_on : (p : ℕ) (kind : FrameKind) (to slot : ℕ) → (is_crash_event (event_of p (making kind to slot)) ≡ false) × (is_stop (making kind to slot) ≡ false)
@@ -126,27 +128,28 @@ making_goes_on p kinds.Carry to slot = (refl, refl)
 making_goes_on p kinds.Took to slot = (refl, refl)
 
 -- the same, as the functions need it
-pub logged : (config : Config) (room room' : ℕ) (node node' : Kept) (log log' : List Entry) (clock stamp : ℕ) (crash : Option ℕ) (ended : Option EngineEnd) (kind : EntryKind) (j : JournalState)
-    → state config node log clock crash ended ≡ j → MayLog j → JournalKeeps config room node log clock crash ended → IsStampedAfter clock (entry stamp kind) → log' ≡ log ++ entry stamp kind ∷ [] → room' ≡ room
-    → is_crash kind ≡ false → node'.live ≡ node.live → JournalKeeps config room' node' log' stamp crash ended
-logged config room room' node node' log log' clock stamp crash ended kind j is may k later e r quiet live =
-    let m : MayLog (state config node log clock crash ended) = subst MayLog (sym is) may in
-    keeps_logged config room room' node node' log log' clock stamp crash ended kind k m.running m.room later e r quiet m.safe live
+pub logged : (config : Config) (room room' : ℕ) (node node' : Kept) (log log' : List Entry) (clock stamp : ℕ) (crash : Option ℕ) (ended : Option EngineEnd) (turns : ℕ) (kind : EntryKind) (j : JournalState)
+    → state config node log clock crash ended turns ≡ j → MayLog j → JournalKeeps config room node log clock crash ended turns → IsStampedAfter clock (entry stamp kind) → log' ≡ log ++ entry stamp kind ∷ [] → room' ≡ room
+    → is_crash kind ≡ false → node'.live ≡ node.live → JournalKeeps config room' node' log' stamp crash ended turns
+logged config room room' node node' log log' clock stamp crash ended turns kind j is may k later e r quiet live =
+    let m : MayLog (state config node log clock crash ended turns) = subst MayLog (sym is) may in
+    keeps_logged config room room' node node' log log' clock stamp crash ended turns kind k m.running m.room later e r quiet m.safe live
 
-pub crashed : (config : Config) (room room' : ℕ) (node node' : Kept) (log log' : List Entry) (clock stamp : ℕ) (crash : Option ℕ) (ended : Option EngineEnd) (kind : EntryKind) (j : JournalState)
-    → state config node log clock crash ended ≡ j → j.ended ≡ None → length j.log < j.config.log_limit → j.crash ≡ Some (length j.log) → JournalKeeps config room node log clock crash ended → IsStampedAfter clock (entry stamp kind)
-    → log' ≡ log ++ entry stamp kind ∷ [] → room' ≡ room → is_crash kind ≡ true → JournalKeeps config room' node' log' stamp crash (Some Crashed)
-crashed config room room' node node' log log' clock stamp crash ended kind j is running fits due k later e r loud =
+pub crashed : (config : Config) (room room' : ℕ) (node node' : Kept) (log log' : List Entry) (clock stamp : ℕ) (crash : Option ℕ) (ended : Option EngineEnd) (turns : ℕ) (kind : EntryKind) (j : JournalState)
+    → state config node log clock crash ended turns ≡ j → j.ended ≡ None → length j.log < j.config.log_limit → j.crash ≡ Some (length j.log) → JournalKeeps config room node log clock crash ended turns → IsStampedAfter clock (entry stamp kind)
+    → log' ≡ log ++ entry stamp kind ∷ [] → room' ≡ room → is_crash kind ≡ true → JournalKeeps config room' node' log' stamp crash (Some Crashed) turns
+crashed config room room' node node' log log' clock stamp crash ended turns kind j is running fits due k later e r loud =
     let P : JournalState → Type 0 = λ j. (j.ended ≡ None) × (length j.log < j.config.log_limit) × (j.crash ≡ Some (length j.log)) in
-    let m : P (state config node log clock crash ended) = subst P (sym is) (running, fits, due) in
-    keeps_crashed config room room' node node' log log' clock stamp crash ended kind k m.0 m.1 later e r loud m.2
+    let m : P (state config node log clock crash ended turns) = subst P (sym is) (running, fits, due) in
+    keeps_crashed config room room' node node' log log' clock stamp crash ended turns kind k m.0 m.1 later e r loud m.2
 
-pub begun : (config : Config) (room : ℕ) (node : Kept) (log : List Entry) (clock : ℕ) (crash : Option ℕ) → config.log_limit ≤ room → log ≡ [] → clock ≡ config.first_stamp → node.live ≡ true
-    → JournalKeeps config room node log clock crash None
+pub begun : (config : Config) (room : ℕ) (node : Kept) (log : List Entry) (clock : ℕ) (crash : Option ℕ) (turns : ℕ) → config.log_limit ≤ room → log ≡ [] → clock ≡ config.first_stamp → node.live ≡ true
+    → JournalKeeps config room node log clock crash None turns
 unfolding Rises
-begun config room node log clock crash r e c l = subst (λ log. JournalKeeps config room node log clock crash None) (sym e) (record {
+begun config room node log clock crash turns r e c l = subst (λ log. JournalKeeps config room node log clock crash None turns) (sym e) (record {
   has_room = r;
   rises = c;
   ends = record { within = omega arith; full = λ h. absurd cc; below = λ h. absurd cc; rested = λ h. absurd cc; used_up = λ h. absurd cc; due = λ h n is. omega arith; last = λ i x at. absurd cc; crashed = λ h. absurd cc };
   lives = λ h. l;
+  spent = λ h. absurd cc;
 })

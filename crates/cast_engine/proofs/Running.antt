@@ -1,5 +1,5 @@
 -- What an engine keeps, by one change of its log or of its boxes.
-use Rattle.std.proofs.Common.{◌≡◌, ℕ, ◌+◌, max, Bool, cond, count_by, false, List, [], ◌∷◌, ◌++◌, map, Option, Some, None, sym, refl, ap, ◌∙◌, subst, ⊎_elim, arith}
+use Rattle.std.proofs.Common.{◌≡◌, ℕ, ◌+◌, max, Bool, cond, count_by, false, List, [], ◌∷◌, ◌++◌, map, Option, Some, None, sym, refl, ap, ◌∙◌, subst, ◌⊎◌, inl, inr, ⊎_elim, arith}
 use Rattle.std.specs.Prelude.{Ok, Err}
 use Rattle.std.specs.Option.{option_to_list}
 use Rattle.std.proofs.lemmas.List.{append-nil, map-append}
@@ -20,13 +20,14 @@ use Rattle.cast_node.proofs.Refusals.{faults_are}
 use Rattle.cast_node.proofs.Showing.{carries, tells_taken}
 use Rattle.cast_desk.specs.declared.desk.OrderIn.{OrderIn}
 use Rattle.cast_carrier.specs.declared.parcel.Parcel.{Parcel}
-use Rattle.cast_report.specs.Linked.{Trail, event_of, outcome_in, steps_in, made_in, kept_in, stamped, IsFor}
-use Rattle.cast_engine.specs.Runs.{Read, Moved, Served, Denied, Run, mark, trail_of, log_of, orders_of, IsRun, clock_after, AreReceived, IsReceived, IsReceivedBy, HasTakenEach, arrived_by, arrivals_in, made_of, parcel, is_order, origin_of, EngineKeeps}
+use Rattle.cast_carrier.specs.Lists.{Has}
+use Rattle.cast_report.specs.Linked.{Mark, Trail, event_of, outcome_in, steps_in, made_in, kept_in, stamped, IsFor}
+use Rattle.cast_engine.specs.Runs.{Read, Moved, Served, Denied, Run, mark, trail_of, log_of, orders_of, IsRun, clock_after, AreReceived, IsReceived, IsReceivedBy, HasTakenEach, MayDrop, AreTakenIn, arrived_by, arrivals_in, made_of, parcel, is_order, origin_of, EngineKeeps}
 use Rattle.cast_engine.specs.Journals.{JournalState, LogsStep, LogsRefusal, LogsOrder, OnlyEnds, Halts}
 use Rattle.cast_message.specs.declared.message.FrameKind.{FrameKind}
 use Rattle.cast_message.specs.declared.message.FrameKind.TheVariants.{Carry, Took}
 use Rattle.cast_engine.specs.Engines.{KeepsOf, Handed}
-use Rattle.cast_carrier.proofs.Lists.{has_left, has_last}
+use Rattle.cast_carrier.proofs.Lists.{has_left, has_right, has_last, has_snoc}
 
 -- what was put and what waits, where a parcel was handed on while none waited
 handed_all : (put put' : List Parcel) (held' : Option Parcel) (x : Parcel) → Handed put put' held' x → put' ++ option_to_list held' ≡ put ++ x ∷ []
@@ -59,21 +60,39 @@ received_still taken m first (r ∷ rs) h = (received_still taken m first rs h.0
     one (Moved stamp step) g = by_step (clock_after first rs) stamp step g
     one read g = tt
 
+-- a parcel more, which arrived or may be dropped
+one_taken_in : (config : Config) (p : ℕ) (trail : Trail) (taken : List (ℕ × Parcel)) (m : ℕ × Parcel) → AreTakenIn config p trail taken → Has (arrivals_in trail) m.1.frame ⊎ MayDrop config p trail m.1 → AreTakenIn config p trail (taken ++ m ∷ [])
+one_taken_in config p trail taken m all last n h =
+    let P : ℕ × Parcel → Type 0 = λ n. Has (arrivals_in trail) n.1.frame ⊎ MayDrop config p trail n.1 in
+    ⊎_elim (λ t. all n t) (λ e. subst P e last) (has_snoc taken m n h)
+
+-- a step more
+later_taken_in : (config : Config) (p : ℕ) (trail : Trail) (mark : Mark) (taken : List (ℕ × Parcel)) → AreTakenIn config p trail taken → AreTakenIn config p (mark ∷ trail) taken
+unfolding arrivals_in
+later_taken_in config p trail mark taken all n h = elim (all n h) [
+  | inl arrived ↦ inl (has_right (arrived_by mark.step) (arrivals_in trail) n.1.frame arrived)
+  | inr (inl other) ↦ inr (inl other)
+  | inr (inr (inl last)) ↦ inr (inr (inl last))
+  | inr (inr (inr wanted)) ↦ inr (inr (inr (wanted.0, (mark ∷ wanted.1.0, ap (λ t. mark ∷ t) wanted.1.1), wanted.2)))
+]
+
 -- where only boxes changed
 boxes_kept : {config : Config} {p : ℕ} {node : Kept} {log : List Entry} {clock : ℕ} {put put' : List Parcel} {held held' : Option Parcel} {arrived arrived' : List (ℕ × Parcel)} {orders : List (ℕ × OrderIn)}
     → (k : EngineKeeps config p node log clock put held arrived orders) → put' ++ option_to_list held' ≡ put ++ option_to_list held → AreReceived arrived' config.first_stamp k.run → HasTakenEach arrived' (trail_of k.run)
-    → EngineKeeps config p node log clock put' held' arrived' orders
-boxes_kept k same received each =
-    record { run = k.run; runs = k.runs; is_log = k.is_log; stands = k.stands; reached = k.reached; handed = ap (map made_of) same ∙ k.handed; time = k.time; received = received; each_taken = each; ordered = k.ordered }
+    → AreTakenIn config p (trail_of k.run) arrived' → EngineKeeps config p node log clock put' held' arrived' orders
+boxes_kept k same received each taken_in =
+    record { run = k.run; runs = k.runs; is_log = k.is_log; stands = k.stands; reached = k.reached; handed = ap (map made_of) same ∙ k.handed; time = k.time; received = received; each_taken = each; taken_in = taken_in; ordered = k.ordered }
 
 -- a parcel more
 one_taken : (taken : List (ℕ × Parcel)) (m : ℕ × Parcel) (test : Frame → Bool) → count_by (λ n. test n.1.frame) (taken ++ m ∷ []) ≡ count_by (λ n. test n.1.frame) taken + cond (test m.1.frame) 1 0
 one_taken taken m test = sum_by_push (λ (n : ℕ × Parcel). cond (test n.1.frame) 1 0) taken m
 
--- where more was taken from the inbox
+-- where more was taken from the inbox, and dropped
 pub taken_kept : (j : JournalState) (put : List Parcel) (held : Option Parcel) (arrived : List (ℕ × Parcel)) (orders : List (ℕ × OrderIn)) (m : ℕ × Parcel)
-    → KeepsOf j put held arrived orders → KeepsOf j put held (arrived ++ m ∷ []) orders
-taken_kept j put held arrived orders m k = boxes_kept k refl (received_still arrived m j.config.first_stamp k.run k.received) (λ test. omega (arith, k.each_taken test, one_taken arrived m test))
+    → (k : KeepsOf j put held arrived orders) → MayDrop j.config j.node.me (trail_of k.run) m.1 → KeepsOf j put held (arrived ++ m ∷ []) orders
+taken_kept j put held arrived orders m k may =
+    boxes_kept k refl (received_still arrived m j.config.first_stamp k.run k.received) (λ test. omega (arith, k.each_taken test, one_taken arrived m test))
+    (one_taken_in j.config j.node.me (trail_of k.run) arrived m k.taken_in (inr may))
 
 -- where only the end was noted
 pub ends_kept : (old new : JournalState) (put : List Parcel) (held : Option Parcel) (arrived : List (ℕ × Parcel)) (orders : List (ℕ × OrderIn))
@@ -100,9 +119,9 @@ module _ (old new : JournalState) (put : List Parcel) (held : Option Parcel) (ar
   -- a step that is no order is one more of the run; what it made was handed on, and what arrived by it was taken
   moved : (step : Step) (above : ℕ) (l : LogsStep old new step None above) → is_order step ≡ false → IsFor old.node.me step
       → (arrived' : List (ℕ × Parcel)) → AreReceived arrived' old.config.first_stamp k.run → (l.stamp ≡ max clock_now above + 1 → IsReceivedBy arrived' clock_now l.stamp step) → HasTakenEach arrived' (mark l.stamp step ∷ trail_of k.run)
-      → (put' : List Parcel) (held' : Option Parcel) → map made_of (put' ++ option_to_list held') ≡ made_in old.config old.node.me (mark l.stamp step ∷ trail_of k.run) → KeepsOf new put' held' arrived' orders
+      → AreTakenIn old.config old.node.me (mark l.stamp step ∷ trail_of k.run) arrived' → (put' : List Parcel) (held' : Option Parcel) → map made_of (put' ++ option_to_list held') ≡ made_in old.config old.node.me (mark l.stamp step ∷ trail_of k.run) → KeepsOf new put' held' arrived' orders
   unfolding trail_of log_of orders_of IsRun clock_after AreReceived steps_in kept_in
-  moved step above l quiet for_me arrived' before received each put' held' handed =
+  moved step above l quiet for_me arrived' before received each taken_in put' held' handed =
       let go = continues old.config old.node.me steps_now old.node k.stands step (Ok l.answer) new.node l.gives in
       let none = sym (faults_are old.config old.node.me steps_now old.node k.stands step) ∙ l.gives.0 in
       at_new _ go.1 l.logs.same_config (record {
@@ -115,6 +134,7 @@ module _ (old new : JournalState) (put : List Parcel) (held : Option Parcel) (ar
         time = l.logs.clock;
         received = (before, received (l.next ∙ ap (λ c. max c above + 1) k.time));
         each_taken = each;
+        taken_in = taken_in;
         ordered = append-nil (orders_of k.run) ∙ k.ordered;
       })
 
@@ -123,6 +143,9 @@ module _ (old new : JournalState) (put : List Parcel) (held : Option Parcel) (ar
   unfolding arrivals_in
   none_arrived stamp step none test = let same = ap (λ l. count_by test (l ++ arrivals_in (trail_of k.run))) none in omega (arith, same, k.each_taken test)
 
+  one_step_later : (stamp : ℕ) (step : Step) → AreTakenIn old.config old.node.me (mark stamp step ∷ trail_of k.run) arrived
+  one_step_later stamp step = later_taken_in old.config old.node.me (trail_of k.run) (mark stamp step) arrived k.taken_in
+
   -- a parcel was taken, and its frame arrived
   pub arrival_kept : (number : ℕ) (x : Parcel) → LogsStep old new (Arrived x.frame) None x.stamp → x.frame.to ≡ old.node.me → KeepsOf new put held (arrived ++ (number, x) ∷ []) orders
   unfolding own_made arrivals_in
@@ -130,6 +153,7 @@ module _ (old new : JournalState) (put : List Parcel) (held : Option Parcel) (ar
       let m : ℕ × Parcel = (number, x) in
       moved (Arrived x.frame) x.stamp l refl to (arrived ++ m ∷ []) (received_still arrived m old.config.first_stamp k.run k.received) (λ next. (number, x.stamp, has_last arrived m, next))
       (λ test. omega (arith, k.each_taken test, one_taken arrived m test, sum_by-cons (λ (f : Frame). cond (test f) 1 0) x.frame (arrivals_in (trail_of k.run))))
+      (one_taken_in old.config old.node.me (mark l.stamp (Arrived x.frame) ∷ trail_of k.run) arrived m (one_step_later l.stamp (Arrived x.frame)) (inl (0, refl)))
       put held (k.handed ∙ nothing_more old.config old.node.me (trail_of k.run) l.stamp (Arrived x.frame) refl)
 
   pub same_me : (step : Step) (origin : Option Origin) (above : ℕ) → LogsStep old new step origin above → new.node.me ≡ old.node.me
@@ -138,7 +162,7 @@ module _ (old new : JournalState) (put : List Parcel) (held : Option Parcel) (ar
   stopped : LogsStep old new Stopped None old.clock → KeepsOf new put held arrived orders
   unfolding own_made
   stopped l =
-      moved Stopped old.clock l refl tt arrived k.received (λ next. tt) (none_arrived l.stamp Stopped refl) put held
+      moved Stopped old.clock l refl tt arrived k.received (λ next. tt) (none_arrived l.stamp Stopped refl) (one_step_later l.stamp Stopped) put held
       (k.handed ∙ nothing_more old.config old.node.me (trail_of k.run) l.stamp Stopped refl)
 
   pub halt_kept : Halts old new → KeepsOf new put held arrived orders
@@ -162,6 +186,7 @@ module _ (old new : JournalState) (put : List Parcel) (held : Option Parcel) (ar
         time = l.logs.clock;
         received = (k.received, tt);
         each_taken = none_arrived l.stamp step refl;
+        taken_in = one_step_later l.stamp step;
         ordered = ap (λ l. l ++ order ∷ []) k.ordered ∙ sym (map-append snd orders ((from, order) ∷ []));
       })
 
@@ -181,6 +206,7 @@ module _ (old new : JournalState) (put : List Parcel) (held : Option Parcel) (ar
         time = l.logs.clock;
         received = (k.received, tt);
         each_taken = k.each_taken;
+        taken_in = k.taken_in;
         ordered = ap (λ l. l ++ order ∷ []) k.ordered ∙ sym (map-append snd orders ((from, order) ∷ []));
       })
 
@@ -197,14 +223,14 @@ module _ (old new : JournalState) (put : List Parcel) (held : Option Parcel) (ar
       let all : map made_of put ≡ before = ap (map made_of) (sym (append-nil put) ∙ ap (λ o. put ++ option_to_list o) (sym none)) ∙ k.handed in
       let time_is : x.stamp ≡ l.stamp = time ∙ l.logs.clock in
       let last : made_of x ≡ stamped l.stamp f = λ i. stamped (time_is i) (is i) in
-      moved step above l quiet for_me arrived k.received (λ next. received clock_now l.stamp) (none_arrived l.stamp step no_arrival) put' held'
+      moved step above l quiet for_me arrived k.received (λ next. received clock_now l.stamp) (none_arrived l.stamp step no_arrival) (one_step_later l.stamp step) put' held'
       (ap (map made_of) (handed_all put put' held' x h) ∙ map-append made_of put (x ∷ []) ∙ ap (λ ms. ms ++ made_of x ∷ []) all ∙ ap (λ m. before ++ m ∷ []) last
       ∙ ap (λ fs. before ++ map (stamped l.stamp) fs) (sym made))
 
 -- the parcel that waited is put, or waits again
 pub flush_kept : (j : JournalState) (put put' : List Parcel) (held held' : Option Parcel) (arrived : List (ℕ × Parcel)) (orders : List (ℕ × OrderIn)) (x : Parcel)
     → KeepsOf j put held arrived orders → held ≡ Some x → Handed put put' held' x → KeepsOf j put' held' arrived orders
-flush_kept j put put' held held' arrived orders x k is h = boxes_kept k (handed_all put put' held' x h ∙ ap (λ o. put ++ option_to_list o) (sym is)) k.received k.each_taken
+flush_kept j put put' held held' arrived orders x k is h = boxes_kept k (handed_all put put' held' x h ∙ ap (λ o. put ++ option_to_list o) (sym is)) k.received k.each_taken k.taken_in
 
 module _ (old new : JournalState) (put put' : List Parcel) (held held' : Option Parcel) (arrived : List (ℕ × Parcel)) (orders : List (ℕ × OrderIn)) (k : KeepsOf old put held arrived orders)
     (x : Parcel) (above : ℕ) (time : x.stamp ≡ new.clock) (none : held ≡ None) (h : Handed put put' held' x) where

@@ -1,5 +1,5 @@
 -- What an engine keeps, call by call.
-use Rattle.std.proofs.Common.{◌≡◌, ℕ, zero, suc, length, map, slice_get, ◌+◌, ◌<◌, List, [], ◌∷◌, ◌++◌, Option, Some, None, sym, refl, ap, ◌∙◌, subst, inl, inr, ⊎_elim, arith, Bool, true, false}
+use Rattle.std.proofs.Common.{◌≡◌, ◌≢◌, ℕ, zero, suc, length, map, slice_get, ◌+◌, ◌<◌, List, [], ◌∷◌, ◌++◌, Option, Some, None, sym, refl, ap, ◌∙◌, subst, inl, inr, ⊎_elim, arith, Bool, true, false}
 use Rattle.std.specs.Prelude.{IsTrue, IsFalse, is_some, replicate}
 use Rattle.std.proofs.lemmas.List.{length-replicate}
 use Rattle.cast_message.specs.declared.config.Config.{Config}
@@ -16,11 +16,12 @@ use Rattle.cast_desk.specs.declared.notice.Notice.{Notice}
 use Rattle.cast_carrier.specs.declared.parcel.Parcel.{Parcel}
 use Rattle.cast_engine.specs.declared.feeding.Place.{Place}
 use Rattle.cast_report.specs.Linked.{steps_in, kept_in, made_in}
-use Rattle.cast_engine.specs.Runs.{EngineKeeps, arrivals_in, trail_of, log_of, orders_of, IsRun, clock_after, AreReceived}
+use Rattle.cast_engine.specs.Runs.{EngineKeeps, arrivals_in, trail_of, log_of, orders_of, IsRun, clock_after, AreReceived, MayCome, MayDrop}
 use Rattle.cast_engine.specs.Journals.{JournalState, LogsStep, LogsRefusal, LogsOrder, OnlyEnds, Halts, MayLog, Rises, EndsAs}
 use Rattle.cast_message.specs.declared.message.FrameKind.{FrameKind}
 use Rattle.cast_engine.specs.Feeding.{AreFed, IsFed, first_place}
-use Rattle.cast_engine.specs.Engines.{taken_at, trays_at, KeepsOf, EngineStays, Handed, TakesOrder, TakesIn, IsUnused, EngineState, Leaves}
+use Rattle.cast_engine.specs.Engines.{taken_at, trays_at, KeepsOf, EngineStays, Handed, TakesOrder, IsDropped, TakesIn, IsUnused, EngineState, Leaves}
+use Rattle.cast_carrier.proofs.Lists.{has_none}
 use Rattle.cast_report.specs.declared.report.EngineEnd.{EngineEnd}
 use Rattle.cast_engine.proofs.Running.{taken_kept, ends_kept, arrival_kept, halt_kept, same_me, order_kept, flush_kept, made_kept}
 use Rattle.cast_engine.proofs.Fed.{fed_more}
@@ -37,6 +38,13 @@ only_same old new e = subst (λ j. OnlyEnds old j) (sym e) refl
 
 only_ended : (old new : JournalState) (ended : Option EngineEnd) → new ≡ record old { ended = ended } → OnlyEnds old new
 only_ended old new ended e = subst (λ j. OnlyEnds old j) (sym e) refl
+
+-- what is dropped may be dropped
+may_drop : (j : JournalState) (put : List Parcel) (held : Option Parcel) (arrived : List (ℕ × Parcel)) (orders : List (ℕ × OrderIn)) (x : Parcel) (k : KeepsOf j put held arrived orders) → IsDropped j x
+    → MayDrop j.config j.node.me (trail_of k.run) x
+may_drop j put held arrived orders x k d =
+    ⊎_elim (λ (e : x.frame.to ≢ j.node.me). inl e)
+    (λ (e : MayCome j.node x.frame). inr (inr (trail_of k.run, ([], refl), subst (λ kept. MayCome kept x.frame) k.reached e))) d
 
 -- the same journal after a question
 pub stays_same : (old new : JournalState) (put : List Parcel) (held : Option Parcel) (arrived : List (ℕ × Parcel)) (desk : Option Desk) (places : List Place)
@@ -71,10 +79,10 @@ module _ (old new : JournalState) (put : List Parcel) (held : Option Parcel) (ar
       ⊎_elim only (λ l. same_step Stopped None old.clock l) h
 
   -- a parcel was taken and dropped
-  pub stays_dropped : (arrived' : List (ℕ × Parcel)) (m : ℕ × Parcel) → OnlyEnds old new → arrived' ≡ arrived ++ m ∷ [] → EngineStays new put held arrived' desk places
-  stays_dropped arrived' m e is =
+  pub stays_dropped : (arrived' : List (ℕ × Parcel)) (m : ℕ × Parcel) → MayDrop old.config old.node.me (trail_of k.keeps.run) m.1 → OnlyEnds old new → arrived' ≡ arrived ++ m ∷ [] → EngineStays new put held arrived' desk places
+  stays_dropped arrived' m may e is =
       subst (λ l. EngineStays new put held l desk places) (sym is) (record {
-        keeps = taken_kept new put held arrived (taken_at desk) m (ends_kept old new put held arrived (taken_at desk) k.keeps e);
+        keeps = ends_kept old new put held (arrived ++ m ∷ []) (taken_at desk) (taken_kept old put held arrived (taken_at desk) m k.keeps may) e;
         fed = fed_halt old new (trays_at desk) places (inl e) k.fed;
       })
 
@@ -90,8 +98,8 @@ module _ (old new : JournalState) (put : List Parcel) (held : Option Parcel) (ar
   pub stays_taken : (arrived' : List (ℕ × Parcel)) (number : ℕ) (x : Parcel) → arrived' ≡ arrived ++ (number, x) ∷ [] → TakesIn old new x → EngineStays new put held arrived' desk places
   stays_taken arrived' number x is t = elim t [
     | inl l ↦ stays_arrived arrived' number x is l.0 l.1
-    | inr (inl dropped) ↦ stays_dropped arrived' (number, x) (only_same old new dropped.0) is
-    | inr (inr full) ↦ stays_dropped arrived' (number, x) (only_ended old new _ full.1) is
+    | inr (inl dropped) ↦ stays_dropped arrived' (number, x) (may_drop old put held arrived (taken_at desk) x k.keeps dropped.1) (only_same old new dropped.0) is
+    | inr (inr full) ↦ stays_dropped arrived' (number, x) (inr (inl full.0)) (only_ended old new _ full.1) is
   ]
 
   pub same_taken : (x : Parcel) → TakesIn old new x → IsSameJournal old new
@@ -115,6 +123,11 @@ module _ (old new : JournalState) (put : List Parcel) (held : Option Parcel) (ar
     keeps = subst (KeepsOf new put held arrived) (sym t.1) (order_kept old new put held arrived (taken_at desk) k.keeps order t.0 h);
     fed = subst (λ l. AreFed new.log l places) (sym t.2) (fed_order old new order (trays_at desk) places h k.fed);
   }
+
+-- only the end was noted
+pub stays_stopped : (old new : JournalState) (put : List Parcel) (held : Option Parcel) (arrived : List (ℕ × Parcel)) (desk : Option Desk) (places : List Place) (ended : Option EngineEnd)
+    → EngineStays old put held arrived desk places → new ≡ record old { ended = ended } → EngineStays new put held arrived desk places
+stays_stopped old new put held arrived desk places ended k e = stays_halt old new put held arrived desk places k (inl (only_ended old new ended e))
 
 -- no order was taken
 pub stays_unordered : (j : JournalState) (put : List Parcel) (held : Option Parcel) (arrived : List (ℕ × Parcel)) (desk desk' : Option Desk) (places : List Place)
@@ -151,12 +164,12 @@ get_replicate (suc n) a x (suc i) e = get_replicate n a x i e
 
 -- a new engine
 pub stays_new : (j : JournalState) (config : Config) (me : ℕ) (crash : Option ℕ) (put : List Parcel) (arrived : List (ℕ × Parcel)) (desk : Option Desk) (places : List Place)
-    → me < config.nodes → j ≡ record { config = config; node = nothing_kept config me; log = []; clock = config.first_stamp; crash = crash; ended = None }
+    → me < config.nodes → (turns : ℕ) → j ≡ record { config = config; node = nothing_kept config me; log = []; clock = config.first_stamp; crash = crash; ended = None; turns = turns }
     → put ≡ [] → arrived ≡ [] → IsUnused desk → places ≡ replicate (length (trays_at desk)) first_place → EngineStays j put None arrived desk places
 unfolding trail_of log_of orders_of IsRun clock_after AreReceived steps_in kept_in made_in arrivals_in
-stays_new j config me crash put arrived desk places lt is p a u l =
+stays_new j config me crash put arrived desk places lt turns is p a u l =
     let P : JournalState → List Parcel → List (ℕ × Parcel) → Type 0 = λ j p a. EngineStays j p None a desk places in
-    let base : JournalState = record { config = config; node = nothing_kept config me; log = []; clock = config.first_stamp; crash = crash; ended = None } in
+    let base : JournalState = record { config = config; node = nothing_kept config me; log = []; clock = config.first_stamp; crash = crash; ended = None; turns = turns } in
     subst (λ j. P j put arrived) (sym is) (subst (λ p. P base p arrived) (sym p) (subst (P base []) (sym a) (record {
       keeps = record {
         run = [];
@@ -168,6 +181,7 @@ stays_new j config me crash put arrived desk places lt is p a u l =
         time = refl;
         received = tt;
         each_taken = λ test. omega arith;
+        taken_in = λ m h. absurd (has_none m h);
         ordered = sym (ap (map (λ (m : ℕ × OrderIn). m.1)) u.0);
       };
       fed = (

@@ -13,16 +13,15 @@ use Rattle.cast_engine.specs.declared.engine.Turn.{Turn}
 use Rattle.cast_engine.specs.declared.engine.Turn.TheVariants.{Idle}
 use Rattle.cast_carrier.specs.Lists.{Has}
 use Rattle.cast_engine.specs.Clocks.{Follows, stamps_made}
-use Rattle.cast_engine.specs.Runs.{EngineKeeps, HasTakenEach, parcel, made_of}
+use Rattle.cast_engine.specs.Runs.{EngineKeeps, HasTakenEach, AreTakenIn, MayCome, parcel, made_of}
 use Rattle.cast_report.specs.Linked.{Trail, IsLogOf, made_in, stamped, EachArrival}
 use Rattle.cast_box.specs.Lists.{StartsWith, HasTakenOfEnded}
 use Rattle.cast_desk.specs.Feed.{feed}
 use Rattle.cast_engine.specs.Serving.{Serves}
 use Rattle.cast_engine.specs.Journals.{JournalState, LogsStep, Rises, EndsAs}
 use Rattle.cast_report.specs.declared.report.EngineEnd.{EngineEnd}
-use Rattle.cast_report.specs.declared.report.EngineEnd.TheVariants.{Stopped, TurnLimit, ClockFull}
+use Rattle.cast_report.specs.declared.report.EngineEnd.TheVariants.{ClockFull}
 use Rattle.cast_node.specs.Kept.{Kept}
-use Rattle.cast_node.specs.Turns.{is_awaited, may_arrive}
 use Rattle.cast_model.specs.Steps.{Arrived}
 use Rattle.cast_engine.specs.Feeding.{AreFed, TellEach}
 
@@ -112,8 +111,7 @@ HadNoOrder (Some desk) = HasTakenOfEnded desk.orders.ended desk.orders.taken
 -- it, which takes memory
 abbrev pub IsDropped : JournalState → Parcel → Type 0
 IsDropped j x =
-    (x.frame.to ≢ j.node.me)
-    ⊎ ((may_arrive j.node x.frame ≡ true) × (is_awaited j.node x.frame.from x.frame.body ≡ true))
+    (x.frame.to ≢ j.node.me) ⊎ MayCome j.node x.frame
 
 -- a parcel's arrival was logged, or the parcel was dropped, or it has the last stamp, by which the clock is full
 abbrev pub TakesIn : JournalState → JournalState → Parcel → Type 0
@@ -121,12 +119,6 @@ TakesIn old new x =
     (LogsStep old new (Arrived x.frame) None x.stamp × (x.frame.to ≡ old.node.me))
     ⊎ (((new ≡ old) × IsDropped old x)
     ⊎ ((x.stamp + 1 ≡ 2 ^ 64) × (new ≡ record old { ended = Some ClockFull })))
-
--- an engine chooses to end so: all are quiet, or no turn is left
-abbrev pub IsChosen : EngineEnd → Type 0
-IsChosen Stopped = Unit {0}
-IsChosen TurnLimit = Unit {0}
-IsChosen _ = ⊥
 
 -- no order was taken, and no notice given
 abbrev pub IsUnused : Option Desk → Type 0
@@ -156,8 +148,8 @@ CameBefore taken stamp frame =
     (number : ℕ) × (sent : ℕ) × Has taken (number, parcel sent frame) × (sent < stamp)
 
 -- the log tells of the node's steps; what was put into the outbox is the first of the frames that they made, in order, with their
--- stamps; each frame that arrived came out of the inbox in a parcel of its own, whose stamp is smaller than the arrival's; and the
--- clock began at the first stamp and gave each entry its own
+-- stamps; each frame that arrived came out of the inbox in a parcel of its own, whose stamp is smaller than the arrival's; no
+-- parcel was dropped without its cause; and the clock began at the first stamp and gave each entry its own
 pub record Tells (e : EngineState) (log : List Entry) (node : Kept) : Type 0 where
   pub trail : Trail
   pub tells : IsLogOf e.config e.me trail log node
@@ -167,6 +159,7 @@ pub record Tells (e : EngineState) (log : List Entry) (node : Kept) : Type 0 whe
   pub serves : Serves e.config e.me log trail (map (λ m. m.1) (taken_at e.desk))
   pub received : EachArrival (CameBefore e.inbox.taken) trail
   pub each_taken : HasTakenEach e.inbox.taken trail
+  pub taken_in : AreTakenIn e.config e.me trail e.inbox.taken
   pub stamps : Follows (CameIn e.inbox.taken) e.config.first_stamp log
   pub made : map (λ m. m.stamp) (made_in e.config e.me trail) ≡ stamps_made log
 

@@ -29,6 +29,7 @@ pub record JournalState : Type 0 where
   pub clock : ℕ
   pub crash : Option ℕ  -- after so many entries the engine crashes
   pub ended : Option EngineEnd
+  pub turns : ℕ  -- how many are left
 
 -- an entry may be logged: there is room, a greater stamp, and no crash is due
 pub record MayLog (j : JournalState) : Type 0 where
@@ -70,15 +71,15 @@ AsksOrder old new item (Ok told) =
     (number : ℕ) × Gives old (Ordered item) (Ok (AnswerOrdered number told.1)) new
 AsksOrder old new item (Err fault) = Gives old (Ordered item) (Err fault) new
 
--- where an engine ends so, short of a crash and of a full log: it could log an entry more
+-- where an engine ends so that could log an entry more: all are quiet, or no turn is left
 abbrev pub MayEnd : JournalState → EngineEnd → Type 0
-MayEnd j Crashed = ⊥
-MayEnd j LogFull = ⊥
-MayEnd j _ = MayLog j
+MayEnd j AllStopped = MayLog j
+MayEnd j TurnLimit = MayLog j × (j.turns ≡ 0)
+MayEnd j _ = ⊥
 
--- only the end was noted
+-- only the end was noted, and turns counted
 abbrev pub OnlyEnds : JournalState → JournalState → Type 0
-OnlyEnds old new = new ≡ record old { ended = new.ended }
+OnlyEnds old new = new ≡ record old { ended = new.ended; turns = new.turns }
 
 -- the engine ends here, by a crash or without one
 abbrev pub Halts : JournalState → JournalState → Type 0
@@ -134,18 +135,20 @@ pub record EndsAs (limit : ℕ) (crash : Option ℕ) (ended : Option EngineEnd) 
   pub crashed : ended ≡ Some Crashed
       → (i : ℕ) × (e : Entry) × (slice_get log i ≡ Some e) × (is_crash e.kind ≡ true)
 
--- what a journal keeps: room for its whole log, rising stamps, how the log may end, and a live node before a crash
+-- what a journal keeps: room for its whole log, rising stamps, how the log may end, a live node before a crash, and that an end for
+-- want of turns comes only where none is left
 pub record JournalKeeps (config : Config) (room : ℕ) (node : Kept) (log : List Entry) (clock : ℕ)
-    (crash : Option ℕ) (ended : Option EngineEnd) : Type 0 where
+    (crash : Option ℕ) (ended : Option EngineEnd) (turns : ℕ) : Type 0 where
   pub has_room : config.log_limit ≤ room
   pub rises : Rises config.first_stamp log clock
   pub ends : EndsAs config.log_limit crash ended log
   pub lives : ended ≢ Some Crashed → node.live ≡ true
+  pub spent : ended ≡ Some TurnLimit → turns ≡ 0
 
 abbrev pub journal_code : Coded Config → Coded Kept → Coded Entry → Coded EngineEnd → Coded JournalState
 journal_code config kept entry end =
-    code_by (Config × (Kept × (List Entry × (ℕ × (Option ℕ × Option EngineEnd)))))
-    (coded× config (coded× kept (coded× (coded_list entry) (coded× coded_ℕ (coded× (coded_option coded_ℕ) (coded_option end))))))
-    (λ j. (j.config, (j.node, (j.log, (j.clock, (j.crash, j.ended))))))
-    (λ p. record { config = p.0; node = p.1.0; log = p.1.1.0; clock = p.1.1.1.0; crash = p.1.1.1.1.0; ended = p.1.1.1.1.1 })
+    code_by (Config × (Kept × (List Entry × (ℕ × (Option ℕ × (Option EngineEnd × ℕ))))))
+    (coded× config (coded× kept (coded× (coded_list entry) (coded× coded_ℕ (coded× (coded_option coded_ℕ) (coded× (coded_option end) coded_ℕ))))))
+    (λ j. (j.config, (j.node, (j.log, (j.clock, (j.crash, (j.ended, j.turns)))))))
+    (λ p. record { config = p.0; node = p.1.0; log = p.1.1.0; clock = p.1.1.1.0; crash = p.1.1.1.1.0; ended = p.1.1.1.1.1.0; turns = p.1.1.1.1.1.1 })
     (λ _. refl)

@@ -8,8 +8,10 @@
 --     AreReceived taken first run      each arrival's frame came in a parcel, and its stamp is one above the greater of the
 --                                      clock's and the parcel's
 --     arrivals_in trail                the frames that arrived
+--     MayDrop config p trail x         why a parcel may be dropped
+--     AreTakenIn config p trail taken  each parcel that was taken is logged as an arrival, or may be dropped
 --     made_of x                        the frame of a parcel, with the stamp of the step that made it
-use Rattle.std.specs.Prelude.{◌≡◌, ℕ, ◌+◌, ◌≤◌, max, Bool, true, false, List, [], ◌∷◌, ◌++◌, map, Option, Some, None}
+use Rattle.std.specs.Prelude.{◌≡◌, ◌≢◌, ◌⊎◌, ℕ, ◌+◌, ◌≤◌, ◌^◌, max, Bool, true, false, List, [], ◌∷◌, ◌++◌, map, Option, Some, None}
 use Rattle.std.specs.List.{count_by}
 use Rattle.std.specs.Option.{option_to_list}
 use Rattle.cast_message.specs.declared.config.Config.{Config}
@@ -23,6 +25,8 @@ use Rattle.cast_node.specs.declared.entry.Entry.{Entry}
 use Rattle.cast_node.specs.declared.entry.EntryKind.TheVariants.{Step as StepEntry, Refused}
 use Rattle.cast_node.specs.Kept.{Kept}
 use Rattle.cast_node.specs.Stands.{Stands}
+use Rattle.cast_node.specs.Turns.{is_awaited, may_arrive}
+use Rattle.cast_box.specs.Lists.{EndsWith}
 use Rattle.cast_desk.specs.declared.desk.OrderIn.{OrderIn}
 use Rattle.cast_carrier.specs.declared.parcel.Parcel.{Parcel}
 use Rattle.cast_carrier.specs.Lists.{Has}
@@ -143,6 +147,22 @@ abbrev pub HasTakenEach : List (ℕ × Parcel) → Trail → Type 0
 HasTakenEach taken trail =
     (test : Frame → Bool) → count_by test (arrivals_in trail) ≤ count_by (λ m. test m.1.frame) taken
 
+-- some node could have made the frame for this one, and something may come of it, which takes memory
+abbrev pub MayCome : Kept → Frame → Type 0
+MayCome kept frame = (may_arrive kept frame ≡ true) × (is_awaited kept frame.from frame.body ≡ true)
+
+-- why a parcel may be dropped: it is for another node, it has the last stamp, by which the clock is full, or something might have come
+-- of it when it was taken, for which memory may have been wanting
+abbrev pub MayDrop : Config → ℕ → Trail → Parcel → Type 0
+MayDrop config p trail x =
+    (x.frame.to ≢ p)
+    ⊎ ((x.stamp + 1 ≡ 2 ^ 64) ⊎ ((past : Trail) × EndsWith trail past × MayCome (kept_in config p past) x.frame))
+
+-- each parcel that was taken is logged as an arrival, or was dropped for its cause
+abbrev pub AreTakenIn : Config → ℕ → Trail → List (ℕ × Parcel) → Type 0
+AreTakenIn config p trail taken =
+    (m : ℕ × Parcel) → Has taken m → Has (arrivals_in trail) m.1.frame ⊎ MayDrop config p trail m.1
+
 -- what a log, a node and boxes show of an engine
 pub record EngineKeeps (config : Config) (p : ℕ) (kept : Kept) (log : List Entry) (clock : ℕ)
     (put : List Parcel) (held : Option Parcel) (arrived : List (ℕ × Parcel))
@@ -161,5 +181,7 @@ pub record EngineKeeps (config : Config) (p : ℕ) (kept : Kept) (log : List Ent
   pub received : AreReceived arrived config.first_stamp run
   -- each in a parcel of its own
   pub each_taken : HasTakenEach arrived (trail_of run)
+  -- and none is dropped without its cause
+  pub taken_in : AreTakenIn config p (trail_of run) arrived
   -- the orders, one for one, are those taken from the desk
   pub ordered : orders_of run ≡ map (λ m. m.1) orders

@@ -1,7 +1,7 @@
 //! An engine: the owner of a node, its log and its clock, with the ends of its boxes.
 ghost use Rattle.std.specs.Prelude.{◌≡◌, ◌<◌, [], length, IfOk, IfNone, IsFalse, Some, None};
 ghost use Rattle.cast_box.specs.Ends.{IsSamePutter, IsNextToEnd};
-ghost use Rattle.cast_engine.specs.Engines.{EngineState, IsSameEngine, HasSameBoxes, IsChosen, DoesFew, IsIdleRightly, IsSameDesk, TakesOrder, HadNoOrder, TakesIn, Handed, Leaves, Tells, WereTold, IsUnused, trays_at, with_ended};
+ghost use Rattle.cast_engine.specs.Engines.{EngineState, IsSameEngine, HasSameBoxes, DoesFew, IsIdleRightly, IsSameDesk, TakesOrder, HadNoOrder, TakesIn, Handed, Leaves, Tells, WereTold, IsUnused, trays_at, with_ended};
 ghost use Rattle.cast_engine.specs.Journals.{MayLog};
 
 use crate::feeding::{Place, first_places, notify_all};
@@ -46,8 +46,6 @@ pub struct Engine {
     // By client.
     places: Vec<Place>,
     resend: Resend,
-    // How many turns are left.
-    turns: u64,
     // No order is taken any more: no job was left, and the desk was empty or the engine has ended.
     no_orders: bool,
     // No notice is taken any more: no job was left, and each tray was full.
@@ -130,7 +128,7 @@ impl Engine {
               desk = boxes.desk;
             }) }
     {
-        let journal = Journal::new(alloc, config, me, crash)?;
+        let journal = Journal::new(alloc, config, me, crash, turns)?;
         let places = first_places(alloc, count_clients(&boxes.desk))?;
         let resend = Resend::new(alloc, config)?;
         Ok(Engine {
@@ -141,7 +139,6 @@ impl Engine {
             desk: boxes.desk,
             places,
             resend,
-            turns,
             no_orders: false,
             trays_full: false,
         })
@@ -167,7 +164,6 @@ impl Engine {
             return Turn::Ended;
         }
         if !self.count_turn() {
-            self.end(EngineEnd::TurnLimit);
             return Turn::Ended;
         }
         gate.pass(rt);
@@ -175,7 +171,7 @@ impl Engine {
         let moved = self.work(rt, board, quiet);
         tell_gate(gate, self.journal.log(), logged);
         if quiet.may_stop(board) {
-            self.end(EngineEnd::Stopped);
+            self.stop();
             return Turn::Stopped;
         }
         if moved { Turn::Moved } else { Turn::Idle }
@@ -227,29 +223,23 @@ impl Engine {
         self.journal.may_log()
     }
 
-    // Counts the turn. Answers whether there was one left.
+    // Counts the turn. Answers whether there was one left; else the engine has ended.
     #[tactic(auto, using(crate::proofs::Again::desk_same))]
     fn count_turn(&mut self) -> bool
         ensures same { IsSameEngine self.old self.new }
         ensures boxes { HasSameBoxes self.old self.new }
     {
-        if self.turns == 0 {
-            return false;
-        }
-        self.turns -= 1;
-        true
+        self.journal.count_turn()
     }
 
-    // Ends, as all engines are quiet or no turn is left. The log is asked first: the slot sent last may have filled it, or made a
-    // crash due.
+    // Ends, as all engines are quiet. The log is asked first: the slot sent last may have filled it, or made a crash due.
     #[tactic(auto, using(crate::proofs::Again::desk_same))]
-    fn end(&mut self, end: EngineEnd)
-        requires { IsChosen end }
+    fn stop(&mut self)
         ensures same { IsSameEngine self.old self.new }
         ensures boxes { HasSameBoxes self.old self.new }
     {
         if self.journal.may_log() {
-            self.journal.end(end);
+            self.journal.end(EngineEnd::Stopped);
         }
     }
 
@@ -545,7 +535,7 @@ fn log_arrival(journal: &mut Journal, parcel: &Parcel) -> Received
     ensures { TakesIn journal.old journal.new parcel.now }
 {
     if parcel.stamp == u64::MAX {
-        journal.end(EngineEnd::ClockFull);
+        journal.end_by_last_stamp(parcel.stamp);
         return Received::Nothing;
     }
     if parcel.frame.to != journal.id() {

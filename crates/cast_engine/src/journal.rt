@@ -1,5 +1,5 @@
 //! The node of an engine, with its log and its clock.
-ghost use Rattle.std.specs.Prelude.{◌≡◌, ◌+◌, ◌<◌, ◌^◌, ◌⊎◌, [], length, true, Some, None, Err, IfOk, IfErr, OnOk, OnErr, IsTrue, IsFalse, IsSome, is_some};
+ghost use Rattle.std.specs.Prelude.{◌≡◌, ◌+◌, ◌-◌, ◌<◌, ◌^◌, ◌⊎◌, [], length, true, Some, None, Err, IfOk, IfErr, OnOk, OnErr, IsTrue, IsFalse, IsSome, is_some};
 ghost use Rattle.cast_message.specs.Items.{has_bytes};
 ghost use Rattle.cast_message.specs.declared.message.FrameKind.TheVariants.{Carry, Took};
 ghost use Rattle.cast_model.specs.Steps.{Sent, Acknowledged, Arrived, Stopped, making};
@@ -7,8 +7,8 @@ ghost use Rattle.cast_report.specs.Linked.{event_of};
 ghost use Rattle.cast_node.specs.Calls.{sent_reply};
 ghost use Rattle.cast_node.specs.Kept.{nothing_kept};
 ghost use Rattle.cast_node.specs.Turns.{Gives, kept_fault, frame_made, message_owed, is_awaited, may_arrive};
-ghost use Rattle.cast_report.specs.declared.report.EngineEnd.TheVariants.{Crashed, TurnLimit};
-ghost use Rattle.cast_engine.specs.Journals.{MayLog, LogsStep, LogsOrder, OnlyEnds, Halts, HaltsBy, Rises, EndsAs, AsksOrder, MayEnd};
+ghost use Rattle.cast_report.specs.declared.report.EngineEnd.TheVariants.{Crashed, TurnLimit, ClockFull};
+ghost use Rattle.cast_engine.specs.Journals.{MayLog, LogsStep, LogsOrder, Halts, HaltsBy, Rises, EndsAs, AsksOrder, MayEnd};
 
 use cast_carrier::Parcel;
 use cast_desk::OrderIn;
@@ -29,6 +29,8 @@ pub struct Journal {
     // After so many entries the engine crashes.
     crash: Option<u64>,
     ended: Option<EngineEnd>,
+    // How many turns are left.
+    turns: u64,
 }
 
 impl Model for Journal {
@@ -50,19 +52,21 @@ impl Model for Journal {
       clock = j.clock;
       crash = j.crash;
       ended = j.ended;
+      turns = j.turns;
     } };
 
     ghost invariant = { λ j. JournalKeeps j.config
-        j.log.room j.node j.log.entries j.clock j.crash j.ended };
+        j.log.room j.node j.log.entries j.clock j.crash j.ended j.turns };
 }
 
 impl Journal {
-    /// The journal of a new node of the group, with room for its whole log. Only memory can be wanting.
+    /// The journal of a new node of the group, with room for its whole log, for so many turns. Only memory can be wanting.
     pub fn new(
         alloc: Global,
         config: &Config,
         me: NodeId,
         crash: Option<u64>,
+        turns: u64,
     ) -> Result<Journal, AllocError>
         requires { me < config.now.nodes }
         ensures { IfOk result (λ j.
@@ -73,6 +77,7 @@ impl Journal {
               clock = config.now.first_stamp;
               crash = crash;
               ended = None;
+              turns = turns;
             }) }
     {
         let Ok(node) = Node::new(alloc, config, me) else {
@@ -87,6 +92,7 @@ impl Journal {
             clock: config.first_stamp(),
             crash,
             ended: None,
+            turns,
         })
     }
 
@@ -243,16 +249,35 @@ impl Journal {
         }
     }
 
-    /// Notes that the engine ends, where it has not.
+    /// Notes how the engine ends: it stops, as all are quiet, or no turn is left.
     pub fn end(&mut self, end: EngineEnd)
         requires { MayEnd self.old end }
-        ensures only { OnlyEnds self.old self.new }
-        ensures noted { self.old.ended ≡ None → self.new.ended ≡ Some end }
-        ensures kept { IsSome self.old.ended → self.new ≡ self.old }
+        ensures { self.new ≡ record self.old { ended = Some end } }
     {
-        if self.ended.is_none() {
-            self.ended = Some(end);
+        self.ended = Some(end);
+    }
+
+    /// Ends the engine, whose clock is full, as a parcel came with the last stamp.
+    pub fn end_by_last_stamp(&mut self, stamp: u64)
+        requires may { MayLog self.old }
+        requires last { stamp + 1 ≡ 2 ^ 64 }
+        ensures { self.new ≡ record self.old { ended = Some ClockFull } }
+    {
+        self.ended = Some(EngineEnd::ClockFull);
+    }
+
+    /// Counts a turn. Where none is left the engine has ended, or ends here: as its log says, or else for that.
+    pub fn count_turn(&mut self) -> bool
+        ensures halts { Halts self.old self.new }
+        ensures counted { IsTrue result → self.new ≡ record self.old { turns = self.old.turns - 1 } }
+        ensures none { IsFalse result → (self.old.turns ≡ 0) × IsSome self.new.ended }
+    {
+        if self.turns == 0 {
+            self.close();
+            return false;
         }
+        self.turns -= 1;
+        true
     }
 
     /// Ends the engine, where it has not ended: as its log says, or else as if no turn were left.
@@ -264,6 +289,7 @@ impl Journal {
             (self.new.ended ≡ Some TurnLimit) ⊎ HaltsBy self.old self.new.ended }
     {
         if self.may_log() {
+            self.turns = 0;
             self.end(EngineEnd::TurnLimit);
         }
     }

@@ -1,7 +1,8 @@
 -- The items that a job submits, one after another.
 --     AreFirst given left sent           what was submitted are the first of the items given, and what is left the others
 --     SubmitsNext left left' .. ..       the next item was submitted, or the desk refused it
-use Rattle.std.specs.Prelude.{◌≡◌, ◌⊎◌, List, [], ◌∷◌, ◌++◌, map}
+--     IsTicketOf client client' ticket   the ticket of the order that was put, or None where none was
+use Rattle.std.specs.Prelude.{◌≡◌, ◌+◌, ℕ, ◌⊎◌, List, [], ◌∷◌, ◌++◌, length, map, Option, Some, None}
 use Rattle.cast_message.specs.declared.message.Item.{Item}
 use Rattle.cast_desk.specs.Desk.{ClientState, IsRefusal, next_ticket}
 use Rattle.cast_desk.specs.declared.client.DeskFault.{DeskFault}
@@ -27,3 +28,8 @@ SubmitsNext (item ∷ others) left client client' =
     ((left ≡ others) × (client'.orders.put ≡ client.orders.put ++ order_of client item ∷ []))
     ⊎ ((left ≡ item ∷ others) × (client'.orders.put ≡ client.orders.put)
     × ((fault : DeskFault) × IsRefusal client item fault))
+
+abbrev pub IsTicketOf : ClientState → ClientState → Option ℕ → Type 0
+IsTicketOf client client' None = client'.orders.put ≡ client.orders.put
+IsTicketOf client client' (Some ticket) =
+    (ticket ≡ next_ticket client) × (length client'.orders.put ≡ length client.orders.put + 1)

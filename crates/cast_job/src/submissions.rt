@@ -2,7 +2,7 @@
 ghost use Rattle.std.specs.Prelude.{◌≡◌, ◌++◌, ◌↔◌, [], IsTrue, IfNone, Some, None, option_to_list};
 ghost use Rattle.std.specs.Vec.Iter.{into_iter_items};
 ghost use Rattle.cast_desk.specs.Desk.{IsSameClient};
-ghost use Rattle.cast_job.specs.Submissions.{SubmitsNext, item_in};
+ghost use Rattle.cast_job.specs.Submissions.{SubmitsNext, IsTicketOf, item_in};
 
 use cast_desk::{Client, DeskFault};
 use cast_message::{Item, List};
@@ -41,17 +41,21 @@ impl Submissions {
         }
     }
 
-    /// Submits the next item, where one is left. One that the desk refuses is kept for the next call.
-    pub fn submit_next<R: Wait>(&mut self, rt: &R, client: &mut Client)
+    /// Submits the next item, where one is left, and answers the ticket of its order, which the reply to it will name. An item
+    /// that the desk refuses is kept for the next call, and has no ticket yet.
+    pub fn submit_next<R: Wait>(&mut self, rt: &R, client: &mut Client) -> Option<u64>
         ensures same { IsSameClient client.old client.new }
         ensures tray { client.new.tray ≡ client.old.tray }
         ensures next { SubmitsNext self.old self.new client.old client.new }
+        ensures ticket { IsTicketOf client.old client.new result }
     {
-        let Some(item) = take_first(&mut self.refused, &mut self.later) else {
-            return;
-        };
-        if let Err(fault) = client.submit(rt, item) {
-            keep(&mut self.refused, fault);
+        let item = take_first(&mut self.refused, &mut self.later)?;
+        match client.submit(rt, item) {
+            Ok(ticket) => Some(ticket),
+            Err(fault) => {
+                keep(&mut self.refused, fault);
+                None
+            }
         }
     }
 

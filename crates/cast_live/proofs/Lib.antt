@@ -1,4 +1,5 @@
 pub mod Replaying
+pub mod Walking
 pub mod SummaryLemmas
 pub mod VerdictLemmas
 pub mod LiveLemmas

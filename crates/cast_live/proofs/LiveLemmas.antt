@@ -23,7 +23,7 @@ use Rattle.cast_text.specs.declared.fault.TextFault.{TextFault}
 use Rattle.cast_text.specs.declared.fault.TextFault.TheVariants as faults
 use Rattle.cast_text.specs.Text.{IsScriptIn, WroteFront, fault_of_live}
 use Rattle.cast_text.proofs.Whole.{script_takes_bytes}
-use Rattle.cast_live.specs.Live.{IsNewJob, AreNewJobs, items_of, IsFinished, IsMergedRun, IsRunOf, IsOfRunning, IsSummaryOf, Summarized, WritesSummary, SummaryBreaksOff, Summarizes, ends_of, summary_text}
+use Rattle.cast_live.specs.Live.{IsNewJob, AreNewJobs, items_of, IsFinished, IsMergedRun, IsRunOf, IsOfRunning, IsSummaryOf, Summarized, WritesSummary, SummaryBreaksOff, Summarizes, ends_of, events_of, summary_text}
 
 pub new_more : (all : List (ℕ × SubmitAll)) (x : ℕ × SubmitAll) → AreNewJobs all → IsNewJob x.1 → AreNewJobs (all ++ x ∷ [])
 new_more [] x each new zero a at = let same : x ≡ a = cc in subst (λ (b : ℕ × SubmitAll). IsNewJob b.1) same new
@@ -105,20 +105,20 @@ run_fails input old read_failed failed script faults.Write read is = absurd is
 run_fails input old read_failed failed script faults.NotV1 read is = absurd is
 
 module _ (input old new : Option (List ℕ)) (failed : Bool) (script : Script) (run : FinishedRun) (said : Summary) (read : IsScriptIn input script) (same : run.report.config ≡ script.config)
-    (ran : IsRunOf script run.report.reports) (finished : IsFinished run) (told : IsSummaryOf run.report.config run.assembly.events said) where
+    (ran : IsRunOf script run.report.reports) (finished : IsFinished run) (told : IsSummaryOf run.report.config (events_of run) said) where
   abbrev summarized : Summarized input said
   summarized = record {
     script = script;
     read = read;
     reports = run.report.reports;
     ran = ran;
-    events = run.assembly.events;
-    merged = subst (λ config. IsMergedRun config run.report.reports run.assembly.events) same finished.merged;
-    told = subst (λ config. IsSummaryOf config run.assembly.events said) same told;
+    events = events_of run;
+    merged = subst (λ config. IsMergedRun config run.report.reports (events_of run)) same finished.merged;
+    told = subst (λ config. IsSummaryOf config (events_of run) said) same told;
   }
 
   abbrev text : Config → List ℕ
-  text config = summary_text config (history config run.assembly.events) (ends_of run.report.reports) said
+  text config = summary_text config (history config (events_of run)) (ends_of run.report.reports) said
 
   pub summary_done : WroteAll old new failed (text run.report.config) → WritesSummary input old new said
   summary_done wrote = record { run = summarized; appends = subst (λ config. Appends old new (text config)) same wrote.appends }

@@ -117,7 +117,7 @@ core_length : (events : List Event) → length (map Core events) ≡ length even
 core_length [] = refl
 core_length (e ∷ es) = omega (arith, core_length es)
 
-good_replay : (config : Config) (events : List Event) → All HasEventRange events → length events < 2 ^ 64 → verdict (record_text (record_of_accepted config events)) ≡ Good
+pub good_replay : (config : Config) (events : List Event) → All HasEventRange events → length events < 2 ^ 64 → verdict (record_text (record_of_accepted config events)) ≡ Good
 good_replay config events ranges few =
     let script = script_made config events in
     let all = All-from_recursion HasScriptRange (map Core events) (core_ranges events (recursion_from_All HasEventRange events ranges)) in

@@ -12,7 +12,7 @@ use Rattle.cast_world.specs.Group.{Stands}
 use Rattle.cast_record.specs.VerdictText.{verdict_text}
 use Rattle.cast_live.specs.declared.live.FinishedRun.{FinishedRun}
 use Rattle.cast_live.specs.declared.summary.Summary.{Summary}
-use Rattle.cast_live.specs.Live.{IsFinished, counts_text, node_text, nodes_text, rest_text, summary_text, ends_of}
+use Rattle.cast_live.specs.Live.{IsFinished, counts_text, node_text, nodes_text, rest_text, summary_text, ends_of, events_of}
 
 -- the numbers from a on, below n
 range-next : (a n : ℕ) → a < n → range_with_len a (n - a) ≡ a ∷ range_with_len (a + 1) (n - (a + 1))
@@ -47,16 +47,16 @@ nodes-end config past reports i l = ap (λ rs. nodes_text config past i (ends_of
 -- ---- the summary of a run, in other words for its configuration, its reports and whether it is at rest
 
 pub nodes_named : (run : FinishedRun) (said : Summary) (config : Config) (reports : List NodeReport) → config ≡ run.report.config → reports ≡ run.report.reports
-    → summary_text run.report.config (history run.report.config run.assembly.events) (ends_of run.report.reports) said
-    ≡ nodes_text config (history run.report.config run.assembly.events) 0 (ends_of reports) ++ (rest_text said.rest ++ (codes "verdict " ++ (verdict_text said.verdict ++ 10 ∷ [])))
+    → summary_text run.report.config (history run.report.config (events_of run)) (ends_of run.report.reports) said
+    ≡ nodes_text config (history run.report.config (events_of run)) 0 (ends_of reports) ++ (rest_text said.rest ++ (codes "verdict " ++ (verdict_text said.verdict ++ 10 ∷ [])))
 nodes_named run said config reports c r =
     let after = rest_text said.rest ++ (codes "verdict " ++ (verdict_text said.verdict ++ 10 ∷ [])) in
-    let past = history run.report.config run.assembly.events in
+    let past = history run.report.config (events_of run) in
     ap (λ x. nodes_text x past 0 (ends_of run.report.reports) ++ after) (sym c) ∙ ap (λ x. nodes_text config past 0 (ends_of x) ++ after) (sym r)
 
 pub rest_named : (said : Summary) (line : List ℕ) → line ≡ rest_text said.rest
     → rest_text said.rest ++ (codes "verdict " ++ (verdict_text said.verdict ++ 10 ∷ [])) ≡ line ++ (codes "verdict " ++ (verdict_text said.verdict ++ 10 ∷ []))
 rest_named said line e = ap (λ x. x ++ (codes "verdict " ++ (verdict_text said.verdict ++ 10 ∷ []))) (sym e)
 
-pub stands_named : (run : FinishedRun) (config : Config) → config ≡ run.report.config → IsFinished run → Stands config (history run.report.config run.assembly.events) run.assembly.world
-stands_named run config c finished = subst (λ x. Stands x (history run.report.config run.assembly.events) run.assembly.world) (sym c) finished.stands
+pub stands_named : (run : FinishedRun) (config : Config) → config ≡ run.report.config → IsFinished run → Stands config (history run.report.config (events_of run)) run.world
+stands_named run config c finished = subst (λ x. Stands x (history run.report.config (events_of run)) run.world) (sym c) finished.stands

@@ -1,2 +1,3 @@
 pub mod Replayed
+pub mod Walk
 pub mod Live

@@ -1,7 +1,8 @@
 -- What became of a group that ran, and what is told of it.
 --     IsMergedRun config reports events    the events are the merge of these linked logs
 --     IsRunOf script reports               these are the reports of a run of the script, with a client for each of its jobs
---     IsFinished run                       the report's logs are merged, and the world stands for the merged events
+--     events_of run                        the merged events of a run
+--     IsFinished run                       the report's logs are linked, and world and verdict are those of the merged events
 --     end_word ended                       the word of an end
 --     node_text config past p ended        the line of node p: its end, and how many items it delivered from each node
 --     summary_text config past ends said   the whole summary
@@ -23,6 +24,7 @@ use Rattle.cast_report.specs.declared.report.EngineEnd.TheVariants.{Stopped, Cra
 use Rattle.cast_report.specs.declared.report.NodeReport.{NodeReport}
 use Rattle.cast_report.specs.Linked.{Linked}
 use Rattle.cast_merge.specs.Merge.{TellsMerge}
+use Rattle.cast_merge.specs.ByStamp.{merged_events}
 use Rattle.cast_record.specs.declared.verdict.Verdict.TheVariants.{Good}
 use Rattle.cast_record.specs.VerdictText.{verdict_text}
 use Rattle.cast_run.specs.Planned.{faults_of, KeepsTo}
@@ -54,11 +56,15 @@ pub record IsMergedRun (config : Config) (reports : List NodeReport) (events : L
   pub accepted : AreAccepted config [] events
   pub whole : history config events ≡ reverse events
 
--- the run's events and replies are those of its linked logs, and its world stands for them
+-- what happened in the run: the events of its logs, merged
+abbrev pub events_of : FinishedRun → List Event
+events_of run = merged_events run.report.reports
+
+-- the run's logs are linked, its world stands for the events into which they merge, and the record of these is good
 pub record IsFinished (run : FinishedRun) : Type 0 where
-  pub merged : IsMergedRun run.report.config run.report.reports run.assembly.events
-  pub replies : run.assembly.replies ≡ replies run.report.config run.assembly.events
-  pub stands : Stands run.report.config (history run.report.config run.assembly.events) run.assembly.world
+  pub merged : IsMergedRun run.report.config run.report.reports (events_of run)
+  pub stands : Stands run.report.config (history run.report.config (events_of run)) run.world
+  pub good : run.verdict ≡ Good
 
 -- a job that has submitted nothing
 abbrev pub IsNewJob : SubmitAll → Type 0

@@ -6,6 +6,7 @@ mod live;
 mod replay;
 mod summary;
 mod verdict;
+mod walk;
 
 pub use counted::Counted;
 pub use live::{

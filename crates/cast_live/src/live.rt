@@ -3,13 +3,14 @@ ghost use Rattle.std.specs.Prelude.{◌≡◌, ◌<◌, ◌++◌, ◌∷◌, [],
 ghost use Rattle.cast_record.specs.Text.{record_text};
 ghost use Rattle.cast_job.specs.Jobs.{told_job};
 ghost use Rattle.cast_script.specs.Replay.{script_text};
-ghost use Rattle.cast_live.specs.Live.{IsFinished, IsNewJob, AreNewJobs, items_of, IsOfRunning, IsRunOf, Summarizes};
+ghost use Rattle.cast_live.specs.Live.{IsFinished, IsNewJob, AreNewJobs, items_of, events_of, IsOfRunning, IsRunOf, Summarizes};
 ghost use Rattle.cast_text.specs.Text.{Puts, UsesStreams};
 ghost use Rattle.cast_live.specs.Replayed.{record_of_accepted, RecordsReplay};
 
 use crate::replay::{is_replayed, write_run_record};
 use crate::summary::{Summary, summarize, write_summary};
-use cast_merge::{Assembly, assemble};
+use crate::verdict::judge_run;
+use cast_merge::merge_events;
 use cast_message::{Item, List, NodeId};
 use cast_node::{EntryKind, KindRef, Log};
 use cast_report::GroupReport;
@@ -18,18 +19,23 @@ use cast_run::{
     run_scheduled,
 };
 use cast_script::{Script, write_script};
-use cast_text::{TextFault, read_script_text};
+use cast_text::{TextFault, Verdict, read_script_text};
 use cast_words::Meter;
+use cast_world::World;
 use std::alloc::{AllocError, Global};
 use std::io::{Read, Write};
 use std::sync::{Arc, Wait};
 use std::thread::Threads;
 
-/// What came back of a group that ran, and its logs merged and taken by the group as one value.
+/// What came back of a group that ran. Its logs, merged, say what happened: the group, as one value, takes those events, and their
+/// record is judged. Neither is kept.
 #[derive(Drop)]
 pub struct FinishedRun {
     pub report: GroupReport,
-    pub assembly: Assembly,
+    /// The group after what happened.
+    pub world: World,
+    /// The judge's verdict on the record of what happened.
+    pub verdict: Verdict,
     /// How many orders the desks of its nodes had left.
     pub left: u64,
 }
@@ -54,7 +60,7 @@ pub fn live_text<R: Read, W: Write, T: Threads + Wait + Copy + Send + 'static>(
     let script = read_script_text(alloc, reader)?;
     let progress = Progress::shared(alloc, script.config.nodes())?;
     let run = run_script(rt, alloc, script, &progress)?;
-    let summary = summarize(alloc, &run)?;
+    let summary = summarize(&run);
     write_summary(&run, summary, writer)?;
     Ok(summary)
 }
@@ -76,7 +82,7 @@ pub fn live_text_by<R: Read, W: Write, S: Schedule, T: Wait>(
     let script = read_script_text(alloc, reader)?;
     let progress = Progress::shared(alloc, script.config.nodes())?;
     let run = run_script_by(rt, alloc, script, &progress, steps, schedule)?;
-    let summary = summarize(alloc, &run)?;
+    let summary = summarize(&run);
     write_summary(&run, summary, writer)?;
     Ok(summary)
 }
@@ -168,18 +174,20 @@ fn is_refused(log: &Log, place: usize) -> bool
     }
 }
 
+// Has the group take what happened, and the judge judge it.
 fn merge_logs(alloc: Global, run: LiveRun<SubmitAll>) -> Result<FinishedRun, AllocError>
     ensures report { IfOk result (λ finished. finished.report ≡ run.report) }
     ensures ok { IfOk result IsFinished }
 {
     let left = count_left(run.clients.as_slice());
     let report = run.report;
-    let assembly = assemble(alloc, &report)?;
+    let (world, verdict) = judge_run(alloc, &report)?;
     // Reading them tells a proof that they are linked.
     let _linked = report.reports();
     Ok(FinishedRun {
         report,
-        assembly,
+        world,
+        verdict,
         left,
     })
 }
@@ -193,39 +201,38 @@ fn count_left(clients: &[ClientReport]) -> u64 {
     left
 }
 
-/// Writes the record of what happened in the run: of the merged events, and the replies to them. It takes no memory. After a
-/// fault a prefix of it was written, or nothing.
-pub fn write_record_of<W: Write>(run: &FinishedRun, writer: &mut Meter<W>) -> Result<(), TextFault>
-    requires run { IsFinished run.now }
-    requires writer { writer.old.failed ≡ false }
-    ensures text { Puts W.contents writer.old writer.new result
-        (record_text (record_of_accepted run.now.report.config run.now.assembly.events)) }
-    ensures fault { IfErr result (λ fault. fault ≡ TextFault.Write) }
+/// Writes the record of what happened in the run: of the merged events, and the replies to them. After a fault, of the writer or
+/// want of memory, a prefix of it was written, or nothing.
+pub fn write_record_of<W: Write>(
+    alloc: Global,
+    run: &FinishedRun,
+    writer: &mut Meter<W>,
+) -> Result<(), TextFault>
+    requires { writer.old.failed ≡ false }
+    ensures { Puts W.contents writer.old writer.new result
+        (record_text (record_of_accepted run.now.report.config (events_of run.now))) }
 {
-    write_run_record(
-        run.report.config(),
-        run.assembly.events.as_slice(),
-        run.assembly.replies.as_slice(),
-        writer,
-    )
+    write_run_record(alloc, &run.report, writer)
 }
 
-/// Writes the script that says what happened in the run: its configuration, and the merged events. It takes no memory. After
-/// a fault a prefix of it was written, or nothing.
-pub fn write_replay_of<W: Write>(run: &FinishedRun, writer: &mut Meter<W>) -> Result<(), TextFault>
-    requires run { IsFinished run.now }
-    requires writer { writer.old.failed ≡ false }
+/// Writes the script that says what happened in the run: its configuration, and the merged events, of which it makes the list.
+/// After a fault of the writer a prefix of it was written, or nothing, and where memory is wanting nothing.
+pub fn write_replay_of<W: Write>(
+    alloc: Global,
+    run: &FinishedRun,
+    writer: &mut Meter<W>,
+) -> Result<(), TextFault>
+    requires { writer.old.failed ≡ false }
     ensures text { Puts W.contents writer.old writer.new result
-        (script_text run.now.report.config run.now.assembly.events) }
-    ensures fault { IfErr result (λ fault. fault ≡ TextFault.Write) }
+        (script_text run.now.report.config (events_of run.now)) }
     // Running that script, where it is no longer than an input may be, writes the record of the run, in which no line is a
     // refusal.
-    ensures law { RecordsReplay run.now.report.config run.now.assembly.events }
+    ensures law { OnOk result (RecordsReplay run.now.report.config (events_of run.now)) }
 {
     let config = run.report.config();
-    let events = run.assembly.events.as_slice();
-    is_replayed(config, events);
-    write_script(config, events, writer)?;
+    let events = merge_events(alloc, run.report.reports())?;
+    is_replayed(config, events.as_slice());
+    write_script(config, events.as_slice(), writer)?;
     Ok(())
 }
 

@@ -1,17 +1,23 @@
-//! The record of a run whose events and replies are at hand, and that of the script which says what happened in it.
+//! The record of a run, and that of the script which says what happened in it.
 ghost use Rattle.std.specs.Prelude.{◌≡◌, ◌^◌, ◌<◌, false, length, IfErr};
 ghost use Rattle.std.specs.List.{All};
 ghost use Rattle.cast_record.specs.Lines.{lines_for};
 ghost use Rattle.cast_record.specs.Text.{record_text};
 ghost use Rattle.cast_text.specs.Ranges.{HasEventRange};
 ghost use Rattle.cast_text.specs.Text.{Puts};
-ghost use Rattle.cast_live.specs.Replayed.{run_record, RecordsReplay};
+ghost use Rattle.cast_merge.specs.ByStamp.{merged_events};
+ghost use Rattle.cast_live.specs.Replayed.{record_of_accepted, RecordsReplay};
 
+use crate::walk::{next_index, take_step};
+use cast_merge::MergedEvents;
 use cast_message::{Config, Event, Reply};
 use cast_record::{Line, write_lines_of};
+use cast_report::GroupReport;
 use cast_script::is_read_back;
 use cast_text::{TextFault, put_head, put_line, tell_event_range};
 use cast_words::Meter;
+use cast_world::World;
+use std::alloc::Global;
 use std::io::Write;
 
 /// A law, by which nothing is computed: running the script that `write_script` writes for this configuration and these events,
@@ -35,23 +41,26 @@ fn tell_event_ranges(events: &[Event])
     }
 }
 
-/// Writes the record of a run: its head, the lines of its events with these replies, and its end. It takes no memory. After a
-/// fault a prefix of it was written, or nothing.
+/// Writes the record of a run: its head, the lines of its merged events, which the group takes once more, and its end. After a
+/// fault, of the writer or want of memory, a prefix of it was written, or nothing.
 pub fn write_run_record<W: Write>(
-    config: &Config,
-    events: &[Event],
-    replies: &[Reply],
+    alloc: Global,
+    report: &GroupReport,
     writer: &mut Meter<W>,
 ) -> Result<(), TextFault>
-    requires sound { writer.old.failed ≡ false }
-    requires replies { length replies.now ≡ length events.now }
-    ensures text { Puts W.contents writer.old writer.new result
-        (record_text (run_record config.now events.now replies.now)) }
-    ensures fault { IfErr result (λ fault. fault ≡ TextFault.Write) }
+    requires { writer.old.failed ≡ false }
+    ensures { Puts W.contents writer.old writer.new result (record_text
+        (record_of_accepted report.now.config (merged_events report.now.reports))) }
 {
+    let config = report.config();
+    let mut world = World::new(alloc, *config)?;
+    let mut merged = MergedEvents::new(alloc, report)?;
     put_head(config, writer)?;
-    for (index, event) in events.iter().enumerate() {
-        put_lines(index as u64, event, &replies[index], writer)?;
+    let mut index = 0;
+    while let Some(event) = merged.take_next()? {
+        let reply = take_step(&mut world, &event)?;
+        put_lines(index, &event, &reply, writer)?;
+        index = next_index(index)?;
     }
     put_line(&Line::End, writer)
 }

@@ -6,18 +6,15 @@ ghost use Rattle.cast_model.specs.Delivery.{delivered};
 ghost use Rattle.cast_model.specs.Replies.{history};
 ghost use Rattle.cast_world.specs.Group.{Stands};
 ghost use Rattle.cast_words.specs.Written.{Puts};
-ghost use Rattle.cast_live.specs.Live.{IsFinished, IsSummaryOf, ends_of, end_word, end_text, node_text, nodes_text, rest_text, summary_text};
+ghost use Rattle.cast_live.specs.Live.{IsFinished, IsSummaryOf, ends_of, events_of, end_word, end_text, node_text, nodes_text, rest_text, summary_text};
 
 use crate::live::FinishedRun;
-use crate::replay::is_replayed;
-use crate::verdict::judge_run;
 use cast_judge::Verdict;
 use cast_message::{Config, NodeId};
 use cast_record::write_verdict;
 use cast_report::{EngineEnd, NodeReport};
 use cast_words::{Meter, Written, write_bytes, write_number};
 use cast_world::World;
-use std::alloc::{AllocError, Global};
 use std::io::Write;
 
 /// What is told of a group that ran in threads.
@@ -29,34 +26,30 @@ pub struct Summary {
     pub verdict: Verdict,
 }
 
-/// Judges the record of the merged events, and asks whether the group is at rest after them; or want of memory.
-pub fn summarize(alloc: Global, run: &FinishedRun) -> Result<Summary, AllocError>
+/// The verdict on what happened, and whether the group is at rest after it.
+pub fn summarize(run: &FinishedRun) -> Summary
     requires { IsFinished run.now }
-    ensures { IfOk result (IsSummaryOf run.now.report.config run.now.assembly.events) }
+    ensures { IsSummaryOf run.now.report.config (events_of run.now) result }
 {
-    let config = run.report.config();
-    let events = run.assembly.events.as_slice();
-    is_replayed(config, events);
-    let verdict = judge_run(alloc, config, events, run.assembly.replies.as_slice())?;
-    Ok(Summary {
-        rest: run.assembly.world.at_rest(),
-        verdict,
-    })
+    Summary {
+        rest: run.world.at_rest(),
+        verdict: run.verdict,
+    }
 }
 
 /// Writes the summary of the run, of which `summarize` said so. It takes no memory. A refusal comes only where the writer failed
 /// or took no byte; a prefix of the text stands then.
 pub fn write_summary<W: Write>(run: &FinishedRun, said: Summary, writer: &mut Meter<W>) -> Written
     requires run { IsFinished run.now }
-    requires said { IsSummaryOf run.now.report.config run.now.assembly.events said }
+    requires said { IsSummaryOf run.now.report.config (events_of run.now) said }
     requires writer { writer.old.failed ≡ false }
     ensures { Puts W.contents writer.old writer.new result
-        (summary_text run.now.report.config (history run.now.report.config run.now.assembly.events)
+        (summary_text run.now.report.config (history run.now.report.config (events_of run.now))
         (ends_of run.now.report.reports) said) }
 {
     write_nodes(
         run.report.config(),
-        &run.assembly.world,
+        &run.world,
         run.report.reports(),
         writer,
     )?;

@@ -1,35 +1,44 @@
-//! The verdict on the record of a run whose events and replies are at hand, without the whole of its text.
-ghost use Rattle.std.specs.Prelude.{◌≡◌, ℕ, ◌++◌, List, IfOk, OnOk, length};
+//! The verdict on the record of a run, whose merged events are taken by the group and judged one after another: neither they, nor
+//! the replies to them, nor the text are kept.
+ghost use Rattle.std.specs.Prelude.{◌≡◌, ℕ, ◌++◌, List, IfOk, OnOk};
+ghost use Rattle.cast_model.specs.Replies.{history};
 ghost use Rattle.cast_record.specs.Lines.{lines_for};
 ghost use Rattle.cast_record.specs.Text.{record_text};
-ghost use Rattle.cast_record.specs.Verdicts.{verdict};
+ghost use Rattle.cast_world.specs.Group.{Stands as StandsFor};
 ghost use Rattle.cast_judge.specs.Judged.{Stands};
-ghost use Rattle.cast_live.specs.Replayed.{run_record};
+ghost use Rattle.cast_merge.specs.ByStamp.{merged_events};
 
+use crate::walk::{next_index, take_step};
 use cast_judge::{Judging, Verdict};
-use cast_message::{Config, Event, Reply};
+use cast_merge::MergedEvents;
+use cast_message::{Event, Reply};
 use cast_record::{Line, write_lines_of, write_record};
+use cast_report::GroupReport;
 use cast_words::Meter;
+use cast_world::World;
 use std::alloc::{AllocError, Global};
 
-/// The verdict on the record of these events with these replies. The judge is fed the lines of one event after another.
-pub fn judge_run(
-    alloc: Global,
-    config: &Config,
-    events: &[Event],
-    replies: &[Reply],
-) -> Result<Verdict, AllocError>
-    requires { length replies.now ≡ length events.now }
-    ensures { IfOk result (λ said.
-        said ≡ verdict (record_text (run_record config.now events.now replies.now))) }
+/// The group after the merged events of the logs, and the verdict on their record, which is good; or want of memory. The judge is
+/// fed the lines of one event after another.
+pub fn judge_run(alloc: Global, report: &GroupReport) -> Result<(World, Verdict), AllocError>
+    ensures stands { IfOk result (λ told. StandsFor report.now.config
+        (history report.now.config (merged_events report.now.reports)) told.0) }
+    ensures good { IfOk result (λ told. told.1 ≡ Verdict.Good) }
 {
+    let config = report.config();
+    let mut world = World::new(alloc, *config)?;
     let mut judging = Judging::new(alloc);
     feed_lines(alloc, &mut judging, &[Line::head(config)])?;
-    for (index, event) in events.iter().enumerate() {
-        feed_event(alloc, &mut judging, index as u64, event, &replies[index])?;
+    let mut merged = MergedEvents::new(alloc, report)?;
+    let mut index = 0;
+    while let Some(event) = merged.take_next()? {
+        let reply = take_step(&mut world, &event)?;
+        feed_event(alloc, &mut judging, index, &event, &reply)?;
+        index = next_index(index)?;
     }
     feed_lines(alloc, &mut judging, &[Line::End])?;
-    judging.finish()
+    let verdict = judging.finish()?;
+    Ok((world, verdict))
 }
 
 // Feeds the judge the lines of an event and its reply, for which no message is copied.

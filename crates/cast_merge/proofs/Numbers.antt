@@ -31,11 +31,11 @@ abbrev item_in : Event → List Item
 item_in (Order node item) = item ∷ []
 item_in _ = []
 
-unfoldable items_in : List Taken → List Item
+unfoldable pub items_in : List Taken → List Item
 items_in [] = []
 items_in (t ∷ ts) = item_in t.event ++ items_in ts
 
-items_in-append : (xs ys : List Taken) → items_in (xs ++ ys) ≡ items_in xs ++ items_in ys
+pub items_in-append : (xs ys : List Taken) → items_in (xs ++ ys) ≡ items_in xs ++ items_in ys
 unfolding items_in
 items_in-append [] ys = refl
 items_in-append (x ∷ xs) ys = ap (λ rest. item_in x.event ++ rest) (items_in-append xs ys) ∙ sym (append_assoc (item_in x.event) (items_in xs) (items_in ys))
@@ -59,7 +59,7 @@ items_after config p steps step accepted = by_step step (own_fault config p step
     by_step (Arrived frame) o e = by_case (Arrived frame) o (is_ignored config p steps (Arrived frame)) e (λ no. refl) refl
     by_step Stopped o e = by_case Stopped o false e (λ no. refl) refl
 
-items_taken : (config : Config) (p : ℕ) (trail : Trail) → AreTaken config p trail → items_in (reverse (taken_in config p trail)) ≡ own_items (steps_in config p trail)
+pub items_taken : (config : Config) (p : ℕ) (trail : Trail) → AreTaken config p trail → items_in (reverse (taken_in config p trail)) ≡ own_items (steps_in config p trail)
 unfolding items_in taken_in steps_in each AreTaken
 items_taken config p [] accepted = refl
 items_taken config p (mark ∷ trail) accepted =

@@ -1,5 +1,5 @@
 -- What a log tells a client of deliveries is what its node delivered.
-use Rattle.std.proofs.Common.{◌≡◌, ◌<◌, ℕ, List, [], ◌∷◌, ◌++◌, map, refl, sym, ap, ◌∙◌, subst, append_assoc}
+use Rattle.std.proofs.Common.{◌≡◌, ℕ, List, [], ◌∷◌, ◌++◌, map, refl, sym, ap, ◌∙◌, subst, append_assoc}
 use Rattle.std.proofs.lemmas.List.{append-nil, map-append}
 use Rattle.std.proofs.lemmas.List.Elements.{filter-append, filter_map-append}
 use Rattle.cast_message.specs.declared.config.Config.{Config}
@@ -9,6 +9,7 @@ use Rattle.cast_message.specs.declared.message.Message.{Message}
 use Rattle.cast_message.specs.declared.message.Decision.{Decision}
 use Rattle.cast_model.specs.History.{History, stream, broadcast}
 use Rattle.cast_model.specs.Headline.{IsPrefixOf, is_from}
+use Rattle.cast_model.specs.Replies.{IsAccepted}
 use Rattle.cast_model.specs.Shown.{item_of}
 use Rattle.cast_model.specs.Steps.{Step, Ordered, Sent, Acknowledged, Arrived, Stopped, Steps, steps_of}
 use Rattle.cast_model.specs.OwnSteps.{own_log, own_deliveries, own_outcome, own_answer}
@@ -39,7 +40,7 @@ told_decided : (decisions : List Decision) → told (map Decided decisions) ≡ 
 told_decided [] = refl
 told_decided (d ∷ ds) = told_decided ds
 
-told_news : (outcome : Outcome) → told (news_of outcome) ≡ outcome.deliveries
+pub told_news : (outcome : Outcome) → told (news_of outcome) ≡ outcome.deliveries
 told_news outcome =
     filter_map-append message_told (map Delivered outcome.deliveries) (map Decided outcome.decisions)
     ∙ (λ i. told_delivered outcome.deliveries i ++ told_decided outcome.decisions i)
@@ -53,15 +54,15 @@ own_news config p steps (Acknowledged to slot) = refl
 own_news config p steps (Arrived frame) = refl
 own_news config p steps Stopped = refl
 
-log_grows : (config : Config) (p : ℕ) (steps : Steps) (step : Step) → own_log config p (step ∷ steps) ≡ own_log config p steps ++ (outcome_in_answer (own_answer config p steps step)).deliveries
+pub log_grows : (config : Config) (p : ℕ) (steps : Steps) (step : Step) → own_log config p (step ∷ steps) ≡ own_log config p steps ++ (outcome_in_answer (own_answer config p steps step)).deliveries
 unfolding own_log
 log_grows config p steps step = ap (λ more. own_log config p steps ++ more) (own_news config p steps step)
 
-log_begins : (config : Config) (p : ℕ) → own_log config p [] ≡ []
+pub log_begins : (config : Config) (p : ℕ) → own_log config p [] ≡ []
 unfolding own_log
 log_begins config p = refl
 
-front_of_sender : (s : ℕ) (xs ys : List Message) → IsPrefixOf xs ys → IsPrefixOf (map item_of (of_sender s xs)) (map item_of (of_sender s ys))
+pub front_of_sender : (s : ℕ) (xs ys : List Message) → IsPrefixOf xs ys → IsPrefixOf (map item_of (of_sender s xs)) (map item_of (of_sender s ys))
 front_of_sender s xs ys front = (
   map item_of (of_sender s front.0),
   sym (map-append item_of (of_sender s xs) (of_sender s front.0))
@@ -73,14 +74,14 @@ items_broadcast : (past : History) (s : ℕ) → map item_of (broadcast past s) 
 unfolding broadcast
 items_broadcast past s = items_numbered s 0 (stream past s)
 
-front_of_stream : (config : Config) (past : History) (world : State) (p s : ℕ) → Stands config past world → p < config.nodes
+pub front_of_stream : (config : Config) (past : History) (p s : ℕ) → IsAccepted config past
     → IsPrefixOf (map item_of (of_sender s (own_log config p (steps_of past p)))) (stream past s)
-front_of_stream config past world p s stands within =
-    let front = delivery_log_is_prefix config past stands.accepted p s in
-    subst (λ log. IsPrefixOf (map item_of (of_sender s log)) (stream past s)) (sym (own_log-steps_of config past stands.accepted p))
+front_of_stream config past p s accepted =
+    let front = delivery_log_is_prefix config past accepted p s in
+    subst (λ log. IsPrefixOf (map item_of (of_sender s log)) (stream past s)) (sym (own_log-steps_of config past accepted p))
     (map item_of front.0, sym (map-append item_of _ front.0) ∙ ap (map item_of) front.1 ∙ items_broadcast past s)
 
-prefix_of_prefix : (xs ys zs : List Item) → IsPrefixOf xs ys → IsPrefixOf ys zs → IsPrefixOf xs zs
+pub prefix_of_prefix : (xs ys zs : List Item) → IsPrefixOf xs ys → IsPrefixOf ys zs → IsPrefixOf xs zs
 prefix_of_prefix xs ys zs one more = (one.0 ++ more.0, sym (append_assoc xs one.0 more.0) ∙ ap (λ front. front ++ more.0) one.1 ∙ more.1)
 
 -- What a client was told of a sender begins what that sender broadcast: the log of its node tells what the node delivered, and the
@@ -96,4 +97,4 @@ tells_prefixes config past world p s client got stands has sender =
     client has.trail has.report.log has.report.node got is has.begins in
     prefix_of_prefix _ (map item_of (of_sender s (own_log config p steps))) (stream past s)
     (front_of_sender s (told got) (own_log config p steps) front)
-    (subst (λ items. IsPrefixOf items (stream past s)) (sym equal) (front_of_stream config past world p s stands within))
+    (subst (λ items. IsPrefixOf items (stream past s)) (sym equal) (front_of_stream config past p s stands.accepted))

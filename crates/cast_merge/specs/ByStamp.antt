@@ -46,3 +46,7 @@ merged_logs (log ∷ logs) = merge stamp_of (logged_steps log) (merged_logs logs
 
 abbrev pub logs_of : List NodeReport → List (List Entry)
 logs_of reports = map (λ report. report.log) reports
+
+-- the events of the steps in the logs of these reports, by stamp, then by node
+abbrev pub merged_events : List NodeReport → List Event
+merged_events reports = map event_at (merged_logs (logs_of reports))

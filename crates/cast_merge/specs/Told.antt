@@ -3,12 +3,14 @@
 --     told notices                what these notices say was delivered, in order
 --     of_sender s messages        the messages of s among these
 --     values_told j notices       the values that these notices say were decided in instance j, in order
+--     ordered_in log              the items of the orders that a log took up, in order
+--     TellsOrders                 what a client got of a sender begins the items that the sender's log took up
 --     TellsPrefixes               what a client got tells of each sender a prefix of what that sender broadcast
 --     TellsNumbers                where it got a number in reply, the item that it ordered has that number in its node's stream
 --     TellsDecisions              of each instance it tells nothing, or the value that the node decided, once
 --     TellsProposals              each value was proposed in its instance
 --     TellsFewValues              all clients together are told at most k values, where the faults are fewer than k
-use Rattle.std.specs.Prelude.{◌≡◌, ℕ, ◌<◌, ◌≤◌, nat_eq, List, [], length, map, slice_get, Option, Some, None, Ok}
+use Rattle.std.specs.Prelude.{◌≡◌, ℕ, ◌<◌, ◌≤◌, nat_eq, List, [], ◌∷◌, ◌++◌, length, map, slice_get, Option, Some, None, Ok}
 use Rattle.std.specs.List.{filter, filter_map, cons_option, All, Contains, IsDistinct}
 use Rattle.cast_message.specs.declared.config.Config.{Config}
 use Rattle.cast_message.specs.declared.event.Event.TheVariants.{Order}
@@ -23,12 +25,13 @@ use Rattle.cast_model.specs.Headline.{IsPrefixOf, is_from, value_for}
 use Rattle.cast_model.specs.Shown.{item_of}
 use Rattle.cast_box.specs.Lists.{StartsWith}
 use Rattle.cast_node.specs.declared.entry.Entry.{Entry}
+use Rattle.cast_node.specs.declared.entry.EntryKind.{EntryKind}
 use Rattle.cast_node.specs.declared.entry.EntryKind.TheVariants.{Step as StepEntry}
 use Rattle.cast_desk.specs.declared.notice.Notice.{Notice}
 use Rattle.cast_desk.specs.declared.notice.Notice.TheVariants.{Reply, Delivered, Decided}
 use Rattle.cast_desk.specs.Feed.{feed}
 use Rattle.cast_report.specs.declared.report.NodeReport.{NodeReport}
-use Rattle.cast_report.specs.Linked.{Trail, IsLogOf}
+use Rattle.cast_report.specs.Linked.{Trail, IsLogOf, Linked}
 use Rattle.cast_world.specs.Group.{State, Stands, node_at}
 
 abbrev pub message_told : Notice → Option Message
@@ -41,6 +44,23 @@ told notices = filter_map message_told notices
 
 abbrev pub of_sender : ℕ → List Message → List Message
 of_sender s messages = filter (is_from s) messages
+
+abbrev pub item_ordered : EntryKind → List Item
+item_ordered (StepEntry (Order node item) origin outcome) = item ∷ []
+item_ordered _ = []
+
+abbrev pub ordered_in : List Entry → List Item
+ordered_in [] = []
+ordered_in (e ∷ es) = item_ordered e.kind ++ ordered_in es
+
+-- of linked logs: what begins the feed of one tells of each sender a prefix of the items that the sender's log took up
+abbrev pub TellsOrders : Type 0
+TellsOrders =
+    (config : Config) (reports : List NodeReport) → Linked config reports
+    → (p s c : ℕ) (report maker : NodeReport) (got : List Notice)
+    → slice_get reports p ≡ Some report → slice_get reports s ≡ Some maker
+    → StartsWith (feed report.log c) got
+    → IsPrefixOf (map item_of (of_sender s (told got))) (ordered_in maker.log)
 
 abbrev pub decision_told : Notice → Option Decision
 decision_told (Decided decision) = Some decision

@@ -4,7 +4,7 @@
 --     IsTold output run                   what an output says of a group that ran in threads is so
 --     output_text output run              what is written of such a group
 use Rattle.std.specs.Prelude.{◌≡◌, ◌⊎◌, ℕ, List, Bool, Option}
-use Rattle.cast_live.specs.Live.{IsRunOf, IsOfRunning, IsSummaryOf, ends_of, summary_text}
+use Rattle.cast_live.specs.Live.{IsRunOf, IsOfRunning, IsSummaryOf, ends_of, events_of, summary_text}
 use Rattle.cast_live.specs.Replayed.{record_of_accepted}
 use Rattle.cast_live.specs.declared.live.FinishedRun.{FinishedRun}
 use Rattle.cast_model.specs.Replies.{history}
@@ -29,11 +29,11 @@ RefusesRun input failed fault =
 
 abbrev pub IsTold : Output → FinishedRun → Type 0
 IsTold (File kept) run = Unit {0}
-IsTold (Summary said) run = IsSummaryOf run.report.config run.assembly.events said
+IsTold (Summary said) run = IsSummaryOf run.report.config (events_of run) said
 
 abbrev pub output_text : Output → FinishedRun → List ℕ
-output_text (File Record) run = record_text (record_of_accepted run.report.config run.assembly.events)
-output_text (File Replay) run = script_text run.report.config run.assembly.events
+output_text (File Record) run = record_text (record_of_accepted run.report.config (events_of run))
+output_text (File Replay) run = script_text run.report.config (events_of run)
 output_text (Summary said) run =
-    summary_text run.report.config (history run.report.config run.assembly.events)
+    summary_text run.report.config (history run.report.config (events_of run))
     (ends_of run.report.reports) said

@@ -2,7 +2,7 @@
 ghost use Rattle.std.specs.Prelude.{◌≡◌, [], None, Ok, Err, true, false, IfOk, IfErr, OnOk, OnErr, IsOk};
 ghost use Rattle.std.specs.Io.Buffered.{writer_buffer, writer_inner};
 ghost use Rattle.std.specs.Io.KnownBytes.{Appends, append_known};
-ghost use Rattle.cast_live.specs.Live.{IsFinished, IsOfRunning, IsRunOf, IsSummaryOf};
+ghost use Rattle.cast_live.specs.Live.{IsFinished, IsOfRunning, IsRunOf, IsSummaryOf, events_of};
 ghost use Rattle.cast_text.specs.Text.{TakesInput, Tells, WroteFront};
 ghost use Rattle.cast_console.specs.Made.{IsCut};
 ghost use Rattle.castgroup.specs.Ran.{IsTold, RefusesRun, RunsScript, output_text};
@@ -13,9 +13,8 @@ use crate::seeds::{Seeds, live_seeds};
 use cast_command::{Call, RunFiles, Running};
 use cast_console::{
     Failure, Heard, Status, StreamName, explain_fault, explain_output, hand_on, open_source,
-    refuse, tell,
+    refuse,
 };
-use cast_explain::verdict_words;
 use cast_live::{
     Counted, FinishedRun, Summary, run_script, run_script_by, summarize, write_record_of,
     write_replay_of, write_summary,
@@ -71,7 +70,7 @@ fn live_once<R: Runtime + AllocGlobal + Threads + Wait + Copy + Send + 'static>(
     let kept = keep_files(rt, &run, files);
     let told = tell_summary(rt, &run);
     match (told, warn_of_lengths(rt, kept)) {
-        (Ok(summary), Ok(())) => tell_verdict(rt, &run, summary, call.explains),
+        (Ok(summary), Ok(())) => status_of(summary),
         (Err(summary), Err(file)) => tell_stop(rt, summary.or_memory(file), call.explains),
         (Err(stop), Ok(())) | (Ok(_), Err(stop)) => tell_stop(rt, stop, call.explains),
     }
@@ -135,21 +134,6 @@ impl<'a> Stop<'a> {
     }
 }
 
-// Answers the status of the run. Where its record is bad, says why if that is asked for.
-fn tell_verdict<R: Runtime + AllocGlobal>(
-    rt: &R,
-    run: &FinishedRun,
-    summary: Summary,
-    explains: bool,
-) -> Status
-    requires { IsFinished run.now }
-{
-    if let (Verdict::Bad { line, rule }, true) = (summary.verdict, explains) {
-        explain_run(rt, run, line, rule);
-    }
-    status_of(summary)
-}
-
 /// The status of a run whose outputs were written.
 pub fn status_of(summary: Summary) -> Status
     ensures { result ≡ status_of_run summary }
@@ -159,25 +143,6 @@ pub fn status_of(summary: Summary) -> Status
         (Verdict::Good, false) => Status::Restless,
         (Verdict::Good, true) => Status::Good,
     }
-}
-
-// Explains the verdict on the record of a run.
-fn explain_run<R: Runtime + AllocGlobal>(rt: &R, run: &FinishedRun, line: u64, rule: u64)
-    requires { IsFinished run.now }
-{
-    let mut record = Meter::new(Vec::new(rt.alloc()));
-    if write_record_of(run, &mut record).is_err() {
-        return;
-    }
-    let text = record.into_inner();
-    let words = verdict_words(
-        rt.alloc(),
-        "the record of the run",
-        text.as_slice(),
-        line,
-        rule,
-    );
-    tell(rt, words);
 }
 
 /// Reads the script and runs its group, by the seed where there is one and else in threads, and tells how far it is where that is
@@ -266,7 +231,12 @@ enum Output {
 }
 
 impl Output {
-    fn write<W: Write>(self, run: &FinishedRun, writer: &mut Meter<W>) -> Result<(), TextFault>
+    fn write<W: Write>(
+        self,
+        alloc: Global,
+        run: &FinishedRun,
+        writer: &mut Meter<W>,
+    ) -> Result<(), TextFault>
         requires run { IsFinished run.now }
         requires told { IsTold self run.now }
         requires writer { writer.old.failed ≡ false }
@@ -274,12 +244,11 @@ impl Output {
             (W.contents writer.new.inner) (output_text self run.now)) }
         ensures front { OnErr result (WroteFront (W.contents writer.old.inner)
             (W.contents writer.new.inner) (output_text self run.now)) }
-        ensures fault { IfErr result (λ fault.
-            (fault ≡ TextFault.Write) × (writer.new.failed ≡ true)) }
+        ensures fault { IfErr result (λ fault. is_output_fault fault ≡ true) }
     {
         match self {
-            Output::File(RunFile::Record) => write_record_of(run, writer),
-            Output::File(RunFile::Replay) => write_replay_of(run, writer),
+            Output::File(RunFile::Record) => write_record_of(alloc, run, writer),
+            Output::File(RunFile::Replay) => write_replay_of(alloc, run, writer),
             Output::Summary(summary) => Ok(write_summary(run, summary, writer)?),
         }
     }
@@ -357,7 +326,7 @@ fn write_file<'a, R: Runtime + AllocGlobal>(
     let Ok(buffer) = BufWriter::new(rt.alloc(), Heard::new(Counted::new(file))) else {
         return stop(TextFault::Memory, None);
     };
-    match write_through(run, Output::File(kept), buffer) {
+    match write_through(rt.alloc(), run, Output::File(kept), buffer) {
         (Ok(()), heard) => Ok(heard.inner().count()),
         (Err(fault), heard) => stop(fault, heard.error()),
     }
@@ -369,7 +338,7 @@ fn tell_summary<'a, R: Runtime + AllocGlobal>(
     run: &FinishedRun,
 ) -> Result<Summary, Stop<'a>>
     requires { IsFinished run.now }
-    ensures said { IfOk result (IsSummaryOf run.now.report.config run.now.assembly.events) }
+    ensures said { IfOk result (IsSummaryOf run.now.report.config (events_of run.now)) }
     ensures fault { IfErr result (λ stop. is_output_fault stop.fault ≡ true) }
 {
     let stop = |fault, error| {
@@ -378,13 +347,11 @@ fn tell_summary<'a, R: Runtime + AllocGlobal>(
             output: Failure::of_output(error),
         })
     };
-    let Ok(summary) = summarize(rt.alloc(), run) else {
-        return stop(TextFault::Memory, None);
-    };
+    let summary = summarize(run);
     let Ok(buffer) = BufWriter::new(rt.alloc(), Heard::new(io::writer(rt))) else {
         return stop(TextFault::Memory, None);
     };
-    match write_through(run, Output::Summary(summary), buffer) {
+    match write_through(rt.alloc(), run, Output::Summary(summary), buffer) {
         (Ok(()), _) => Ok(summary),
         (Err(fault), heard) => stop(fault, heard.error()),
     }
@@ -392,6 +359,7 @@ fn tell_summary<'a, R: Runtime + AllocGlobal>(
 
 // Writes the output with this buffer, and gives back its writer, which then has all of it, or, after a fault, a prefix of it.
 fn write_through<W: Write + Drop>(
+    alloc: Global,
     run: &FinishedRun,
     output: Output,
     buffer: BufWriter<W>,
@@ -404,9 +372,9 @@ fn write_through<W: Write + Drop>(
     ensures front { OnErr result.0 (IsCut
         (append_known (W.contents (writer_inner buffer)) (output_text output run.now))
         (W.contents result.1)) }
-    ensures fault { IfErr result.0 (λ fault. fault ≡ TextFault.Write) }
+    ensures fault { IfErr result.0 (λ fault. is_output_fault fault ≡ true) }
 {
     let mut meter = Meter::new(buffer);
-    let done = output.write(run, &mut meter);
+    let done = output.write(alloc, run, &mut meter);
     hand_on(done, meter)
 }

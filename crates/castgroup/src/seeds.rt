@@ -152,9 +152,7 @@ fn run_and_tell<'a, R: Runtime + AllocGlobal + Threads + Wait + Copy + Send + 's
     seed: u64,
 ) -> Result<Found, Stop<'a>> {
     let run = run_seed(rt, text, seed)?;
-    let Ok(summary) = summarize(rt.alloc(), &run) else {
-        return Err(stop_by(TextFault::Memory));
-    };
+    let summary = summarize(&run);
     let Ok(oddities) = oddities_of(rt.alloc(), &run, summary) else {
         return Err(stop_by(TextFault::Memory));
     };

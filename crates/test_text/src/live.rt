@@ -45,9 +45,9 @@ fn both_records<T: Threads + Wait + Copy + Send + 'static>(
 ) -> Result<(Vec<u8>, Vec<u8>), TextFault> {
     let run = run_two(rt, alloc, &Progress::shared(alloc, 2)?)?;
     let mut record = Meter::new(Vec::new(alloc));
-    write_record_of(&run, &mut record)?;
+    write_record_of(alloc, &run, &mut record)?;
     let mut replay = Meter::new(Vec::new(alloc));
-    write_replay_of(&run, &mut replay)?;
+    write_replay_of(alloc, &run, &mut replay)?;
     let mut again = Meter::new(Vec::new(alloc));
     run_text(
         alloc,
@@ -88,7 +88,7 @@ fn counted_summary<T: Threads + Wait + Copy + Send + 'static>(
     alloc: Global,
 ) -> Result<u64, TextFault> {
     let run = run_two(rt, alloc, &Progress::shared(alloc, 2)?)?;
-    let summary = summarize(alloc, &run)?;
+    let summary = summarize(&run);
     let mut counted = Counted::new(Vec::new(alloc));
     write_summary(&run, summary, &mut Meter::new(&mut counted))?;
     Ok(counted.count())

@@ -133,7 +133,7 @@ told g c =
     let seats = p.made.seats.items in
     let run = c.finish.result in
     served ended engines run.jobs.items run.clients.items c.finish.ensures.jobs c.finish.ensures.numbered c.args.config fact jobs run.report.reports
-    (all_reported fact jobs seats p.ensures.jobs ended back.ensures.jobs p.ensures.fresh engines run.jobs.items run.clients.items c.finish.ensures.jobs) c.finish.ensures.reports
+    (all_reported fact jobs seats p.ensures.jobs ended back.ensures.jobs p.ensures.fresh engines run.jobs.items run.clients.items c.finish.ensures.jobs) c.finish.ensures.reports c.finish.ensures.linked
     (λ q e at. (still_set c.args.config c.as_slice-2.result.now p.made.group.engines.items engines p.ensures.set back.ensures.same q e at).0) (λ q e at. (back.ensures.group.nodes q e at).0)
     (same_counts fact jobs seats p.ensures.jobs ended back.ensures.jobs p.ensures.fresh)
 

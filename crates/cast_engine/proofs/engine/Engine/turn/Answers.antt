@@ -3,10 +3,10 @@ use Rattle.cast_engine.proofs.Few.{few_same, few_again, few_worked, same_again}
 use Rattle.cast_engine.proofs.engine.Engine.turn.Goals as goal
 
 pub returns-then-not-count_turn-clause-same : goal.returns-then-not-count_turn-clause-same
-returns-then-not-count_turn-clause-same g c = engine_again c.args.self.now c.count_turn.new.self c.end.new.self (engine_again c.args.self.now c.may_go_on.new.self c.count_turn.new.self c.may_go_on.ensures.same c.count_turn.ensures.same) c.end.ensures.same
+returns-then-not-count_turn-clause-same g c = engine_again c.args.self.now c.may_go_on.new.self c.count_turn.new.self c.may_go_on.ensures.same c.count_turn.ensures.same
 
 pub returns-then-may_stop-clause-same : goal.returns-then-may_stop-clause-same
-returns-then-may_stop-clause-same g c = engine_again c.args.self.now c.work-moved.new.self c.end-then-may_stop.new.self (engine_again c.args.self.now c.count_turn.new.self c.work-moved.new.self (engine_again c.args.self.now c.may_go_on.new.self c.count_turn.new.self c.may_go_on.ensures.same c.count_turn.ensures.same) c.work-moved.ensures.same) c.end-then-may_stop.ensures.same
+returns-then-may_stop-clause-same g c = engine_again c.args.self.now c.work-moved.new.self c.stop.new.self (engine_again c.args.self.now c.count_turn.new.self c.work-moved.new.self (engine_again c.args.self.now c.may_go_on.new.self c.count_turn.new.self c.may_go_on.ensures.same c.count_turn.ensures.same) c.work-moved.ensures.same) c.stop.ensures.same
 
 pub returns-then-moved-clause-same : goal.returns-then-moved-clause-same
 returns-then-moved-clause-same g c = engine_again c.args.self.now c.count_turn.new.self c.work-moved.new.self (engine_again c.args.self.now c.may_go_on.new.self c.count_turn.new.self c.may_go_on.ensures.same c.count_turn.ensures.same) c.work-moved.ensures.same
@@ -15,14 +15,13 @@ pub returns-else-moved-clause-same : goal.returns-else-moved-clause-same
 returns-else-moved-clause-same g c = engine_again c.args.self.now c.count_turn.new.self c.work-moved.new.self (engine_again c.args.self.now c.may_go_on.new.self c.count_turn.new.self c.may_go_on.ensures.same c.count_turn.ensures.same) c.work-moved.ensures.same
 
 pub returns-then-not-count_turn-clause-few : goal.returns-then-not-count_turn-clause-few
-returns-then-not-count_turn-clause-few g c =
-    few_same 1 1 3 1 c.args.self.now c.end.new.self (same_again c.args.self.now c.count_turn.new.self c.end.new.self (same_again c.args.self.now c.may_go_on.new.self c.count_turn.new.self c.may_go_on.ensures.boxes c.count_turn.ensures.boxes) c.end.ensures.boxes)
+returns-then-not-count_turn-clause-few g c = few_same 1 1 3 1 c.args.self.now c.count_turn.new.self (same_again c.args.self.now c.may_go_on.new.self c.count_turn.new.self c.may_go_on.ensures.boxes c.count_turn.ensures.boxes)
 
 pub returns-then-may_stop-clause-few : goal.returns-then-may_stop-clause-few
 returns-then-may_stop-clause-few g c =
-    few_again 1 1 3 1 0 0 0 0 c.args.self.now c.work-moved.new.self c.end-then-may_stop.new.self
+    few_again 1 1 3 1 0 0 0 0 c.args.self.now c.work-moved.new.self c.stop.new.self
     (few_worked c.args.self.now c.may_go_on.new.self c.count_turn.new.self c.work-moved.new.self c.may_go_on.ensures.boxes c.count_turn.ensures.boxes c.work-moved.ensures.few)
-    (few_same 0 0 0 0 c.work-moved.new.self c.end-then-may_stop.new.self c.end-then-may_stop.ensures.boxes)
+    (few_same 0 0 0 0 c.work-moved.new.self c.stop.new.self c.stop.ensures.boxes)
 
 pub returns-then-moved-clause-few : goal.returns-then-moved-clause-few
 returns-then-moved-clause-few g c = few_worked c.args.self.now c.may_go_on.new.self c.count_turn.new.self c.work-moved.new.self c.may_go_on.ensures.boxes c.count_turn.ensures.boxes c.work-moved.ensures.few
