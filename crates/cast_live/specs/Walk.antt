@@ -1,7 +1,7 @@
 -- A walk over the merged events of a run.
 --     TakesStep old event new answered         the answer is the group's reply, and the world stands for the event too
 --     IsWalk config events index left world    so many of the events were taken, these are left, and the world stands for the taken
-use Rattle.std.specs.Prelude.{◌≡◌, ℕ, List, ◌++◌, length, Result}
+use Rattle.std.specs.Prelude.{◌≡◌, ℕ, ◌<◌, ◌^◌, List, ◌++◌, length, Result}
 use Rattle.std.specs.List.{AllByRecursion}
 use Rattle.cast_message.specs.declared.config.Config.{Config}
 use Rattle.cast_message.specs.declared.event.Answer.{Answer}
@@ -24,5 +24,5 @@ pub record IsWalk (config : Config) (events : List Event) (index : ℕ) (left : 
   pub ends : history_from config past left ≡ history config events
   pub seen : List Event
   pub parts : events ≡ seen ++ left
-  pub count : index ≡ length seen
+  pub count : (index ≡ length seen) × (index < 2 ^ 64)
   pub ranges : AllByRecursion HasEventRange seen

@@ -57,7 +57,7 @@ pub fn write_run_record<W: Write>(
     let mut merged = MergedEvents::new(alloc, report)?;
     put_head(config, writer)?;
     let mut index = 0;
-    while let Some(event) = merged.take_next()? {
+    'events: while let Some(event) = merged.take_next()? {
         let reply = take_step(&mut world, &event)?;
         put_lines(index, &event, &reply, writer)?;
         index = next_index(index)?;

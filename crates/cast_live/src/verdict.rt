@@ -31,7 +31,7 @@ pub fn judge_run(alloc: Global, report: &GroupReport) -> Result<(World, Verdict)
     feed_lines(alloc, &mut judging, &[Line::head(config)])?;
     let mut merged = MergedEvents::new(alloc, report)?;
     let mut index = 0;
-    while let Some(event) = merged.take_next()? {
+    'events: while let Some(event) = merged.take_next()? {
         let reply = take_step(&mut world, &event)?;
         feed_event(alloc, &mut judging, index, &event, &reply)?;
         index = next_index(index)?;

@@ -1,5 +1,5 @@
 //! A walk over the merged events of a run, which the group takes once more.
-ghost use Rattle.std.specs.Prelude.{◌≡◌, ◌+◌, OnOk, IfOk};
+ghost use Rattle.std.specs.Prelude.{◌≡◌, ◌+◌, ◌<◌, ◌^◌, OnOk, IfOk};
 ghost use Rattle.cast_text.specs.Ranges.{HasEventRange};
 ghost use Rattle.cast_live.specs.Walk.{TakesStep};
 
@@ -23,7 +23,7 @@ pub fn take_step(world: &mut World, event: &Event) -> Result<Reply, AllocError>
 
 /// The index of the next event. The event of index 2^64 - 1 has none behind it: want of memory is answered.
 pub fn next_index(index: u64) -> Result<u64, AllocError>
-    ensures { IfOk result (λ next. next ≡ index + 1) }
+    ensures { IfOk result (λ next. (next ≡ index + 1) × (next < 2 ^ 64)) }
 {
     index.checked_add(1).ok_or(AllocError)
 }

@@ -12,8 +12,7 @@ use crate::progress::{ProgressReporter, due_deliveries};
 use crate::seeds::{Seeds, live_seeds};
 use cast_command::{Call, RunFiles, Running};
 use cast_console::{
-    Failure, Heard, Status, StreamName, explain_fault, explain_output, hand_on, open_source,
-    refuse,
+    Failure, Heard, Status, StreamName, explain_fault, explain_output, hand_on, open_source, refuse,
 };
 use cast_live::{
     Counted, FinishedRun, Summary, run_script, run_script_by, summarize, write_record_of,

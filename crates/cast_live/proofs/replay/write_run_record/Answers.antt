@@ -1,36 +1,93 @@
-use Rattle.std.proofs.Common.{◌++◌, ◌∷◌, [], ◌+◌, Err, drop}
+use Rattle.std.proofs.Common.{◌≡◌, ℕ, List, [], ◌∷◌, ◌++◌, ◌∙◌, Err, ap, sym, subst, Option}
 use Rattle.std.proofs.lemmas.Result.{err_from_is_err_and}
+use Rattle.cast_message.specs.declared.event.Event.{Event}
+use Rattle.cast_merge.specs.ByStamp.{merged_events}
 use Rattle.cast_record.specs.declared.line.Line.TheVariants.{End}
 use Rattle.cast_record.specs.Lines.{head_of, lines_for}
 use Rattle.cast_record.specs.Text.{line_text, record_text}
-use Rattle.cast_words.proofs.WritingLemmas.{going_start, going_again, going_more}
-use Rattle.cast_live.specs.Replayed.{lines_told}
-use Rattle.cast_text.specs.RecordLaws.{breaks_longer}
-use Rattle.cast_live.proofs.Replaying.{told-next, told-end, writes_last}
+use Rattle.cast_words.proofs.WritingLemmas.{IsGoing, going_start, going_again, going_more}
+use Rattle.cast_world.specs.Group.{Stands}
+use Rattle.cast_text.specs.RecordLaws.{wants_memory, breaks_longer}
+use Rattle.cast_model.specs.Replies.{after}
+use Rattle.cast_live.specs.Replayed.{record_of_accepted}
+use Rattle.cast_live.specs.Walk.{IsWalk}
+use Rattle.cast_live.proofs.Replaying.{writes_last}
+use Rattle.cast_live.proofs.Walking.{rest_text, text_begins, text_left, text_next, text_ends, walk_begins, walk_next, wants, going_wants}
 use Rattle.cast_live.proofs.replay.write_run_record.Goals as goal
 
-pub returns-in_err-put_head-clause-text : goal.returns-in_err-put_head-clause-text
-returns-in_err-put_head-clause-text g c =
-    let p = err_from_is_err_and c.from_residual.result c.from_residual.ensures.1 in
-    rw (p.1, p.2) (breaks_longer c.in_err-put_head.field-0.0 _ _ _ (line_text (head_of c.args.config.now) ++ 10 ∷ []) (record_text (lines_told 0 c.args.events.now c.args.replies.now ++ End ∷ [])) c.in_err-put_head.ensures.text)
+pub returns-in_err-world : goal.returns-in_err-world
+returns-in_err-world g c = wants c.from_residual.result c.from_residual.ensures.1 (wants_memory _ c.requires)
 
-pub returns-in_err-put_lines-clause-text : goal.returns-in_err-put_lines-clause-text
-returns-in_err-put_lines-clause-text g c =
+pub returns-in_err-merged : goal.returns-in_err-merged
+returns-in_err-merged g c = wants c.from_residual-in_err-merged.result c.from_residual-in_err-merged.ensures.1 (wants_memory _ c.requires)
+
+pub returns-in_err-put_head : goal.returns-in_err-put_head
+returns-in_err-put_head g c =
+    let config = c.args.report.now.config in
+    let events = merged_events c.args.report.now.reports in
+    let p = err_from_is_err_and c.from_residual-in_err-put_head.result c.from_residual-in_err-put_head.ensures.1 in
+    let rest = rest_text config 0 [] events in
+    let broke = breaks_longer c.in_err-put_head.field-0.0 _ _ _ (line_text (head_of c.config-config.result.now) ++ 10 ∷ []) rest c.in_err-put_head.ensures.text in
+    rw (p.1, p.2) (subst (λ k. _) c.config-config.ensures broke)
+
+pub events-init : goal.events-init
+events-init g c =
+    let config = c.args.report.now.config in
+    let events = merged_events c.args.report.now.reports in
+    let whole = record_text (record_of_accepted config events) in
+    let stands = subst (λ k. Stands k [] c.in_ok-world.world) c.config-config.ensures c.in_ok-world.ensures in
+    let old = g.W.Write.contents c.args.writer.now.inner in
+    let new = g.W.Write.contents c.put_head.new.writer.inner in
+    let head : line_text (head_of config) ++ 10 ∷ [] ≡ line_text (head_of c.config-config.result.now) ++ 10 ∷ [] = ap (λ k. line_text (head_of k) ++ 10 ∷ []) (sym c.config-config.ensures) in
+    let going = going_more (going_again (going_start c.requires) (text_begins config events ∙ ap (λ h. h ++ rest_text config 0 [] events) head)) c.in_ok-put_head.ensures.text in
+    let P : List Event → Type 0 = λ left. (w : IsWalk config events 0 left c.in_ok-world.world) × IsGoing old new c.put_head.new.writer.failed whole (rest_text config 0 w.past left) in
+    subst P (sym c.in_ok-merged.ensures) (walk_begins config events c.in_ok-world.world stands, going)
+
+pub returns-in_err-take_next : goal.returns-in_err-take_next
+returns-in_err-take_next g c = wants c.from_residual-in_err-take_next.result c.from_residual-in_err-take_next.ensures.1 (going_wants c.events.invariant.1)
+
+pub returns-in_err-reply : goal.returns-in_err-reply
+returns-in_err-reply g c = wants c.from_residual-in_err-reply.result c.from_residual-in_err-reply.ensures.1 (going_wants c.events.invariant.1)
+
+pub returns-in_err-put_lines : goal.returns-in_err-put_lines
+returns-in_err-put_lines g c =
+    let config = c.args.report.now.config in
+    let events = merged_events c.args.report.now.reports in
+    let l = c.events in
+    let w = l.invariant.0 in
+    let event = c.in-Some.event in
+    let rest = c.take_next.new.self in
+    let reply = c.in_ok-reply.reply in
     let p = err_from_is_err_and c.from_residual-in_err-put_lines.result c.from_residual-in_err-put_lines.ensures.1 in
-    let index = c.loop-index.index in
     let why = c.in_err-put_lines.field-0.0 in
-    let lines = record_text (lines_for index c.index-events-index.result c.index-replies-index.result) in
-    let rest = record_text (lines_told (index + 1) (drop (index + 1) c.args.events.now) (drop (index + 1) c.args.replies.now) ++ End ∷ []) in
-    let next = told-next index c.args.events.now c.args.replies.now c.index-events-index.result c.index-replies-index.result c.loop-index-test.true c.requires.replies c.index-events-index.is c.index-replies-index.is in
-    rw (p.1, p.2) (writes_last _ _ (Err why) (lines ++ rest) (going_again c.loop-index.invariant next) (breaks_longer why _ _ _ lines rest c.in_err-put_lines.ensures.text))
+    let lines = record_text (lines_for l.index event reply) in
+    let left = rest_text config (l.index + 1) (after config w.past event) rest in
+    let next = text_left config events l.index l.merged l.world w event rest c.in-Some.ensures c.take_step.new.world reply c.in_ok-reply.ensures.step in
+    rw (p.1, p.2) (writes_last _ _ (Err why) (lines ++ left) (going_again l.invariant.1 next) (breaks_longer why _ _ _ lines left c.in_err-put_lines.ensures.text))
 
-pub loop-index-init : goal.loop-index-init
-loop-index-init g c = going_more (going_start c.requires.sound) c.in_ok-put_head.ensures.text
+pub returns-in_err-next_index : goal.returns-in_err-next_index
+returns-in_err-next_index g c =
+    let l = c.events in
+    let next = text_left c.args.report.now.config (merged_events c.args.report.now.reports) l.index l.merged l.world l.invariant.0 c.in-Some.event c.take_next.new.self c.in-Some.ensures c.take_step.new.world c.in_ok-reply.reply c.in_ok-reply.ensures.step in
+    wants c.from_residual-in_err-next_index.result c.from_residual-in_err-next_index.ensures.1 (going_wants (going_more (going_again l.invariant.1 next) c.in_ok-put_lines.ensures.text))
 
-pub loop-index-preserved : goal.loop-index-preserved
-loop-index-preserved g c =
-    let next = told-next c.loop-index.index c.args.events.now c.args.replies.now c.index-events-index.result c.index-replies-index.result c.loop-index-test.true c.requires.replies c.index-events-index.is c.index-replies-index.is in
-    going_more (going_again c.loop-index.invariant next) c.in_ok-put_lines.ensures.text
+pub events-preserved : goal.events-preserved
+events-preserved g c =
+    let config = c.args.report.now.config in
+    let events = merged_events c.args.report.now.reports in
+    let l = c.events in
+    let w = l.invariant.0 in
+    let event = c.in-Some.event in
+    let rest = c.take_next.new.self in
+    let later = c.take_step.new.world in
+    let reply = c.in_ok-reply.reply in
+    let next = c.in_ok-next_index.field-0 in (
+      walk_next config events l.index l.merged l.world w event rest c.in-Some.ensures later reply c.in_ok-reply.ensures.step next c.in_ok-next_index.ensures c.in_ok-reply.ensures.range,
+      going_more (going_again l.invariant.1 (text_next config events l.index l.merged l.world w event rest c.in-Some.ensures later reply c.in_ok-reply.ensures.step next c.in_ok-next_index.ensures)) c.in_ok-put_lines.ensures.text,
+    )
 
-pub returns-clause-text : goal.returns-clause-text
-returns-clause-text g c = writes_last _ _ c.put_line.result (line_text End ++ 10 ∷ []) (going_again c.loop-index.invariant (told-end c.loop-index.index c.args.events.now c.args.replies.now c.loop-index-test.false)) c.put_line.ensures.text
+pub returns : goal.returns
+returns g c =
+    let l = c.events in
+    writes_last _ _ c.put_line.result (line_text End ++ 10 ∷ [])
+    (going_again l.invariant.1 (text_ends c.args.report.now.config (merged_events c.args.report.now.reports) l.index l.merged l.world l.invariant.0 c.in_default.ensures)) c.put_line.ensures.text

@@ -1,30 +1,59 @@
-use Rattle.std.proofs.Common.{◌++◌, ◌∷◌, [], ◌+◌, ◌∙◌, ap, sym, append-nil, drop}
+use Rattle.std.proofs.Common.{◌≡◌, List, [], ◌∷◌, ◌++◌, ◌∙◌, ap, sym, subst, append-nil}
+use Rattle.cast_message.specs.declared.event.Event.{Event}
+use Rattle.cast_merge.specs.ByStamp.{merged_events}
 use Rattle.cast_record.specs.declared.line.Line.TheVariants.{End}
+use Rattle.cast_record.specs.Lines.{head_of}
 use Rattle.cast_record.specs.Text.{record_text}
-use Rattle.cast_live.specs.Replayed.{lines_told, run_record}
-use Rattle.cast_record.proofs.WritingLemmas.{record_text-append}
-use Rattle.cast_live.proofs.Replaying.{told-next, told-end}
-use Rattle.cast_live.proofs.VerdictLemmas.{fed_none, fed_more, fed_all}
+use Rattle.cast_record.specs.Verdicts.{verdict}
+use Rattle.cast_world.specs.Group.{Stands}
+use Rattle.cast_live.specs.Replayed.{record_of_accepted}
+use Rattle.cast_live.specs.Walk.{IsWalk}
+use Rattle.cast_live.proofs.Replaying.{good_replay}
+use Rattle.cast_live.proofs.VerdictLemmas.{IsFed, fed_none, fed_more}
+use Rattle.cast_live.proofs.Walking.{rest_text, text_begins, text_next, text_ends, walk_begins, walk_next, walk_ends, all_ranges, few_events}
 use Rattle.cast_live.proofs.verdict.judge_run.Goals as goal
 
-pub loop-index-init : goal.loop-index-init
-loop-index-init c =
-    let told = lines_told 0 c.args.events.now c.args.replies.now ++ End ∷ [] in
-    let whole = record_text (run_record c.args.config.now c.args.events.now c.args.replies.now) in
-    fed_more whole (record_text (c.head.result ∷ [])) (record_text told) whole c.new-judging.result c.feed_lines.new.judging (fed_none whole c.new-judging.result c.new-judging.ensures.stands)
-    (ap (λ head. record_text (head ∷ told)) (sym c.head.ensures) ∙ record_text-append (c.head.result ∷ []) told) (c.in_ok-feed_lines.ensures)
+pub events-init : goal.events-init
+events-init c =
+    let config = c.args.report.now.config in
+    let events = merged_events c.args.report.now.reports in
+    let whole = record_text (record_of_accepted config events) in
+    let judging = c.feed_lines.new.judging in
+    let head : c.head.result ≡ head_of config = c.head.ensures ∙ ap head_of c.config-config.ensures in
+    let stands = subst (λ k. Stands k [] c.in_ok-world.world) c.config-config.ensures c.in_ok-world.ensures in
+    let fed = fed_more whole (record_text (c.head.result ∷ [])) (rest_text config 0 [] events) whole c.new-judging.result judging (fed_none whole c.new-judging.result c.new-judging.ensures.stands)
+    (text_begins config events ∙ ap (λ h. record_text (h ∷ []) ++ rest_text config 0 [] events) (sym head)) c.in_ok-feed_lines.ensures in
+    let P : List Event → Type 0 = λ left. (w : IsWalk config events 0 left c.in_ok-world.world) × IsFed whole (rest_text config 0 w.past left) judging in
+    subst P (sym c.in_ok-merged.ensures) (walk_begins config events c.in_ok-world.world stands, fed)
 
-pub loop-index-preserved : goal.loop-index-preserved
-loop-index-preserved c =
-    let i = c.loop-index.index in
-    let rest = record_text (lines_told (i + 1) (drop (i + 1) c.args.events.now) (drop (i + 1) c.args.replies.now) ++ End ∷ []) in
-    let next = told-next i c.args.events.now c.args.replies.now c.index-events-index.result c.index-replies-index.result c.loop-index-test.true c.requires c.index-events-index.is c.index-replies-index.is in
-    fed_more _ _ rest _ c.loop-index.judging c.feed_event.new.judging c.loop-index.invariant next c.in_ok-feed_event.ensures
+pub events-preserved : goal.events-preserved
+events-preserved c =
+    let config = c.args.report.now.config in
+    let events = merged_events c.args.report.now.reports in
+    let l = c.events in
+    let w = l.invariant.0 in
+    let event = c.in-Some.event in
+    let rest = c.take_next.new.self in
+    let later = c.take_step.new.world in
+    let reply = c.in_ok-reply.reply in
+    let next = c.in_ok-next_index.field-0 in (
+      walk_next config events l.index l.merged l.world w event rest c.in-Some.ensures later reply c.in_ok-reply.ensures.step next c.in_ok-next_index.ensures c.in_ok-reply.ensures.range,
+      fed_more _ _ _ _ l.judging c.feed_event.new.judging l.invariant.1 (text_next config events l.index l.merged l.world w event rest c.in-Some.ensures later reply c.in_ok-reply.ensures.step next c.in_ok-next_index.ensures) c.in_ok-feed_event.ensures,
+    )
 
-pub returns : goal.returns
-returns c =
+pub returns-clause-stands : goal.returns-clause-stands
+returns-clause-stands c =
+    let l = c.events in
+    walk_ends c.args.report.now.config (merged_events c.args.report.now.reports) l.index l.merged l.world l.invariant.0 c.in_default.ensures
+
+pub returns-clause-good : goal.returns-clause-good
+returns-clause-good c =
+    let config = c.args.report.now.config in
+    let events = merged_events c.args.report.now.reports in
+    let l = c.events in
+    let w = l.invariant.0 in
     let last = record_text (End ∷ []) in
-    fed_all _ c.feed_lines-2.new.judging c.finish.result
-    (fed_more _ last [] _ c.loop-index.judging c.feed_lines-2.new.judging c.loop-index.invariant
-    (told-end c.loop-index.index c.args.events.now c.args.replies.now c.loop-index-test.false ∙ sym (append-nil last)) (c.in_ok-feed_lines-2.ensures))
-    c.finish.ensures.said
+    let none = c.in_default.ensures in
+    let fed = fed_more _ last [] _ l.judging c.feed_lines-2.new.judging l.invariant.1 (text_ends config events l.index l.merged l.world w none ∙ sym (append-nil last)) c.in_ok-feed_lines-2.ensures in
+    c.in_ok-verdict.ensures.said fed.fed fed.stands ∙ sym (ap (λ t. verdict t) (fed.parts ∙ append-nil fed.fed))
+    ∙ good_replay config events (all_ranges config events l.index l.merged l.world w none) (few_events config events l.index l.merged l.world w none)
