@@ -7,8 +7,8 @@ use Rattle.cast_message.specs.declared.message.Item.{Item}
 use Rattle.cast_model.specs.History.{stream}
 use Rattle.cast_model.specs.Headline.{IsPrefixOf}
 use Rattle.cast_model.specs.Shown.{item_of}
-use Rattle.cast_model.specs.Steps.{steps_of}
-use Rattle.cast_model.specs.OwnSteps.{own_log, own_items}
+use Rattle.cast_model.specs.Steps.{steps_of, own_items}
+use Rattle.cast_model.specs.OwnSteps.{own_log}
 use Rattle.cast_model.proofs.Projected.{own_items-steps_of}
 use Rattle.cast_node.specs.declared.entry.Entry.{Entry}
 use Rattle.cast_node.specs.declared.entry.EntryKind.{EntryKind}
