@@ -1,5 +1,5 @@
 //! What a client's thread runs.
-ghost use Rattle.std.specs.Prelude.{List, Bool, Unit};
+ghost use Rattle.std.specs.Prelude.{List, Bool};
 ghost use Rattle.cast_desk.specs.Desk.{IsSameClient};
 ghost use Rattle.cast_desk.specs.declared.desk.OrderIn.{OrderIn};
 ghost use Rattle.cast_desk.specs.declared.notice.Notice.{Notice};
