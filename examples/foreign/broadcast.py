@@ -1,0 +1,133 @@
+#!/usr/bin/env python3
+"""A small broadcast over sockets of the loopback, which logs a record that `castgroup judge` reads.
+
+usage: broadcast.py RECORD               the record is good
+       broadcast.py --faulty RECORD      members deliver an item when it arrives, and not in its turn: the record is bad
+
+Each member is a thread with a UDP socket. It sends its items to the others, and again what they don't acknowledge. The first
+datagrams of one item are lost on purpose, as those of the loopback seldom are: so later items arrive before it.
+"""
+import socket
+import sys
+import threading
+import time
+
+MEMBERS, ITEMS, LOST_ITEM = 3, 5, 1
+RESEND_SECONDS, PATIENCE_SECONDS = 0.05, 30
+
+
+class Record:
+    """What happened, a line an event. One lock for all members, so that the lines have one order."""
+
+    def __init__(self):
+        self.lock = threading.Lock()
+        # No crash is tolerated, and nothing is agreed on.
+        self.lines = [f"cast/1 {MEMBERS} 0 1"]
+
+    def broadcast(self, member, item):
+        """To be called before the item is sent."""
+        self.log(f"b {member} {number_in(item)} data:{item.hex()}")
+
+    def deliver(self, member, sender, item):
+        """To be called where the application gets the item."""
+        self.log(f"d {member} {sender} {number_in(item)} data:{item.hex()}")
+
+    def log(self, line):
+        with self.lock:
+            self.lines.append(line)
+
+    def text(self):
+        with self.lock:
+            return "".join(line + "\n" for line in [*self.lines, "end"])
+
+
+def number_in(item):
+    """The number that an item has in its bytes, as a callback gets only these."""
+    return int(item.split()[0])
+
+
+class Member(threading.Thread):
+    def __init__(self, me, record, is_faulty):
+        super().__init__(daemon=True)
+        self.me, self.record, self.is_faulty = me, record, is_faulty
+        self.socket = socket.socket(socket.AF_INET, socket.SOCK_DGRAM)
+        self.socket.bind(("127.0.0.1", 0))
+        self.socket.settimeout(RESEND_SECONDS)
+        self.items = [f"{number} of member {me}".encode() for number in range(ITEMS)]
+        self.taken = [{} for _ in range(MEMBERS)]  # by sender: its items that came, by their numbers
+        self.delivered = [0] * MEMBERS  # by sender
+
+    def join_group(self, members):
+        self.members = members
+        self.owed = {(peer, number) for peer in range(MEMBERS) for number in range(ITEMS) if peer != self.me}
+
+    def has_finished(self):
+        return not self.owed and self.delivered == [ITEMS] * MEMBERS
+
+    def run(self):
+        for number, item in enumerate(self.items):
+            self.record.broadcast(self.me, item)
+            self.take(self.me, number, item)
+            if number != LOST_ITEM:
+                self.send_owed(number)
+        while not all(member.has_finished() for member in self.members):
+            try:
+                self.receive(self.socket.recv(2048))
+            except TimeoutError:
+                for number in range(ITEMS):
+                    self.send_owed(number)
+
+    def send_owed(self, number):
+        for peer, owed in sorted(self.owed):
+            if owed == number:
+                self.send(peer, b"item", number, self.items[number])
+
+    def send(self, peer, kind, number, item=b""):
+        datagram = b"%s %d %d " % (kind, self.me, number) + item
+        self.socket.sendto(datagram, self.members[peer].socket.getsockname())
+
+    def receive(self, datagram):
+        kind, sender, number, item = datagram.split(b" ", 3)
+        sender, number = int(sender), int(number)
+        if kind == b"took":
+            self.owed.discard((sender, number))
+            return
+        self.send(sender, b"took", number)
+        if number not in self.taken[sender]:
+            self.take(sender, number, item)
+
+    def take(self, sender, number, item):
+        self.taken[sender][number] = item
+        if self.is_faulty:
+            self.deliver(sender, item)
+            return
+        while self.delivered[sender] in self.taken[sender]:
+            self.deliver(sender, self.taken[sender][self.delivered[sender]])
+
+    def deliver(self, sender, item):
+        """The callback."""
+        self.record.deliver(self.me, sender, item)
+        self.delivered[sender] += 1
+
+
+def main():
+    *options, path = sys.argv[1:] or [""]
+    if options not in ([], ["--faulty"]) or not path or path.startswith("-"):
+        sys.exit(__doc__)
+    record = Record()
+    members = [Member(me, record, bool(options)) for me in range(MEMBERS)]
+    for member in members:
+        member.join_group(members)
+    for member in members:
+        member.start()
+    end = time.monotonic() + PATIENCE_SECONDS
+    for member in members:
+        member.join(max(0, end - time.monotonic()))
+    with open(path, "w", encoding="ascii") as file:
+        file.write(record.text())
+    if any(member.is_alive() for member in members):
+        sys.exit(f"the members had not finished after {PATIENCE_SECONDS} seconds")
+
+
+if __name__ == "__main__":
+    main()
