@@ -1,5 +1,5 @@
 -- A walk over the merged events of a run, event by event, and the text that is left of their record.
-use Rattle.std.proofs.Common.{◌≡◌, ℕ, ◌+◌, ◌<◌, ◌^◌, false, List, [], ◌∷◌, ◌++◌, length, Option, Result, Bool, sym, refl, ap, subst, ◌∙◌, append_assoc, append-nil, length-append, arith}
+use Rattle.std.proofs.Common.{◌≡◌, ℕ, ◌+◌, ◌<◌, ◌^◌, false, List, [], ◌∷◌, ◌++◌, length, Option, Some, None, MatchOption, Result, Bool, sym, refl, ap, subst, ◌∙◌, append_assoc, append-nil, length-append, arith}
 use Rattle.std.specs.List.{All, AllByRecursion}
 use Rattle.std.proofs.lemmas.List.Elements.{All-from_recursion}
 use Rattle.std.specs.Result.{IsErrAnd}
@@ -27,7 +27,7 @@ all_more : {A : Type 0} (P : A → Type 0) (xs : List A) (x : A) → AllByRecurs
 all_more P [] x all more = (more, tt)
 all_more P (y ∷ ys) x all more = (all.0, all_more P ys x all.1 more)
 
-pub walk_begins : (config : Config) (events : List Event) (world : State) → Stands config [] world → IsWalk config events 0 events world
+abbrev pub walk_begins : (config : Config) (events : List Event) (world : State) → Stands config [] world → IsWalk config events 0 events world
 walk_begins config events world stands = record { past = []; stands = stands; ends = refl; seen = []; parts = refl; count = (refl, omega arith); ranges = tt }
 
 -- what is left to be written of the record
@@ -50,16 +50,28 @@ module _ (config : Config) (events : List Event) (index : ℕ) (left : List Even
         ∙ record_text-append now (then ++ End ∷ [])
 
     module _ (next : ℕ) (more : (next ≡ index + 1) × (next < 2 ^ 64)) where
-      pub walk_next : HasEventRange event → IsWalk config events next rest later
+      pub ends_next : history_from config (after config w.past event) rest ≡ history config events
       unfolding history_from
+      ends_next = sym (ap (history_from config w.past) is) ∙ w.ends
+
+      pub parts_next : events ≡ (w.seen ++ event ∷ []) ++ rest
+      parts_next = w.parts ∙ ap (λ l. w.seen ++ l) is ∙ sym (append_assoc w.seen (event ∷ []) rest)
+
+      pub count_next : next ≡ length (w.seen ++ event ∷ [])
+      count_next = let n = w.count.0 in let m = more.0 in let l = length-append w.seen (event ∷ []) in omega arith
+
+      pub ranges_next : HasEventRange event → AllByRecursion HasEventRange (w.seen ++ event ∷ [])
+      ranges_next range = all_more HasEventRange w.seen event w.ranges range
+
+      abbrev pub walk_next : HasEventRange event → IsWalk config events next rest later
       walk_next range = record {
         past = after config w.past event;
         stands = (step config w.past w.stands).1;
-        ends = sym (ap (history_from config w.past) is) ∙ w.ends;
+        ends = ends_next;
         seen = w.seen ++ event ∷ [];
-        parts = w.parts ∙ ap (λ l. w.seen ++ l) is ∙ sym (append_assoc w.seen (event ∷ []) rest);
-        count = ((let n = w.count.0 in let m = more.0 in let l = length-append w.seen (event ∷ []) in omega arith), more.1);
-        ranges = all_more HasEventRange w.seen event w.ranges range;
+        parts = parts_next;
+        count = (count_next, more.1);
+        ranges = ranges_next range;
       }
 
       pub text_next : rest_text config index w.past left ≡ record_text (lines_for index event answered) ++ rest_text config next (after config w.past event) rest
@@ -82,6 +94,15 @@ module _ (config : Config) (events : List Event) (index : ℕ) (left : List Even
     pub text_ends : rest_text config index w.past left ≡ record_text (End ∷ [])
     unfolding lines_told replies_from
     text_ends = ap (rest_text config index w.past) none
+
+-- the next event, and that none is left
+pub took : (found : Option Event) (old new : List Event) (event : Event) → MatchOption found (old ≡ []) (λ e. old ≡ e ∷ new) → found ≡ Some event → old ≡ event ∷ new
+took None old new event h is = absurd cc
+took (Some e) old new event h is = h ∙ (let same : e ≡ event = cc in ap (λ x. x ∷ new) same)
+
+pub took_none : (found : Option Event) (old new : List Event) → MatchOption found (old ≡ []) (λ e. old ≡ e ∷ new) → found ≡ None → old ≡ []
+took_none None old new h is = h
+took_none (Some e) old new h is = absurd cc
 
 -- memory is wanted before a text is written, and while it is
 pub wants : {old new : Option (List ℕ)} {failed : Bool} {text : List ℕ} (result : Result (Unit {0}) TextFault) → IsErrAnd result (λ fault. fault ≡ faults.Memory) → BreaksOff faults.Memory old new failed text → Writes old new failed result text

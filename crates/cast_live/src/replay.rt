@@ -60,6 +60,9 @@ pub fn write_run_record<W: Write>(
     'events: while let Some(event) = merged.take_next()? {
         let reply = take_step(&mut world, &event)?;
         put_lines(index, &event, &reply, writer)?;
+        // (calls, since each kind of event and reply would else be a case of its own for the prover)
+        drop(event);
+        drop(reply);
         index = next_index(index)?;
     }
     put_line(&Line::End, writer)

@@ -34,6 +34,9 @@ pub fn judge_run(alloc: Global, report: &GroupReport) -> Result<(World, Verdict)
     'events: while let Some(event) = merged.take_next()? {
         let reply = take_step(&mut world, &event)?;
         feed_event(alloc, &mut judging, index, &event, &reply)?;
+        // (calls, since each kind of event and reply would else be a case of its own for the prover)
+        drop(event);
+        drop(reply);
         index = next_index(index)?;
     }
     feed_lines(alloc, &mut judging, &[Line::End])?;

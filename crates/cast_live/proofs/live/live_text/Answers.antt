@@ -6,10 +6,6 @@ pub returns-in_err-progress-clause-exact : goal.returns-in_err-progress-clause-e
 returns-in_err-progress-clause-exact g c =
     memory_answered _ _ c.read_script_text.new.reader.failed c.args.writer.now.failed c.in_ok-script.script _ c.from_residual-in_err-progress.ensures.1 c.in_ok-script.ensures.ok
 
-pub returns-in_err-summary-clause-exact : goal.returns-in_err-summary-clause-exact
-returns-in_err-summary-clause-exact g c =
-    memory_answered _ _ c.read_script_text.new.reader.failed c.args.writer.now.failed c.in_ok-script.script _ c.from_residual-in_err-summary.ensures.1 c.in_ok-script.ensures.ok
-
 pub returns-in_err-run-clause-exact : goal.returns-in_err-run-clause-exact
 returns-in_err-run-clause-exact g c =
     let p = err_from_is_err_and c.from_residual-in_err-run.result c.from_residual-in_err-run.ensures.1 in
@@ -18,10 +14,10 @@ returns-in_err-run-clause-exact g c =
 pub returns-in_err-write_summary-clause-exact : goal.returns-in_err-write_summary-clause-exact
 returns-in_err-write_summary-clause-exact g c =
     let p = err_from_is_err_and c.from_residual-in_err-write_summary.result c.from_residual-in_err-write_summary.ensures.1 in
-    rw (p.1, p.2) (summary_breaks _ _ _ c.write_summary.new.writer.failed c.in_ok-script.script c.in_ok-run.run' c.in_ok-summary.summary c.in_ok-script.ensures.ok c.in_ok-run.ensures.config c.in_ok-run.ensures.ran c.in_ok-run.ensures.ok c.in_ok-summary.ensures
+    rw (p.1, p.2) (summary_breaks _ _ _ c.write_summary.new.writer.failed c.in_ok-script.script c.in_ok-run.run' c.summarize-summary.result c.in_ok-script.ensures.ok c.in_ok-run.ensures.config c.in_ok-run.ensures.ran c.in_ok-run.ensures.ok c.summarize-summary.ensures
     c.in_err-write_summary.ensures)
 
 pub returns-clause-exact : goal.returns-clause-exact
 returns-clause-exact g c =
-    summary_done _ _ _ c.write_summary.new.writer.failed c.in_ok-script.script c.in_ok-run.run' c.in_ok-summary.summary c.in_ok-script.ensures.ok c.in_ok-run.ensures.config c.in_ok-run.ensures.ran c.in_ok-run.ensures.ok c.in_ok-summary.ensures
+    summary_done _ _ _ c.write_summary.new.writer.failed c.in_ok-script.script c.in_ok-run.run' c.summarize-summary.result c.in_ok-script.ensures.ok c.in_ok-run.ensures.config c.in_ok-run.ensures.ran c.in_ok-run.ensures.ok c.summarize-summary.ensures
     c.in_ok-write_summary.ensures

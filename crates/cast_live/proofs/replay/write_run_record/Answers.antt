@@ -1,10 +1,12 @@
-use Rattle.std.proofs.Common.{◌≡◌, ℕ, List, [], ◌∷◌, ◌++◌, ◌∙◌, Err, ap, sym, subst, Option}
+use Rattle.std.proofs.Common.{◌≡◌, ℕ, List, [], ◌∷◌, ◌++◌, ◌∙◌, ◌+◌, Err, ap, sym, subst, Option}
 use Rattle.std.proofs.lemmas.Result.{err_from_is_err_and}
 use Rattle.cast_message.specs.declared.event.Event.{Event}
 use Rattle.cast_merge.specs.ByStamp.{merged_events}
 use Rattle.cast_record.specs.declared.line.Line.TheVariants.{End}
 use Rattle.cast_record.specs.Lines.{head_of, lines_for}
 use Rattle.cast_record.specs.Text.{line_text, record_text}
+use Rattle.cast_words.specs.Written.{WroteAll}
+use Rattle.cast_text.specs.Text.{BreaksOff}
 use Rattle.cast_words.proofs.WritingLemmas.{IsGoing, going_start, going_again, going_more}
 use Rattle.cast_world.specs.Group.{Stands}
 use Rattle.cast_text.specs.RecordLaws.{wants_memory, breaks_longer}
@@ -12,7 +14,7 @@ use Rattle.cast_model.specs.Replies.{after}
 use Rattle.cast_live.specs.Replayed.{record_of_accepted}
 use Rattle.cast_live.specs.Walk.{IsWalk}
 use Rattle.cast_live.proofs.Replaying.{writes_last}
-use Rattle.cast_live.proofs.Walking.{rest_text, text_begins, text_left, text_next, text_ends, walk_begins, walk_next, wants, going_wants}
+use Rattle.cast_live.proofs.Walking.{rest_text, text_left, text_next, text_ends, took, took_none, walk_begins, walk_next, wants, going_wants}
 use Rattle.cast_live.proofs.replay.write_run_record.Goals as goal
 
 pub returns-in_err-world : goal.returns-in_err-world
@@ -27,8 +29,11 @@ returns-in_err-put_head g c =
     let events = merged_events c.args.report.now.reports in
     let p = err_from_is_err_and c.from_residual-in_err-put_head.result c.from_residual-in_err-put_head.ensures.1 in
     let rest = rest_text config 0 [] events in
-    let broke = breaks_longer c.in_err-put_head.field-0.0 _ _ _ (line_text (head_of c.config-config.result.now) ++ 10 ∷ []) rest c.in_err-put_head.ensures.text in
-    rw (p.1, p.2) (subst (λ k. _) c.config-config.ensures broke)
+    let why = c.in_err-put_head.field-0.0 in
+    let old = g.W.Write.contents c.args.writer.now.inner in
+    let new = g.W.Write.contents c.put_head.new.writer.inner in
+    let broke = subst (λ k. BreaksOff why old new c.put_head.new.writer.failed (line_text (head_of k) ++ 10 ∷ [])) c.config-config.ensures c.in_err-put_head.ensures.text in
+    rw (p.1, p.2) (breaks_longer why old new c.put_head.new.writer.failed (line_text (head_of config) ++ 10 ∷ []) rest broke)
 
 pub events-init : goal.events-init
 events-init g c =
@@ -38,13 +43,14 @@ events-init g c =
     let stands = subst (λ k. Stands k [] c.in_ok-world.world) c.config-config.ensures c.in_ok-world.ensures in
     let old = g.W.Write.contents c.args.writer.now.inner in
     let new = g.W.Write.contents c.put_head.new.writer.inner in
-    let head : line_text (head_of config) ++ 10 ∷ [] ≡ line_text (head_of c.config-config.result.now) ++ 10 ∷ [] = ap (λ k. line_text (head_of k) ++ 10 ∷ []) (sym c.config-config.ensures) in
-    let going = going_more (going_again (going_start c.requires) (text_begins config events ∙ ap (λ h. h ++ rest_text config 0 [] events) head)) c.in_ok-put_head.ensures.text in
+    let wrote = subst (λ k. WroteAll old new c.put_head.new.writer.failed (line_text (head_of k) ++ 10 ∷ [])) c.config-config.ensures c.in_ok-put_head.ensures.text in
+    let start : IsGoing old old c.args.writer.now.failed whole ((line_text (head_of config) ++ 10 ∷ []) ++ rest_text config 0 [] events) = going_start c.requires in
+    let going = going_more start wrote in
     let P : List Event → Type 0 = λ left. (w : IsWalk config events 0 left c.in_ok-world.world) × IsGoing old new c.put_head.new.writer.failed whole (rest_text config 0 w.past left) in
     subst P (sym c.in_ok-merged.ensures) (walk_begins config events c.in_ok-world.world stands, going)
 
-pub returns-in_err-take_next : goal.returns-in_err-take_next
-returns-in_err-take_next g c = wants c.from_residual-in_err-take_next.result c.from_residual-in_err-take_next.ensures.1 (going_wants c.events.invariant.1)
+pub returns-in_err-event : goal.returns-in_err-event
+returns-in_err-event g c = wants c.from_residual-in_err-event.result c.from_residual-in_err-event.ensures.1 (going_wants c.events.invariant.1)
 
 pub returns-in_err-reply : goal.returns-in_err-reply
 returns-in_err-reply g c = wants c.from_residual-in_err-reply.result c.from_residual-in_err-reply.ensures.1 (going_wants c.events.invariant.1)
@@ -62,14 +68,14 @@ returns-in_err-put_lines g c =
     let why = c.in_err-put_lines.field-0.0 in
     let lines = record_text (lines_for l.index event reply) in
     let left = rest_text config (l.index + 1) (after config w.past event) rest in
-    let next = text_left config events l.index l.merged l.world w event rest c.in-Some.ensures c.take_step.new.world reply c.in_ok-reply.ensures.step in
+    let next = text_left config events l.index l.merged l.world w event rest (took _ l.merged c.take_next.new.self c.in-Some.event c.in_ok-event.ensures c.in-Some.is) c.take_step.new.world reply c.in_ok-reply.ensures.step in
     rw (p.1, p.2) (writes_last _ _ (Err why) (lines ++ left) (going_again l.invariant.1 next) (breaks_longer why _ _ _ lines left c.in_err-put_lines.ensures.text))
 
-pub returns-in_err-next_index : goal.returns-in_err-next_index
-returns-in_err-next_index g c =
+pub returns-in_err-index : goal.returns-in_err-index
+returns-in_err-index g c =
     let l = c.events in
-    let next = text_left c.args.report.now.config (merged_events c.args.report.now.reports) l.index l.merged l.world l.invariant.0 c.in-Some.event c.take_next.new.self c.in-Some.ensures c.take_step.new.world c.in_ok-reply.reply c.in_ok-reply.ensures.step in
-    wants c.from_residual-in_err-next_index.result c.from_residual-in_err-next_index.ensures.1 (going_wants (going_more (going_again l.invariant.1 next) c.in_ok-put_lines.ensures.text))
+    let next = text_left c.args.report.now.config (merged_events c.args.report.now.reports) l.index l.merged l.world l.invariant.0 c.in-Some.event c.take_next.new.self (took _ l.merged c.take_next.new.self c.in-Some.event c.in_ok-event.ensures c.in-Some.is) c.take_step.new.world c.in_ok-reply.reply c.in_ok-reply.ensures.step in
+    wants c.from_residual-in_err-index.result c.from_residual-in_err-index.ensures.1 (going_wants (going_more (going_again l.invariant.1 next) c.in_ok-put_lines.ensures.text))
 
 pub events-preserved : goal.events-preserved
 events-preserved g c =
@@ -81,13 +87,13 @@ events-preserved g c =
     let rest = c.take_next.new.self in
     let later = c.take_step.new.world in
     let reply = c.in_ok-reply.reply in
-    let next = c.in_ok-next_index.field-0 in (
-      walk_next config events l.index l.merged l.world w event rest c.in-Some.ensures later reply c.in_ok-reply.ensures.step next c.in_ok-next_index.ensures c.in_ok-reply.ensures.range,
-      going_more (going_again l.invariant.1 (text_next config events l.index l.merged l.world w event rest c.in-Some.ensures later reply c.in_ok-reply.ensures.step next c.in_ok-next_index.ensures)) c.in_ok-put_lines.ensures.text,
+    let is = took _ l.merged rest event c.in_ok-event.ensures c.in-Some.is in (
+      walk_next config events l.index l.merged l.world w event rest is later reply c.in_ok-reply.ensures.step _ c.in_ok-index.ensures c.in_ok-reply.ensures.range,
+      going_more (going_again l.invariant.1 (text_next config events l.index l.merged l.world w event rest is later reply c.in_ok-reply.ensures.step _ c.in_ok-index.ensures)) c.in_ok-put_lines.ensures.text,
     )
 
 pub returns : goal.returns
 returns g c =
     let l = c.events in
     writes_last _ _ c.put_line.result (line_text End ++ 10 ∷ [])
-    (going_again l.invariant.1 (text_ends c.args.report.now.config (merged_events c.args.report.now.reports) l.index l.merged l.world l.invariant.0 c.in_default.ensures)) c.put_line.ensures.text
+    (going_again l.invariant.1 (text_ends c.args.report.now.config (merged_events c.args.report.now.reports) l.index l.merged l.world l.invariant.0 (took_none _ l.merged _ c.in_ok-event.ensures c.in_default.is))) c.put_line.ensures.text

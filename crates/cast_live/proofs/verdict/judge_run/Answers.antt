@@ -10,7 +10,7 @@ use Rattle.cast_live.specs.Replayed.{record_of_accepted}
 use Rattle.cast_live.specs.Walk.{IsWalk}
 use Rattle.cast_live.proofs.Replaying.{good_replay}
 use Rattle.cast_live.proofs.VerdictLemmas.{IsFed, fed_none, fed_more}
-use Rattle.cast_live.proofs.Walking.{rest_text, text_begins, text_next, text_ends, walk_begins, walk_next, walk_ends, all_ranges, few_events}
+use Rattle.cast_live.proofs.Walking.{rest_text, text_begins, text_next, text_ends, took, took_none, walk_begins, walk_next, walk_ends, all_ranges, few_events}
 use Rattle.cast_live.proofs.verdict.judge_run.Goals as goal
 
 pub events-init : goal.events-init
@@ -36,15 +36,15 @@ events-preserved c =
     let rest = c.take_next.new.self in
     let later = c.take_step.new.world in
     let reply = c.in_ok-reply.reply in
-    let next = c.in_ok-next_index.field-0 in (
-      walk_next config events l.index l.merged l.world w event rest c.in-Some.ensures later reply c.in_ok-reply.ensures.step next c.in_ok-next_index.ensures c.in_ok-reply.ensures.range,
-      fed_more _ _ _ _ l.judging c.feed_event.new.judging l.invariant.1 (text_next config events l.index l.merged l.world w event rest c.in-Some.ensures later reply c.in_ok-reply.ensures.step next c.in_ok-next_index.ensures) c.in_ok-feed_event.ensures,
+    let is = took _ l.merged rest event c.in_ok-event.ensures c.in-Some.is in (
+      walk_next config events l.index l.merged l.world w event rest is later reply c.in_ok-reply.ensures.step _ c.in_ok-index.ensures c.in_ok-reply.ensures.range,
+      fed_more _ _ _ _ l.judging c.feed_event.new.judging l.invariant.1 (text_next config events l.index l.merged l.world w event rest is later reply c.in_ok-reply.ensures.step _ c.in_ok-index.ensures) c.in_ok-feed_event.ensures,
     )
 
 pub returns-clause-stands : goal.returns-clause-stands
 returns-clause-stands c =
     let l = c.events in
-    walk_ends c.args.report.now.config (merged_events c.args.report.now.reports) l.index l.merged l.world l.invariant.0 c.in_default.ensures
+    walk_ends c.args.report.now.config (merged_events c.args.report.now.reports) l.index l.merged l.world l.invariant.0 (took_none _ l.merged _ c.in_ok-event.ensures c.in_default.is)
 
 pub returns-clause-good : goal.returns-clause-good
 returns-clause-good c =
@@ -53,7 +53,7 @@ returns-clause-good c =
     let l = c.events in
     let w = l.invariant.0 in
     let last = record_text (End ∷ []) in
-    let none = c.in_default.ensures in
+    let none = (took_none _ l.merged _ c.in_ok-event.ensures c.in_default.is) in
     let fed = fed_more _ last [] _ l.judging c.feed_lines-2.new.judging l.invariant.1 (text_ends config events l.index l.merged l.world w none ∙ sym (append-nil last)) c.in_ok-feed_lines-2.ensures in
     c.in_ok-verdict.ensures.said fed.fed fed.stands ∙ sym (ap (λ t. verdict t) (fed.parts ∙ append-nil fed.fed))
     ∙ good_replay config events (all_ranges config events l.index l.merged l.world w none) (few_events config events l.index l.merged l.world w none)
