@@ -133,10 +133,13 @@ pub fn meet<R: Threads + Wait + Print + Copy + Send + 'static>(
     let gates = meeting_gates(alloc, nodes, &meeting)?;
     let config = Shape::new(u64::from(nodes), 0, 1).config()?;
     run_live(rt, alloc, config, &no_faults(alloc), jobs, gates, TURNS)?;
+    let came = meeting.arrived.load(Ordering::SeqCst);
     let gave_up = meeting.gave_up.load(Ordering::SeqCst);
     let host = meeting.host_replies.load(Ordering::SeqCst);
     let guests = meeting.guest_replies.load(Ordering::SeqCst);
-    println!(&rt; "{row}: {gave_up} gave up, replies at node 0 {host}, at the others {guests}")?;
+    println!(&rt;
+        "{row}: node 0 came {came}, {gave_up} gave up, replies at node 0 {host}, at the others {guests}"
+    )?;
     Ok(())
 }
 
