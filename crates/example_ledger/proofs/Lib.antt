@@ -1,5 +1,1 @@
-pub mod Applying
-pub mod Summing
-pub mod EndedTellers
-pub mod Given
-pub mod Making
+pub mod Agreeing

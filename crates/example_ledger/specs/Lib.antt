@@ -1,5 +1,2 @@
-pub mod Transfers
 pub mod Sheets
-pub mod Applied
-pub mod Tellers
-pub mod Story
+pub mod Law

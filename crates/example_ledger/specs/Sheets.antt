@@ -1,19 +1,27 @@
--- The sheet of what was applied.
---     received journal a     what account a received by these messages, in all
---     sent journal a         what it sent
---     IsSheetOf sheet journal    the sheet has these sums of each account
-use Rattle.std.specs.Prelude.{◌≡◌, ℕ, ◌+◌, ◌-◌, ◌^◌, ◌<◌, ◌==◌, min, if◌then◌else◌, List, length, slice_index, slice_set, Option, Some, None}
+-- The sheet of what was delivered.
+--     transfer_of bytes, transfer_in item    the transfer that these bytes say, and that an item says
+--     received journal a, sent journal a     what account a received by these messages in all, and what it sent
+--     IsSheetOf sheet journal                the sheet has these sums of each account
+use Rattle.std.specs.Prelude.{◌≡◌, ℕ, ◌+◌, ◌-◌, ◌*◌, ◌^◌, ◌<◌, ◌==◌, nat_lt, ◌&&◌, min, if◌then◌else◌, List, [], ◌∷◌, length, slice_index, slice_set, Option, Some, None}
 use Rattle.std.specs.List.{sum_by}
-use Rattle.cast_message.specs.declared.message.Message.{Message}
+use Rattle.cast.specs.Types.{Item, Message, Data}
 use Rattle.example_ledger.specs.declared.transfer.Transfer.{Transfer}
-use Rattle.example_ledger.specs.declared.book.Sheet.{Sheet}
-use Rattle.example_ledger.specs.Transfers.{account_count, transfer_in}
+use Rattle.example_ledger.specs.declared.sheet.Sheet.{Sheet}
 
--- A book: what was applied, in order, its sheet, and how many messages it has room for.
-pub record BookState : Type 0 where
-  pub journal : List Message
-  pub sheet : Sheet
-  pub room : ℕ
+abbrev pub account_count : ℕ
+account_count = 4
+
+-- the two accounts, and the amount, its high byte first
+abbrev pub transfer_of : List ℕ → Option Transfer
+transfer_of (from ∷ to ∷ high ∷ low ∷ []) =
+    if nat_lt from account_count && nat_lt to account_count
+    then Some (record { from = from; to = to; amount = 256 * high + low })
+    else None
+transfer_of _ = None
+
+abbrev pub transfer_in : Item → Option Transfer
+transfer_in (Data bytes) = transfer_of bytes
+transfer_in _ = None
 
 abbrev pub received_by : ℕ → Option Transfer → ℕ
 received_by a None = 0

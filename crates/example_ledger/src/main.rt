@@ -1,70 +1,56 @@
-//! A ledger that each node of a group keeps for itself: transfers between accounts are broadcast, and a node applies them as
-//! it delivers them. The program takes a list of events with losses, a repeat, a reordering and a crash, and prints the
-//! balances at each node.
+//! A ledger that each node of a group keeps for itself: transfers between accounts are broadcast, and a node's sheet takes those
+//! that the node delivers. The same followers run by a seed, with losses and a crash, and in threads, with losses.
 //!
-//! Broadcast is in FIFO order: a node applies the transfers of one sender in the order in which that sender ordered them, but
-//! those of different senders as they come, and another node may see them otherwise. So what a node keeps must not depend on
-//! the order between senders. Here it is sums, of what each account received and of what it sent: whoever has applied the same
-//! of each sender has the same sums. That an account is never overdrawn could not be kept so: whether a transfer is covered
-//! would depend on what came before it.
-//!
-//! The same orders then go through a group that runs in threads. There a client's job at each node, a teller, orders them and
-//! keeps the book, by the notices that its node gives it.
+//! What a node keeps must not depend on the order between senders. Here it is sums, of what each account received and of what
+//! it sent. That an account is never overdrawn could not be kept so: whether a transfer is covered would depend on what came
+//! before it.
 #![tactic(auto)]
 
-mod book;
-mod first_path;
-mod ledger;
-mod running;
+mod law;
+mod sheet;
 mod story;
-mod teller;
 mod transfer;
 
 use anyhow::Result;
-use cast_message::NodeId;
-use first_path::first_path;
-use ledger::run_ledger;
-use running::run_tellers;
+use cast::{Followed, run_followers, run_followers_by_seed};
+use sheet::Sheet;
 use std::alloc::Global;
 use std::sync::Wait;
 use std::thread::Threads;
 
 fn main(rt: HostRuntime) -> Result<()> {
-    println!(&rt; "first path: {} delivered", first_path(rt.alloc())?)?;
-    step_by_step(&rt, rt.alloc())?;
+    by_seed(&rt, rt.alloc(), 7)?;
     in_threads(rt, rt.alloc())
 }
 
-fn step_by_step(rt: &impl Print, alloc: Global) -> Result<()> {
-    let events = story::events(alloc)?;
-    let ledger = run_ledger(alloc, story::config()?, events.as_slice())?;
-    println!(rt; "step by step")?;
-    for (node, book) in ledger.books.iter().enumerate() {
-        let crashed = if ledger.world.live(NodeId(node as u8)) {
-            ""
-        } else {
-            ", crashed"
-        };
-        println!(rt; "node {node}{crashed}:{}", book.sheet())?;
-    }
-    println!(rt; "at rest: {}", ledger.at_rest)?;
-    Ok(())
+fn by_seed<R: Wait + Print>(rt: &R, alloc: Global, seed: u64) -> Result<()> {
+    let plan = story::losses_and_a_crash(alloc)?;
+    let run =
+        run_followers_by_seed(rt, alloc, story::config()?, &plan, story::ledgers(alloc)?, seed)?;
+    println!(rt; "by seed {seed}, node 2 crashes")?;
+    show(rt, &run)
 }
 
-// How the threads take turns differs from run to run. What is printed doesn't: the tellers end when all is delivered, unless
-// memory was wanting, or a teller was called as often as a job is at most before that.
+// How the threads take turns differs from run to run. What is printed doesn't: at rest all have delivered all items.
 fn in_threads<R: Threads + Wait + Print + Copy + Send + 'static>(
     rt: R,
     alloc: Global,
 ) -> Result<()> {
-    let config = story::config()?;
     let plan = story::losses(alloc)?;
-    let ledger = run_tellers(rt, alloc, config, &plan, story::tellers(alloc)?)?;
+    let run = run_followers(rt, alloc, story::config()?, &plan, story::ledgers(alloc)?)?;
     println!(&rt; "in threads")?;
-    for (teller, client) in ledger.tellers.iter().zip(ledger.clients.iter()) {
-        let left = if teller.is_done() { "" } else { ", not done" };
-        println!(&rt; "node {}{left}:{}", client.node.0, teller.book().sheet())?;
+    show(&rt, &run)
+}
+
+fn show(rt: &impl Print, run: &Followed<Sheet>) -> Result<()> {
+    for (sheet, client) in run.machines.iter().zip(run.clients.iter()) {
+        let crashed = if run.assembly.world.live(client.node) {
+            ""
+        } else {
+            ", crashed"
+        };
+        println!(rt; "node {}{crashed}:{sheet}", client.node.0)?;
     }
-    println!(&rt; "at rest: {}", ledger.assembly.world.at_rest())?;
+    println!(rt; "at rest: {}", run.assembly.world.at_rest())?;
     Ok(())
 }

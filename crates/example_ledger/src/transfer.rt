@@ -1,9 +1,8 @@
 //! Transfers between accounts, and the items that say them.
 ghost use Rattle.std.specs.Prelude.{◌≡◌, ◌<◌, Some, IfOk, IfSome};
-ghost use Rattle.example_ledger.specs.Transfers.{transfer_in, account_count};
+ghost use Rattle.example_ledger.specs.Sheets.{account_count, transfer_in};
 
-use bytes::Bytes;
-use cast_message::{Item, Payload};
+use cast::{Item, data};
 use std::alloc::{AllocError, Global};
 
 /// How many accounts there are. They are numbered from 0.
@@ -42,13 +41,12 @@ impl Transfer {
         })
     }
 
-    /// The item that says the transfer, or want of memory.
+    /// The item that says the transfer, if there are such accounts, or want of memory.
     pub fn item(&self, alloc: Global) -> Result<Item, AllocError>
-        requires { (self.now.from < account_count) × (self.now.to < account_count) }
-        ensures { IfOk result (λ item. transfer_in item ≡ Some self.now) }
+        ensures { IfOk result (λ item. self.now.from < account_count
+            → self.now.to < account_count → transfer_in item ≡ Some self.now) }
     {
         let [high, low] = self.amount.to_be_bytes();
-        let bytes = Bytes::copy_from_slice(alloc, &[self.from, self.to, high, low])?;
-        Ok(Item::Data(Payload::new(bytes)))
+        data(alloc, &[self.from, self.to, high, low])
     }
 }

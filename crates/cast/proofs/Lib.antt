@@ -1,0 +1,4 @@
+pub mod WholeFeeds
+pub mod Hearing
+pub mod Following
+pub mod Sums

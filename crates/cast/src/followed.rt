@@ -1,0 +1,139 @@
+//! A group of followers that has run, and its machines, which have taken all that their nodes delivered.
+ghost use Rattle.std.specs.Prelude.{◌≡◌, ℕ, List, slice_get, IfOk, IfErr, OnOk};
+ghost use Rattle.cast_message.specs.declared.config.Config.{Config as Configured};
+ghost use Rattle.cast_job.specs.Faults.{Fits, IsFaultOf};
+ghost use Rattle.cast_script.specs.declared.script.Fault.{Fault};
+ghost use Rattle.cast.specs.declared.follower.Follower.{Follower as Following};
+ghost use Rattle.cast.specs.Followers.{FollowerFact, AreNewFollowers};
+ghost use Rattle.cast.specs.Groups.{IsRun};
+ghost use Rattle.cast.specs.Followed.{AreCaughtUp, IsFollowed, told_by};
+
+use crate::follower::Follower;
+use crate::followers::Followers;
+use crate::group::{run_group, run_group_by_seed};
+use crate::machine::Machine;
+use cast_desk::{Notice, feed};
+use cast_merge::{Assembly, assemble};
+use cast_message::{Config, List};
+use cast_report::{GroupReport, NodeReport};
+use cast_run::{ClientReport, LiveFault, LiveRun};
+use cast_script::FaultPlan;
+use std::alloc::{AllocError, Global};
+use std::sync::Wait;
+use std::thread::Threads;
+
+/// What a group of followers has come to.
+#[derive(Drop)]
+pub struct Followed<M> {
+    /// The machines, in the order in which their followers were added. Each has taken all that its node delivered.
+    pub machines: Vec<M>,
+    /// What became of each follower's items, and at which node it was, in the same order.
+    pub clients: Vec<ClientReport>,
+    /// The log, the end and the node of each node.
+    pub report: GroupReport,
+    /// What all nodes did, as one list of events, with the replies, and the group after them. Its `world.at_rest()` says whether the
+    /// group has come to rest, `world.live(node)` who has not crashed.
+    pub assembly: Assembly,
+}
+
+/// Runs a group of followers in threads, as `run_group` does, and merges what its nodes logged. A follower hands its machine what
+/// it hears while the group runs; what its node delivered after the follower was done, the machine takes once all threads have
+/// ended. So each machine has taken exactly what its node delivered, in that order: of each sender a prefix of what was
+/// broadcast there, each item once. At rest live nodes have delivered the same of each sender, in uniform mode where no fault is
+/// tolerated, or no more nodes have crashed than are. It is refused as `run_group` is.
+pub fn run_followers<M: Machine + Send + Drop + 'static, R: Threads + Wait + Copy + Send + 'static>(
+    rt: R,
+    alloc: Global,
+    config: Config,
+    plan: &FaultPlan,
+    followers: Followers<M>,
+) -> Result<Followed<M>, LiveFault>
+    ensures followed { IfOk result (IsFollowed M.stands config plan.now.faults followers) }
+    ensures fits { OnOk result (Fits config.nodes followers config.nodes plan.now.faults) }
+    ensures fault { IfErr result
+        (IsFaultOf config.nodes followers config.nodes plan.now.faults) }
+{
+    let live = run_group(rt, alloc, config, plan, followers.into_jobs())?;
+    Ok(conclude(alloc, live)?)
+}
+
+/// Runs a group of followers in the calling thread, as `run_group_by_seed` does: the same seed makes the same run again. What is
+/// known of the answer is what is known of threads.
+pub fn run_followers_by_seed<M: Machine + Drop, R: Wait>(
+    rt: &R,
+    alloc: Global,
+    config: Config,
+    plan: &FaultPlan,
+    followers: Followers<M>,
+    seed: u64,
+) -> Result<Followed<M>, LiveFault>
+    ensures followed { IfOk result (IsFollowed M.stands config plan.now.faults followers) }
+    ensures fits { OnOk result (Fits config.nodes followers config.nodes plan.now.faults) }
+    ensures fault { IfErr result
+        (IsFaultOf config.nodes followers config.nodes plan.now.faults) }
+{
+    let live = run_group_by_seed(rt, alloc, config, plan, followers.into_jobs(), seed)?;
+    Ok(conclude(alloc, live)?)
+}
+
+// Merges the logs, and brings each machine up to what its node delivered.
+fn conclude<M: Machine + Drop>(
+    alloc: Global,
+    run: LiveRun<Follower<M>>,
+) -> Result<Followed<M>, AllocError>
+    ensures { IfOk result (λ followed.
+        (config : Configured) (faults : List Fault) (followers : List (ℕ × Following M))
+        → IsRun config faults (FollowerFact M.stands) followers run
+        → AreNewFollowers M.stands followers
+        → IsFollowed M.stands config faults followers followed) }
+{
+    let LiveRun {
+        report,
+        clients,
+        jobs,
+    } = run;
+    let assembly = assemble(alloc, &report)?;
+    let machines = catch_up(alloc, report.reports(), clients.as_slice(), jobs)?;
+    Ok(Followed {
+        machines,
+        clients,
+        report,
+        assembly,
+    })
+}
+
+// The machine of each follower, once it has taken what its client was told and it has not heard.
+fn catch_up<M: Machine + Drop>(
+    alloc: Global,
+    reports: &[NodeReport],
+    clients: &[ClientReport],
+    followers: Vec<Follower<M>>,
+) -> Result<Vec<M>, AllocError>
+    ensures { IfOk result (λ machines.
+        AreCaughtUp M.stands reports.now clients.now followers.items machines.items) }
+{
+    let mut machines = Vec::new(alloc);
+    for follower in followers {
+        let told = told_to(alloc, reports, clients, machines.len())?;
+        machines.push(follower.caught_up(told.as_slice()))?;
+    }
+    Ok(machines)
+}
+
+// All that the client at this place is told by the log of its node, if there are both.
+fn told_to(
+    alloc: Global,
+    reports: &[NodeReport],
+    clients: &[ClientReport],
+    place: usize,
+) -> Result<List<Notice>, AllocError>
+    ensures { IfOk result (λ told. told ≡ told_by reports.now (slice_get clients.now place)) }
+{
+    let Some(client) = clients.get(place) else {
+        return Ok(List::new(alloc));
+    };
+    let Some(report) = reports.get(usize::from(client.node.0)) else {
+        return Ok(List::new(alloc));
+    };
+    feed(alloc, &report.log, client.client)
+}

@@ -1,0 +1,62 @@
+//! The kit by one name: what a user of it needs, in groups, in the order of need. Your crate's line in `crates.txt` says
+//! `NAME: cast anyhow`, and its code `use cast::{..}`. Beside the names of the crates below stand a few conveniences, and the
+//! state machine that a group follows (`Machine`, `Followers`, `run_followers`).
+#![tactic(auto)]
+
+mod followed;
+mod follower;
+mod followers;
+mod group;
+mod items;
+mod machine;
+mod settings;
+
+// Types, which every use wants: what is broadcast, to whom, within which limits. `Settings::of` has the usual configuration,
+// `data` makes an item of bytes.
+pub use cast_message::{
+    Answer, Config, ConfigFault, Decision, Event, Frame, FrameBody, FrameKind, Item, List, Message,
+    Mode, NodeId, Outcome, Payload, Reply, StepFault,
+};
+pub use items::data;
+pub use settings::Settings;
+
+// The group as one value, if you say yourself what happens when: a test bed, or a run that is read step by step. No thread and
+// no time is in it.
+pub use cast_world::{World, run_events};
+
+// A group that follows a state machine, in threads or by a seed: the service is the machine, and all else is proved once.
+pub use followed::{Followed, run_followers, run_followers_by_seed};
+pub use follower::Follower;
+pub use followers::Followers;
+pub use machine::Machine;
+
+// A group of jobs of your own, in threads or by a seed, if a client does more than submit a list and follow. `run_group` has the
+// usual gates and limits, `run_live` and `run_scheduled` take them from you.
+pub use cast_desk::{Client, DeskFault, Notice};
+pub use cast_run::{
+    ClientJob, ClientReport, CountingGate, Gate, Listed, LiveFault, LiveRun, OpenGate, Progress,
+    Recorded, Schedule, Seeded, Submissions, SubmitAll, find_misfit, run_live, run_scheduled,
+};
+pub use cast_script::{Fault, FaultPlan, Frames};
+pub use group::{USUAL_STEPS, USUAL_TURNS, run_group, run_group_by_seed};
+pub use items::no_faults;
+
+// What a group in threads has come to: its logs, and the one history that they make.
+pub use cast_merge::{Assembly, EngineEnd, GroupReport, NodeReport, assemble};
+
+// One node, if you carry its frames yourself, by a network of your own.
+pub use cast_node::{Entry, EntryKind, Log, Node, Origin};
+
+// Records and their judge, which checks a trace of any system, and scripts.
+ghost use Rattle.cast.specs.Sums.{SumsAgree};
+
+pub use cast_judge::{Judging, Verdict, judge};
+pub use cast_record::{Line, MigrateFault, lines_of, migrate, read_line, write_line, write_record};
+pub use cast_script::{Script, ScriptEvent, ScriptFault, read_script, write_script};
+pub use cast_words::{Meter, WriteFault};
+
+/// A law of lists of messages: whatever number each message counts for, lists that have the same messages of each sender come to
+/// the same sum. So machines that keep sums agree wherever their nodes have delivered the same of each sender.
+pub fn sums_agree()
+    ensures { SumsAgree }
+{}
