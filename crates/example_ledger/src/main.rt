@@ -25,8 +25,14 @@ fn main(rt: HostRuntime) -> Result<()> {
 
 fn by_seed<R: Wait + Print>(rt: &R, alloc: Global, seed: u64) -> Result<()> {
     let plan = story::losses_and_a_crash(alloc)?;
-    let run =
-        run_followers_by_seed(rt, alloc, story::config()?, &plan, story::ledgers(alloc)?, seed)?;
+    let run = run_followers_by_seed(
+        rt,
+        alloc,
+        story::config()?,
+        &plan,
+        story::ledgers(alloc)?,
+        seed,
+    )?;
     println!(rt; "by seed {seed}, node 2 crashes")?;
     show(rt, &run)
 }

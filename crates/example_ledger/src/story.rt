@@ -49,7 +49,8 @@ pub fn losses(alloc: Global) -> Result<FaultPlan, AllocError> {
     for from in 0..NODES {
         for to in 0..NODES {
             if from != to {
-                plan.faults.push(lose_every_second(NodeId(from), NodeId(to)))?;
+                plan.faults
+                    .push(lose_every_second(NodeId(from), NodeId(to)))?;
             }
         }
     }

@@ -45,6 +45,9 @@ pub fn show(rt: &impl Print, how: &str, voters: &[Voter]) -> Result<()> {
         .iter()
         .filter(|voter| voter.decided != least && voter.decided != most)
         .count();
-    println!(rt; "{how}: all decided {all}, two values at most {}", others == 0)?;
+    println!(rt;
+        "{how}: all decided {all}, two values at most {}",
+        others == 0
+    )?;
     Ok(())
 }

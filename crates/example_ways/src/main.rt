@@ -17,7 +17,10 @@ fn main(rt: HostRuntime) -> Result<()> {
     println!(&rt; "one value: {} delivered", world::first_path(alloc)?)?;
     by_seed(&rt, alloc)?;
     in_threads(rt, alloc)?;
-    println!(&rt; "frames by hand: {} delivered", transport::carry_all(alloc)?)?;
+    println!(&rt;
+        "frames by hand: {} delivered",
+        transport::carry_all(alloc)?
+    )?;
     Ok(())
 }
 

@@ -19,11 +19,16 @@ pub fn carry_all(alloc: Global) -> Result<usize> {
         first.order(data(alloc, b"a")?)?;
     }
     for round in 0..ROUNDS {
-        for frame in sent(alloc, &mut nodes)?.into_iter().skip(usize::from(round == 0)) {
+        for frame in sent(alloc, &mut nodes)?
+            .into_iter()
+            .skip(usize::from(round == 0))
+        {
             arrive(&mut nodes, &frame)?;
         }
     }
-    let delivered = nodes.iter().map(|node| node.delivered(NodeId(0)).unwrap_or(&[]).len());
+    let delivered = nodes
+        .iter()
+        .map(|node| node.delivered(NodeId(0)).unwrap_or(&[]).len());
     Ok(delivered.sum())
 }
 
