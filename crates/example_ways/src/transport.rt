@@ -26,10 +26,12 @@ pub fn carry_all(alloc: Global) -> Result<usize> {
             arrive(&mut nodes, &frame)?;
         }
     }
-    let delivered = nodes
-        .iter()
-        .map(|node| node.delivered(NodeId(0)).unwrap_or(&[]).len());
-    Ok(delivered.sum())
+    let mut delivered = 0usize;
+    for node in &nodes {
+        let items = node.delivered(NodeId(0)).unwrap_or(&[]);
+        delivered = delivered.saturating_add(items.len());
+    }
+    Ok(delivered)
 }
 
 // A frame of the least slot that each node owes each peer.
