@@ -1,7 +1,10 @@
 /* Loaded before a program, this library refuses one allocation: the one whose number, from 1 on, the variable REFUSE_NTH
    names. All others go to the C library. In the same way it refuses the thread that REFUSE_THREAD names, and the one that
    REFUSE_THREADS names with all after it. Threads may allocate at the same time: each allocation has a number of its own. How
-   many there were stands as a long in the file that COUNT_ALLOCATIONS names, in whatever way the program ends. */
+   many there were stands as a long in the file that COUNT_ALLOCATIONS names, in whatever way the program ends.
+
+   The read that FAIL_READ names fails with EIO, and so does the write that FAIL_WRITE names; of the write that SHORT_WRITE
+   names one byte is taken, and of the one that EMPTY_WRITE names none. Reads and writes of all files count. */
 #define _GNU_SOURCE
 #include <dlfcn.h>
 #include <errno.h>
@@ -9,6 +12,7 @@
 #include <pthread.h>
 #include <stdlib.h>
 #include <sys/mman.h>
+#include <sys/uio.h>
 #include <unistd.h>
 
 static long *allocations = NULL; /* in the file, where there is one */
@@ -82,4 +86,59 @@ int posix_memalign(void **block, size_t align, size_t size) {
     static int (*next)(void **, size_t, size_t);
     if (!next) next = next_of("posix_memalign");
     return refused() ? ENOMEM : next(block, align, size);
+}
+
+/* Whether this is the read that fails. */
+static int read_fails(void) {
+    static long left = -1;
+    if (!counts_down("FAIL_READ", &left, 0)) return 0;
+    errno = EIO;
+    return 1;
+}
+
+/* What comes of this write: -1 where it fails, 0 or 1 where it takes no more bytes, 2 where it takes all. */
+static int write_takes(void) {
+    static long failing = -1, empty = -1, shorter = -1;
+    int fails = counts_down("FAIL_WRITE", &failing, 0);
+    int takes_none = counts_down("EMPTY_WRITE", &empty, 0);
+    int takes_one = counts_down("SHORT_WRITE", &shorter, 0);
+    if (fails) errno = EIO;
+    return fails ? -1 : takes_none ? 0 : takes_one ? 1 : 2;
+}
+
+ssize_t read(int file, void *into, size_t size) {
+    static ssize_t (*next)(int, void *, size_t);
+    if (!next) next = next_of("read");
+    return read_fails() ? -1 : next(file, into, size);
+}
+
+ssize_t readv(int file, const struct iovec *parts, int count) {
+    static ssize_t (*next)(int, const struct iovec *, int);
+    if (!next) next = next_of("readv");
+    return read_fails() ? -1 : next(file, parts, count);
+}
+
+static ssize_t write_some(int file, const void *from, size_t size) {
+    static ssize_t (*next)(int, const void *, size_t);
+    if (!next) next = next_of("write");
+    int takes = size ? write_takes() : 2;
+    return takes < 0 ? -1 : takes == 0 ? 0 : next(file, from, takes == 1 ? 1 : size);
+}
+
+ssize_t write(int file, const void *from, size_t size) { return write_some(file, from, size); }
+
+/* Programs call the C library's write by this name too. */
+ssize_t __write(int file, const void *from, size_t size) { return write_some(file, from, size); }
+
+/* As many writes as there are parts with bytes: one that is taken short ends them. */
+ssize_t writev(int file, const struct iovec *parts, int count) {
+    ssize_t written = 0;
+    for (int part = 0; part < count; part++) {
+        if (!parts[part].iov_len) continue;
+        ssize_t taken = write_some(file, parts[part].iov_base, parts[part].iov_len);
+        if (taken < 0) return written ? written : -1;
+        written += taken;
+        if ((size_t)taken < parts[part].iov_len) break;
+    }
+    return written;
 }

@@ -1,6 +1,5 @@
-"""What the scripts of this folder share: how they are called, how they find worked rows, how they run a program, how they refuse
-it memory and threads, how they read the summary of a group in threads, and how they tell their counts."""
-import json
+"""What the scripts of this folder share: how they are called, how they run a program, how they refuse it memory and threads, how
+they read the summary of a group in threads, and how they tell their counts."""
 import os
 import re
 import subprocess
@@ -9,11 +8,6 @@ from pathlib import Path
 
 SCRIPTS = Path(__file__).resolve().parent
 TOP = SCRIPTS.parent
-ROWS = TOP / "rows"
-ROW_ENDINGS = (
-    *("script.json", "script.json.parts", "record", "record.parts"),
-    *("words", "stdout", "stdout.pattern", "stderr", "stderr.pattern", "status"),
-)
 # Each allocation of a program is refused in turn, up to this one: those that are run so make some hundreds.
 MOST_ALLOCATIONS = 5000
 # So many runs in succession that were refused nothing are past the last allocation.
@@ -52,45 +46,11 @@ def numbers(usage, words, defaults):
     return [int(word) for word in words] + defaults[len(words):]
 
 
-def row_at(path):
-    """The row to which a file belongs, by its path without an ending."""
-    ending = next((ending for ending in ROW_ENDINGS if path.name.endswith(f".{ending}")), None)
-    if ending is None:
-        raise SystemExit(f"{path}: no file of a row")
-    return path.with_name(path.name.removesuffix(f".{ending}"))
-
-
-def rows_of(command):
-    """The rows of a command, or of all, each by its path without an ending; scripts/rows tells what stands there."""
-    return sorted({row_at(path) for path in ROWS.glob(f"{command}/*")})
-
-
-def beside(row, ending):
-    """The path of a row with this ending."""
-    return row.with_name(f"{row.name}.{ending}")
-
-
-def input_of(row):
-    """The input of a row, put together where it stands there in parts."""
-    for ending in ("script.json", "record"):
-        if beside(row, ending).exists():
-            return beside(row, ending).read_bytes()
-        parts = beside(row, f"{ending}.parts")
-        if parts.exists():
-            return "".join(text * times for text, times in json.loads(parts.read_text())).encode()
-    raise SystemExit(f"{row.name}: no input")
-
-
-def scripts_that_run():
-    """The rows of `run` that are not refused."""
-    return [row for row in rows_of("run") if beside(row, "status").read_text().split() == ["0"]]
-
-
 def run(command, seconds, variables={}, **options):
     """Status, output and standard error of a program. One that goes on for longer has no status, and its error text says so."""
     options = {"stdout": subprocess.PIPE, "stderr": subprocess.PIPE} | options
     if "input" not in options:
-        options["stdin"] = subprocess.DEVNULL
+        options.setdefault("stdin", subprocess.DEVNULL)
     try:
         done = subprocess.run(command, timeout=seconds, env=os.environ | variables, **options)
     except subprocess.TimeoutExpired:

@@ -5,15 +5,15 @@ _castgroup() {
         [[ -n $command || " run judge live migrate draw help " != *" $before "* ]] || command=$before
     done
     COMPREPLY=()
-    [[ " --from --record --replay --seed --times --to " != *" $before "* ]] || return
+    [[ " --draw --from --record --replay --seed --times --to " != *" $before "* ]] || return
     case $command in
-    '') COMPREPLY=($(compgen -W "run judge live migrate draw help --explain --help --version" -- "$word")) ;;
+    '') COMPREPLY=($(compgen -W "run judge live migrate draw help --explain --terse --help --version" -- "$word")) ;;
     help) COMPREPLY=($(compgen -W "run judge live migrate draw help" -- "$word")) ;;
-    run) [[ $word != -* ]] || COMPREPLY=($(compgen -W "--explain --help" -- "$word")) ;;
-    judge) [[ $word != -* ]] || COMPREPLY=($(compgen -W "--explain --help" -- "$word")) ;;
-    live) [[ $word != -* ]] || COMPREPLY=($(compgen -W "--explain --seed --times --record --replay --progress --help" -- "$word")) ;;
-    migrate) [[ $word != -* ]] || COMPREPLY=($(compgen -W "--explain --help" -- "$word")) ;;
-    draw) [[ $word != -* ]] || COMPREPLY=($(compgen -W "--explain --from --to --help" -- "$word")) ;;
+    run) [[ $word != -* ]] || COMPREPLY=($(compgen -W "--explain --terse --help" -- "$word")) ;;
+    judge) [[ $word != -* ]] || COMPREPLY=($(compgen -W "--explain --terse --help" -- "$word")) ;;
+    live) [[ $word != -* ]] || COMPREPLY=($(compgen -W "--seed --times --record --replay --draw --progress --explain --terse --help" -- "$word")) ;;
+    migrate) [[ $word != -* ]] || COMPREPLY=($(compgen -W "--explain --terse --help" -- "$word")) ;;
+    draw) [[ $word != -* ]] || COMPREPLY=($(compgen -W "--from --to --html --explain --terse --help" -- "$word")) ;;
     esac
 }
 complete -o default -F _castgroup castgroup

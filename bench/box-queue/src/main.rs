@@ -1,5 +1,5 @@
 //! How many pushes and pops crossbeam's own `ArrayQueue` passes in a second, with 1, 2, 8 and 64 producers in threads of
-//! their own and the consumer in the first thread: the measure beside the program `bench_boxes`, which takes the same
+//! their own and the consumer in the first thread: the measure beside `test_driver time boxes`, which takes the same
 //! arguments (how many numbers, how many places).
 
 use crossbeam_queue::ArrayQueue;

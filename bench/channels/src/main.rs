@@ -1,14 +1,14 @@
-//! Threads that hand every item to every other by crossbeam's bounded channels: the measure beside the program `bench_run`,
+//! Threads that hand every item to every other by crossbeam's bounded channels: the measure beside `test_driver time threads`,
 //! with no protocol. Nothing is lost, logged or acknowledged, and no node passes on what it did not make. The arguments are
-//! the number of nodes, of items a node, and a third that is not read, since no frame is lost here; what is printed has the
-//! places of `bench_run`: deliveries, entries (none), microseconds, and that all was delivered.
+//! the number of nodes and of items a node; what is printed has the places of that command: deliveries, entries (none),
+//! microseconds, and that all was delivered.
 
 use crossbeam_channel::{bounded, Receiver, Sender};
 use std::sync::Arc;
 use std::thread;
 use std::time::Instant;
 
-/// How many items a channel holds, as many as a box of `bench_run`.
+/// How many items a channel holds, as many as a box of a script has by itself.
 const PLACES: usize = 64;
 
 /// An item with its sender and its number, a payload of one byte that all copies share.

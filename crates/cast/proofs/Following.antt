@@ -20,8 +20,8 @@ use Rattle.cast_model.proofs.DecidedAtRest.{all_delivered_same}
 use Rattle.cast_desk.specs.Feed.{feed}
 use Rattle.cast_desk.specs.declared.notice.Notice.{Notice}
 use Rattle.cast_job.specs.Jobs.{told_job}
-use Rattle.cast_report.specs.Linked.{Linked, steps_in}
-use Rattle.cast_report.specs.declared.report.NodeReport.{NodeReport}
+use Rattle.cast_node.specs.Linked.{Linked, steps_in}
+use Rattle.cast_node.specs.declared.report.NodeReport.{NodeReport}
 use Rattle.cast_merge.specs.Merge.{TellsMerge, event_in}
 use Rattle.cast_merge.specs.Told.{message_told, told}
 use Rattle.cast.proofs.WholeFeeds.{told_feed, merged_steps}

@@ -6,13 +6,13 @@ use Rattle.cast_carrier.specs.Plans.{crash_from}
 use Rattle.cast_desk.specs.declared.desk.OrderIn.{OrderIn}
 use Rattle.cast_desk.specs.declared.notice.Notice.{Notice}
 use Rattle.cast_engine.specs.Journals.{EndsAs}
-use Rattle.cast_report.specs.Linked.{Linked}
-use Rattle.cast_report.specs.declared.report.NodeReport.{NodeReport}
+use Rattle.cast_node.specs.Linked.{Linked}
+use Rattle.cast_node.specs.declared.report.NodeReport.{NodeReport}
 use Rattle.cast_run.specs.Planned.{faults_of, KeepsTo}
 use Rattle.cast_run.specs.Serves.{AreStamped, AreServed, HaveOrigins}
 use Rattle.cast_run.specs.declared.reports.ClientReport.{ClientReport}
 use Rattle.cast_run.specs.declared.run.LiveRun.{LiveRun}
-use Rattle.cast_script.specs.declared.script.Fault.{Fault}
+use Rattle.cast_message.specs.declared.plan.Fault.{Fault}
 use Rattle.std.specs.Prelude.{Bool}
 
 -- each log ends as plan and limit say

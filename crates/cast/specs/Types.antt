@@ -6,5 +6,5 @@ pub use Rattle.cast_message.specs.declared.message.Message.{Message}
 pub use Rattle.cast_desk.specs.declared.desk.OrderIn.{OrderIn}
 pub use Rattle.cast_desk.specs.declared.notice.Notice.{Notice}
 pub use Rattle.cast_desk.specs.declared.notice.Notice.TheVariants.{Reply, Delivered, Decided}
-pub use Rattle.cast_script.specs.declared.script.Fault.{Fault}
+pub use Rattle.cast_message.specs.declared.plan.Fault.{Fault}
 pub use Rattle.cast_run.specs.declared.reports.ClientReport.{ClientReport}

@@ -2,7 +2,7 @@
 ghost use Rattle.std.specs.Prelude.{◌≡◌, ℕ, List, slice_get, IfOk, IfErr, OnOk};
 ghost use Rattle.cast_message.specs.declared.config.Config.{Config as Configured};
 ghost use Rattle.cast_job.specs.Faults.{Fits, IsFaultOf};
-ghost use Rattle.cast_script.specs.declared.script.Fault.{Fault};
+ghost use Rattle.cast_message.specs.declared.plan.Fault.{Fault};
 ghost use Rattle.cast.specs.declared.follower.Follower.{Follower as Following};
 ghost use Rattle.cast.specs.Followers.{FollowerFact, AreNewFollowers};
 ghost use Rattle.cast.specs.Groups.{IsRun};
@@ -15,7 +15,7 @@ use crate::machine::Machine;
 use cast_desk::{Notice, feed};
 use cast_merge::{Assembly, assemble};
 use cast_message::{Config, List};
-use cast_report::{GroupReport, NodeReport};
+use cast_node::{GroupReport, NodeReport};
 use cast_run::{ClientReport, LiveFault, LiveRun};
 use cast_script::FaultPlan;
 use std::alloc::{AllocError, Global};

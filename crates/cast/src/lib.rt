@@ -51,9 +51,10 @@ pub use cast_node::{Entry, EntryKind, Log, Node, Origin};
 ghost use Rattle.cast.specs.Sums.{SumsAgree};
 
 pub use cast_judge::{Judging, Verdict, judge};
-pub use cast_record::{Line, MigrateFault, lines_of, migrate, read_line, write_line, write_record};
+pub use cast_record::{
+    Line, Meter, MigrateFault, WriteFault, lines_of, migrate, read_line, write_line, write_record,
+};
 pub use cast_script::{Script, ScriptEvent, ScriptFault, read_script, write_script};
-pub use cast_words::{Meter, WriteFault};
 
 /// A law of lists of messages: whatever number each message counts for, lists that have the same messages of each sender come to
 /// the same sum. So machines that keep sums agree wherever their nodes have delivered the same of each sender.

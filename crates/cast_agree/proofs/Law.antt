@@ -9,7 +9,7 @@ use Rattle.std.specs.FinSet.{len-empty, contains-empty, contains-insert}
 use Rattle.std.specs.FinMap.{get-insert, get-empty}
 use Rattle.std.proofs.Common.{sym, ap, ◌∙◌, subst, arith, inl, inr, length-append}
 use Rattle.std.proofs.lemmas.Bool.Decides.{nat_tests, leb_tells, eqb_tells}
-use Rattle.cast_sets.specs.Members.{len-new_member}
+use Rattle.cast_message.specs.Members.{len-new_member}
 use Rattle.cast_message.specs.declared.message.Item.{Item}
 use Rattle.cast_message.specs.declared.message.Item.TheVariants.{Data, Propose, Close}
 use Rattle.cast_message.specs.declared.message.Decision.{Decision}

@@ -1,8 +1,8 @@
 -- The crash that a plan names, read fault by fault.
 use Rattle.std.proofs.Common.{◌≡◌, ◌≢◌, ◌≤◌, ◌∙◌, ◌==◌, ◌⊎◌, inl, inr, ⊎_elim, ℕ, zero, suc, ◌+◌, nat_lt, Bool, true, false, if◌then◌else◌, List, [], ◌∷◌, ◌++◌, Option, None, Some, slice_get, take, sym, ap, refl, arith, subst, eqb-true, eq-eqb, ltb-true}
 use Rattle.std.proofs.lemmas.Bool.Decides.{nat_tests}
-use Rattle.cast_script.specs.declared.script.Fault.{Fault}
-use Rattle.cast_script.specs.declared.script.Fault.TheVariants.{Lose, Repeat, Delay, Crash}
+use Rattle.cast_message.specs.declared.plan.Fault.{Fault}
+use Rattle.cast_message.specs.declared.plan.Fault.TheVariants.{Lose, Repeat, Delay, Crash}
 use Rattle.cast_carrier.specs.Lists.{Has}
 use Rattle.cast_carrier.specs.Plans.{crash_by, crash_from, least, IsLeastCrash}
 use Rattle.cast_carrier.proofs.Lists.{has_none}

@@ -5,7 +5,7 @@ use Rattle.std.specs.List.{list_any}
 use Rattle.std.proofs.lemmas.List.Folds.{list_any-append}
 use Rattle.cast_message.specs.declared.message.Frame.{Frame}
 use Rattle.cast_message.specs.declared.message.FrameKind.{FrameKind}
-use Rattle.cast_script.specs.declared.script.Fault.{Fault}
+use Rattle.cast_message.specs.declared.plan.Fault.{Fault}
 use Rattle.cast_carrier.specs.declared.fate.Fate.{Fate}
 use Rattle.cast_carrier.specs.declared.fate.NamedFrame.{NamedFrame}
 use Rattle.cast_carrier.specs.declared.fate.Ordinals.{Ordinals}

@@ -3,8 +3,8 @@ use Rattle.std.proofs.Common.{◌≡◌, ℕ, max, List, [], ◌∷◌, sym, ref
 use Rattle.std.specs.Prelude.{◌==◌, if◌then◌else◌}
 use Rattle.std.specs.List.{filter}
 use Rattle.std.proofs.lemmas.Map.Views.{any-filter_same}
-use Rattle.cast_script.specs.declared.script.Fault.{Fault}
-use Rattle.cast_script.specs.declared.script.Fault.TheVariants.{Lose, Repeat, Delay, Crash}
+use Rattle.cast_message.specs.declared.plan.Fault.{Fault}
+use Rattle.cast_message.specs.declared.plan.Fault.TheVariants.{Lose, Repeat, Delay, Crash}
 use Rattle.cast_carrier.specs.declared.fate.NamedFrame.{NamedFrame}
 use Rattle.cast_carrier.specs.Plans.{is_to}
 use Rattle.cast_carrier.specs.Fates.{loses, repeats, delay_by, delay_of, fate_by, AreFatedAlike}

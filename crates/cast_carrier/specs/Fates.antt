@@ -13,9 +13,9 @@ use Rattle.cast_message.specs.declared.message.Frame.{Frame}
 use Rattle.cast_message.specs.declared.message.FrameKind.{FrameKind}
 use Rattle.cast_message.specs.declared.message.FrameKind.TheVariants.{Carry, Took}
 use Rattle.cast_message.specs.Items.{kind_of}
-use Rattle.cast_script.specs.declared.script.Fault.{Fault}
-use Rattle.cast_script.specs.declared.script.Frames.{Frames}
-use Rattle.cast_script.specs.declared.script.Fault.TheVariants.{Lose, Repeat, Delay, Crash}
+use Rattle.cast_message.specs.declared.plan.Fault.{Fault}
+use Rattle.cast_message.specs.declared.plan.Frames.{Frames}
+use Rattle.cast_message.specs.declared.plan.Fault.TheVariants.{Lose, Repeat, Delay, Crash}
 use Rattle.cast_carrier.specs.Plans.{is_to}
 use Rattle.cast_carrier.specs.declared.fate.Fate.{Fate}
 use Rattle.cast_carrier.specs.declared.fate.NamedFrame.{NamedFrame}

@@ -4,8 +4,7 @@ ghost use Rattle.cast_carrier.specs.Fates.{is_kind, is_among, IsAmong, is_one_of
 
 use crate::faults::CarrierFaults;
 use crate::parcel::Parcel;
-use cast_message::{FrameKind, NodeId};
-use cast_script::{Fault, Frames};
+use cast_message::{Fault, FrameKind, Frames, NodeId};
 
 /// How many frames of each kind were taken for a target.
 #[derive(Clone, Copy)]

@@ -4,8 +4,7 @@ ghost use Rattle.std.specs.Prelude.{◌≡◌, IfOk};
 ghost use Rattle.cast_carrier.specs.Fates.{AreByTarget, AreFatedAlike};
 
 use crate::plan::{LinkEnd, faults_at};
-use cast_message::NodeId;
-use cast_script::Fault;
+use cast_message::{Fault, NodeId};
 use std::alloc::{AllocError, Global};
 use std::marker::Model;
 
@@ -21,7 +20,7 @@ pub struct CarrierFaults {
 impl Model for CarrierFaults {
     ghost use Rattle.std.specs.Prelude.{List};
     ghost use Rattle.cast_carrier.specs.Fates.{AreByTarget};
-    ghost use Rattle.cast_script.specs.declared.script.Fault.{Fault as Planned};
+    ghost use Rattle.cast_message.specs.declared.plan.Fault.{Fault as Planned};
 
     ghost Value = { List Planned };
 

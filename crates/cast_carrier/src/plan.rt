@@ -3,8 +3,7 @@ ghost use Rattle.std.specs.Prelude.{◌≡◌, ◌≢◌, [], ◌↔◌, None, I
 ghost use Rattle.std.specs.List.{filter};
 ghost use Rattle.cast_carrier.specs.Plans.{ArePlanned, IsPlanned, IsLink, crash_by, crash_from, IsLeastCrash, is_from, is_at, least};
 
-use cast_message::NodeId;
-use cast_script::Fault;
+use cast_message::{Fault, NodeId};
 use std::alloc::{AllocError, Global};
 
 /// Whether each fault names nodes of the group, and no link of a node to itself. It takes no memory.

@@ -1,4 +1,5 @@
 //! The commands with their arguments and texts.
+use crate::version::VERSION;
 use clap::builder::ValueParser;
 use clap::{Arg, ArgAction, Command, value_parser};
 use std::alloc::{AllocError, Global};
@@ -61,15 +62,27 @@ fn with_command<'a>(
 fn program<'a>(alloc: Global) -> Result<Command<'a>, AllocError> {
     Command::new(alloc, "castgroup")
         .about("A FIFO broadcast group with k-set agreement")
-        .version("0.1.0")
+        .version(VERSION)
         .subcommand_required(true)
-        .arg(explain_flag(alloc))
+        .arg(explain_flag(alloc)?)?
+        .arg(terse_flag(alloc))
 }
 
-// The flag that each command takes.
-fn explain_flag<'a>(alloc: Global) -> Arg<'a> {
-    let help = "Say in one more line on standard error where a fault is, and why";
-    flag(alloc, "explain", help).global(true)
+// Where the flags that each command takes stand in its help: behind its own, and before that for help.
+const LAST: usize = 900;
+
+// Flags that each command takes.
+fn explain_flag<'a>(alloc: Global) -> Result<Arg<'a>, AllocError> {
+    let help = "Say in one more line on standard error where a fault is, and why, as on a terminal";
+    flag(alloc, "explain", help)
+        .global(true)
+        .display_order(LAST)
+        .conflicts_with("terse")
+}
+
+fn terse_flag<'a>(alloc: Global) -> Arg<'a> {
+    let help = "Say no more than the fault itself, also on a terminal";
+    flag(alloc, "terse", help).global(true).display_order(LAST)
 }
 
 fn flag<'a>(alloc: Global, name: &'static str, help: &'static str) -> Arg<'a> {
@@ -80,11 +93,17 @@ fn flag<'a>(alloc: Global, name: &'static str, help: &'static str) -> Arg<'a> {
 }
 
 fn script<'a>(alloc: Global) -> Arg<'a> {
-    Arg::new(alloc, "SCRIPT").help("The script; standard input if absent")
+    Arg::new(alloc, "SCRIPT").help("The script; standard input if absent or -")
 }
 
 fn record<'a>(alloc: Global) -> Arg<'a> {
-    Arg::new(alloc, "RECORD").help("The record; standard input if absent")
+    Arg::new(alloc, "RECORD").help("The record; standard input if absent or -")
+}
+
+fn records<'a>(alloc: Global) -> Arg<'a> {
+    Arg::new(alloc, "RECORD").num_args(0..).help(
+        "The records; standard input if absent or -. Of more than one each verdict stands behind its name",
+    )
 }
 
 fn run_command<'a>(alloc: Global) -> Result<Command<'a>, AllocError> {
@@ -98,10 +117,11 @@ fn judge_command<'a>(alloc: Global, rules: &'static str) -> Result<Command<'a>, 
     Command::new(alloc, "judge")
         .about("Says whether a record is good, or which line breaks which rule")
         .after_help(rules)
-        .arg(record(alloc))
+        .arg(records(alloc))
 }
 
-fn live_command<'a>(alloc: Global) -> Result<Command<'a>, AllocError> {
+/// The command that runs the group of a script.
+pub fn live_command<'a>(alloc: Global) -> Result<Command<'a>, AllocError> {
     let command = Command::new(alloc, "live")
         .about("Runs a script's group, by its plan and jobs, and writes what became of it")
         .after_help(ENDS);
@@ -123,12 +143,15 @@ fn with_seeds<'a>(alloc: Global, command: Command<'a>) -> Result<Command<'a>, Al
 }
 
 fn with_outputs<'a>(alloc: Global, command: Command<'a>) -> Result<Command<'a>, AllocError> {
-    let record = "Also write the record of the run to FILE";
+    let record =
+        "Also write the record of the run to FILE; - is standard output, and the summary then goes to standard error";
     let replay = "Also write to FILE a script that runs the same step by step";
+    let picture = "Also write to FILE a picture of the run as SVG";
     let progress = "Say on standard error each second how far the run is, as on a terminal";
     command
         .arg(option(alloc, "record", "FILE", record))?
         .arg(option(alloc, "replay", "FILE", replay))?
+        .arg(option(alloc, "draw", "FILE", picture))?
         .arg(flag(alloc, "progress", progress))
 }
 
@@ -155,11 +178,13 @@ fn migrate_command<'a>(alloc: Global) -> Result<Command<'a>, AllocError> {
 pub fn draw_command<'a>(alloc: Global) -> Result<Command<'a>, AllocError> {
     let from = "The first event that is drawn, counted from 0; the first of all if absent";
     let to = "The last event that is drawn; the last of all if absent";
+    let html = "Write one HTML page instead, which holds the picture and steps through the run";
     Command::new(alloc, "draw")
         .about("Writes a picture of a script's events as SVG")
         .after_help(MARKS)
         .arg(place(alloc, "from", "A", from))?
         .arg(place(alloc, "to", "B", to))?
+        .arg(flag(alloc, "html", html))?
         .arg(script(alloc))
 }
 

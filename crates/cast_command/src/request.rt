@@ -1,26 +1,84 @@
 //! What the words of a call ask for.
-use crate::commands::{castgroup_command, draw_command};
+use crate::commands::{castgroup_command, draw_command, live_command};
 use clap::error::ErrorKind;
 use clap::{ArgMatches, Command, Error};
 use std::alloc::{AllocError, Global};
 use std::io;
 
-/// What a command is called on, and whether it explains its faults.
+/// Where a text is read or written.
 #[derive(Clone, Copy)]
-pub struct Call<'a> {
-    /// The file that is read; standard input where none is named.
-    pub path: Option<&'a str>,
-    /// Whether a line on standard error says where a fault is, and why.
-    pub explains: bool,
+pub enum Place<'a> {
+    /// Standard input, or standard output.
+    Standard,
+    /// The file of this name.
+    File(&'a str),
 }
 
-/// The files that are kept of a run, where they are named.
+impl<'a> Place<'a> {
+    /// The place that a word names: `-` is no file.
+    pub fn named(word: &'a str) -> Place<'a> {
+        if word == "-" {
+            Place::Standard
+        } else {
+            Place::File(word)
+        }
+    }
+
+    /// The word that names the place.
+    pub fn word(self) -> &'a str {
+        match self {
+            Place::Standard => "-",
+            Place::File(path) => path,
+        }
+    }
+
+    fn is_standard(self) -> bool {
+        matches!(self, Place::Standard)
+    }
+}
+
+/// Whether more is said on standard error than the fixed texts.
 #[derive(Clone, Copy)]
-pub struct RunFiles<'a> {
+pub enum Detail {
+    /// Where standard error is a terminal.
+    OnTerminal,
+    Always,
+    Never,
+}
+
+/// What is kept of a run, where it is wanted.
+#[derive(Clone, Copy)]
+pub struct RunPlaces<'a> {
     /// The record of what happened.
-    pub record: Option<&'a str>,
+    pub record: Option<Place<'a>>,
     /// The script that says what happened.
-    pub replay: Option<&'a str>,
+    pub replay: Option<Place<'a>>,
+    /// The picture of what happened.
+    pub picture: Option<Place<'a>>,
+}
+
+impl RunPlaces<'_> {
+    /// Whether nothing is kept.
+    pub fn is_empty(&self) -> bool {
+        self.record.is_none() && self.replay.is_none() && self.picture.is_none()
+    }
+
+    /// How many of the outputs go to standard output.
+    pub fn count_standard(&self) -> usize {
+        let places = [self.record, self.replay, self.picture];
+        places
+            .iter()
+            .flatten()
+            .filter(|place| place.is_standard())
+            .count()
+    }
+}
+
+/// So many seeds, of which this is the first. Behind the greatest number comes 0.
+#[derive(Clone, Copy)]
+pub struct Seeds {
+    pub first: u64,
+    pub times: u64,
 }
 
 /// How a script's group runs.
@@ -30,35 +88,48 @@ pub enum Running {
     InThreads,
     /// Once, by the schedule of this seed.
     BySeed(u64),
-    /// By so many seeds, of which this is the first.
-    BySeeds { first: u64, times: u64 },
+    /// By each of these seeds.
+    BySeeds(Seeds),
+}
+
+/// A group that is to run.
+#[derive(Clone, Copy)]
+pub struct LiveTask<'a> {
+    pub script: Place<'a>,
+    pub running: Running,
+    pub places: RunPlaces<'a>,
+    /// Whether it is told how far the run is, also where standard error is no terminal.
+    pub tells_progress: bool,
 }
 
 /// What the program is asked to do.
-#[derive(Clone, Copy)]
-pub enum Request<'a> {
+#[derive(Drop)]
+pub enum Task<'a> {
     /// To write the record of a script.
-    Run(Call<'a>),
-    /// To judge a record.
-    Judge(Call<'a>),
+    Run(Place<'a>),
+    /// To judge these records, one at least.
+    Judge(Vec<Place<'a>>),
     /// To run the group of a script.
-    Live {
-        call: Call<'a>,
-        running: Running,
-        files: RunFiles<'a>,
-        /// Whether it is told how far the run is, also where standard error is no terminal.
-        tells_progress: bool,
-    },
+    Live(LiveTask<'a>),
     /// To draw the run of a script.
     Draw {
-        call: Call<'a>,
+        script: Place<'a>,
         /// The first event that is drawn, where one is named.
         from: Option<u64>,
         /// The last, which does not stand before it.
         to: Option<u64>,
+        /// Whether a page is written that steps through the run, and not the picture alone.
+        as_page: bool,
     },
     /// To write a record with the new head.
-    Migrate(Call<'a>),
+    Migrate(Place<'a>),
+}
+
+/// What a call asks for.
+#[derive(Drop)]
+pub struct Request<'a> {
+    pub task: Task<'a>,
+    pub detail: Detail,
 }
 
 /// Why nothing is to be done.
@@ -110,41 +181,91 @@ pub fn parse<'a>(
     rules: &'static str,
 ) -> Result<Request<'a>, Refusal> {
     let matches = castgroup_command(alloc, rules)?.try_get_matches_from(words)?;
-    request_of(alloc, rules, &matches)
-}
-
-fn request_of<'a>(
-    alloc: Global,
-    rules: &'static str,
-    matches: &ArgMatches<'a>,
-) -> Result<Request<'a>, Refusal> {
     match matches.subcommand() {
-        Some(("run", inner)) => Ok(Request::Run(call_on(inner, "SCRIPT"))),
-        Some(("judge", inner)) => Ok(Request::Judge(call_on(inner, "RECORD"))),
-        Some(("live", inner)) => Ok(live(inner)),
-        Some(("draw", inner)) => draw(alloc, inner),
-        Some(("migrate", inner)) => Ok(Request::Migrate(call_on(inner, "RECORD"))),
+        Some((command, inner)) => Ok(Request {
+            task: task_of(alloc, command, inner)?,
+            detail: detail_of(inner),
+        }),
         // (a command line that names none was refused before)
-        _ => Err(fault(castgroup_command(alloc, rules)?, "a command is wanted")),
+        None => Err(fault(castgroup_command(alloc, rules)?, "a command is wanted")),
     }
 }
 
-fn call_on<'a>(matches: &ArgMatches<'a>, input: &str) -> Call<'a> {
-    Call {
-        path: matches.get_str(input),
-        explains: matches.get_flag("explain"),
+fn task_of<'a>(
+    alloc: Global,
+    command: &str,
+    matches: &ArgMatches<'a>,
+) -> Result<Task<'a>, Refusal> {
+    match command {
+        "run" => Ok(Task::Run(input_of(matches, "SCRIPT"))),
+        "judge" => Ok(Task::Judge(records_of(alloc, matches)?)),
+        "live" => live(alloc, matches),
+        "draw" => draw(alloc, matches),
+        // (there is no other)
+        _ => Ok(Task::Migrate(input_of(matches, "RECORD"))),
     }
 }
 
-fn live<'a>(matches: &ArgMatches<'a>) -> Request<'a> {
-    Request::Live {
-        call: call_on(matches, "SCRIPT"),
+fn detail_of(matches: &ArgMatches<'_>) -> Detail {
+    if matches.get_flag("explain") {
+        Detail::Always
+    } else if matches.get_flag("terse") {
+        Detail::Never
+    } else {
+        Detail::OnTerminal
+    }
+}
+
+fn place_of<'a>(matches: &ArgMatches<'a>, name: &str) -> Option<Place<'a>> {
+    Some(Place::named(matches.get_str(name)?))
+}
+
+fn input_of<'a>(matches: &ArgMatches<'a>, name: &str) -> Place<'a> {
+    place_of(matches, name).unwrap_or(Place::Standard)
+}
+
+fn records_of<'a>(alloc: Global, matches: &ArgMatches<'a>) -> Result<Vec<Place<'a>>, AllocError> {
+    let mut places = Vec::new(alloc);
+    for word in matches.get_strs("RECORD").unwrap_or(&[]) {
+        places.push(Place::named(word))?;
+    }
+    if places.is_empty() {
+        places.push(Place::Standard)?;
+    }
+    Ok(places)
+}
+
+// Two outputs in one stream are a fault.
+fn live<'a>(alloc: Global, matches: &ArgMatches<'a>) -> Result<Task<'a>, Refusal> {
+    let places = RunPlaces {
+        record: place_of(matches, "record"),
+        replay: place_of(matches, "replay"),
+        picture: place_of(matches, "draw"),
+    };
+    if places.count_standard() > 1 {
+        let command = live_command(alloc)?.bin_name("castgroup live")?;
+        return Err(fault(
+            command,
+            "one of --record, --replay and --draw at most is standard output",
+        ));
+    }
+    Ok(Task::Live(LiveTask {
+        script: input_of(matches, "SCRIPT"),
         running: running_of(matches),
-        files: RunFiles {
-            record: matches.get_str("record"),
-            replay: matches.get_str("replay"),
+        places: RunPlaces {
+            record: unless_again(unless_again(places.record, places.replay), places.picture),
+            replay: unless_again(places.replay, places.picture),
+            picture: places.picture,
         },
         tells_progress: matches.get_flag("progress"),
+    }))
+}
+
+// An output, unless a later one is written to the same file, which then has that.
+fn unless_again<'a>(place: Option<Place<'a>>, later: Option<Place<'a>>) -> Option<Place<'a>> {
+    match (place, later) {
+        (Some(place), Some(later)) if place.word() == later.word() => None,
+        _ => place,
     }
 }
 
@@ -155,12 +276,12 @@ fn running_of(matches: &ArgMatches<'_>) -> Running {
     match (seed, times) {
         (None, _) => Running::InThreads,
         (Some(seed), None) => Running::BySeed(seed),
-        (Some(first), Some(times)) => Running::BySeeds { first, times },
+        (Some(first), Some(times)) => Running::BySeeds(Seeds { first, times }),
     }
 }
 
 // A first event that stands behind the last is a fault.
-fn draw<'a>(alloc: Global, matches: &ArgMatches<'a>) -> Result<Request<'a>, Refusal> {
+fn draw<'a>(alloc: Global, matches: &ArgMatches<'a>) -> Result<Task<'a>, Refusal> {
     let from: Option<u64> = matches.get_one("from");
     let to: Option<u64> = matches.get_one("to");
     if from.unwrap_or(0) > to.unwrap_or(u64::MAX) {
@@ -170,10 +291,11 @@ fn draw<'a>(alloc: Global, matches: &ArgMatches<'a>) -> Result<Request<'a>, Refu
             "the first event that is drawn stands behind the last",
         ));
     }
-    Ok(Request::Draw {
-        call: call_on(matches, "SCRIPT"),
+    Ok(Task::Draw {
+        script: input_of(matches, "SCRIPT"),
         from,
         to,
+        as_page: matches.get_flag("html"),
     })
 }
 

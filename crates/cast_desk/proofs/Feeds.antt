@@ -3,12 +3,12 @@ use Rattle.std.proofs.Common.{◌≡◌, ◌≢◌, ℕ, zero, suc, ◌+◌, ◌
 use Rattle.std.proofs.lemmas.List.{append-nil, append_assoc, map-append, take_more}
 use Rattle.cast_message.specs.declared.event.Event.{Event}
 use Rattle.cast_message.specs.declared.event.Event.TheVariants.{Order, Send, Ack, Arrive, Crash}
-use Rattle.cast_node.specs.declared.entry.Entry.{Entry}
-use Rattle.cast_node.specs.declared.entry.EntryKind.{EntryKind}
-use Rattle.cast_node.specs.declared.entry.EntryKind.TheVariants.{Step, Refused}
-use Rattle.cast_node.specs.declared.log.KindRef.{KindRef}
-use Rattle.cast_node.specs.declared.log.KindRef.TheVariants.{Sent as SentRef, Acked as AckedRef, Arrived as ArrivedRef, Whole}
-use Rattle.cast_node.specs.Logged.{shown_kind}
+use Rattle.cast_log.specs.declared.entry.Entry.{Entry}
+use Rattle.cast_log.specs.declared.entry.EntryKind.{EntryKind}
+use Rattle.cast_log.specs.declared.entry.EntryKind.TheVariants.{Step, Refused}
+use Rattle.cast_log.specs.declared.log.KindRef.{KindRef}
+use Rattle.cast_log.specs.declared.log.KindRef.TheVariants.{Sent as SentRef, Acked as AckedRef, Arrived as ArrivedRef, Whole}
+use Rattle.cast_log.specs.Logged.{shown_kind}
 use Rattle.cast_desk.specs.declared.notice.Notice.{Notice}
 use Rattle.cast_desk.specs.Feed.{feed_from, told_by, orders_in, order_count, orders_of}
 

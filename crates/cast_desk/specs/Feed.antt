@@ -4,10 +4,10 @@ use Rattle.cast_message.specs.declared.event.Event.{Event}
 use Rattle.cast_message.specs.declared.event.Event.TheVariants.{Order}
 use Rattle.cast_message.specs.declared.event.Outcome.{Outcome}
 use Rattle.cast_message.specs.declared.event.StepFault.{StepFault}
-use Rattle.cast_node.specs.declared.entry.Origin.{Origin}
-use Rattle.cast_node.specs.declared.entry.Entry.{Entry}
-use Rattle.cast_node.specs.declared.entry.EntryKind.{EntryKind}
-use Rattle.cast_node.specs.declared.entry.EntryKind.TheVariants.{Step, Refused}
+use Rattle.cast_log.specs.declared.entry.Origin.{Origin}
+use Rattle.cast_log.specs.declared.entry.Entry.{Entry}
+use Rattle.cast_log.specs.declared.entry.EntryKind.{EntryKind}
+use Rattle.cast_log.specs.declared.entry.EntryKind.TheVariants.{Step, Refused}
 use Rattle.cast_desk.specs.declared.notice.Notice.{Notice}
 use Rattle.cast_desk.specs.declared.notice.Notice.TheVariants.{Reply, Delivered, Decided}
 

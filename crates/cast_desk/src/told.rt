@@ -4,8 +4,8 @@ ghost use Rattle.std.specs.Option.{option_to_list};
 ghost use Rattle.cast_desk.specs.Feed.{feed as feed_of, told_by, reply_of, refusal_of, news_of, orders_in};
 
 use crate::notice::Notice;
+use cast_log::{EntryKind, KindRef, Log, Origin};
 use cast_message::{Event, List, Outcome, StepFault};
-use cast_node::{EntryKind, KindRef, Log, Origin};
 use std::alloc::{AllocError, Global};
 
 /// What the client of this number is told of a log, entry by entry: first the reply to its own order, with the number of

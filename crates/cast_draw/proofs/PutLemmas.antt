@@ -6,8 +6,8 @@ use Rattle.cast_draw.specs.Labels.{dots, cut}
 use Rattle.std.specs.List.{flat_map}
 use Rattle.std.proofs.lemmas.Grind.{flat_map-append}
 use Rattle.std.proofs.lemmas.List.{take_more}
-use Rattle.cast_words.specs.Hex.{hex, hex_digit}
-use Rattle.cast_words.proofs.HexLemmas.{hex-append}
+use Rattle.cast_record.specs.Hex.{hex, hex_digit}
+use Rattle.cast_record.proofs.HexLemmas.{hex-append}
 
 -- one more of the pieces
 pub flat_map-more : {X : Type 0} (f : X → List ℕ) (xs : List X) (i : ℕ) (x d : X) (old now new : List ℕ) → i < length xs → x ≡ get_or xs i d

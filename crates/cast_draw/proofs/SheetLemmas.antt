@@ -16,7 +16,7 @@ use Rattle.cast_draw.specs.declared.frames.MadeFrame.{MadeFrame}
 use Rattle.cast_draw.specs.declared.side.Side.{Side}
 use Rattle.cast_draw.specs.Sides.{side_of}
 use Rattle.cast_draw.specs.FrameMarks.{lost_text, leaving_text}
-use Rattle.cast_draw.specs.Page.{stub_of, stub_by, lane_text, lines_text, name_text, some_names}
+use Rattle.cast_draw.specs.Page.{foot_text, head_text, stub_of, stub_by, stubs_of, lane_text, lines_text, name_text, picture_text, some_names, width_of_sheet}
 use Rattle.cast_draw.specs.Sheet.{Sheet, shows, bottom_of}
 use Rattle.cast_draw.specs.Drawn.{held_at, with_outcome, with_room, ordered, crashed, refused, settle_ended}
 
@@ -90,3 +90,15 @@ lines-more crashes n width crash old now new is before put =
 -- one name more
 pub names-more : (node n : ℕ) (old now new : List ℕ) → now ≡ old ++ some_names node n → new ≡ now ++ name_text node (1500 * (n + 1)) → new ≡ old ++ some_names node (n + 1)
 names-more node n old now new before put = range-put (λ place. name_text node (1500 * (place + 1))) n old now new before put
+
+-- ---- the whole picture
+
+-- three texts, and two behind them, of two
+pub front_of : (head grounds lines a b c d : List ℕ) → a ≡ [] → b ≡ a ++ head → c ≡ b ++ grounds → d ≡ c ++ lines → d ≡ head ++ (grounds ++ lines)
+front_of head grounds lines a b c d p q r s = rw (s, r, q, p) (append_assoc head grounds lines)
+
+pub picture_is : (sheet : Sheet) (front arrows marks : List ℕ) (width bottom : ℕ) → width ≡ width_of_sheet sheet → bottom ≡ bottom_of sheet.config
+    → front ≡ head_text sheet.config width (bottom + 44 + 128) ++ (sheet.grounds ++ lines_text sheet.crashes sheet.config.nodes width)
+    → arrows ≡ sheet.arrows ++ flat_map stubs_of sheet.made → marks ≡ sheet.marks ++ foot_text (bottom + 44) → front ++ (arrows ++ marks) ≡ picture_text sheet
+picture_is sheet front arrows marks width bottom wide low p q r =
+    (λ i. p i ++ (q i ++ r i)) ∙ (λ i. (head_text sheet.config (wide i) (low i + 44 + 128) ++ (sheet.grounds ++ lines_text sheet.crashes sheet.config.nodes (wide i))) ++ ((sheet.arrows ++ flat_map stubs_of sheet.made) ++ (sheet.marks ++ foot_text (low i + 44))))

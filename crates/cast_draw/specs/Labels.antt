@@ -6,8 +6,8 @@ use Rattle.std.specs.Prelude.{ℕ, ◌==◌, Bool, true, false, List, [], ◌∷
 use Rattle.std.specs.List.{list_all}
 use Rattle.cast_message.specs.declared.message.Item.{Item}
 use Rattle.cast_message.specs.declared.message.Item.TheVariants.{Data, Propose, Close}
-use Rattle.cast_words.specs.Hex.{hex}
-use Rattle.cast_words.specs.Shown.{is_printing}
+use Rattle.cast_record.specs.Hex.{hex}
+use Rattle.cast_record.specs.Shown.{is_printing}
 
 -- three dots in one letter, where a label was cut
 abbrev pub dots : Bool → List ℕ

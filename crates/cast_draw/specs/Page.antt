@@ -1,12 +1,12 @@
--- The finished picture, from back to front: head and caption, the grounds of settles, the nodes' lines, arrows and stubs, and all
--- marks of events.
+-- The finished picture, from back to front: head and caption, the grounds of settles, the nodes' lines, arrows and stubs, all
+-- marks of events, and the legend.
 --     picture_text sheet      its text
 --     stub_of frame           a frame that no shown event brought: lost, or it arrives by an event that is not shown
 use Rattle.std.specs.Prelude.{ℕ, ◌+◌, ◌-◌, ◌*◌, ◌/◌, max, nat_lt, if◌then◌else◌, List, [], ◌∷◌, ◌++◌, Option, Some, None, codes, decimal, flat_map, slice_index_or}
 use Rattle.std.specs.List.{range_with_len}
 use Rattle.cast_message.specs.declared.config.Config.{Config}
-use Rattle.cast_words.specs.Modes.{mode_word}
-use Rattle.cast_draw.specs.declared.style.TheConstants.{STYLE, COLOUR_STYLE, TIPS}
+use Rattle.cast_record.specs.Modes.{mode_word}
+use Rattle.cast_draw.specs.declared.style.TheConstants.{STYLE, COLOUR_STYLE, LEGEND, TIPS}
 use Rattle.cast_draw.specs.declared.frames.Fate.{Fate}
 use Rattle.cast_draw.specs.declared.frames.Fate.TheVariants.{UnderWay, ArrivedUnseen, Shown}
 use Rattle.cast_draw.specs.declared.frames.MadeFrame.{MadeFrame}
@@ -19,12 +19,12 @@ use Rattle.cast_draw.specs.Sheet.{Sheet, bottom_of}
 
 -- no more decided values in an instance than the choices are promised where fewer nodes than these may crash
 unfoldable pub values_word : ℕ → ℕ → List ℕ
-values_word faults choices = if nat_lt faults choices then codes " values, " else codes " values not promised, "
+values_word faults choices = if nat_lt faults choices then codes ", mode: " else codes " (not promised), mode: "
 
 abbrev pub caption : Config → List ℕ
 caption config =
-    joined (decimal config.nodes ∷ codes " nodes, " ∷ decimal config.faults ∷ codes " may crash, at most " ∷ decimal config.choices
-    ∷ values_word config.faults config.choices ∷ mode_word config.mode ∷ [])
+    joined (codes "nodes: " ∷ decimal config.nodes ∷ codes ", crashes tolerated: " ∷ decimal config.faults
+    ∷ codes ", values decided in an instance: at most " ∷ decimal config.choices ∷ values_word config.faults config.choices ∷ mode_word config.mode ∷ [])
 
 abbrev pub tip_style : List ℕ → List ℕ
 tip_style class = joined (codes ".a." ∷ class ∷ codes "{marker-end:url(#m" ∷ class ∷ codes ")}" ∷ [])
@@ -97,11 +97,15 @@ stub_of frame = if frame.is_shown then stub_by frame frame.fate else []
 abbrev pub stubs_of : List MadeFrame → List ℕ
 stubs_of frames = flat_map stub_of frames
 
--- as wide as its columns, but wide enough for the caption
+-- as wide as its columns, but wide enough for the legend
 abbrev pub width_of_sheet : Sheet → ℕ
-width_of_sheet sheet = max (sheet.next + 8) 420
+width_of_sheet sheet = max (sheet.next + 8) 680
+
+-- the legend, at this height, and the end of the picture
+abbrev pub foot_text : ℕ → List ℕ
+foot_text y = joined (codes "<g class='legend' transform='translate(12 " ∷ decimal y ∷ codes ")'>\n" ∷ LEGEND.now ∷ codes "</g>\n</svg>\n" ∷ [])
 
 abbrev pub picture_text : Sheet → List ℕ
 picture_text sheet =
-    (head_text sheet.config (width_of_sheet sheet) (bottom_of sheet.config + 44) ++ (sheet.grounds ++ lines_text sheet.crashes sheet.config.nodes (width_of_sheet sheet)))
-    ++ ((sheet.arrows ++ flat_map stubs_of sheet.made) ++ (sheet.marks ++ codes "</svg>\n"))
+    (head_text sheet.config (width_of_sheet sheet) (bottom_of sheet.config + 44 + 128) ++ (sheet.grounds ++ lines_text sheet.crashes sheet.config.nodes (width_of_sheet sheet)))
+    ++ ((sheet.arrows ++ flat_map stubs_of sheet.made) ++ (sheet.marks ++ foot_text (bottom_of sheet.config + 44)))

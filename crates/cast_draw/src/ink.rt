@@ -1,12 +1,12 @@
 //! The text of a picture as it grows.
 ghost use Rattle.std.specs.Prelude.{◌≡◌, ◌++◌, [], OnOk, decimal};
 ghost use Rattle.cast_record.specs.Text.{item_word};
-ghost use Rattle.cast_words.specs.Hex.{hex};
+ghost use Rattle.cast_record.specs.Hex.{hex};
 ghost use Rattle.cast_draw.specs.Pieces.{piece_text, place_text, text_of};
 
 use crate::label::{put_item_label, put_value_label};
 use cast_message::Item;
-use cast_words::hex_digit;
+use cast_record::hex_digit;
 use itoa::Buffer;
 use std::alloc::{AllocError, Global};
 use std::marker::Model;

@@ -2,11 +2,11 @@
 ghost use Rattle.std.specs.Prelude.{◌≡◌, ◌++◌, OnOk, take};
 ghost use Rattle.std.specs.List.{list_all};
 ghost use Rattle.cast_draw.specs.Labels.{item_label, value_label, proposal_label, data_label, text_label, hex_label, dots, escaped, escape_of};
-ghost use Rattle.cast_words.specs.Shown.{is_printing};
+ghost use Rattle.cast_record.specs.Shown.{is_printing};
 
 use crate::ink::Ink;
 use cast_message::Item;
-use cast_words::{is_printing, prefix};
+use cast_record::{is_printing, prefix};
 use itoa::Buffer;
 use std::alloc::AllocError;
 

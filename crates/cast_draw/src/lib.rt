@@ -17,6 +17,7 @@ mod side;
 mod style;
 mod window;
 
+pub use ink::{Ink, Piece};
 pub use page::{Drawing, write_drawing};
 pub use picture::Picture;
 pub use window::Window;

@@ -2,8 +2,7 @@
 ghost use Rattle.std.specs.Prelude.{◌≡◌, ◌+◌, ◌≤◌, ◌++◌, ◌∷◌, [], IfOk, OnOk, OnErr, false, if◌then◌else◌, length, not};
 ghost use Rattle.cast_draw.specs.Gifts.{holding, slot_of, nothing_given, given_on, goes_on, is_held, with_held};
 
-use cast_message::{List, NodeId};
-use cast_sets::NumberSet;
+use cast_message::{List, NodeId, NumberSet};
 use std::alloc::{AllocError, Global};
 use std::marker::Model;
 

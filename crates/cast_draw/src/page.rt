@@ -1,7 +1,7 @@
 //! The finished picture: what stands around the marks, and its text.
 ghost use Rattle.std.specs.Prelude.{◌≡◌, ◌≤◌, ◌++◌, IfOk, OnOk, false, flat_map};
-ghost use Rattle.cast_draw.specs.Page.{caption, head_text, life_text, lifeline_text, lane_text, lines_text, name_text, names_text, rest_text, stub_of, stubs_of, style_text, tip_style, tip_text, values_word};
-ghost use Rattle.cast_words.specs.Written.{Puts};
+ghost use Rattle.cast_draw.specs.Page.{caption, foot_text, head_text, life_text, lifeline_text, lane_text, lines_text, name_text, names_text, rest_text, stub_of, stubs_of, style_text, tip_style, tip_text, values_word};
+ghost use Rattle.cast_record.specs.Written.{Puts};
 
 use crate::cell::{LINES_FROM, Spot};
 use crate::frames::{Fate, MadeFrame, MadeFrames};
@@ -12,9 +12,9 @@ use crate::marks::{put_leaving, put_lost};
 use crate::picture::Picture;
 use crate::rows::crash_of;
 use crate::side::Side;
-use crate::style::{COLOUR_STYLE, STYLE, TIPS};
+use crate::style::{COLOUR_STYLE, LEGEND, LEGEND_HEIGHT, LEGEND_WIDTH, STYLE, TIPS};
 use cast_message::{Config, NodeId};
-use cast_words::{Meter, Written, mode_name, write_bytes};
+use cast_record::{Meter, Written, mode_name, write_bytes};
 use std::alloc::AllocError;
 use std::io::Write;
 use std::marker::Model;
@@ -50,8 +50,9 @@ impl Picture {
         ensures { IfOk result (λ drawing. drawing ≡ picture_text (sheet_of self)) }
     {
         let mut front = Ink::new(self.alloc);
-        let width = (self.next + 8).max(420);
-        put_head(&mut front, &self.config, width, self.bottom() + 44)?;
+        let width = (self.next + 8).max(LEGEND_WIDTH);
+        let foot = self.bottom() + 44;
+        put_head(&mut front, &self.config, width, foot + LEGEND_HEIGHT)?;
         front.put_bytes(self.grounds.as_slice())?;
         put_lines(
             &mut front,
@@ -66,7 +67,7 @@ impl Picture {
             ..
         } = self;
         put_stubs(&mut arrows, made.as_slice())?;
-        marks.put_bytes(b"</svg>\n")?;
+        put_foot(&mut marks, foot)?;
         Ok(Drawing {
             front,
             arrows,
@@ -104,6 +105,19 @@ fn put_head(ink: &mut Ink, config: &Config, width: u64, height: u64) -> Result<(
     put_style(ink)?;
     put_caption(ink, config)?;
     ink.put_bytes(b"</text>\n")
+}
+
+// The legend, at this height, and the end of the picture.
+fn put_foot(ink: &mut Ink, y: u64) -> Result<(), AllocError>
+    ensures { OnOk result (ink.new ≡ ink.old ++ foot_text y) }
+{
+    ink.put(&[
+        Text(b"<g class='legend' transform='translate(12 "),
+        Number(y),
+        Text(b")'>\n"),
+        Text(LEGEND),
+        Text(b"</g>\n</svg>\n"),
+    ])
 }
 
 fn put_style(ink: &mut Ink) -> Result<(), AllocError>
@@ -156,10 +170,11 @@ fn put_caption(ink: &mut Ink, config: &Config) -> Result<(), AllocError>
     ensures { OnOk result (ink.new ≡ ink.old ++ caption config.now) }
 {
     ink.put(&[
+        Text(b"nodes: "),
         Number(config.nodes()),
-        Text(b" nodes, "),
+        Text(b", crashes tolerated: "),
         Number(config.faults()),
-        Text(b" may crash, at most "),
+        Text(b", values decided in an instance: at most "),
         Number(config.choices()),
         Text(values_word(config)),
         Text(mode_name(config.mode())),
@@ -172,9 +187,9 @@ fn values_word(config: &Config) -> &'static [u8]
     ensures { result.now ≡ values_word config.now.faults config.now.choices }
 {
     if config.faults() < config.choices() {
-        b" values, "
+        b", mode: "
     } else {
-        b" values not promised, "
+        b" (not promised), mode: "
     }
 }
 

@@ -81,6 +81,13 @@ impl Picture {
         Ok(())
     }
 
+    /// Where the next column stands, in points from the left.
+    pub fn column(&self) -> u64
+        ensures { result ≡ (sheet_of self.now).next }
+    {
+        self.next
+    }
+
     /// A settle begins: the events from here on are its own.
     pub fn begin_settle(&mut self)
         ensures { sheet_of self.new ≡ settle_begun (sheet_of self.old) }

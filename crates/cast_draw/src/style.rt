@@ -1,4 +1,4 @@
-//! The look of a picture: its style sheet.
+//! The look of a picture: its style sheet and its legend.
 
 /// How text, lines and marks look.
 pub const STYLE: &[u8] =
@@ -20,3 +20,25 @@ pub const TIPS: &[(&[u8], &[u8])] = &[
     (b"s7", b"#6b6b00"),
     (b"k", b"#888"),
 ];
+
+/// How wide the legend is, with its margins.
+pub const LEGEND_WIDTH: u64 = 680;
+
+/// How much room in height the legend takes.
+pub const LEGEND_HEIGHT: u64 = 128;
+
+/// What each kind of mark says: two columns of a mark with its words. It begins at its left upper corner.
+pub const LEGEND: &[u8] =
+    b"<circle class='f0' cx='6' cy='10' r='5'/><text class='l' x='16' y='14'>ab</text><text class='h' x='56' y='14'>node 0 broadcasts an item of two letters</text>
+<path class='a s0' d='M340 10L384 10'/><text class='h' x='396' y='14'>a frame with an item of node 0 arrives</text>
+<circle class='f0' cx='6' cy='30' r='5'/><text class='l' x='16' y='34'>7:4</text><text class='h' x='56' y='34'>it proposes value 4 in instance 7</text>
+<path class='a k' d='M340 30L384 30'/><text class='h' x='396' y='34'>an acknowledgement arrives</text>
+<rect class='b f0' x='0' y='44' width='44' height='13' rx='3'/><text class='d t0' x='22' y='54'>0.1</text><text class='h' x='56' y='54'>node 0's item 1 is delivered; its first is item 0</text>
+<path class='o s0' d='M340 50L372 50'/><path class='e s0' d='M374 46l8 8m0 -8l-8 8'/><text class='h' x='396' y='54'>a frame never arrives</text>
+<path class='v' d='M6.5 63.5l6.5 6.5l-6.5 6.5l-6.5 -6.5z'/><text class='w' x='17' y='74'>4</text><text class='h' x='56' y='74'>value 4 is decided</text>
+<path class='u s0' d='M340 70L372 70'/><text class='h' x='396' y='74'>a frame arrives by an event that is not shown</text>
+<rect class='g' x='0' y='82' width='44' height='16'/><text class='h' x='4' y='94'>settle</text><text class='h' x='56' y='94'>rounds that bring all that is owed</text>
+<path class='x' d='M345 83l14 14m0 -14l-14 14'/><text class='h' x='396' y='94'>a node crashes</text>
+<text class='l' x='0' y='114'>close</text><text class='h' x='56' y='114'>the last item of its sender</text>
+<path class='r' d='M340 107l6 6m0 -6l-6 6'/><text class='q' x='356' y='114'>5</text><text class='h' x='396' y='114'>an event is refused with code 5</text>
+";

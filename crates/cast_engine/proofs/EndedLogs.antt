@@ -8,14 +8,14 @@ use Rattle.cast_message.specs.declared.config.Config.{Config}
 use Rattle.cast_model.specs.Steps.{Step, Ordered, Arrived}
 use Rattle.cast_box.specs.Lists.{StartsWith}
 use Rattle.cast_box.specs.Ends.{PutterEnd}
-use Rattle.cast_node.specs.declared.entry.Entry.{Entry}
+use Rattle.cast_log.specs.declared.entry.Entry.{Entry}
 use Rattle.cast_node.specs.Kept.{Kept}
 use Rattle.cast_desk.specs.declared.notice.Notice.{Notice}
 use Rattle.cast_desk.specs.Feed.{told_by, feed_from, feed, orders_in, orders_of as orders_in_log}
 use Rattle.cast_carrier.specs.declared.parcel.Parcel.{Parcel}
-use Rattle.cast_report.specs.declared.report.EngineEnd.{EngineEnd}
+use Rattle.cast_node.specs.declared.report.EngineEnd.{EngineEnd}
 use Rattle.cast_engine.specs.declared.feeding.Place.{Place}
-use Rattle.cast_report.specs.Linked.{Taken, steps_in, taken_in, taken_by, taken, taken_of, AreTaken, IsRising, EachArrival, OnArrival, made_in}
+use Rattle.cast_node.specs.Linked.{Taken, steps_in, taken_in, taken_by, taken, taken_of, AreTaken, IsRising, EachArrival, OnArrival, made_in}
 use Rattle.cast_carrier.specs.Lists.{Has}
 use Rattle.cast_engine.specs.Runs.{Moved, Served, Denied, Run, mark, made_of, trail_of, log_of, orders_of, entry_by, IsRun, clock_after, AreReceived, IsReceivedBy}
 use Rattle.cast_engine.specs.Journals.{Rises}
@@ -23,7 +23,7 @@ use Rattle.cast_engine.specs.Feeding.{told_here, told_at, told_to, IsPlaced, Are
 use Rattle.cast_engine.specs.Clocks.{Follows, stamps_made}
 use Rattle.cast_engine.specs.Engines.{EngineState, CameIn, CameBefore, Leaves, Tells, WereTold, trays_at}
 use Rattle.cast_box.proofs.Closing.{found, map_at}
-use Rattle.cast_report.proofs.Logging.{one_more, made_numbered}
+use Rattle.cast_node.proofs.Logging.{one_more, made_numbered}
 use Rattle.cast_carrier.proofs.Lists.{has_left}
 use Rattle.cast_engine.proofs.Answering.{run_fits, run_origins}
 use Rattle.cast_engine.proofs.Stamping.{run_follows, run_made}

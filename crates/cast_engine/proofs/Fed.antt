@@ -7,14 +7,14 @@ use Rattle.std.proofs.lemmas.Option.{none-some, slice_get_past, slice_get_within
 use Rattle.cast_box.proofs.Closing.{found}
 use Rattle.cast_box.specs.Ends.{PutterEnd, IsSamePutter, AreSamePutters}
 use Rattle.cast_box.proofs.Same.{putters_set, get_set}
-use Rattle.cast_node.specs.declared.entry.Entry.{Entry}
+use Rattle.cast_log.specs.declared.entry.Entry.{Entry}
 use Rattle.cast_desk.specs.declared.notice.Notice.{Notice}
 use Rattle.cast_desk.specs.Feed.{told_by, feed_from, feed, orders_of, orders_in}
 use Rattle.cast_desk.proofs.Feeds.{take_all, take_within, orders_within, counted_more, fed_more as fed_more'}
 use Rattle.cast_engine.specs.declared.feeding.Place.{Place}
 use Rattle.cast_engine.specs.Feeding.{told_at, told_here, IsNext, IsPlaced, IsFed, told_to, AreFed, FedIn, FedAt}
 use Rattle.cast_carrier.proofs.Lists.{read_at, take_next}
-use Rattle.cast_report.proofs.Logging.{get_left}
+use Rattle.cast_node.proofs.Logging.{get_left}
 
 take_front : {A : Type 0} (xs ys : List A) (n : ℕ) → n ≤ length xs → take n (xs ++ ys) ≡ take n xs
 take_front xs ys zero h = refl

@@ -14,13 +14,13 @@ use Rattle.cast_model.specs.Steps.{Step, Ordered, Sent, Acknowledged, Arrived, S
 use Rattle.cast_model.specs.OwnSteps.{is_stop}
 use Rattle.std.specs.Prelude.{Ok}
 use Rattle.cast_relay.specs.Held.{holds}
-use Rattle.cast_node.specs.declared.entry.Entry.{Entry}
-use Rattle.cast_node.specs.declared.entry.EntryKind.{EntryKind}
+use Rattle.cast_log.specs.declared.entry.Entry.{Entry}
+use Rattle.cast_log.specs.declared.entry.EntryKind.{EntryKind}
 use Rattle.cast_node.specs.Kept.{Kept, link_to, is_enough}
 use Rattle.cast_node.specs.Turns.{Told, told, released, unmoved, kept_after, arrived_body, carried, acknowledged, may_arrive, with_taken, with_knower, taken_up, Gives}
-use Rattle.cast_report.specs.declared.report.EngineEnd.{EngineEnd}
-use Rattle.cast_report.specs.declared.report.EngineEnd.TheVariants.{Crashed, LogFull, ClockFull, Stopped as AllStopped, TurnLimit}
-use Rattle.cast_report.specs.Linked.{event_of}
+use Rattle.cast_node.specs.declared.report.EngineEnd.{EngineEnd}
+use Rattle.cast_node.specs.declared.report.EngineEnd.TheVariants.{Crashed, LogFull, ClockFull, Stopped as AllStopped, TurnLimit}
+use Rattle.cast_node.specs.Linked.{event_of}
 use Rattle.cast_message.specs.declared.message.FrameKind.{FrameKind}
 use Rattle.cast_message.specs.declared.message.FrameKind.TheVariants as kinds
 use Rattle.cast_engine.specs.Journals.{Rises, IsStampedAfter, is_crash, is_crash_event, EndsAs, JournalKeeps, JournalState, MayLog}

@@ -9,10 +9,10 @@ use Rattle.cast_message.specs.declared.message.Frame.{Frame}
 use Rattle.cast_message.specs.declared.message.Item.{Item}
 use Rattle.cast_model.specs.Steps.{Step, Ordered, Sent, Acknowledged, Arrived, Stopped, Steps, making}
 use Rattle.cast_model.specs.OwnSteps.{own_made}
-use Rattle.cast_node.specs.declared.entry.Entry.{Entry}
-use Rattle.cast_node.specs.declared.entry.Origin.{Origin}
+use Rattle.cast_log.specs.declared.entry.Entry.{Entry}
+use Rattle.cast_log.specs.declared.entry.Origin.{Origin}
 use Rattle.cast_node.specs.Kept.{Kept}
-use Rattle.cast_node.specs.declared.entry.EntryKind.TheVariants.{Step as StepEntry, Refused}
+use Rattle.cast_log.specs.declared.entry.EntryKind.TheVariants.{Step as StepEntry, Refused}
 use Rattle.cast_node.specs.Turns.{kept_after, carry_of, took_of, frame_made}
 use Rattle.cast_node.specs.Stands.{Stands}
 use Rattle.cast_node.proofs.Continuing.{continues}
@@ -21,7 +21,7 @@ use Rattle.cast_node.proofs.Showing.{carries, tells_taken}
 use Rattle.cast_desk.specs.declared.desk.OrderIn.{OrderIn}
 use Rattle.cast_carrier.specs.declared.parcel.Parcel.{Parcel}
 use Rattle.cast_carrier.specs.Lists.{Has}
-use Rattle.cast_report.specs.Linked.{Mark, Trail, event_of, outcome_in, steps_in, made_in, kept_in, stamped, IsFor}
+use Rattle.cast_node.specs.Linked.{Mark, Trail, event_of, outcome_in, steps_in, made_in, kept_in, stamped, IsFor}
 use Rattle.cast_engine.specs.Runs.{Read, Moved, Served, Denied, Run, mark, trail_of, log_of, orders_of, IsRun, clock_after, AreReceived, IsReceived, IsReceivedBy, HasTakenEach, MayDrop, AreTakenIn, arrived_by, arrivals_in, made_of, parcel, is_order, origin_of, EngineKeeps}
 use Rattle.cast_engine.specs.Journals.{JournalState, LogsStep, LogsRefusal, LogsOrder, OnlyEnds, Halts}
 use Rattle.cast_message.specs.declared.message.FrameKind.{FrameKind}

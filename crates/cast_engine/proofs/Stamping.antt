@@ -7,11 +7,11 @@ use Rattle.cast_message.specs.declared.event.Event.TheVariants.{Order, Send, Ack
 use Rattle.cast_message.specs.declared.event.Outcome.{Outcome}
 use Rattle.cast_model.specs.Steps.{Step, Ordered, Sent, Acknowledged, Arrived, Stopped, Steps}
 use Rattle.cast_model.specs.OwnSteps.{own_made, node_reply}
-use Rattle.cast_node.specs.declared.entry.Entry.{Entry}
-use Rattle.cast_node.specs.declared.entry.EntryKind.{EntryKind}
-use Rattle.cast_node.specs.declared.entry.EntryKind.TheVariants.{Step as StepEntry, Refused}
+use Rattle.cast_log.specs.declared.entry.Entry.{Entry}
+use Rattle.cast_log.specs.declared.entry.EntryKind.{EntryKind}
+use Rattle.cast_log.specs.declared.entry.EntryKind.TheVariants.{Step as StepEntry, Refused}
 use Rattle.cast_carrier.specs.declared.parcel.Parcel.{Parcel}
-use Rattle.cast_report.specs.Linked.{Made, event_of, outcome_in, steps_in, made_in, stamped}
+use Rattle.cast_node.specs.Linked.{Made, event_of, outcome_in, steps_in, made_in, stamped}
 use Rattle.cast_engine.specs.Runs.{Read, Moved, Served, Denied, Run, trail_of, log_of, entry_by, clock_after, AreReceived, IsReceived, IsReceivedBy}
 use Rattle.cast_engine.specs.Clocks.{makes, stamps_made, IsStampedAs, IsStampedBy, Follows}
 use Rattle.cast_engine.specs.Journals.{Rises, IsStampedAfter}

@@ -5,8 +5,8 @@ use Rattle.std.proofs.lemmas.List.{length-replicate}
 use Rattle.cast_message.specs.declared.config.Config.{Config}
 use Rattle.cast_node.proofs.Beginning.{stands_for_nothing}
 use Rattle.cast_model.specs.Steps.{Step, Arrived, Stopped, making}
-use Rattle.cast_node.specs.declared.entry.Origin.{Origin}
-use Rattle.cast_node.specs.declared.entry.Entry.{Entry}
+use Rattle.cast_log.specs.declared.entry.Origin.{Origin}
+use Rattle.cast_log.specs.declared.entry.Entry.{Entry}
 use Rattle.cast_node.specs.Kept.{Kept, nothing_kept}
 use Rattle.cast_node.specs.Turns.{frame_made}
 use Rattle.cast_box.specs.Ends.{PutterEnd}
@@ -15,14 +15,14 @@ use Rattle.cast_desk.specs.declared.desk.OrderIn.{OrderIn}
 use Rattle.cast_desk.specs.declared.notice.Notice.{Notice}
 use Rattle.cast_carrier.specs.declared.parcel.Parcel.{Parcel}
 use Rattle.cast_engine.specs.declared.feeding.Place.{Place}
-use Rattle.cast_report.specs.Linked.{steps_in, kept_in, made_in}
+use Rattle.cast_node.specs.Linked.{steps_in, kept_in, made_in}
 use Rattle.cast_engine.specs.Runs.{EngineKeeps, arrivals_in, trail_of, log_of, orders_of, IsRun, clock_after, AreReceived, MayCome, MayDrop}
 use Rattle.cast_engine.specs.Journals.{JournalState, LogsStep, LogsRefusal, LogsOrder, OnlyEnds, Halts, MayLog, Rises, EndsAs}
 use Rattle.cast_message.specs.declared.message.FrameKind.{FrameKind}
 use Rattle.cast_engine.specs.Feeding.{AreFed, IsFed, first_place}
 use Rattle.cast_engine.specs.Engines.{taken_at, trays_at, KeepsOf, EngineStays, Handed, TakesOrder, IsDropped, TakesIn, IsUnused, EngineState, Leaves}
 use Rattle.cast_carrier.proofs.Lists.{has_none}
-use Rattle.cast_report.specs.declared.report.EngineEnd.{EngineEnd}
+use Rattle.cast_node.specs.declared.report.EngineEnd.{EngineEnd}
 use Rattle.cast_engine.proofs.Running.{taken_kept, ends_kept, arrival_kept, halt_kept, same_me, order_kept, flush_kept, made_kept}
 use Rattle.cast_engine.proofs.Fed.{fed_more}
 

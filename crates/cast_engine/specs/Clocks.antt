@@ -7,9 +7,9 @@ use Rattle.std.specs.Prelude.{◌≡◌, ℕ, ◌+◌, max, Bool, true, false, L
 use Rattle.std.specs.List.{filter}
 use Rattle.cast_message.specs.declared.event.Event.{Event}
 use Rattle.cast_message.specs.declared.event.Event.TheVariants.{Send, Ack, Arrive}
-use Rattle.cast_node.specs.declared.entry.Entry.{Entry}
-use Rattle.cast_node.specs.declared.entry.EntryKind.{EntryKind}
-use Rattle.cast_node.specs.declared.entry.EntryKind.TheVariants.{Step as StepEntry, Refused}
+use Rattle.cast_log.specs.declared.entry.Entry.{Entry}
+use Rattle.cast_log.specs.declared.entry.EntryKind.{EntryKind}
+use Rattle.cast_log.specs.declared.entry.EntryKind.TheVariants.{Step as StepEntry, Refused}
 
 abbrev pub makes_by : Event → Bool
 makes_by (Send from to slot) = true

@@ -3,7 +3,7 @@ use Rattle.std.specs.Prelude.{◌≡◌, ◌≢◌, ℕ, ◌+◌, ◌<◌, ◌�
 use Rattle.cast_message.specs.declared.config.Config.{Config}
 use Rattle.cast_message.specs.declared.message.Frame.{Frame}
 use Rattle.cast_box.specs.Ends.{PutterEnd, TakerEnd, IsSamePutter, IsSameTaker, AreSamePutters}
-use Rattle.cast_node.specs.declared.entry.Entry.{Entry}
+use Rattle.cast_log.specs.declared.entry.Entry.{Entry}
 use Rattle.cast_desk.specs.declared.desk.Desk.{Desk}
 use Rattle.cast_desk.specs.declared.desk.OrderIn.{OrderIn}
 use Rattle.cast_desk.specs.declared.notice.Notice.{Notice}
@@ -14,13 +14,13 @@ use Rattle.cast_engine.specs.declared.engine.Turn.TheVariants.{Idle}
 use Rattle.cast_carrier.specs.Lists.{Has}
 use Rattle.cast_engine.specs.Clocks.{Follows, stamps_made}
 use Rattle.cast_engine.specs.Runs.{EngineKeeps, HasTakenEach, AreTakenIn, MayCome, parcel, made_of}
-use Rattle.cast_report.specs.Linked.{Trail, IsLogOf, made_in, stamped, EachArrival}
+use Rattle.cast_node.specs.Linked.{Trail, IsLogOf, made_in, stamped, EachArrival}
 use Rattle.cast_box.specs.Lists.{StartsWith, HasTakenOfEnded}
 use Rattle.cast_desk.specs.Feed.{feed}
 use Rattle.cast_engine.specs.Serving.{Serves}
 use Rattle.cast_engine.specs.Journals.{JournalState, LogsStep, Rises, EndsAs}
-use Rattle.cast_report.specs.declared.report.EngineEnd.{EngineEnd}
-use Rattle.cast_report.specs.declared.report.EngineEnd.TheVariants.{ClockFull}
+use Rattle.cast_node.specs.declared.report.EngineEnd.{EngineEnd}
+use Rattle.cast_node.specs.declared.report.EngineEnd.TheVariants.{ClockFull}
 use Rattle.cast_node.specs.Kept.{Kept}
 use Rattle.cast_model.specs.Steps.{Arrived}
 use Rattle.cast_engine.specs.Feeding.{AreFed, TellEach}

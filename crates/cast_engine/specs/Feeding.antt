@@ -7,7 +7,7 @@
 use Rattle.std.specs.Prelude.{◌≡◌, Bool, true, false, ℕ, ◌+◌, ◌<◌, ◌≤◌, ◌^◌, List, [], ◌++◌, length, take, slice_get, slice_set, Option, Some, None, ◌⊎◌}
 use Rattle.cast_box.specs.Ends.{PutterEnd, IsSamePutter, WasFull, FilledItAlone}
 use Rattle.cast_message.specs.Items.{has_bytes}
-use Rattle.cast_node.specs.declared.entry.Entry.{Entry}
+use Rattle.cast_log.specs.declared.entry.Entry.{Entry}
 use Rattle.cast_desk.specs.declared.notice.Notice.{Notice}
 use Rattle.cast_desk.specs.declared.notice.Notice.TheVariants.{Delivered}
 use Rattle.cast_desk.specs.Feed.{told_by, feed_from, feed, orders_of}

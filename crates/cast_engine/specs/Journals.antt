@@ -10,16 +10,16 @@ use Rattle.cast_message.specs.declared.event.Outcome.{Outcome}
 use Rattle.cast_message.specs.declared.message.Item.{Item}
 use Rattle.cast_message.specs.declared.event.StepFault.{StepFault}
 use Rattle.cast_model.specs.Steps.{Step, Ordered, Stopped}
-use Rattle.cast_node.specs.declared.entry.Origin.{Origin}
-use Rattle.cast_node.specs.declared.entry.Entry.{Entry}
-use Rattle.cast_node.specs.declared.entry.EntryKind.{EntryKind}
-use Rattle.cast_node.specs.declared.entry.EntryKind.TheVariants.{Step as StepEntry, Refused}
+use Rattle.cast_log.specs.declared.entry.Origin.{Origin}
+use Rattle.cast_log.specs.declared.entry.Entry.{Entry}
+use Rattle.cast_log.specs.declared.entry.EntryKind.{EntryKind}
+use Rattle.cast_log.specs.declared.entry.EntryKind.TheVariants.{Step as StepEntry, Refused}
 use Rattle.cast_node.specs.Kept.{Kept}
 use Rattle.cast_node.specs.Turns.{Gives}
 use Rattle.cast_desk.specs.declared.desk.OrderIn.{OrderIn}
-use Rattle.cast_report.specs.declared.report.EngineEnd.{EngineEnd}
-use Rattle.cast_report.specs.declared.report.EngineEnd.TheVariants.{Stopped as AllStopped, Crashed, TurnLimit, LogFull, ClockFull}
-use Rattle.cast_report.specs.Linked.{event_of, outcome_in_answer}
+use Rattle.cast_node.specs.declared.report.EngineEnd.{EngineEnd}
+use Rattle.cast_node.specs.declared.report.EngineEnd.TheVariants.{Stopped as AllStopped, Crashed, TurnLimit, LogFull, ClockFull}
+use Rattle.cast_node.specs.Linked.{event_of, outcome_in_answer}
 use Rattle.cast_engine.specs.Runs.{origin_of}
 
 pub record JournalState : Type 0 where

@@ -20,9 +20,9 @@ use Rattle.cast_message.specs.declared.message.Frame.{Frame}
 use Rattle.cast_model.specs.Replies.{IsRefused}
 use Rattle.cast_model.specs.Steps.{Step, Ordered, Arrived, Steps}
 use Rattle.cast_model.specs.OwnSteps.{own_fault, node_reply}
-use Rattle.cast_node.specs.declared.entry.Origin.{Origin}
-use Rattle.cast_node.specs.declared.entry.Entry.{Entry}
-use Rattle.cast_node.specs.declared.entry.EntryKind.TheVariants.{Step as StepEntry, Refused}
+use Rattle.cast_log.specs.declared.entry.Origin.{Origin}
+use Rattle.cast_log.specs.declared.entry.Entry.{Entry}
+use Rattle.cast_log.specs.declared.entry.EntryKind.TheVariants.{Step as StepEntry, Refused}
 use Rattle.cast_node.specs.Kept.{Kept}
 use Rattle.cast_node.specs.Stands.{Stands}
 use Rattle.cast_node.specs.Turns.{is_awaited, may_arrive}
@@ -30,7 +30,7 @@ use Rattle.cast_box.specs.Lists.{EndsWith}
 use Rattle.cast_desk.specs.declared.desk.OrderIn.{OrderIn}
 use Rattle.cast_carrier.specs.declared.parcel.Parcel.{Parcel}
 use Rattle.cast_carrier.specs.Lists.{Has}
-use Rattle.cast_report.specs.Linked.{Mark, Made, Trail, event_of, outcome_in, steps_in, made_in, kept_in, stamped, IsFor}
+use Rattle.cast_node.specs.Linked.{Mark, Made, Trail, event_of, outcome_in, steps_in, made_in, kept_in, stamped, IsFor}
 
 -- An entry, and what it came of.
 pub data Read : Type 0 where

@@ -11,12 +11,12 @@ use Rattle.cast_message.specs.declared.event.Event.TheVariants.{Order}
 use Rattle.cast_model.specs.Replies.{IsRefused}
 use Rattle.cast_model.specs.Steps.{Steps, Ordered}
 use Rattle.cast_model.specs.OwnSteps.{own_fault}
-use Rattle.cast_node.specs.declared.entry.Origin.{Origin}
-use Rattle.cast_node.specs.declared.entry.Entry.{Entry}
-use Rattle.cast_node.specs.declared.entry.EntryKind.{EntryKind}
-use Rattle.cast_node.specs.declared.entry.EntryKind.TheVariants.{Step as StepEntry, Refused}
+use Rattle.cast_log.specs.declared.entry.Origin.{Origin}
+use Rattle.cast_log.specs.declared.entry.Entry.{Entry}
+use Rattle.cast_log.specs.declared.entry.EntryKind.{EntryKind}
+use Rattle.cast_log.specs.declared.entry.EntryKind.TheVariants.{Step as StepEntry, Refused}
 use Rattle.cast_desk.specs.declared.desk.OrderIn.{OrderIn}
-use Rattle.cast_report.specs.Linked.{Trail, steps_in}
+use Rattle.cast_node.specs.Linked.{Trail, steps_in}
 use Rattle.cast_carrier.specs.Lists.{Has}
 use Rattle.cast_engine.specs.Runs.{origin_of}
 

@@ -6,8 +6,8 @@ ghost use Rattle.cast_engine.specs.Feeding.{IsNext, AreFed, FedIn, FedAt, IsPlac
 
 use cast_box::Full;
 use cast_desk::{Desk, Notice, orders_in, own_reply};
+use cast_log::{EntryKind, KindRef, OpenLog};
 use cast_message::Outcome;
-use cast_node::{EntryKind, KindRef, OpenLog};
 use std::alloc::{AllocError, Global};
 use std::sync::Wait;
 

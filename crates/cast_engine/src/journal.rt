@@ -3,18 +3,18 @@ ghost use Rattle.std.specs.Prelude.{◌≡◌, ◌+◌, ◌-◌, ◌<◌, ◌^�
 ghost use Rattle.cast_message.specs.Items.{has_bytes};
 ghost use Rattle.cast_message.specs.declared.message.FrameKind.TheVariants.{Carry, Took};
 ghost use Rattle.cast_model.specs.Steps.{Sent, Acknowledged, Arrived, Stopped, making};
-ghost use Rattle.cast_report.specs.Linked.{event_of};
+ghost use Rattle.cast_node.specs.Linked.{event_of};
 ghost use Rattle.cast_node.specs.Calls.{sent_reply};
 ghost use Rattle.cast_node.specs.Kept.{nothing_kept};
 ghost use Rattle.cast_node.specs.Turns.{Gives, kept_fault, frame_made, message_owed, is_awaited, may_arrive};
-ghost use Rattle.cast_report.specs.declared.report.EngineEnd.TheVariants.{Crashed, TurnLimit, ClockFull};
+ghost use Rattle.cast_node.specs.declared.report.EngineEnd.TheVariants.{Crashed, TurnLimit, ClockFull};
 ghost use Rattle.cast_engine.specs.Journals.{MayLog, LogsStep, LogsOrder, Halts, HaltsBy, Rises, EndsAs, AsksOrder, MayEnd};
 
 use cast_carrier::Parcel;
 use cast_desk::OrderIn;
+use cast_log::{Entry, EntryKind, Log, OpenLog, Origin};
 use cast_message::{Config, Event, Frame, FrameKind, Item, NodeId, Outcome, StepFault};
-use cast_node::{Entry, EntryKind, Log, Node, OpenLog, Origin, no_news};
-use cast_report::EngineEnd;
+use cast_node::{EngineEnd, Node, no_news};
 use std::alloc::{AllocError, Global};
 use std::marker::Model;
 
@@ -37,8 +37,8 @@ impl Model for Journal {
     ghost use Rattle.cast_engine.specs.Journals.{JournalState, JournalKeeps, journal_code};
     ghost use Rattle.cast_message.specs.contracts.config.Config as configs;
     ghost use Rattle.cast_node.specs.contracts.node.Node as nodes;
-    ghost use Rattle.cast_node.specs.contracts.entry.Entry as entries;
-    ghost use Rattle.cast_report.specs.contracts.report.EngineEnd as engine_ends;
+    ghost use Rattle.cast_log.specs.contracts.entry.Entry as entries;
+    ghost use Rattle.cast_node.specs.contracts.report.EngineEnd as engine_ends;
 
     ghost Value = { JournalState };
 

@@ -3,6 +3,7 @@
 ghost use Rattle.std.specs.Prelude.{◌≡◌, IfOk, vec_len};
 
 use crate::gate::Gate;
+use cast_message::MOST_NODES;
 use crossbeam_utils::CachePadded;
 use std::alloc::{AllocError, Global};
 use std::sync::atomic::{AtomicU64, Ordering};
@@ -20,19 +21,31 @@ struct Counts {
 pub struct Progress {
     // By node.
     counts: Vec<CachePadded<Counts>>,
+    due: AtomicU64,
 }
 
 impl Progress {
-    /// Nothing is counted, for a run of so many nodes. Who runs it and who watches it share the counts.
-    pub fn shared(alloc: Global, nodes: u64) -> Result<Arc<Progress, Global>, AllocError> {
+    /// Nothing is counted, for a run of any group. Who runs it and who watches it share the counts.
+    pub fn for_group(alloc: Global) -> Result<Arc<Progress, Global>, AllocError> {
         let mut counts = Vec::new(alloc);
-        for _node in 0..nodes {
+        for _node in 0..MOST_NODES {
             counts.push(CachePadded::new(Counts {
                 turns: AtomicU64::new(0),
                 deliveries: AtomicU64::new(0),
             }))?;
         }
-        Ok(Arc::new(alloc, Progress { counts })?)
+        let due = AtomicU64::new(0);
+        Ok(Arc::new(alloc, Progress { counts, due })?)
+    }
+
+    /// Says how many deliveries the run can make.
+    pub fn expect(&self, deliveries: u64) {
+        self.due.store(deliveries, Ordering::Relaxed);
+    }
+
+    /// How many deliveries the run can make, 0 until that is known.
+    pub fn due(&self) -> u64 {
+        self.due.load(Ordering::Relaxed)
     }
 
     /// How many turns the engines have taken.

@@ -1,5 +1,5 @@
 //! What is shown of the bytes of an input: the first 200 of them.
-use cast_words::{escaped, prefix};
+use cast_record::{escaped, prefix};
 use std::alloc::{AllocError, Global};
 
 /// The most bytes that are shown.

@@ -1,42 +1,32 @@
 //! What is wrong with a group that is to run in threads: the job or the fault of the plan that does not fit its nodes.
-ghost use Rattle.std.specs.Prelude.{IfOk, IfSome, IfNone, string_bytes};
-ghost use Rattle.cast_explain.specs.Refused.{IsNoGroup};
-ghost use Rattle.cast_explain.specs.Words.{IsNamed};
-
-use crate::Explanation;
-use crate::named::named;
 use cast_desk::MOST_CLIENTS;
-use cast_job::find_misfit;
-use cast_message::NodeId;
-use cast_script::{Fault, LiveFault, Script, ScriptFault, read_script};
+use cast_message::{Fault, LiveFault, NodeId};
+use cast_script::{Script, ScriptFault, read_script};
 use std::alloc::{AllocError, Global};
 
-/// Why no group is run of the script in these bytes; none exactly where this is not the first cause that holds of it.
-pub fn group_words(alloc: Global, name: &str, bytes: &[u8], fault: LiveFault) -> Explanation
-    ensures some { IfOk result (λ words. IfSome words (λ text.
-        IsNoGroup bytes.now fault × IsNamed name.now (string_bytes text))) }
-    ensures none { IfOk result (λ words. IfNone words (IsNoGroup bytes.now fault → ⊥)) }
-{
-    let script = match read_script(alloc, bytes) {
-        Ok(script) => script,
+/// Why no group is run of the script in these bytes.
+pub fn group_words(alloc: Global, bytes: &[u8], fault: LiveFault) -> Result<String, AllocError> {
+    let words = match read_script(alloc, bytes) {
+        Ok(script) => misfit_words(alloc, &script, fault)?,
         Err(ScriptFault::Memory) => return Err(AllocError),
-        Err(_) => return Ok(None),
+        Err(_) => None,
     };
-    let gates = script.config.nodes() as usize;
-    match find_misfit(&script.config, &script.plan, script.jobs.as_slice(), gates) {
-        Some(found) if found == fault => {}
-        _ => return Ok(None),
+    match words {
+        Some(words) => Ok(words),
+        None => format!(in alloc; "{fault}"),
     }
-    let words = match fault {
-        LiveFault::Jobs => jobs_words(alloc, &script)?,
-        LiveFault::Plan => plan_words(alloc, &script)?,
-        LiveFault::Gates | LiveFault::Memory | LiveFault::Threads => None,
-    };
-    let words = match words {
-        Some(words) => words,
-        None => format!(in alloc; "{fault}")?,
-    };
-    Ok(Some(named(alloc, name, words.as_str())?))
+}
+
+fn misfit_words(
+    alloc: Global,
+    script: &Script,
+    fault: LiveFault,
+) -> Result<Option<String>, AllocError> {
+    match fault {
+        LiveFault::Jobs => jobs_words(alloc, script),
+        LiveFault::Plan => plan_words(alloc, script),
+        LiveFault::Gates | LiveFault::Memory | LiveFault::Threads => Ok(None),
+    }
 }
 
 // The first job that is at no node, or one too many at its node.

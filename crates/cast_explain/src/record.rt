@@ -1,15 +1,5 @@
 //! What is wrong with a record: the line that offends, and the rule that it breaks in words.
-ghost use Rattle.std.specs.Prelude.{◌≡◌, ◌≢◌, IfOk, IfSome, IfNone, string_bytes};
-ghost use Rattle.cast_record.specs.Migration.{HasNoHead};
-ghost use Rattle.cast_record.specs.Verdicts.{verdict};
-ghost use Rattle.cast_record.specs.declared.verdict.Verdict.TheVariants.{Bad};
-ghost use Rattle.cast_explain.specs.Words.{IsNamed, NamesLine};
-
-use crate::Explanation;
 use crate::excerpt::quoted;
-use crate::named::{named, named_line};
-use cast_judge::{Verdict, judge};
-use cast_record::{MigrateFault, migrate};
 use std::alloc::{AllocError, Global};
 
 /// What the line `bad LINE RULE` means: a line a rule, under a title.
@@ -30,41 +20,22 @@ struct TextLine<'a> {
     is_ended: bool,
 }
 
-/// Which line of the text breaks which rule, in words; none exactly where that is not the verdict on these bytes.
-pub fn verdict_words(alloc: Global, name: &str, text: &[u8], line: u64, rule: u64) -> Explanation
-    ensures some { IfOk result (λ words. IfSome words (λ said.
-        (verdict text.now ≡ Bad line rule) × NamesLine name.now line rule (string_bytes said))) }
-    ensures none { IfOk result (λ words. IfNone words (verdict text.now ≢ Bad line rule)) }
-{
-    match judge(alloc, text)? {
-        Verdict::Bad {
-            line: offending,
-            rule: broken,
-        } if offending == line && broken == rule => {}
-        _ => return Ok(None),
-    }
-    let broken = rule_words(rule);
+/// Which line of the text breaks which rule.
+pub fn verdict_words(
+    alloc: Global,
+    text: &[u8],
+    line: u64,
+    rule: u64,
+) -> Result<String, AllocError> {
+    let broken = find_rule(rule).unwrap_or("no rule has this number");
     let shown = line_words(alloc, line_at(text, line))?;
-    let words = format!(in alloc; "({broken}): {shown}")?;
-    Ok(Some(named_line(alloc, name, line, rule, words.as_str())?))
+    format!(in alloc; "line {line} breaks rule {rule} ({broken}): {shown}")
 }
 
-/// Why a text has no head of the first format; none exactly where these bytes have one.
-pub fn head_words(alloc: Global, name: &str, text: &[u8]) -> Explanation
-    ensures some { IfOk result (λ words. IfSome words (λ said.
-        HasNoHead text.now × IsNamed name.now (string_bytes said))) }
-    ensures none { IfOk result (λ words. IfNone words (HasNoHead text.now → ⊥)) }
-{
-    match migrate(alloc, text) {
-        Ok(_) => return Ok(None),
-        Err(MigrateFault::Memory) => return Err(AllocError),
-        Err(MigrateFault::NotV1) => {}
-    }
+/// Why a text has no head of the first format.
+pub fn head_words(alloc: Global, text: &[u8]) -> Result<String, AllocError> {
     let shown = line_words(alloc, line_at(text, 1))?;
-    let words = format!(in alloc;
-        "line 1 is not cast/1 N F K, with N 1 to 16, F below N and K 1 to N: {shown}"
-    )?;
-    Ok(Some(named(alloc, name, words.as_str())?))
+    format!(in alloc; "line 1 is not cast/1 N F K, with N 1 to 16, F below N and K 1 to N: {shown}")
 }
 
 fn line_words(alloc: Global, line: TextLine<'_>) -> Result<String, AllocError> {
@@ -96,10 +67,6 @@ fn find_line(text: &[u8], number: u64) -> Option<TextLine<'_>> {
 }
 
 // What breaks the rule, in words.
-fn rule_words(rule: u64) -> &'static str {
-    find_rule(rule).unwrap_or("no rule has this number")
-}
-
 fn find_rule(rule: u64) -> Option<&'static str> {
     let line = RULES.lines().skip(1).nth(rule as usize)?;
     let (_number, words) = line.trim_start().split_once("  ")?;

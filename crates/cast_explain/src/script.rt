@@ -1,38 +1,18 @@
 //! What is wrong with a script: where it is no JSON, which member or element is not as it should be, or which limit it breaks.
-ghost use Rattle.std.specs.Prelude.{IfOk, IfSome, IfNone, string_bytes};
-ghost use Rattle.cast_explain.specs.Refused.{IsNoScript};
-ghost use Rattle.cast_explain.specs.Words.{IsNamed};
-
-use crate::Explanation;
 use crate::element::{Flaw, event_flaw, fault_flaw, job_flaw};
 use crate::members::members_words;
-use crate::named::named;
 use crate::settings::settings_words;
-use cast_script::{ScriptFault, read_script};
+use cast_script::ScriptFault;
 use serde_json::Value;
 use std::alloc::{AllocError, Global};
 
-/// Why these bytes are refused as a script with this fault; none exactly where they are not, as where the fault is want of
-/// memory.
-pub fn script_words(alloc: Global, name: &str, bytes: &[u8], fault: ScriptFault) -> Explanation
-    ensures some { IfOk result (λ words. IfSome words (λ text.
-        IsNoScript bytes.now fault × IsNamed name.now (string_bytes text))) }
-    ensures none { IfOk result (λ words. IfNone words (IsNoScript bytes.now fault → ⊥)) }
-{
-    let found = match read_script(alloc, bytes) {
-        Ok(_) => return Ok(None),
-        Err(ScriptFault::Memory) => return Err(AllocError),
-        Err(found) => found,
-    };
-    if found != fault {
-        return Ok(None);
+/// Why these bytes are refused as a script with this fault.
+pub fn script_words(alloc: Global, bytes: &[u8], fault: ScriptFault) -> Result<String, AllocError> {
+    match Value::from_slice(alloc, bytes) {
+        Ok(value) => value_words(alloc, &value, fault),
+        Err(error) if error.is_memory() => Err(AllocError),
+        Err(error) => format!(in alloc; "{error}"),
     }
-    let words = match Value::from_slice(alloc, bytes) {
-        Ok(value) => value_words(alloc, &value, fault)?,
-        Err(error) if error.is_memory() => return Err(AllocError),
-        Err(error) => format!(in alloc; "{error}")?,
-    };
-    Ok(Some(named(alloc, name, words.as_str())?))
 }
 
 fn value_words(alloc: Global, value: &Value, fault: ScriptFault) -> Result<String, AllocError> {

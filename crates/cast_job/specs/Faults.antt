@@ -4,10 +4,10 @@
 --     IsMisfit nodes jobs gates faults fault      the first cause that holds in what was handed in, which does not fit
 --     fault_by fault                               the refusal that threads which were not started are
 use Rattle.std.specs.Prelude.{◌≡◌, ◌≢◌, ◌≤◌, ◌<◌, ℕ, List, length, slice_get, Some}
-use Rattle.cast_script.specs.declared.script.Fault.{Fault}
+use Rattle.cast_message.specs.declared.plan.Fault.{Fault}
 use Rattle.cast_box.specs.Lists.{of}
-use Rattle.cast_script.specs.declared.live_fault.LiveFault.{LiveFault}
-use Rattle.cast_script.specs.declared.live_fault.LiveFault.TheVariants.{Jobs, Gates, Plan, Memory, Threads}
+use Rattle.cast_message.specs.declared.live_fault.LiveFault.{LiveFault}
+use Rattle.cast_message.specs.declared.live_fault.LiveFault.TheVariants.{Jobs, Gates, Plan, Memory, Threads}
 use Rattle.cast_job.specs.declared.fault.StartFault.{StartFault}
 use Rattle.cast_job.specs.declared.fault.StartFault.TheVariants.{Memory as NoMemory, Threads as NoThread}
 use Rattle.cast_carrier.specs.Plans.{ArePlanned}

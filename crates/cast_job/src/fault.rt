@@ -1,5 +1,5 @@
 //! Why threads are not started, and how a run tells it.
-use cast_script::LiveFault;
+use cast_message::LiveFault;
 use std::alloc::AllocError;
 
 /// Why threads are not started.

@@ -5,8 +5,7 @@ ghost use Rattle.cast_job.specs.Jobs.{IsCount};
 
 use crate::jobs::{JobCounts, count_jobs};
 use cast_carrier::is_planned;
-use cast_message::{Config, NodeId};
-use cast_script::{FaultPlan, LiveFault};
+use cast_message::{Config, FaultPlan, LiveFault, NodeId};
 
 /// How many jobs each node has, or why the group is not run: the first cause that holds, as `find_misfit` answers it. It takes no
 /// memory.

@@ -20,7 +20,7 @@ use Rattle.cast_record.specs.Rules.{is_ended, broken}
 use Rattle.cast_record.specs.Verdicts.{with_line, verdict_at_end, verdict_after}
 use Rattle.cast_record.proofs.PartLemmas.{has_first}
 use Rattle.cast_record.proofs.VerdictLemmas.{goes_by, offends_by}
-use Rattle.cast_words.proofs.UnhexLemmas.{length-hex}
+use Rattle.cast_record.proofs.UnhexLemmas.{length-hex}
 use Rattle.cast_record.proofs.ReadLemmas.{line_takes_text}
 use Rattle.cast_judge.specs.FitLines.{HasNone}
 use Rattle.cast_judge.specs.Judged.{verdict_of}

@@ -13,8 +13,8 @@ use Rattle.std.proofs.lemmas.Nat.Bits.{bit_at_ones, same_from_bits_below}
 use Rattle.std.proofs.lemmas.Bool.{le-ltb, lt-ltb}
 use Rattle.cast_message.proofs.Tests.{cmp_other, cmp_same}
 use Rattle.cast_message.proofs.Booleans.{and_false}
-use Rattle.cast_sets.specs.Bits.{is_set}
-use Rattle.cast_sets.proofs.Numbers.{no_bit}
+use Rattle.cast_message.specs.Bits.{is_set}
+use Rattle.cast_message.proofs.Numbers.{no_bit}
 use Rattle.cast_link.specs.Taken.{bit_of, SetsBit, IsFullWord}
 use Rattle.cast_link.specs.Links.{Link, with_given, with_acknowledged, owed_map, link_of, is_acknowledged, StartsOwed, KeepsOwed}
 use Rattle.cast_link.proofs.Slots.{is_set-drop}

@@ -12,9 +12,9 @@ use Rattle.std.proofs.lemmas.Bool.Decides.{nat_tests, leb_tells}
 use Rattle.std.proofs.lemmas.Bool.{le-ltb, lt-ltb}
 use Rattle.cast_message.proofs.Tests.{tie}
 use Rattle.cast_message.proofs.Booleans.{or_false}
-use Rattle.cast_sets.specs.Bits.{is_set}
-use Rattle.cast_sets.specs.Members.{contains-members_below, members_below-insert, members_below-same}
-use Rattle.cast_sets.proofs.Numbers.{no_bit}
+use Rattle.cast_message.specs.Bits.{is_set}
+use Rattle.cast_message.specs.Members.{contains-members_below, members_below-insert, members_below-same}
+use Rattle.cast_message.proofs.Numbers.{no_bit}
 use Rattle.cast_link.specs.Taken.{bit_of, is_taken, is_marked, taken_set, IsWindow}
 
 pub taken_in : (base : ℕ) (words far : List ℕ) (s : set.FinSet nat_cmp) → taken_set base words far ≡ s → (q : ℕ) → q < 2 ^ 64 → is_taken base words far q ≡ set.contains s q

@@ -12,7 +12,7 @@ use Rattle.std.specs.Prelude.{◌≡◌, ℕ, ◌+◌, ◌-◌, ◌*◌, ◌/◌
 use Rattle.std.specs.Ordering.{nat_cmp}
 use Rattle.std.specs.FinMap as map
 use Rattle.std.specs.Coded.{Coded, code_by, coded×, coded_ℕ}
-use Rattle.cast_sets.specs.Bits.{is_set}
+use Rattle.cast_message.specs.Bits.{is_set}
 
 pub record Link (X : Type 0) : Type 0 where
   pub given : ℕ

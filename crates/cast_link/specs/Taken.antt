@@ -9,8 +9,8 @@ use Rattle.std.specs.List.{list_any, All}
 use Rattle.std.specs.Ordering.{nat_cmp}
 use Rattle.std.specs.FinSet as set
 use Rattle.std.specs.BTreeMap.{is_at}
-use Rattle.cast_sets.specs.Members.{members_below}
-use Rattle.cast_sets.specs.Bits.{is_set}
+use Rattle.cast_message.specs.Members.{members_below}
+use Rattle.cast_message.specs.Bits.{is_set}
 
 abbrev pub bit_of : ℕ → ℕ → ℕ
 bit_of base slot = slot - 64 * (base / 64)

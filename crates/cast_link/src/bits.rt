@@ -2,7 +2,7 @@
 //! the front, and at the back, can go.
 ghost use Rattle.std.specs.Prelude.{◌≡◌, ◌+◌, ◌-◌, ◌≤◌, ◌<◌, ◌/◌, ◌%◌, ℕ, ◌^◌, true, false, take, drop, length, slice_index, OnOk};
 ghost use Rattle.std.specs.VecDeque.{deque_capacity};
-ghost use Rattle.cast_sets.specs.Bits.{is_set};
+ghost use Rattle.cast_message.specs.Bits.{is_set};
 ghost use Rattle.cast_link.specs.Taken.{bit_of, SetsBit, IsFullWord};
 
 use std::alloc::AllocError;

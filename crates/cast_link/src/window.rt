@@ -4,7 +4,7 @@ ghost use Rattle.std.specs.Prelude.{◌≡◌, ◌+◌, ◌≤◌, ◌<◌, ◌�
 ghost use Rattle.std.specs.List.{All};
 ghost use Rattle.std.specs.FinSet as set;
 ghost use Rattle.std.specs.VecDeque.{deque_capacity};
-ghost use Rattle.cast_sets.specs.Bits.{is_set};
+ghost use Rattle.cast_message.specs.Bits.{is_set};
 ghost use Rattle.cast_link.specs.Taken.{bit_of, is_marked, MarksTheSame, taken_set, IsWindow};
 
 use crate::bits::{bit_of, drop_front, has_bit, set_bit};

@@ -3,3 +3,4 @@ pub mod Walking
 pub mod SummaryLemmas
 pub mod VerdictLemmas
 pub mod LiveLemmas
+pub mod OutputLemmas

@@ -1,29 +1,17 @@
 -- Running the group of a script, and what its faults mean.
 use Rattle.std.proofs.Common.{◌≡◌, ℕ, zero, suc, ◌==◌, ◌<◌, ◌≤◌, Bool, true, false, cond, List, [], ◌∷◌, ◌++◌, length, map, Option, Result, Err, slice_get, Some, refl, sym, ap, subst, ◌∙◌, arith, append_assoc}
-use Rattle.std.specs.Result.{IsErrAnd}
 use Rattle.std.proofs.lemmas.List.{map-append}
-use Rattle.std.proofs.lemmas.Result.{err_from_is_err_and}
-use Rattle.std.specs.Io.KnownBytes.{Appends}
-use Rattle.std.proofs.KnownBytes.{Keeps-refl}
-use Rattle.cast_model.specs.Replies.{history}
-use Rattle.cast_words.specs.Written.{WroteAll, WrotePrefix}
 use Rattle.cast_job.specs.declared.submit_all.SubmitAll.{SubmitAll}
-use Rattle.cast_message.specs.declared.config.Config.{Config}
 use Rattle.cast_message.specs.declared.message.Item.{Item}
 use Rattle.cast_box.specs.Lists.{of}
-use Rattle.cast_script.specs.declared.live_fault.LiveFault.{LiveFault}
-use Rattle.cast_script.specs.declared.live_fault.LiveFault.TheVariants as lives
+use Rattle.cast_message.specs.declared.live_fault.LiveFault.{LiveFault}
+use Rattle.cast_message.specs.declared.live_fault.LiveFault.TheVariants as lives
 use Rattle.cast_job.specs.Faults.{JobsFit, IsFaultOf}
 use Rattle.cast_job.specs.Jobs.{told_job, replies_in}
 use Rattle.cast_job.specs.SubmitAll.{SubmitsGiven}
 use Rattle.cast_script.specs.declared.script.Script.{Script}
-use Rattle.cast_live.specs.declared.live.FinishedRun.{FinishedRun}
-use Rattle.cast_live.specs.declared.summary.Summary.{Summary}
-use Rattle.cast_text.specs.declared.fault.TextFault.{TextFault}
-use Rattle.cast_text.specs.declared.fault.TextFault.TheVariants as faults
-use Rattle.cast_text.specs.Text.{IsScriptIn, WroteFront, fault_of_live}
-use Rattle.cast_text.proofs.Whole.{script_takes_bytes}
-use Rattle.cast_live.specs.Live.{IsNewJob, AreNewJobs, items_of, IsFinished, IsMergedRun, IsRunOf, IsOfRunning, IsSummaryOf, Summarized, WritesSummary, SummaryBreaksOff, Summarizes, ends_of, events_of, summary_text}
+use Rattle.cast_text.specs.Text.{fault_of_live}
+use Rattle.cast_live.specs.Live.{IsNewJob, AreNewJobs, items_of, IsOfRunning}
 
 pub new_more : (all : List (ℕ × SubmitAll)) (x : ℕ × SubmitAll) → AreNewJobs all → IsNewJob x.1 → AreNewJobs (all ++ x ∷ [])
 new_more [] x each new zero a at = let same : x ≡ a = cc in subst (λ (b : ℕ × SubmitAll). IsNewJob b.1) same new
@@ -83,50 +71,3 @@ module _ (script : Script) (handed : List (ℕ × SubmitAll)) (same : map items_
   refused_for lives.Plan is = (fits is.0, is.2)
   refused_for lives.Memory is = record { jobs = fits is.jobs_fit; plan = is.plan_fits }
   refused_for lives.Threads is = record { jobs = fits is.jobs_fit; plan = is.plan_fits }
-
--- ---- what is told of a run
-
--- memory was wanted of a script that was read
-memory_wanted : (input old : Option (List ℕ)) (read_failed failed : Bool) (script : Script) → IsScriptIn input script → Summarizes input read_failed old old failed (Err faults.Memory)
-memory_wanted input old read_failed failed script read = (script_takes_bytes input script read, Keeps-refl old)
-
-pub memory_answered : (input old : Option (List ℕ)) (read_failed failed : Bool) (script : Script) (result : Result Summary TextFault) → IsErrAnd result (λ fault. fault ≡ faults.Memory) → IsScriptIn input script → Summarizes input read_failed old old failed result
-memory_answered input old read_failed failed script result answered read =
-    let p = err_from_is_err_and result answered in
-    rw (p.1, p.2) (memory_wanted input old read_failed failed script read)
-
-pub run_fails : (input old : Option (List ℕ)) (read_failed failed : Bool) (script : Script) (fault : TextFault) → IsScriptIn input script → IsOfRunning script fault → Summarizes input read_failed old old failed (Err fault)
-run_fails input old read_failed failed script (faults.Live why) read is = (record { script = script; read = read; cause = is }, Keeps-refl old)
-run_fails input old read_failed failed script faults.Memory read is = memory_wanted input old read_failed failed script read
-run_fails input old read_failed failed script faults.Read read is = absurd is
-run_fails input old read_failed failed script faults.TooLong read is = absurd is
-run_fails input old read_failed failed script (faults.Script why) read is = absurd is
-run_fails input old read_failed failed script faults.Write read is = absurd is
-run_fails input old read_failed failed script faults.NotV1 read is = absurd is
-
-module _ (input old new : Option (List ℕ)) (failed : Bool) (script : Script) (run : FinishedRun) (said : Summary) (read : IsScriptIn input script) (same : run.report.config ≡ script.config)
-    (ran : IsRunOf script run.report.reports) (finished : IsFinished run) (told : IsSummaryOf run.report.config (events_of run) said) where
-  abbrev summarized : Summarized input said
-  summarized = record {
-    script = script;
-    read = read;
-    reports = run.report.reports;
-    ran = ran;
-    events = events_of run;
-    merged = subst (λ config. IsMergedRun config run.report.reports (events_of run)) same finished.merged;
-    told = subst (λ config. IsSummaryOf config (events_of run) said) same told;
-  }
-
-  abbrev text : Config → List ℕ
-  text config = summary_text config (history config (events_of run)) (ends_of run.report.reports) said
-
-  pub summary_done : WroteAll old new failed (text run.report.config) → WritesSummary input old new said
-  summary_done wrote = record { run = summarized; appends = subst (λ config. Appends old new (text config)) same wrote.appends }
-
-  pub summary_breaks : WrotePrefix old new failed (text run.report.config) → SummaryBreaksOff input old new failed
-  summary_breaks wrote = record {
-    said = said;
-    run = summarized;
-    broken = wrote.broken;
-    front = subst (λ config. WroteFront old new (text config)) same (record { front = wrote.front; rest = wrote.rest; parts = wrote.parts; appends = wrote.appends });
-  }

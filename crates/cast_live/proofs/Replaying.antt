@@ -38,7 +38,7 @@ use Rattle.cast_live.specs.Replayed.{lines_told, is_refusal, record_of_accepted,
 use Rattle.cast_text.specs.Text.{WritesRecord, Writes}
 use Rattle.cast_text.specs.declared.fault.TextFault.{TextFault}
 use Rattle.cast_text.specs.RecordLaws.{writes_then}
-use Rattle.cast_words.proofs.WritingLemmas.{IsGoing}
+use Rattle.cast_record.proofs.WrittenLemmas.{IsGoing}
 use Rattle.cast_text.proofs.GoodRecords.{record_is_good}
 use Rattle.cast_record.proofs.WritingLemmas.{record_text-append}
 

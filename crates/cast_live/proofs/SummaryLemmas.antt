@@ -6,7 +6,7 @@ use Rattle.cast_message.proofs.Lists.{drop-next}
 use Rattle.cast_message.specs.declared.config.Config.{Config}
 use Rattle.cast_model.specs.History.{History}
 use Rattle.cast_model.specs.Delivery.{delivered}
-use Rattle.cast_report.specs.declared.report.NodeReport.{NodeReport}
+use Rattle.cast_node.specs.declared.report.NodeReport.{NodeReport}
 use Rattle.cast_model.specs.Replies.{history}
 use Rattle.cast_world.specs.Group.{Stands}
 use Rattle.cast_record.specs.VerdictText.{verdict_text}

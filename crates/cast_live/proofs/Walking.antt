@@ -18,10 +18,10 @@ use Rattle.cast_text.specs.Ranges.{HasEventRange}
 use Rattle.cast_text.specs.Text.{BreaksOff, Writes}
 use Rattle.cast_text.specs.declared.fault.TextFault.{TextFault}
 use Rattle.cast_text.specs.declared.fault.TextFault.TheVariants as faults
-use Rattle.cast_words.proofs.WritingLemmas.{IsGoing}
+use Rattle.cast_record.proofs.WrittenLemmas.{IsGoing}
 use Rattle.cast_world.specs.Group.{State, Stands}
 use Rattle.cast_live.specs.Replayed.{lines_told, record_of_accepted}
-use Rattle.cast_live.specs.Walk.{TakesStep, IsWalk}
+use Rattle.cast_live.specs.Walk.{IsWalk}
 
 all_more : {A : Type 0} (P : A → Type 0) (xs : List A) (x : A) → AllByRecursion P xs → P x → AllByRecursion P (xs ++ x ∷ [])
 all_more P [] x all more = (more, tt)
@@ -38,14 +38,15 @@ pub text_begins : (config : Config) (events : List Event) → record_text (recor
 text_begins config events = record_text-append (head_of config ∷ []) (lines_told 0 events (replies_from config [] events) ++ End ∷ [])
 
 module _ (config : Config) (events : List Event) (index : ℕ) (left : List Event) (world : State) (w : IsWalk config events index left world) where
-  module _ (event : Event) (rest : List Event) (is : left ≡ event ∷ rest) (later : State) (answered : Result Answer StepFault) (step : TakesStep world event later answered) where
+  module _ (event : Event) (rest : List Event) (is : left ≡ event ∷ rest) (later : State) (answered : Result Answer StepFault)
+      (step : (answered ≡ reply config w.past event) × Stands config (after config w.past event) later) where
     pub text_left : rest_text config index w.past left ≡ record_text (lines_for index event answered) ++ rest_text config (index + 1) (after config w.past event) rest
     unfolding lines_told replies_from
     text_left =
         let now = lines_for index event answered in
         let then = lines_told (index + 1) rest (replies_from config (after config w.past event) rest) in
         ap (rest_text config index w.past) is
-        ∙ ap (λ a. record_text ((lines_for index event a ++ then) ++ End ∷ [])) (sym (step config w.past w.stands).0)
+        ∙ ap (λ a. record_text ((lines_for index event a ++ then) ++ End ∷ [])) (sym step.0)
         ∙ ap record_text (append_assoc now then (End ∷ []))
         ∙ record_text-append now (then ++ End ∷ [])
 
@@ -66,7 +67,7 @@ module _ (config : Config) (events : List Event) (index : ℕ) (left : List Even
       abbrev pub walk_next : HasEventRange event → IsWalk config events next rest later
       walk_next range = record {
         past = after config w.past event;
-        stands = (step config w.past w.stands).1;
+        stands = step.1;
         ends = ends_next;
         seen = w.seen ++ event ∷ [];
         parts = parts_next;

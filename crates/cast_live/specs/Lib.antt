@@ -1,3 +1,4 @@
 pub mod Replayed
 pub mod Walk
 pub mod Live
+pub mod Outputs

@@ -2,15 +2,13 @@
 --     IsMergedRun config reports events    the events are the merge of these linked logs
 --     IsRunOf script reports               these are the reports of a run of the script, with a client for each of its jobs
 --     events_of run                        the merged events of a run
---     IsFinished run                       the report's logs are linked, and world and verdict are those of the merged events
+--     IsFinished run                       the report's logs are linked, and world and summary are those of the merged events
 --     end_word ended                       the word of an end
 --     node_text config past p ended        the line of node p: its end, and how many items it delivered from each node
 --     summary_text config past ends said   the whole summary
---     WritesSummary input old new said     the writer has the summary of a run of the script that was read
---     Summarizes                           the same, or a fault has its cause
-use Rattle.std.specs.Prelude.{◌≡◌, ℕ, ◌+◌, ◌≤◌, ◌++◌, ◌↔◌, [], ◌∷◌, List, Bool, true, false, IsTrue, length, map, flat_map, codes, decimal, reverse, slice_get, Some, None, Option, Result, Ok, Err}
+--     IsOfRunning script fault             why the group of the script is not run, or memory was wanted
+use Rattle.std.specs.Prelude.{◌≡◌, ℕ, ◌+◌, ◌≤◌, ◌++◌, ◌↔◌, [], ◌∷◌, List, Bool, true, false, IsTrue, length, map, flat_map, codes, decimal, reverse, slice_get, Some, None, Option}
 use Rattle.std.specs.List.{range_with_len}
-use Rattle.std.specs.Io.KnownBytes.{Appends, Keeps}
 use Rattle.cast_message.specs.declared.config.Config.{Config}
 use Rattle.cast_message.specs.declared.event.Event.{Event}
 use Rattle.cast_message.specs.declared.message.Item.{Item}
@@ -19,10 +17,10 @@ use Rattle.cast_model.specs.Delivery.{delivered}
 use Rattle.cast_model.specs.Replies.{history, replies}
 use Rattle.cast_model.specs.Rounds.{AreAccepted, Rest}
 use Rattle.cast_world.specs.Group.{Stands}
-use Rattle.cast_report.specs.declared.report.EngineEnd.{EngineEnd}
-use Rattle.cast_report.specs.declared.report.EngineEnd.TheVariants.{Stopped, Crashed, TurnLimit, LogFull, ClockFull}
-use Rattle.cast_report.specs.declared.report.NodeReport.{NodeReport}
-use Rattle.cast_report.specs.Linked.{Linked}
+use Rattle.cast_node.specs.declared.report.EngineEnd.{EngineEnd}
+use Rattle.cast_node.specs.declared.report.EngineEnd.TheVariants.{Stopped, Crashed, TurnLimit, LogFull, ClockFull}
+use Rattle.cast_node.specs.declared.report.NodeReport.{NodeReport}
+use Rattle.cast_node.specs.Linked.{Linked}
 use Rattle.cast_merge.specs.Merge.{TellsMerge}
 use Rattle.cast_merge.specs.ByStamp.{merged_events}
 use Rattle.cast_record.specs.declared.verdict.Verdict.TheVariants.{Good}
@@ -34,15 +32,15 @@ use Rattle.cast_carrier.specs.Plans.{ArePlanned, crash_from}
 use Rattle.cast_job.specs.SubmitAll.{SubmitsGiven}
 use Rattle.cast_engine.specs.Journals.{EndsAs}
 use Rattle.cast_run.specs.Serves.{AreStamped, AreServed, HaveOrigins}
-use Rattle.cast_script.specs.declared.live_fault.LiveFault.{LiveFault}
-use Rattle.cast_script.specs.declared.live_fault.LiveFault.TheVariants as lives
+use Rattle.cast_message.specs.declared.live_fault.LiveFault.{LiveFault}
+use Rattle.cast_message.specs.declared.live_fault.LiveFault.TheVariants as lives
 use Rattle.cast_job.specs.declared.submit_all.SubmitAll.{SubmitAll}
 use Rattle.cast_script.specs.declared.script.Script.{Script}
 use Rattle.cast_live.specs.declared.live.FinishedRun.{FinishedRun}
 use Rattle.cast_live.specs.declared.summary.Summary.{Summary}
 use Rattle.cast_text.specs.declared.fault.TextFault.{TextFault}
 use Rattle.cast_text.specs.declared.fault.TextFault.TheVariants as faults
-use Rattle.cast_text.specs.Text.{IsScriptIn, IsOfScript, WroteFront}
+use Rattle.cast_text.specs.Text.{IsScriptIn}
 
 -- ---- the run
 
@@ -60,11 +58,16 @@ pub record IsMergedRun (config : Config) (reports : List NodeReport) (events : L
 abbrev pub events_of : FinishedRun → List Event
 events_of run = merged_events run.report.reports
 
--- the run's logs are linked, its world stands for the events into which they merge, and the record of these is good
+-- rest is told where the group is at rest after these events, and the record of them is good
+pub record IsSummaryOf (config : Config) (events : List Event) (said : Summary) : Type 0 where
+  pub rest : IsTrue said.rest ↔ Rest config (history config events)
+  pub good : said.verdict ≡ Good
+
+-- the run's logs are linked, its world stands for the events into which they merge, and its summary is told of these
 pub record IsFinished (run : FinishedRun) : Type 0 where
   pub merged : IsMergedRun run.report.config run.report.reports (events_of run)
   pub stands : Stands run.report.config (history run.report.config (events_of run)) run.world
-  pub good : run.verdict ≡ Good
+  pub said : IsSummaryOf run.report.config (events_of run) run.summary
 
 -- a job that has submitted nothing
 abbrev pub IsNewJob : SubmitAll → Type 0
@@ -140,29 +143,9 @@ summary_text config past ends said =
     nodes_text config past 0 ends
     ++ (rest_text said.rest ++ (codes "verdict " ++ (verdict_text said.verdict ++ 10 ∷ [])))
 
--- rest is told where the group is at rest after these events, and the record of them is good
-pub record IsSummaryOf (config : Config) (events : List Event) (said : Summary) : Type 0 where
-  pub rest : IsTrue said.rest ↔ Rest config (history config events)
-  pub good : said.verdict ≡ Good
-
--- the script that was read, reports of a run of it, the events into which their logs merge, and that this is told of them
-pub record Summarized (input : Option (List ℕ)) (said : Summary) : Type 0 where
-  pub script : Script
-  pub read : IsScriptIn input script
-  pub reports : List NodeReport
-  pub ran : IsRunOf script reports
-  pub events : List Event
-  pub merged : IsMergedRun script.config reports events
-  pub told : IsSummaryOf script.config events said
-
-abbrev pub text_of_run : {input : Option (List ℕ)} {said : Summary} → Summarized input said → List ℕ
-text_of_run {input} {said} run =
-    summary_text run.script.config (history run.script.config run.events) (ends_of run.reports) said
-
--- the writer has the summary of a run of the script that was read, and nothing else
-pub record WritesSummary (input old new : Option (List ℕ)) (said : Summary) : Type 0 where
-  pub run : Summarized input said
-  pub appends : Appends old new (text_of_run run)
+abbrev pub summary_of : FinishedRun → List ℕ
+summary_of run =
+    summary_text run.report.config (history run.report.config (events_of run)) (ends_of run.report.reports) run.summary
 
 -- ---- faults
 
@@ -184,18 +167,3 @@ pub record DoesNotRun (input : Option (List ℕ)) (why : LiveFault) : Type 0 whe
   pub script : Script
   pub read : IsScriptIn input script
   pub cause : IsRefusedFor script why
-
--- the summary of a run of the script that was read broke off
-pub record SummaryBreaksOff (input old new : Option (List ℕ)) (failed : Bool) : Type 0 where
-  pub said : Summary
-  pub run : Summarized input said
-  pub broken : failed ≡ true
-  pub front : WroteFront old new (text_of_run run)
-
--- the summary was written, or a fault has its cause, and nothing was written but where the summary broke off
-abbrev pub Summarizes : Option (List ℕ) → Bool → Option (List ℕ) → Option (List ℕ) → Bool
-    → Result Summary TextFault → Type 0
-Summarizes input read_failed old new failed (Ok said) = WritesSummary input old new said
-Summarizes input read_failed old new failed (Err (faults.Live why)) = DoesNotRun input why × Keeps old new
-Summarizes input read_failed old new failed (Err faults.Write) = SummaryBreaksOff input old new failed
-Summarizes input read_failed old new failed (Err fault) = IsOfScript input read_failed fault × Keeps old new

@@ -1,26 +1,24 @@
 //! Running the group of a script, and telling what became of it.
-ghost use Rattle.std.specs.Prelude.{◌≡◌, ◌<◌, ◌++◌, ◌∷◌, [], false, length, IfOk, IfErr, OnOk, map};
-ghost use Rattle.cast_record.specs.Text.{record_text};
+ghost use Rattle.std.specs.Prelude.{◌≡◌, ◌<◌, ◌++◌, ◌∷◌, [], false, length, IfOk, IfErr, IsSome, OnOk, map};
 ghost use Rattle.cast_job.specs.Jobs.{told_job};
-ghost use Rattle.cast_script.specs.Replay.{script_text};
-ghost use Rattle.cast_live.specs.Live.{IsFinished, IsNewJob, AreNewJobs, items_of, events_of, IsOfRunning, IsRunOf, Summarizes};
-ghost use Rattle.cast_text.specs.Text.{Puts, UsesStreams};
-ghost use Rattle.cast_live.specs.Replayed.{record_of_accepted, RecordsReplay};
+ghost use Rattle.cast_text.specs.Text.{TakesInput, Tells};
+ghost use Rattle.cast_live.specs.Live.{events_of, IsFinished, IsNewJob, AreNewJobs, items_of, IsOfRunning, IsRunOf};
+ghost use Rattle.cast_live.specs.Replayed.{RecordsReplay};
+ghost use Rattle.cast_live.specs.Outputs.{AreSound, RunsGroup, is_of_output};
 
-use crate::replay::{is_replayed, write_run_record};
-use crate::summary::{Summary, summarize, write_summary};
+use crate::outputs::RunOutputs;
+use crate::summary::Summary;
 use crate::verdict::judge_run;
-use cast_merge::merge_events;
+use cast_log::{EntryKind, KindRef, Log};
 use cast_message::{Item, List, NodeId};
-use cast_node::{EntryKind, KindRef, Log};
-use cast_report::GroupReport;
+use cast_node::GroupReport;
+use cast_record::Meter;
 use cast_run::{
     ClientReport, CountingGate, LiveRun, Progress, Schedule, SubmitAll, find_misfit, run_live,
     run_scheduled,
 };
-use cast_script::{Script, write_script};
-use cast_text::{TextFault, Verdict, read_script_text};
-use cast_words::Meter;
+use cast_script::Script;
+use cast_text::{TextFault, read_script_text};
 use cast_world::World;
 use std::alloc::{AllocError, Global};
 use std::io::{Read, Write};
@@ -34,64 +32,88 @@ pub struct FinishedRun {
     pub report: GroupReport,
     /// The group after what happened.
     pub world: World,
-    /// The judge's verdict on the record of what happened.
-    pub verdict: Verdict,
+    pub summary: Summary,
     /// How many orders the desks of its nodes had left.
     pub left: u64,
 }
 
-/// Reads a script to its end, runs its group in threads, with its plan and a client for each of its jobs, and writes the
-/// summary of the run. The events of the script are left aside. Nothing is written before all threads have ended: after
-/// `Write` a prefix of the summary stands, or nothing, after any other fault nothing.
-pub fn live_text<R: Read, W: Write, T: Threads + Wait + Copy + Send + 'static>(
+/// Reads a script to its end, runs its group in threads, with its plan and a client for each of its jobs, and writes what is
+/// wanted of the run. The events of the script are left aside. Nothing is written before all threads have ended; until then
+/// `progress` tells another thread how far the run is.
+///
+/// After `Write` or `Memory` each writer has a front of its text, or nothing; after any other fault nothing.
+pub fn live_text<R: Read, S: Write, F: Write, T: Threads + Wait + Copy + Send + 'static>(
     rt: T,
     alloc: Global,
     reader: &mut Meter<R>,
-    writer: &mut Meter<W>,
-) -> Result<Summary, TextFault>
-    requires { (reader.old.failed ≡ false) × (writer.old.failed ≡ false) }
-    // The summary is that of a run of the script that was read, and the writer has its text and nothing else, or a fault
-    // has its cause.
-    ensures exact { Summarizes (R.remaining reader.old.inner) reader.new.failed
-        (W.contents writer.old.inner) (W.contents writer.new.inner) writer.new.failed result }
-    // What failed is told, and nothing else is; no more is read than tells that there is too much.
-    ensures streams { UsesStreams R.remaining reader.old reader.new writer.new.failed result }
+    outputs: &mut RunOutputs<S, F>,
+    progress: &Arc<Progress, Global>,
+) -> Result<FinishedRun, TextFault>
+    requires { (reader.old.failed ≡ false) × AreSound outputs.old }
+    // It is a run of the script that was read, and each writer has its text of that run and nothing else; or a fault has its cause.
+    ensures exact { RunsGroup (R.remaining reader.old.inner) reader.new.failed
+        S.contents F.contents outputs.old outputs.new result }
+    // Running the script that is written, where it is no longer than an input may be, writes the record of the run, in which no
+    // line is a refusal.
+    ensures law { IfOk result (λ run. IsSome outputs.old.replay
+        → RecordsReplay run.report.config (events_of run)) }
+    // What failed is told, and nothing else is.
+    ensures told { Tells result reader.new.failed (is_of_output result) }
+    ensures taken { TakesInput (R.remaining reader.old.inner) (R.remaining reader.new.inner) }
 {
     let script = read_script_text(alloc, reader)?;
-    let progress = Progress::shared(alloc, script.config.nodes())?;
-    let run = run_script(rt, alloc, script, &progress)?;
-    let summary = summarize(&run);
-    write_summary(&run, summary, writer)?;
-    Ok(summary)
+    progress.expect(count_due(&script));
+    let run = run_script(rt, alloc, script, progress)?;
+    outputs.write(alloc, &run)?;
+    Ok(run)
 }
 
-/// The same of a group that runs in the calling thread, by a schedule, for so many steps at most.
-pub fn live_text_by<R: Read, W: Write, S: Schedule, T: Wait>(
+/// The same of a group that runs in the calling thread, by a schedule. It ends by itself, after as many steps at most as the turns
+/// and calls of its script, and the parcels of its carriers, may want.
+pub fn live_text_by<R: Read, S: Write, F: Write, C: Schedule, T: Wait>(
     rt: &T,
     alloc: Global,
     reader: &mut Meter<R>,
-    writer: &mut Meter<W>,
-    steps: u64,
-    schedule: &mut S,
-) -> Result<Summary, TextFault>
-    requires { (reader.old.failed ≡ false) × (writer.old.failed ≡ false) }
-    ensures exact { Summarizes (R.remaining reader.old.inner) reader.new.failed
-        (W.contents writer.old.inner) (W.contents writer.new.inner) writer.new.failed result }
-    ensures streams { UsesStreams R.remaining reader.old reader.new writer.new.failed result }
+    outputs: &mut RunOutputs<S, F>,
+    progress: &Arc<Progress, Global>,
+    schedule: &mut C,
+) -> Result<FinishedRun, TextFault>
+    requires { (reader.old.failed ≡ false) × AreSound outputs.old }
+    ensures exact { RunsGroup (R.remaining reader.old.inner) reader.new.failed
+        S.contents F.contents outputs.old outputs.new result }
+    ensures law { IfOk result (λ run. IsSome outputs.old.replay
+        → RecordsReplay run.report.config (events_of run)) }
+    ensures told { Tells result reader.new.failed (is_of_output result) }
+    ensures taken { TakesInput (R.remaining reader.old.inner) (R.remaining reader.new.inner) }
 {
     let script = read_script_text(alloc, reader)?;
-    let progress = Progress::shared(alloc, script.config.nodes())?;
-    let run = run_script_by(rt, alloc, script, &progress, steps, schedule)?;
-    let summary = summarize(&run);
-    write_summary(&run, summary, writer)?;
-    Ok(summary)
+    progress.expect(count_due(&script));
+    let run = run_script_by(rt, alloc, script, progress, schedule)?;
+    outputs.write(alloc, &run)?;
+    Ok(run)
 }
 
-/// Runs the group of a script in threads, with its plan and a client for each of its jobs, and merges its logs. The events of
-/// the script are left aside. All threads have ended when it returns; until then `progress` tells another thread how far the
-/// run is, of as many nodes as it has room for. Refused are a group that does not fit the script's jobs and plan, or of which a
-/// thread was not started, each as `Live`, and want of memory, which is `Memory` alone.
-pub fn run_script<T: Threads + Wait + Copy + Send + 'static>(
+// How many deliveries a run of the script can make: each item at each node. A run in which a node does not stop by itself, or an
+// item is refused, may end below that.
+fn count_due(script: &Script) -> u64 {
+    let mut items = 0u64;
+    for (_node, job) in script.jobs.as_slice() {
+        items = items.saturating_add(job.as_slice().len() as u64);
+    }
+    items.saturating_mul(script.config.nodes())
+}
+
+// As many steps as the turns and calls of a group, and the parcels of its carriers, may want.
+fn count_steps(script: &Script) -> u64 {
+    let jobs = script.jobs.as_slice().len() as u64;
+    let all = jobs.saturating_add(2 * script.config.nodes());
+    script.turns.saturating_mul(all)
+}
+
+// Runs the group of a script in threads, with its plan and a client for each of its jobs, and merges its logs. All threads have
+// ended when it returns. Refused are a group that does not fit the script's jobs and plan, or of which a thread was not started,
+// each as `Live`, and want of memory, which is `Memory` alone.
+fn run_script<T: Threads + Wait + Copy + Send + 'static>(
     rt: T,
     alloc: Global,
     script: Script,
@@ -119,13 +141,12 @@ pub fn run_script<T: Threads + Wait + Copy + Send + 'static>(
     Ok(merge_logs(alloc, run)?)
 }
 
-/// The same in the calling thread, by a schedule, for so many steps at most: no thread is started.
-pub fn run_script_by<S: Schedule, T: Wait>(
+// The same in the calling thread, by a schedule.
+fn run_script_by<S: Schedule, T: Wait>(
     rt: &T,
     alloc: Global,
     script: Script,
     progress: &Arc<Progress, Global>,
-    steps: u64,
     schedule: &mut S,
 ) -> Result<FinishedRun, TextFault>
     ensures config { IfOk result (λ run. run.report.config ≡ script.config) }
@@ -133,6 +154,7 @@ pub fn run_script_by<S: Schedule, T: Wait>(
     ensures ok { IfOk result IsFinished }
     ensures err { IfErr result (IsOfRunning script) }
 {
+    let steps = count_steps(&script);
     let Script {
         config,
         turns,
@@ -184,10 +206,14 @@ fn merge_logs(alloc: Global, run: LiveRun<SubmitAll>) -> Result<FinishedRun, All
     let (world, verdict) = judge_run(alloc, &report)?;
     // Reading them tells a proof that they are linked.
     let _linked = report.reports();
+    let summary = Summary {
+        rest: world.at_rest(),
+        verdict,
+    };
     Ok(FinishedRun {
         report,
         world,
-        verdict,
+        summary,
         left,
     })
 }
@@ -199,41 +225,6 @@ fn count_left(clients: &[ClientReport]) -> u64 {
         left = left.saturating_add(client.left);
     }
     left
-}
-
-/// Writes the record of what happened in the run: of the merged events, and the replies to them. After a fault, of the writer or
-/// want of memory, a prefix of it was written, or nothing.
-pub fn write_record_of<W: Write>(
-    alloc: Global,
-    run: &FinishedRun,
-    writer: &mut Meter<W>,
-) -> Result<(), TextFault>
-    requires { writer.old.failed ≡ false }
-    ensures { Puts W.contents writer.old writer.new result
-        (record_text (record_of_accepted run.now.report.config (events_of run.now))) }
-{
-    write_run_record(alloc, &run.report, writer)
-}
-
-/// Writes the script that says what happened in the run: its configuration, and the merged events, of which it makes the list.
-/// After a fault of the writer a prefix of it was written, or nothing, and where memory is wanting nothing.
-pub fn write_replay_of<W: Write>(
-    alloc: Global,
-    run: &FinishedRun,
-    writer: &mut Meter<W>,
-) -> Result<(), TextFault>
-    requires { writer.old.failed ≡ false }
-    ensures text { Puts W.contents writer.old writer.new result
-        (script_text run.now.report.config (events_of run.now)) }
-    // Running that script, where it is no longer than an input may be, writes the record of the run, in which no line is a
-    // refusal.
-    ensures law { OnOk result (RecordsReplay run.now.report.config (events_of run.now)) }
-{
-    let config = run.report.config();
-    let events = merge_events(alloc, run.report.reports())?;
-    is_replayed(config, events.as_slice());
-    write_script(config, events.as_slice(), writer)?;
-    Ok(())
 }
 
 // For each job of the script the one that submits its items.

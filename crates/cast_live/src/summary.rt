@@ -5,20 +5,19 @@ ghost use Rattle.cast_model.specs.History.{History};
 ghost use Rattle.cast_model.specs.Delivery.{delivered};
 ghost use Rattle.cast_model.specs.Replies.{history};
 ghost use Rattle.cast_world.specs.Group.{Stands};
-ghost use Rattle.cast_words.specs.Written.{Puts};
-ghost use Rattle.cast_live.specs.Live.{IsFinished, IsSummaryOf, ends_of, events_of, end_word, end_text, node_text, nodes_text, rest_text, summary_text};
+ghost use Rattle.cast_record.specs.Written.{Puts};
+ghost use Rattle.cast_live.specs.Live.{IsFinished, ends_of, end_word, end_text, node_text, nodes_text, rest_text, summary_of};
 
 use crate::live::FinishedRun;
 use cast_judge::Verdict;
 use cast_message::{Config, NodeId};
-use cast_record::write_verdict;
-use cast_report::{EngineEnd, NodeReport};
-use cast_words::{Meter, Written, write_bytes, write_number};
+use cast_node::{EngineEnd, NodeReport};
+use cast_record::{Meter, Written, write_bytes, write_number, write_verdict};
 use cast_world::World;
 use std::io::Write;
 
 /// What is told of a group that ran in threads.
-#[derive(Clone, Copy, Debug, PartialEq, Eq)]
+#[derive(Clone, Copy)]
 pub struct Summary {
     /// Whether no live node owes a live node anything after the merged events.
     pub rest: bool,
@@ -26,26 +25,12 @@ pub struct Summary {
     pub verdict: Verdict,
 }
 
-/// The verdict on what happened, and whether the group is at rest after it.
-pub fn summarize(run: &FinishedRun) -> Summary
-    requires { IsFinished run.now }
-    ensures { IsSummaryOf run.now.report.config (events_of run.now) result }
-{
-    Summary {
-        rest: run.world.at_rest(),
-        verdict: run.verdict,
-    }
-}
-
-/// Writes the summary of the run, of which `summarize` said so. It takes no memory. A refusal comes only where the writer failed
+/// Writes the summary of the run. It takes no memory. A refusal comes only where the writer failed
 /// or took no byte; a prefix of the text stands then.
-pub fn write_summary<W: Write>(run: &FinishedRun, said: Summary, writer: &mut Meter<W>) -> Written
+pub fn write_summary<W: Write>(run: &FinishedRun, writer: &mut Meter<W>) -> Written
     requires run { IsFinished run.now }
-    requires said { IsSummaryOf run.now.report.config (events_of run.now) said }
     requires writer { writer.old.failed ≡ false }
-    ensures { Puts W.contents writer.old writer.new result
-        (summary_text run.now.report.config (history run.now.report.config (events_of run.now))
-        (ends_of run.now.report.reports) said) }
+    ensures { Puts W.contents writer.old writer.new result (summary_of run.now) }
 {
     write_nodes(
         run.report.config(),
@@ -53,9 +38,9 @@ pub fn write_summary<W: Write>(run: &FinishedRun, said: Summary, writer: &mut Me
         run.report.reports(),
         writer,
     )?;
-    write_bytes(rest_line(said.rest), writer)?;
+    write_bytes(rest_line(run.summary.rest), writer)?;
     write_bytes(b"verdict ", writer)?;
-    write_verdict(said.verdict, writer)
+    write_verdict(run.summary.verdict, writer)
 }
 
 // The line of each node.

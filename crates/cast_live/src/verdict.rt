@@ -1,7 +1,10 @@
 //! The verdict on the record of a run, whose merged events are taken by the group and judged one after another: neither they, nor
 //! the replies to them, nor the text are kept.
 ghost use Rattle.std.specs.Prelude.{◌≡◌, ℕ, ◌++◌, List, IfOk, OnOk};
-ghost use Rattle.cast_model.specs.Replies.{history};
+ghost use Rattle.cast_message.specs.declared.config.Config.{Config as Settings};
+ghost use Rattle.cast_model.specs.History.{History};
+ghost use Rattle.cast_model.specs.Replies.{after, history, reply};
+ghost use Rattle.cast_text.specs.Ranges.{HasEventRange};
 ghost use Rattle.cast_record.specs.Lines.{lines_for};
 ghost use Rattle.cast_record.specs.Text.{record_text};
 ghost use Rattle.cast_world.specs.Group.{Stands as StandsFor};
@@ -12,9 +15,9 @@ use crate::walk::{next_index, take_step};
 use cast_judge::{Judging, Verdict};
 use cast_merge::MergedEvents;
 use cast_message::{Event, Reply};
-use cast_record::{Line, write_lines_of, write_record};
-use cast_report::GroupReport;
-use cast_words::Meter;
+use cast_node::GroupReport;
+use cast_record::{Line, Meter, write_lines_of, write_record};
+use cast_text::tell_event_range;
 use cast_world::World;
 use std::alloc::{AllocError, Global};
 
@@ -32,16 +35,38 @@ pub fn judge_run(alloc: Global, report: &GroupReport) -> Result<(World, Verdict)
     let mut merged = MergedEvents::new(alloc, report)?;
     let mut index = 0;
     'events: while let Some(event) = merged.take_next()? {
-        let reply = take_step(&mut world, &event)?;
-        feed_event(alloc, &mut judging, index, &event, &reply)?;
-        // (calls, since each kind of event and reply would else be a case of its own for the prover)
+        judge_event(alloc, &mut world, &mut judging, index, &event)?;
+        // (a call, since each kind of event would else be a case of its own for the prover)
         drop(event);
-        drop(reply);
         index = next_index(index)?;
     }
     feed_lines(alloc, &mut judging, &[Line::End])?;
     let verdict = judging.finish()?;
     Ok((world, verdict))
+}
+
+// Has the group take an event, and the judge its lines. Most events leave none, and for them the group has a shorter way.
+fn judge_event(
+    alloc: Global,
+    world: &mut World,
+    judging: &mut Judging,
+    index: u64,
+    event: &Event,
+) -> Result<(), AllocError>
+    ensures stands { (config : Settings) (past : History) → StandsFor config past world.old →
+        OnOk result (StandsFor config (after config past event.now) world.new) }
+    ensures judged { (config : Settings) (past : History) → StandsFor config past world.old →
+        (text : List ℕ) → Stands text judging.old → OnOk result (Stands
+        (text ++ record_text (lines_for index event.now (reply config past event.now)))
+        judging.new) }
+    ensures range { OnOk result (HasEventRange event.now) }
+{
+    tell_event_range(event);
+    if world.step_if_silent(event) {
+        return Ok(());
+    }
+    let reply = take_step(world, event)?;
+    feed_event(alloc, judging, index, event, &reply)
 }
 
 // Feeds the judge the lines of an event and its reply, for which no message is copied.

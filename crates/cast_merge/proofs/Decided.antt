@@ -24,7 +24,7 @@ use Rattle.cast_node.proofs.Showing.{shows_decision}
 use Rattle.cast_desk.specs.declared.notice.Notice.{Notice}
 use Rattle.cast_desk.specs.declared.notice.Notice.TheVariants.{Delivered, Decided}
 use Rattle.cast_desk.specs.Feed.{news_of}
-use Rattle.cast_report.specs.Linked.{steps_in, outcome_in_answer}
+use Rattle.cast_node.specs.Linked.{steps_in, outcome_in_answer}
 use Rattle.cast_world.specs.Group.{State, Stands}
 use Rattle.cast_merge.specs.Told.{HasGot, IsValueTold, decision_told, values_told, TellsDecisions, TellsProposals, TellsFewValues}
 use Rattle.cast_merge.proofs.Feeds.{front_read}

@@ -14,16 +14,16 @@ use Rattle.cast_model.specs.Headline.{IsPrefixOf}
 use Rattle.cast_model.specs.Replies.{reply_by}
 use Rattle.cast_model.specs.Steps.{Step, Steps}
 use Rattle.cast_model.specs.OwnSteps.{own_answer, own_fault, is_ignored, nothing, node_reply, node_after}
-use Rattle.cast_node.specs.declared.entry.Entry.{Entry}
-use Rattle.cast_node.specs.declared.entry.EntryKind.{EntryKind}
-use Rattle.cast_node.specs.declared.entry.EntryKind.TheVariants.{Step as StepEntry, Refused}
-use Rattle.cast_node.specs.declared.entry.Origin.{Origin}
+use Rattle.cast_log.specs.declared.entry.Entry.{Entry}
+use Rattle.cast_log.specs.declared.entry.EntryKind.{EntryKind}
+use Rattle.cast_log.specs.declared.entry.EntryKind.TheVariants.{Step as StepEntry, Refused}
+use Rattle.cast_log.specs.declared.entry.Origin.{Origin}
 use Rattle.cast_node.specs.Kept.{Kept}
 use Rattle.cast_box.specs.Lists.{StartsWith}
 use Rattle.cast_desk.specs.declared.notice.Notice.{Notice}
 use Rattle.cast_desk.specs.declared.notice.Notice.TheVariants.{Reply}
 use Rattle.cast_desk.specs.Feed.{feed, feed_from, told_by, reply_of, news_of, orders_in}
-use Rattle.cast_report.specs.Linked.{Trail, Taken, taken, taken_of, taken_in, taken_by, steps_in, AreTaken, IsLogOf, outcome_in, outcome_in_answer}
+use Rattle.cast_node.specs.Linked.{Trail, Taken, taken, taken_of, taken_in, taken_by, steps_in, AreTaken, IsLogOf, outcome_in, outcome_in_answer}
 
 -- that part of what these steps brought, in order
 unfoldable news : {X : Type 0} → (Outcome → List X) → List Taken → List X

@@ -14,15 +14,15 @@ use Rattle.cast_model.specs.History.{stream}
 use Rattle.cast_model.specs.Steps.{Step, Ordered, Sent, Acknowledged, Arrived, Stopped, Steps, steps_of, each, item_of, own_items}
 use Rattle.cast_model.specs.OwnSteps.{own_fault, is_ignored, node_after}
 use Rattle.cast_model.proofs.Projected.{own_items-steps_of}
-use Rattle.cast_node.specs.declared.entry.Entry.{Entry}
-use Rattle.cast_node.specs.declared.entry.EntryKind.{EntryKind}
-use Rattle.cast_node.specs.declared.entry.EntryKind.TheVariants.{Step as StepEntry, Refused}
-use Rattle.cast_node.specs.declared.entry.Origin.{Origin}
+use Rattle.cast_log.specs.declared.entry.Entry.{Entry}
+use Rattle.cast_log.specs.declared.entry.EntryKind.{EntryKind}
+use Rattle.cast_log.specs.declared.entry.EntryKind.TheVariants.{Step as StepEntry, Refused}
+use Rattle.cast_log.specs.declared.entry.Origin.{Origin}
 use Rattle.cast_node.specs.Stands.{Stands as NodeStands}
 use Rattle.cast_desk.specs.declared.notice.Notice.TheVariants.{Reply, Delivered, Decided}
 use Rattle.cast_desk.specs.Feed.{feed_from, told_by, reply_of, news_of, orders_in}
-use Rattle.cast_report.specs.Linked.{Trail, Taken, event_of, taken, taken_of, taken_in, taken_by, steps_in, AreTaken}
-use Rattle.cast_report.proofs.Logging.{get_left}
+use Rattle.cast_node.specs.Linked.{Trail, Taken, event_of, taken, taken_of, taken_in, taken_by, steps_in, AreTaken}
+use Rattle.cast_node.proofs.Logging.{get_left}
 use Rattle.cast_merge.specs.Told.{HasOrdered, TellsNumbers}
 
 -- ---- the items that steps order, in order

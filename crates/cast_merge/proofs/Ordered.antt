@@ -10,10 +10,10 @@ use Rattle.cast_model.specs.Shown.{item_of}
 use Rattle.cast_model.specs.Steps.{steps_of, own_items}
 use Rattle.cast_model.specs.OwnSteps.{own_log}
 use Rattle.cast_model.proofs.Projected.{own_items-steps_of}
-use Rattle.cast_node.specs.declared.entry.Entry.{Entry}
-use Rattle.cast_node.specs.declared.entry.EntryKind.{EntryKind}
-use Rattle.cast_node.specs.declared.entry.EntryKind.TheVariants.{Step as StepEntry, Refused}
-use Rattle.cast_report.specs.Linked.{steps_in, taken, taken_of}
+use Rattle.cast_log.specs.declared.entry.Entry.{Entry}
+use Rattle.cast_log.specs.declared.entry.EntryKind.{EntryKind}
+use Rattle.cast_log.specs.declared.entry.EntryKind.TheVariants.{Step as StepEntry, Refused}
+use Rattle.cast_node.specs.Linked.{steps_in, taken, taken_of}
 use Rattle.cast_merge.specs.Told.{message_told, told, of_sender, item_ordered, ordered_in, TellsOrders}
 use Rattle.cast_merge.proofs.Accepting.{events_of}
 use Rattle.cast_merge.proofs.Assembling.{merged, merging}

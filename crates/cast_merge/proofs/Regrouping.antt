@@ -1,7 +1,7 @@
 -- How lists are grouped where they are merged by key makes no difference.
 use Rattle.std.proofs.Common.{◌≡◌, ◌⊎◌, ℕ, ◌<◌, ◌≤◌, refl, sym, ◌∙◌, ap, List, [], ◌∷◌, ◌++◌, inl, inr, arith}
 use Rattle.std.proofs.lemmas.Bool.{cases_lt}
-use Rattle.cast_node.specs.declared.entry.Entry.{Entry}
+use Rattle.cast_log.specs.declared.entry.Entry.{Entry}
 use Rattle.cast_merge.specs.ByStamp.{before, from, merge, stamp_of, logged_steps, merged_logs}
 use Rattle.cast_merge.proofs.ByKey.{before-more, from-more, before-none, from-none}
 

@@ -6,9 +6,9 @@
 --     merged_logs logs         the steps of the logs: those of the first merged with those of the others
 use Rattle.std.specs.Prelude.{ℕ, nat_lt, if◌then◌else◌, List, [], ◌∷◌, ◌++◌, map}
 use Rattle.cast_message.specs.declared.event.Event.{Event}
-use Rattle.cast_node.specs.declared.entry.Entry.{Entry}
-use Rattle.cast_report.specs.declared.report.NodeReport.{NodeReport}
-use Rattle.cast_report.specs.Linked.{Taken, taken}
+use Rattle.cast_log.specs.declared.entry.Entry.{Entry}
+use Rattle.cast_node.specs.declared.report.NodeReport.{NodeReport}
+use Rattle.cast_node.specs.Linked.{Taken, taken}
 
 -- a step of a log, without its outcome
 pub record LoggedStep : Type 0 where

@@ -24,14 +24,14 @@ use Rattle.cast_model.specs.Delivery.{decision}
 use Rattle.cast_model.specs.Headline.{IsPrefixOf, is_from, value_for}
 use Rattle.cast_model.specs.Shown.{item_of}
 use Rattle.cast_box.specs.Lists.{StartsWith}
-use Rattle.cast_node.specs.declared.entry.Entry.{Entry}
-use Rattle.cast_node.specs.declared.entry.EntryKind.{EntryKind}
-use Rattle.cast_node.specs.declared.entry.EntryKind.TheVariants.{Step as StepEntry}
+use Rattle.cast_log.specs.declared.entry.Entry.{Entry}
+use Rattle.cast_log.specs.declared.entry.EntryKind.{EntryKind}
+use Rattle.cast_log.specs.declared.entry.EntryKind.TheVariants.{Step as StepEntry}
 use Rattle.cast_desk.specs.declared.notice.Notice.{Notice}
 use Rattle.cast_desk.specs.declared.notice.Notice.TheVariants.{Reply, Delivered, Decided}
 use Rattle.cast_desk.specs.Feed.{feed}
-use Rattle.cast_report.specs.declared.report.NodeReport.{NodeReport}
-use Rattle.cast_report.specs.Linked.{Trail, IsLogOf, Linked}
+use Rattle.cast_node.specs.declared.report.NodeReport.{NodeReport}
+use Rattle.cast_node.specs.Linked.{Trail, IsLogOf, Linked}
 use Rattle.cast_world.specs.Group.{State, Stands, node_at}
 
 abbrev pub message_told : Notice → Option Message

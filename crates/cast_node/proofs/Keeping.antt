@@ -16,7 +16,7 @@ use Rattle.cast_message.specs.Items.{is_close, proposes_in}
 use Rattle.cast_message.specs.declared.message.Message.{Message}
 use Rattle.cast_link.specs.Links.{Link}
 use Rattle.cast_relay.specs.Held.{Held}
-use Rattle.cast_sets.specs.Members.{remove-inserted}
+use Rattle.cast_message.specs.Members.{remove-inserted}
 use Rattle.cast_node.specs.Delivering.{Delivering}
 use Rattle.cast_node.specs.Taking.{with_proposal, without_proposal}
 use Rattle.cast_node.specs.Sound.{IsNode, Owes}

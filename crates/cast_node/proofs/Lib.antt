@@ -22,4 +22,6 @@ pub mod Owing
 pub mod OwedPeers
 pub mod Through
 pub mod Words
-pub mod Logged
+pub mod Made
+pub mod Logging
+pub mod Linking

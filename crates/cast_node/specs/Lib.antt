@@ -9,4 +9,6 @@ pub mod Taking
 pub mod Sound
 pub mod Calls
 pub mod Promise
-pub mod Logged
+pub mod Linked
+pub mod Linking
+pub mod Group

@@ -16,8 +16,7 @@ ghost use Rattle.cast_node.specs.Delivering.{BringsNothing, HasPlace, IsTurn, ro
 use crate::slot::TakesSlot;
 use cast_agree::{Agree, Counting};
 use cast_fifo::HoldBack;
-use cast_message::{Config, Item, List, Message, Mode, NodeId, Outcome};
-use cast_sets::GroupSet;
+use cast_message::{Config, GroupSet, Item, List, Message, Mode, NodeId, Outcome};
 use std::alloc::{AllocError, Global};
 use std::marker::Model;
 

@@ -5,9 +5,8 @@ ghost use Rattle.cast_link.specs.Links.{with_given, without_last};
 ghost use Rattle.cast_node.specs.Giving.{given_on, taken_back_from, AreOwed};
 
 use cast_link::LinkOut;
-use cast_message::NodeId;
+use cast_message::{GroupSet, NodeId};
 use cast_relay::Relay;
-use cast_sets::GroupSet;
 use std::alloc::AllocError;
 
 /// Gives what stands at this place to each of these peers to which a message of the sender goes that came from the source,

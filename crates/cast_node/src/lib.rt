@@ -1,21 +1,21 @@
-//! A node of a broadcast group: what it holds, gives, waits for, delivers and decides; and the entries of its log.
+//! A node of a broadcast group: what it holds, gives, waits for, delivers and decides; and what comes back of it, and of a group, that ran apart:
+//! a log and a node, linked.
 #![tactic(auto)]
 
 ghost use Rattle.cast_node.specs.Promise.{BeginsWithNothing, GoesOnBySteps, DeliversAsItsSteps, DecidesAsItsSteps, OwesAsItsSteps, KnowsAsItsSteps, MakesTheFrames};
 
 mod deliveries;
-mod entry;
 mod giving;
-mod log;
 mod node;
 mod outgoing;
+mod report;
 mod slot;
 mod taking;
 
+pub use cast_log::{Entry, EntryKind, EntryRef, KindRef, Log, OpenLog, Origin};
 pub use deliveries::no_news;
-pub use entry::{Entry, EntryKind, Origin};
-pub use log::{EntryRef, KindRef, Log, OpenLog};
 pub use node::{Node, Numbers};
+pub use report::{EngineEnd, GroupReport, NodeReport};
 
 /// A law of every node, whatever steps it took and whatever frames came to it: a new node stands for no steps; a node that
 /// stands for its steps answers the next as the definitions say of them, or wants memory in the place of an answer, and

@@ -24,9 +24,10 @@ use crate::outgoing::Outgoing;
 use crate::slot::NoSlot;
 use crate::taking::{Fresh, first_members, take_up_carried, take_up_own};
 use cast_link::LinkIn;
-use cast_message::{Config, Frame, FrameBody, Item, Message, NodeId, Outcome, StepFault};
+use cast_message::{
+    Config, Frame, FrameBody, GroupSet, Item, Message, NodeId, NumberSet, Outcome, StepFault,
+};
 use cast_relay::Relay;
-use cast_sets::{GroupSet, NumberSet};
 use std::alloc::{AllocError, Global};
 use std::marker::Model;
 

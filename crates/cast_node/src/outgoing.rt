@@ -10,9 +10,8 @@ ghost use Rattle.cast_node.specs.Outgoing.{links_of, nothing_given, given_to, ta
 
 use crate::giving::{give_all, owed_peers, take_back_all};
 use cast_link::LinkOut;
-use cast_message::{Message, NodeId};
+use cast_message::{GroupSet, Message, NodeId};
 use cast_relay::Relay;
-use cast_sets::GroupSet;
 use std::alloc::{AllocError, Global};
 use std::marker::Model;
 

@@ -10,9 +10,8 @@ use crate::deliveries::Deliveries;
 use crate::outgoing::Outgoing;
 use crate::slot::{NoSlot, TakesSlot};
 use cast_link::LinkIn;
-use cast_message::{Item, Message, NodeId, Outcome};
+use cast_message::{GroupSet, Item, Message, NodeId, Outcome};
 use cast_relay::Relay;
-use cast_sets::GroupSet;
 use std::alloc::AllocError;
 
 /// A message that a node did not hold, the node that it came from, and those that are known to hold it.

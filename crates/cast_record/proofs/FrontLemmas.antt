@@ -13,10 +13,10 @@ use Rattle.std.proofs.lemmas.List.Splits.{slice_split_at}
 use Rattle.std.proofs.lemmas.List.Elements.{All-nil, All-cons}
 use Rattle.cast_message.specs.Items.{byte_sized}
 use Rattle.cast_record.specs.Nodes.{node_of}
-use Rattle.cast_words.specs.Numbers.{read_on, number_of}
+use Rattle.cast_record.specs.Numbers.{read_on, number_of}
 use Rattle.cast_record.specs.Reading as read
 use Rattle.cast_record.specs.Fronts.{BeginsWithLine, BeginsWithNode, BeginsWithNumber, IsNumberSoFar}
-use Rattle.cast_words.proofs.NumberLemmas.{number_from, number_takes}
+use Rattle.cast_record.proofs.NumberLemmas.{number_from, number_takes}
 use Rattle.cast_record.proofs.ItemWordLemmas.{from_on}
 use Rattle.cast_record.proofs.ReadLemmas.{both, item_takes, line_by_parts}
 use Rattle.cast_record.proofs.WordLemmas.{HasNone, item_without, decimal_without}

@@ -10,9 +10,9 @@ use Rattle.std.proofs.lemmas.List.{take-append-drop}
 use Rattle.std.proofs.lemmas.List.Folds.{list_all-append}
 use Rattle.cast_message.specs.declared.message.Item.{Item}
 use Rattle.cast_message.specs.declared.message.Item.TheVariants as items
-use Rattle.cast_words.specs.Numbers.{number_of}
+use Rattle.cast_record.specs.Numbers.{number_of}
 use Rattle.cast_record.specs.Reading.{data_of, item_of, two_of, proposal_by, proposal_of, HasData}
-use Rattle.cast_words.specs.Unhex.{unhex, digit_of, byte_of, before}
+use Rattle.cast_record.specs.Unhex.{unhex, digit_of, byte_of, before}
 use Rattle.cast_record.specs.declared.item_word.ItemKind.{ItemKind}
 use Rattle.cast_record.specs.declared.item_word.ItemKind.TheVariants.{Data}
 use Rattle.cast_record.specs.ItemWords.{kind_of, SpellsItem, is_known, is_hex, is_hex_digit}

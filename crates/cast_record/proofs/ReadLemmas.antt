@@ -14,19 +14,19 @@ use Rattle.cast_message.specs.declared.message.Message.{Message}
 use Rattle.cast_message.specs.declared.message.Decision.{Decision}
 use Rattle.cast_record.specs.declared.line.Line.{Line}
 use Rattle.cast_record.specs.declared.line.Line.TheVariants.{Head, Head2, Broadcast, Delivered, Decided, Crashed, Refused, End}
-use Rattle.cast_words.specs.Hex.{hex}
-use Rattle.cast_words.specs.Modes.{mode_word, mode_named}
+use Rattle.cast_record.specs.Hex.{hex}
+use Rattle.cast_record.specs.Modes.{mode_word, mode_named}
 use Rattle.cast_record.specs.Text.{item_word, message_words, line_words, line_text}
-use Rattle.cast_words.specs.Hex.{AreBytes}
+use Rattle.cast_record.specs.Hex.{AreBytes}
 use Rattle.cast_record.specs.Ranges.{IsItemWithin, IsMessageWithin, IsGroupWithin, IsModeWithin, IsWithin}
 use Rattle.cast_message.specs.Items.{byte_sized}
 use Rattle.cast_record.specs.Nodes.{node_of}
-use Rattle.cast_words.specs.Numbers.{number_of}
-use Rattle.cast_words.specs.Unhex.{unhex}
+use Rattle.cast_record.specs.Numbers.{number_of}
+use Rattle.cast_record.specs.Unhex.{unhex}
 use Rattle.cast_record.specs.Reading as read
 use Rattle.cast_record.specs.Reading.{IsReadOf}
-use Rattle.cast_words.proofs.NumberLemmas.{number_again, number_takes}
-use Rattle.cast_words.proofs.UnhexLemmas.{unhex_again, unhex_takes, length-hex}
+use Rattle.cast_record.proofs.NumberLemmas.{number_again, number_takes}
+use Rattle.cast_record.proofs.UnhexLemmas.{unhex_again, unhex_takes, length-hex}
 use Rattle.cast_record.proofs.PartLemmas.{has_first}
 use Rattle.cast_record.proofs.WordLemmas.{split_join, decimal_without_colon, split_line}
 

@@ -14,11 +14,11 @@ use Rattle.cast_message.specs.declared.message.Item.TheVariants.{Data, Propose, 
 use Rattle.cast_message.specs.declared.message.Message.{Message}
 use Rattle.cast_record.specs.declared.line.Line.{Line}
 use Rattle.cast_record.specs.declared.line.Line.TheVariants.{Head, Head2, Broadcast, Delivered, Decided, Crashed, Refused, End}
-use Rattle.cast_words.specs.Hex.{hex, hex_digit}
-use Rattle.cast_words.specs.Modes.{mode_word}
+use Rattle.cast_record.specs.Hex.{hex, hex_digit}
+use Rattle.cast_record.specs.Modes.{mode_word}
 use Rattle.cast_record.specs.Text.{item_word, message_words, line_words, line_text}
 use Rattle.cast_record.specs.Ranges.{IsItemWithin, IsMessageWithin, IsWithin}
-use Rattle.cast_words.proofs.NumberLemmas.{own}
+use Rattle.cast_record.proofs.NumberLemmas.{own}
 
 -- the byte is not the one at which is cut
 abbrev pub Differs : ℕ → ℕ → Type 0

@@ -7,7 +7,7 @@ use Rattle.cast_message.specs.declared.message.Item.{Item}
 use Rattle.cast_record.specs.declared.line.Line.{Line}
 use Rattle.cast_record.specs.declared.line.Line.TheVariants.{Delivered}
 use Rattle.cast_record.specs.declared.front.Delivery.{Delivery}
-use Rattle.cast_words.specs.Numbers.{read_on, number_of}
+use Rattle.cast_record.specs.Numbers.{read_on, number_of}
 use Rattle.cast_record.specs.Nodes.{node_of}
 use Rattle.cast_record.specs.Reading.{item_of, line_of}
 

@@ -7,7 +7,7 @@ use Rattle.cast_message.specs.declared.message.Item.TheVariants as items
 use Rattle.cast_record.specs.declared.item_word.ItemKind.{ItemKind}
 use Rattle.cast_record.specs.declared.item_word.ItemKind.TheVariants.{Data, Propose, Close}
 use Rattle.cast_record.specs.Reading.{item_of}
-use Rattle.cast_words.specs.Unhex.{unhex, digit_of}
+use Rattle.cast_record.specs.Unhex.{unhex, digit_of}
 
 abbrev pub item_in : List ℕ → Item
 item_in word = unwrap_or (item_of word) items.Close

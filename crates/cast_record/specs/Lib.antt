@@ -14,3 +14,10 @@ pub mod VerdictText
 pub mod ItemWords
 pub mod WordLines
 pub mod Fronts
+pub mod Hex
+pub mod Unhex
+pub mod Numbers
+pub mod Modes
+pub mod Written
+pub mod Shown
+pub mod Options

@@ -1,7 +1,7 @@
 -- The number of a node that a word spells: decimal, with no zero in front, below 256.
 use Rattle.std.specs.Prelude.{ℕ, List, Option, option_and_then}
 use Rattle.cast_message.specs.Items.{byte_sized}
-use Rattle.cast_words.specs.Numbers.{number_of}
+use Rattle.cast_record.specs.Numbers.{number_of}
 
 abbrev pub node_of : List ℕ → Option ℕ
 node_of word = option_and_then byte_sized (number_of word)

@@ -14,10 +14,10 @@ use Rattle.cast_message.specs.declared.message.Message.{Message}
 use Rattle.cast_record.specs.declared.line.Line.{Line}
 use Rattle.cast_record.specs.declared.line.Line.TheVariants.{Head, Head2, Broadcast, Delivered, Decided, Crashed, Refused, End}
 use Rattle.cast_record.specs.Nodes.{node_of}
-use Rattle.cast_words.specs.Numbers.{number_of}
-use Rattle.cast_words.specs.Modes.{mode_named}
-use Rattle.cast_words.specs.Options.{◌>>=◌}
-use Rattle.cast_words.specs.Unhex.{unhex}
+use Rattle.cast_record.specs.Numbers.{number_of}
+use Rattle.cast_record.specs.Modes.{mode_named}
+use Rattle.cast_record.specs.Options.{◌>>=◌}
+use Rattle.cast_record.specs.Unhex.{unhex}
 use Rattle.cast_record.specs.Ranges.{IsWithin}
 use Rattle.cast_record.specs.Text.{line_text}
 

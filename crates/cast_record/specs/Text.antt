@@ -8,8 +8,8 @@ use Rattle.cast_message.specs.declared.message.Item.TheVariants.{Data, Propose, 
 use Rattle.cast_message.specs.declared.message.Message.{Message}
 use Rattle.cast_record.specs.declared.line.Line.{Line}
 use Rattle.cast_record.specs.declared.line.Line.TheVariants.{Head, Head2, Broadcast, Delivered, Decided, Crashed, Refused, End}
-use Rattle.cast_words.specs.Hex.{hex}
-use Rattle.cast_words.specs.Modes.{mode_word}
+use Rattle.cast_record.specs.Hex.{hex}
+use Rattle.cast_record.specs.Modes.{mode_word}
 
 -- the word of an item
 abbrev pub item_word : Item → List ℕ

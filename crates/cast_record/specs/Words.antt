@@ -2,7 +2,7 @@
 use Rattle.std.specs.Prelude.{ℕ, List, decimal}
 use Rattle.cast_record.specs.declared.words.Word.{Word}
 use Rattle.cast_record.specs.declared.words.Word.TheVariants.{Number, Mode, Item}
-use Rattle.cast_words.specs.Modes.{mode_word}
+use Rattle.cast_record.specs.Modes.{mode_word}
 use Rattle.cast_record.specs.Text.{item_word}
 
 abbrev pub word_text : Word → List ℕ

@@ -1,14 +1,15 @@
 //! Writing the lines that an event and its reply leave in a record, from the two of them: no line is made, and no message is
 //! copied.
 ghost use Rattle.std.specs.Prelude.{◌≡◌, ◌∷◌, [], false};
-ghost use Rattle.cast_words.specs.Written.{Puts};
+ghost use Rattle.cast_record.specs.Written.{Puts};
 ghost use Rattle.cast_record.specs.Lines.{answer_lines, lines_for, outcome_lines};
 ghost use Rattle.cast_record.specs.Text.{record_text};
 
 use crate::line::{Line, MOST_CODE};
+use crate::meter::Meter;
 use crate::writing::{write_broadcast, write_decided, write_delivered, write_line};
+use crate::written::Written;
 use cast_message::{Answer, Event, NodeId, Outcome, Reply};
-use cast_words::{Meter, Written};
 use std::io::Write;
 
 /// Writes the lines of the event, which has this index in its script, and its reply, each with its line feed: those that

@@ -6,10 +6,10 @@ ghost use Rattle.cast_record.specs.WordLines.{line_said};
 ghost use Rattle.cast_record.specs.Fronts.{BeginsWithDelivery, SaysDelivery, BeginsWithNode, BeginsWithNumber, IsNumberSoFar};
 
 use crate::item_word::ItemWord;
+use crate::numbers::number;
 use crate::parts::BLANK;
 use crate::word_line::WordLine;
 use cast_message::{Decision, NodeId};
-use cast_words::number;
 
 /// A line `d` at the front of a text, up to its last word. That word, and whatever follows the line, were not looked at.
 #[derive(Drop)]

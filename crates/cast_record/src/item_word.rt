@@ -5,10 +5,11 @@ ghost use Rattle.cast_record.specs.Reading.{item_of, item_named, data_of, propos
 ghost use Rattle.cast_message.specs.Items.{is_close};
 ghost use Rattle.cast_record.specs.ItemWords.{kind_of, is_hex, is_hex_digit, proposal_in};
 
+use crate::numbers::number;
 use crate::parts::two_parts;
+use crate::unhex::bytes_of;
 use bytes::Bytes;
 use cast_message::{Item, PAYLOAD_LIMIT, Payload};
-use cast_words::{bytes_of, number};
 use std::alloc::{AllocError, Global};
 use std::marker::Model;
 

@@ -2,8 +2,8 @@
 ghost use Rattle.std.specs.Prelude.{◌≡◌};
 ghost use Rattle.cast_record.specs.Nodes.{node_of};
 
+use crate::numbers::number;
 use cast_message::NodeId;
-use cast_words::number;
 
 /// The number of a node that a word spells, 0 to 255.
 pub fn node(word: &[u8]) -> Option<NodeId>

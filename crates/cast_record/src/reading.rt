@@ -6,11 +6,12 @@ ghost use Rattle.cast_record.specs.Reading.{decided_by, crashed_by, refused_by, 
 ghost use Rattle.cast_record.specs.WordLines.{line_said};
 
 use crate::line::{FIRST_MOST_NODES, Line, MOST_CODE};
+use crate::mode::mode_named;
 use crate::node::node;
+use crate::numbers::number;
 use crate::parts::{BLANK, four_parts, one_part, three_parts, two_parts};
 use crate::word_line::{WordLine, read_words};
 use cast_message::{Decision, MOST_NODES, Mode, NodeId};
-use cast_words::{mode_named, number};
 use std::alloc::{AllocError, Global};
 
 /// The line within its ranges whose text these bytes are, without its line feed; none where there is none. A node is a

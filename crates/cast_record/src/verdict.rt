@@ -1,11 +1,12 @@
 //! What is said of a record.
 ghost use Rattle.std.specs.Prelude.{◌≡◌, ◌++◌, [], ◌∷◌, false};
 ghost use Rattle.cast_record.specs.VerdictText.{verdict_text};
-ghost use Rattle.cast_words.specs.Written.{Puts};
+ghost use Rattle.cast_record.specs.Written.{Puts};
 
+use crate::meter::Meter;
 use crate::words::Word::Number;
 use crate::writing::write_words;
-use cast_words::{Meter, Written};
+use crate::written::Written;
 use std::io::Write;
 
 /// What a judge says of a text.

@@ -1,15 +1,17 @@
 //! Writing lines: without memory, each text whole or a prefix of it.
 ghost use Rattle.std.specs.Prelude.{◌≡◌, ◌++◌, [], ◌∷◌, false, map};
 ghost use Rattle.std.specs.List.{join_with_byte};
-ghost use Rattle.cast_words.specs.Written.{Puts};
+ghost use Rattle.cast_record.specs.Written.{Puts};
 ghost use Rattle.cast_record.specs.Text.{item_word, line_text, record_text};
 ghost use Rattle.cast_record.specs.Words.{word_text};
 ghost use Rattle.cast_record.specs.declared.line.Line.TheVariants.{Broadcast, Decided, Delivered};
 
 use crate::line::Line;
+use crate::meter::Meter;
+use crate::mode::mode_name;
 use crate::words::Word::{self, Number};
+use crate::written::{Written, write_bytes, write_hex, write_number};
 use cast_message::{Decision, Item, Message, NodeId};
-use cast_words::{Meter, Written, mode_name, write_bytes, write_hex, write_number};
 use std::io::Write;
 
 /// Writes the lines, each with a line feed. It takes no memory. A refusal comes only where the writer failed or took no

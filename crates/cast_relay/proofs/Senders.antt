@@ -10,7 +10,7 @@ use Rattle.std.proofs.lemmas.Bool.Decides.{eqb_tells}
 use Rattle.std.proofs.lemmas.Grind.{get_or-set_at}
 use Rattle.std.proofs.lemmas.List.{get_or_past, get_or-set_other}
 use Rattle.cast_message.proofs.Tests.{cmp_other, cmp_same}
-use Rattle.cast_sets.specs.Members.{remove-absent}
+use Rattle.cast_message.specs.Members.{remove-absent}
 use Rattle.cast_relay.specs.Held.{Held, by_sender, numbers_of, with_pair, without_pair, holds, HoldsOwnBelow}
 
 abbrev Numbers : Type 0

@@ -3,7 +3,7 @@ use Rattle.std.specs.Prelude.{◌≡◌, ℕ, zero, suc, ◌+◌, ◌-◌, false
 use Rattle.std.specs.Ordering.{nat_cmp}
 use Rattle.std.specs.FinSet as set
 use Rattle.std.proofs.Common.{ap, ◌∙◌, arith}
-use Rattle.cast_sets.specs.Members.{remove-inserted}
+use Rattle.cast_message.specs.Members.{remove-inserted}
 use Rattle.cast_relay.specs.Held.{Held, holds, numbers_of, with_pair, without_pair, with_own, without_own}
 
 abbrev Numbers : Type 0

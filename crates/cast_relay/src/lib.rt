@@ -8,8 +8,7 @@ ghost use Rattle.std.specs.FinSet as set;
 ghost use Rattle.cast_relay.specs.Held.{by_sender, holds, with_pair, without_pair, with_own, without_own, relays_to};
 ghost use Rattle.cast_relay.specs.Answers.{taken_of};
 
-use cast_message::{Item, Message, NodeId};
-use cast_sets::NumberSet;
+use cast_message::{Item, Message, NodeId, NumberSet};
 use std::alloc::{AllocError, Global};
 use std::marker::Model;
 

@@ -1,8 +1,8 @@
 -- Why a group whose jobs, gates and plan fit is not run.
 use Rattle.std.proofs.Common.{◌≡◌, ℕ, List, Result, Ok, Err, IfErr, sym, subst}
 use Rattle.std.specs.Prelude.{IsErrAnd}
-use Rattle.cast_script.specs.declared.script.Fault.{Fault}
-use Rattle.cast_script.specs.declared.live_fault.LiveFault.{LiveFault}
+use Rattle.cast_message.specs.declared.plan.Fault.{Fault}
+use Rattle.cast_message.specs.declared.live_fault.LiveFault.{LiveFault}
 use Rattle.cast_job.specs.declared.fault.StartFault.{StartFault}
 use Rattle.cast_job.specs.declared.fault.StartFault.TheVariants.{Memory, Threads}
 use Rattle.cast_job.specs.Faults.{Fits, IsFaultOf, fault_by}

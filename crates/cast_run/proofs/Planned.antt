@@ -9,10 +9,10 @@ use Rattle.cast_box.proofs.Lists.{of-append, sole_items, put_by_past}
 use Rattle.cast_box.proofs.Closing.{map_at, get_middle}
 use Rattle.cast_message.specs.declared.config.Config.{Config}
 use Rattle.cast_message.specs.declared.message.Frame.{Frame}
-use Rattle.cast_script.specs.declared.script.Fault.{Fault}
-use Rattle.cast_report.specs.declared.report.NodeReport.{NodeReport}
-use Rattle.cast_report.specs.Linked.{Trail, Made, IsLogOf, EachArrival, made_in}
-use Rattle.cast_report.proofs.Logging.{choose, each_arrival, made_numbered}
+use Rattle.cast_message.specs.declared.plan.Fault.{Fault}
+use Rattle.cast_node.specs.declared.report.NodeReport.{NodeReport}
+use Rattle.cast_node.specs.Linked.{Trail, Made, IsLogOf, EachArrival, made_in}
+use Rattle.cast_node.proofs.Logging.{choose, each_arrival, made_numbered}
 use Rattle.cast_carrier.specs.declared.parcel.Parcel.{Parcel}
 use Rattle.cast_carrier.specs.declared.fate.Ordinals.{Ordinals}
 use Rattle.cast_carrier.specs.Lists.{Has}
@@ -23,7 +23,7 @@ use Rattle.cast_engine.specs.Engines.{EngineState}
 use Rattle.cast_carrier.specs.Carriers.{CarrierState}
 use Rattle.cast_run.specs.Group.{IsGathered}
 use Rattle.cast_carrier.proofs.Copying.{IsThrough, due_is_through, due_once, same_read}
-use Rattle.cast_report.proofs.Logging.{get_left}
+use Rattle.cast_node.proofs.Logging.{get_left}
 use Rattle.cast_run.specs.Planned.{ordinals_of, frames_to, is_same_frame, times_arrived, Allows, Arrives, frames_made, KeepsTo, HaveFaults}
 use Rattle.cast_run.proofs.Together.{CameFrom, OfNode, of_node, taken_was_put, only_one}
 

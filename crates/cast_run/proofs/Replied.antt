@@ -9,16 +9,16 @@ use Rattle.cast_message.specs.declared.event.Event.{Event}
 use Rattle.cast_message.specs.declared.event.Event.TheVariants.{Order, Send, Arrive, Ack, Crash}
 use Rattle.cast_message.specs.declared.event.Outcome.{Outcome}
 use Rattle.cast_message.specs.declared.message.Message.{Message}
-use Rattle.cast_node.specs.declared.entry.Entry.{Entry}
-use Rattle.cast_node.specs.declared.entry.EntryKind.{EntryKind}
-use Rattle.cast_node.specs.declared.entry.EntryKind.TheVariants.{Step, Refused}
-use Rattle.cast_node.specs.declared.entry.Origin.{Origin}
+use Rattle.cast_log.specs.declared.entry.Entry.{Entry}
+use Rattle.cast_log.specs.declared.entry.EntryKind.{EntryKind}
+use Rattle.cast_log.specs.declared.entry.EntryKind.TheVariants.{Step, Refused}
+use Rattle.cast_log.specs.declared.entry.Origin.{Origin}
 use Rattle.cast_desk.specs.declared.notice.Notice.{Notice}
 use Rattle.cast_desk.specs.declared.notice.Notice.TheVariants.{Reply, Delivered, Decided}
 use Rattle.cast_desk.specs.Feed.{feed_from, told_by, reply_of, news_of, orders_in}
 use Rattle.cast_engine.specs.Serving.{Matches, IsAnswered, entries_of, is_of, origin_in}
-use Rattle.cast_report.specs.declared.report.EngineEnd.TheVariants.{Stopped}
-use Rattle.cast_report.specs.declared.report.NodeReport.{NodeReport}
+use Rattle.cast_node.specs.declared.report.EngineEnd.TheVariants.{Stopped}
+use Rattle.cast_node.specs.declared.report.NodeReport.{NodeReport}
 use Rattle.cast_run.specs.declared.reports.ClientReport.{ClientReport}
 use Rattle.cast_job.specs.declared.submit_all.SubmitAll.{SubmitAll}
 use Rattle.cast_job.specs.Jobs.{replies_in}

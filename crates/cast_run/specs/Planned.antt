@@ -13,9 +13,9 @@ use Rattle.std.specs.Prelude.{◌≡◌, ℕ, ◌<◌, ◌≤◌, ◌==◌, Bool
 use Rattle.std.specs.List.{filter, fold, count_by}
 use Rattle.cast_message.specs.declared.config.Config.{Config}
 use Rattle.cast_message.specs.declared.message.Frame.{Frame}
-use Rattle.cast_script.specs.declared.script.Fault.{Fault}
-use Rattle.cast_report.specs.declared.report.NodeReport.{NodeReport}
-use Rattle.cast_report.specs.Linked.{Trail, IsLogOf, EachArrival, made_in}
+use Rattle.cast_message.specs.declared.plan.Fault.{Fault}
+use Rattle.cast_node.specs.declared.report.NodeReport.{NodeReport}
+use Rattle.cast_node.specs.Linked.{Trail, IsLogOf, EachArrival, made_in}
 use Rattle.cast_carrier.specs.declared.fate.Fate.{Fate}
 use Rattle.cast_carrier.specs.declared.fate.Ordinals.{Ordinals}
 use Rattle.cast_carrier.specs.Carriers.{CarrierState}

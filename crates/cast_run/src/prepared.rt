@@ -14,8 +14,7 @@ use crate::reports::{Row, make_rows};
 use crate::started::Group;
 use cast_carrier::Board;
 use cast_job::{Seat, make_desks, seat_jobs};
-use cast_message::{Config, NodeId};
-use cast_script::Fault;
+use cast_message::{Config, Fault, NodeId};
 use std::alloc::{AllocError, Global};
 use std::sync::Arc;
 

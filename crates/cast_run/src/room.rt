@@ -6,7 +6,7 @@ use crate::reports::{ClientReport, Draft, LeftCounts};
 use cast_box::Taker;
 use cast_carrier::Parcel;
 use cast_desk::Desk;
-use cast_report::NodeReport;
+use cast_node::NodeReport;
 use std::alloc::{AllocError, Global};
 
 /// Empty lists, with room for what is gathered.

@@ -1,7 +1,7 @@
 //! A group that runs in one thread, in the order of a schedule.
 ghost use Rattle.std.specs.Prelude.{◌≡◌, ◌≤◌, [], ℕ, None, false, slice_get, Some, IfOk, IfErr, OnOk, vec_len};
-ghost use Rattle.cast_report.specs.Linked.{Linked};
-ghost use Rattle.cast_report.specs.declared.report.NodeReport.{NodeReport};
+ghost use Rattle.cast_node.specs.Linked.{Linked};
+ghost use Rattle.cast_node.specs.declared.report.NodeReport.{NodeReport};
 ghost use Rattle.cast_engine.specs.Journals.{EndsAs};
 ghost use Rattle.cast_carrier.specs.Plans.{crash_from};
 ghost use Rattle.cast_job.specs.Faults.{Fits, IsFaultOf};
@@ -17,8 +17,7 @@ use crate::schedule::Schedule;
 use crate::stepped::run_by;
 use cast_engine::Gate;
 use cast_job::{ClientJob, count_fitting};
-use cast_message::{Config, NodeId};
-use cast_script::{FaultPlan, LiveFault};
+use cast_message::{Config, FaultPlan, LiveFault, NodeId};
 use std::alloc::Global;
 use std::sync::Wait;
 

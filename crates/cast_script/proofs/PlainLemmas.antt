@@ -4,8 +4,8 @@ use Rattle.std.proofs.lemmas.Map.Text.{is_eq-slice_cmp}
 use Rattle.std.proofs.lemmas.Slice.Eq.{bytes_eq-Decides}
 use Rattle.std.specs.Cmp.Lexicographic.{slice_cmp}
 use Rattle.std.specs.Ordering.{match_ordering}
-use Rattle.cast_words.specs.Numbers as words
-use Rattle.cast_words.proofs.NumberLemmas.{number_takes}
+use Rattle.cast_record.specs.Numbers as words
+use Rattle.cast_record.proofs.NumberLemmas.{number_takes}
 use Rattle.json.specs.Token.{Token}
 use Rattle.json.specs.Json as json
 use Rattle.json.specs.Json.{after_end_array, read_key}

@@ -21,12 +21,12 @@ use Rattle.cast_message.specs.declared.config.Mode.TheVariants.{Basic, Uniform}
 use Rattle.cast_message.specs.declared.event.Event.{Event}
 use Rattle.cast_message.specs.declared.event.Event.TheVariants.{Order, Send, Ack, Arrive, Crash}
 use Rattle.cast_message.specs.declared.message.Item.TheVariants.{Data as Bytes, Propose, Close}
-use Rattle.cast_words.specs.Hex.{hex, hex_digit}
-use Rattle.cast_words.specs.Hex.{AreBytes}
-use Rattle.cast_words.specs.Modes.{mode_word, mode_named}
+use Rattle.cast_record.specs.Hex.{hex, hex_digit}
+use Rattle.cast_record.specs.Hex.{AreBytes}
+use Rattle.cast_record.specs.Modes.{mode_word, mode_named}
 use Rattle.cast_script.specs.declared.script.ScriptEvent.TheVariants.{Core}
 use Rattle.cast_script.specs.declared.script.ScriptFault.TheVariants.{NotJson, Shape, Config, Memory}
-use Rattle.cast_words.proofs.UnhexLemmas.{unhex_again}
+use Rattle.cast_record.proofs.UnhexLemmas.{unhex_again}
 use Rattle.cast_script.specs.Places.{places}
 use Rattle.cast_script.specs.Faults.{elements_from}
 use Rattle.cast_script.specs.Element.{event_of}

@@ -21,9 +21,9 @@ use Rattle.cast_message.specs.declared.event.Event.{Event}
 use Rattle.cast_message.specs.declared.event.Event.TheVariants.{Order, Send, Ack, Arrive, Crash}
 use Rattle.cast_message.specs.declared.message.Item.{Item}
 use Rattle.cast_message.specs.declared.message.Item.TheVariants.{Data, Propose, Close}
-use Rattle.cast_words.specs.Hex.{hex, hex_digit}
-use Rattle.cast_words.specs.Hex.{AreBytes}
-use Rattle.cast_words.specs.Modes.{mode_word}
+use Rattle.cast_record.specs.Hex.{hex, hex_digit}
+use Rattle.cast_record.specs.Hex.{AreBytes}
+use Rattle.cast_record.specs.Modes.{mode_word}
 use Rattle.cast_script.specs.Replay.{Atom, word, number, digits, word_text, atom_text, item_atoms, event_atoms, event_text, others_text, events_text, members, member_text, members_text, script_text}
 use Rattle.cast_script.specs.ReplayRanges.{IsAtomWithin, AreAtomsWithin, AreMembersWithin, IsEventWithin}
 use Rattle.cast_script.proofs.ReplayWriting.{cells_text, join-cells}

@@ -10,7 +10,7 @@ use Rattle.cast_script.specs.declared.replay.Cell.TheVariants.{Word}
 use Rattle.cast_script.specs.declared.replay.Member.{Member}
 use Rattle.cast_script.specs.Cells.{cell_text, member_in}
 use Rattle.cast_message.specs.declared.config.Config.{Config as Checked}
-use Rattle.cast_words.specs.Modes.{mode_word}
+use Rattle.cast_record.specs.Modes.{mode_word}
 use Rattle.cast_script.specs.Replay.{Atom, word, number, word_text, event_text, others_text, members, member_text, members_text}
 
 -- the places after the first, each with its comma

@@ -9,7 +9,7 @@ use Rattle.cast_message.specs.declared.config.ConfigFault.{ConfigFault}
 use Rattle.cast_message.specs.declared.message.Item.{Item}
 use Rattle.cast_script.specs.declared.script.ScriptEvent.{ScriptEvent}
 use Rattle.cast_script.specs.declared.script.Settings.{Settings}
-use Rattle.cast_script.specs.declared.script.Fault.{Fault}
+use Rattle.cast_message.specs.declared.plan.Fault.{Fault}
 use Rattle.cast_script.specs.declared.script.ScriptFault.{ScriptFault}
 use Rattle.cast_script.specs.declared.script.ScriptFault.TheVariants.{NotJson, Shape, Config, Memory}
 use Rattle.cast_script.specs.Faults.{◌>>=◌, elements_from, Refuses}

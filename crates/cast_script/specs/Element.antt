@@ -14,14 +14,14 @@ use Rattle.cast_message.specs.declared.event.Event.TheVariants.{Order, Send, Ack
 use Rattle.cast_script.specs.declared.element.LinkSlot.{LinkSlot}
 use Rattle.cast_script.specs.declared.script.ScriptEvent.{ScriptEvent}
 use Rattle.cast_script.specs.declared.script.ScriptEvent.TheVariants.{Core, Settle}
-use Rattle.cast_script.specs.declared.script.Fault.{Fault}
-use Rattle.cast_script.specs.declared.script.Frames.{Frames}
-use Rattle.cast_script.specs.declared.script.Fault.TheVariants.{Lose, Repeat, Delay, Crash}
+use Rattle.cast_message.specs.declared.plan.Fault.{Fault}
+use Rattle.cast_message.specs.declared.plan.Frames.{Frames}
+use Rattle.cast_message.specs.declared.plan.Fault.TheVariants.{Lose, Repeat, Delay, Crash}
 use Rattle.cast_message.specs.declared.message.FrameKind.{FrameKind}
 use Rattle.cast_message.specs.declared.message.FrameKind.TheVariants.{Carry, Took}
 use Rattle.cast_message.specs.Items.{byte_sized}
-use Rattle.cast_words.specs.Options.{◌>>=◌}
-use Rattle.cast_words.specs.Unhex.{unhex}
+use Rattle.cast_record.specs.Options.{◌>>=◌}
+use Rattle.cast_record.specs.Unhex.{unhex}
 use Rattle.cast_script.specs.Places.{places}
 
 -- the places of an array

@@ -5,7 +5,6 @@ pub mod Element
 pub mod Members
 pub mod Script
 pub mod Plain
-pub mod LiveFaults
 pub mod Replay
 pub mod Cells
 pub mod ReplayRanges

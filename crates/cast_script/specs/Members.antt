@@ -9,8 +9,8 @@ use Rattle.serde_json.specs.Find.{get, as_object, as_str}
 use Rattle.cast_message.specs.declared.config.Mode.{Mode}
 use Rattle.cast_message.specs.declared.config.Mode.TheVariants.{Basic}
 use Rattle.cast_script.specs.declared.script.Settings.{Settings}
-use Rattle.cast_words.specs.Modes.{mode_named}
-use Rattle.cast_words.specs.Options.{◌>>=◌}
+use Rattle.cast_record.specs.Modes.{mode_named}
+use Rattle.cast_record.specs.Options.{◌>>=◌}
 use Rattle.cast_script.specs.Element.{number_of, places_of}
 
 abbrev pub is_member : List ℕ → Bool

@@ -12,8 +12,8 @@ use Rattle.cast_message.specs.declared.event.Event.{Event}
 use Rattle.cast_message.specs.declared.event.Event.TheVariants.{Order, Send, Ack, Arrive, Crash}
 use Rattle.cast_message.specs.declared.message.Item.{Item}
 use Rattle.cast_message.specs.declared.message.Item.TheVariants.{Data as Bytes, Propose, Close}
-use Rattle.cast_words.specs.Hex.{hex}
-use Rattle.cast_words.specs.Modes.{mode_word}
+use Rattle.cast_record.specs.Hex.{hex}
+use Rattle.cast_record.specs.Modes.{mode_word}
 use Rattle.cast_script.specs.declared.script.Script.{Script}
 use Rattle.cast_script.specs.declared.script.ScriptEvent.TheVariants.{Core}
 use Rattle.cast_script.specs.declared.script.ScriptFault.{ScriptFault}

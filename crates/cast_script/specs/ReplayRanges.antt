@@ -3,7 +3,7 @@ use Rattle.std.specs.Prelude.{ℕ, ◌^◌, ◌<◌, List, [], ◌∷◌}
 use Rattle.std.specs.List.{All}
 use Rattle.cast_message.specs.declared.event.Event.{Event}
 use Rattle.cast_message.specs.declared.event.Event.TheVariants.{Order, Send, Ack, Arrive, Crash}
-use Rattle.cast_words.specs.Hex.{AreBytes}
+use Rattle.cast_record.specs.Hex.{AreBytes}
 use Rattle.cast_script.specs.Replay.{Atom, word, number, digits, event_atoms}
 
 abbrev pub IsAtomWithin : Atom → Type 0

@@ -4,8 +4,7 @@ ghost use Rattle.serde_json.specs.View.{view};
 ghost use Rattle.cast_script.specs.Element.{fault_of, fault_at, kind_of, frames_of, frames_at, delay_of, engine_crash_of};
 
 use crate::element::{Element, Unread, node, places};
-use crate::script::{Fault, Frames};
-use cast_message::FrameKind;
+use cast_message::{Fault, FrameKind, Frames};
 use serde_json::Value;
 use std::alloc::Global;
 

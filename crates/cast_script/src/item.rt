@@ -1,7 +1,7 @@
 //! The items of a script.
 ghost use Rattle.std.specs.Prelude.{◌≡◌, map, option_map};
 ghost use Rattle.cast_message.specs.declared.message.Item.TheVariants.{Data};
-ghost use Rattle.cast_words.specs.Unhex.{unhex};
+ghost use Rattle.cast_record.specs.Unhex.{unhex};
 ghost use Rattle.serde_json.specs.View.{view};
 ghost use Rattle.cast_script.specs.Element.{item_of, data_of, proposal_of, close_of};
 ghost use Rattle.cast_script.specs.Unread.{Gives};
@@ -9,7 +9,7 @@ ghost use Rattle.cast_script.specs.Unread.{Gives};
 use crate::element::Unread;
 use bytes::Bytes;
 use cast_message::{Item, Payload};
-use cast_words::bytes_of;
+use cast_record::bytes_of;
 use serde_json::Value;
 use std::alloc::Global;
 

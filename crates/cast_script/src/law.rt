@@ -1,6 +1,6 @@
 //! What is proved of the text of a replay. Nothing is computed.
 ghost use Rattle.std.specs.Prelude.{◌^◌, ◌<◌};
-ghost use Rattle.cast_words.specs.Hex.{AreBytes};
+ghost use Rattle.cast_record.specs.Hex.{AreBytes};
 ghost use Rattle.cast_script.specs.Replay.{script_text, item_atoms, SaysReplay, IsReplayIn};
 ghost use Rattle.cast_script.specs.ReplayRanges.{AreAtomsWithin, IsEventWithin, AreEventsWithin};
 

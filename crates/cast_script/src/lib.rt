@@ -8,16 +8,14 @@ mod fault;
 mod item;
 mod job;
 mod law;
-mod live_fault;
 mod members;
 mod plain;
 mod reading;
 mod replay;
 mod script;
 
-pub use cast_message::FrameKind;
+pub use cast_message::{Fault, FaultPlan, FrameKind, Frames, LiveFault};
 pub use law::is_read_back;
-pub use live_fault::LiveFault;
 pub use reading::read_script;
 pub use replay::write_script;
-pub use script::{Fault, FaultPlan, Frames, Script, ScriptEvent, ScriptFault};
+pub use script::{Script, ScriptEvent, ScriptFault};

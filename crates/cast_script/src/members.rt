@@ -8,7 +8,7 @@ ghost use Rattle.cast_script.specs.Members.{is_member, has_known_members, needed
 use crate::element::places;
 use crate::script::Settings;
 use cast_message::{MOST_ENTRIES, MOST_ITEMS, Mode};
-use cast_words::mode_named;
+use cast_record::mode_named;
 use serde_json::{Map, Value};
 
 /// Whether the value is an object and has no other members than a script's.

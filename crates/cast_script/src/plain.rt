@@ -15,8 +15,8 @@ use crate::element::{LinkSlot, Unread};
 use crate::item::data_item;
 use crate::members::{has_known_members_only, list, settings};
 use crate::reading::check;
-use crate::script::{FaultPlan, Script, ScriptEvent};
-use cast_message::{Config, Event, Item, List, NodeId};
+use crate::script::{Script, ScriptEvent};
+use cast_message::{Config, Event, FaultPlan, Item, List, NodeId};
 use json::{Reader, Scratch, Token};
 use serde_json::{Map, Value};
 use std::alloc::Global;
@@ -315,7 +315,7 @@ fn number(reader: &mut Reader<'_>) -> Result<u64, Unread>
 fn unsigned(text: &str) -> Result<u64, Unread>
     ensures { IfOk result (λ number. number_in text.now ≡ Some (unsigned_num number)) }
 {
-    cast_words::number(text.as_bytes()).ok_or(Unread::Shape)
+    cast_record::number(text.as_bytes()).ok_or(Unread::Shape)
 }
 
 // The bracket that closes an array.

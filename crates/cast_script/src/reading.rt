@@ -7,8 +7,8 @@ ghost use Rattle.cast_script.specs.Script.{Reads, said, settings_in, checked, sc
 use crate::element::{Unread, read_elements};
 use crate::members::{has_known_members_only, list, settings};
 use crate::plain::read_plain;
-use crate::script::{FaultPlan, Script, ScriptFault, Settings};
-use cast_message::Config;
+use crate::script::{Script, ScriptFault, Settings};
+use cast_message::{Config, FaultPlan};
 use serde_json::Value;
 use std::alloc::Global;
 

@@ -2,13 +2,13 @@
 ghost use Rattle.std.specs.Prelude.{◌≡◌, ◌++◌, ◌∷◌, [], false, map};
 ghost use Rattle.std.specs.List.{join_with_byte};
 ghost use Rattle.cast_message.specs.declared.event.Event.TheVariants.{Order};
-ghost use Rattle.cast_words.specs.Hex.{hex};
-ghost use Rattle.cast_words.specs.Written.{Puts};
+ghost use Rattle.cast_record.specs.Hex.{hex};
+ghost use Rattle.cast_record.specs.Written.{Puts};
 ghost use Rattle.cast_script.specs.Replay.{number, word_text, event_text, events_text, others_text, members, member_text, members_text, script_text};
 ghost use Rattle.cast_script.specs.Cells.{atom_in, cell_text, member_in};
 
 use cast_message::{Config, Event, Item, NodeId};
-use cast_words::{Meter, Written, mode_name, write_bytes, write_hex, write_number};
+use cast_record::{Meter, Written, mode_name, write_bytes, write_hex, write_number};
 use std::io::Write;
 
 /// What stands at a place of an array, or is the value of a member.

@@ -1,5 +1,5 @@
 //! What a script says, and why a text is none.
-use cast_message::{Config, ConfigFault, Event, FrameKind, Item, List, Mode, NodeId};
+use cast_message::{Config, ConfigFault, Event, FaultPlan, Item, List, Mode, NodeId};
 use thiserror::Error;
 
 /// What a group is to be, and what is to happen to it.
@@ -23,38 +23,6 @@ pub enum ScriptEvent {
     Core(Event),
     /// Two rounds, one after the other, the second planned after the first.
     Settle,
-}
-
-/// What carriers do to frames, and when engines crash.
-#[derive(Drop)]
-pub struct FaultPlan {
-    pub faults: List<Fault>,
-}
-
-/// The frames of this kind from one node to another whose ordinals are `first`, `first + step`, `first + 2 * step` and so on,
-/// or `first` alone where the step is 0. The ordinal of a frame counts, from 0 on, the frames of its kind that the carrier of
-/// its maker has taken for its target.
-#[derive(Clone, Copy, Debug, PartialEq, Eq)]
-pub struct Frames {
-    pub kind: FrameKind,
-    pub from: NodeId,
-    pub to: NodeId,
-    pub first: u64,
-    pub step: u64,
-}
-
-/// A fault of a plan.
-#[derive(Clone, Copy, Debug, PartialEq, Eq)]
-pub enum Fault {
-    /// These frames are lost.
-    Lose(Frames),
-    /// These frames are handed on twice, those that another fault loses not at all.
-    Repeat(Frames),
-    /// These frames are kept until `count` more frames of either kind were taken for their target, if no other fault loses
-    /// them. Of several delays of a frame the longest holds.
-    Delay { frames: Frames, count: u64 },
-    /// The engine of the node crashes once its log has so many entries.
-    Crash { node: NodeId, entries: u64 },
 }
 
 /// Why a text is no script. The index of a shape is 0 for the value as a whole, else 1 and the place of the first bad

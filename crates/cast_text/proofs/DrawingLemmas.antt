@@ -1,6 +1,6 @@
 -- What was drawn is written.
 use Rattle.std.proofs.Common.{◌≡◌, ℕ, List, Bool, Option, Some, None, Err, refl, subst}
-use Rattle.cast_words.specs.Written.{WroteAll, WrotePrefix}
+use Rattle.cast_record.specs.Written.{WroteAll, WrotePrefix}
 use Rattle.cast_draw.specs.declared.window.Window.{Window}
 use Rattle.cast_script.specs.declared.script.Script.{Script}
 use Rattle.cast_text.specs.declared.fault.TextFault.TheVariants.{Memory}

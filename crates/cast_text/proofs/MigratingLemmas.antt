@@ -1,7 +1,7 @@
 -- What was migrated is what was read.
 use Rattle.std.proofs.Common.{◌≡◌, ◌≤◌, ℕ, List, length, Bool, Option, Some, None, IfSome, subst}
 use Rattle.cast_record.specs.Migration.{IsMigrated}
-use Rattle.cast_words.specs.Written.{WrotePrefix}
+use Rattle.cast_record.specs.Written.{WrotePrefix}
 use Rattle.cast_text.specs.Migrating.{IsInputMigrated, MigratedBreaksOff}
 use Rattle.cast_text.specs.Text.{input_limit}
 

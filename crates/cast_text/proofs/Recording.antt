@@ -11,7 +11,7 @@ use Rattle.cast_record.specs.declared.line.Line.TheVariants.{End}
 use Rattle.cast_record.specs.Lines.{lines_for, outcome_lines}
 use Rattle.cast_record.specs.Text.{record_text, line_text}
 use Rattle.cast_record.proofs.WritingLemmas.{record_text-append}
-use Rattle.cast_words.specs.Written.{WroteAll, WrotePrefix}
+use Rattle.cast_record.specs.Written.{WroteAll, WrotePrefix}
 use Rattle.cast_text.specs.declared.fault.TextFault.{TextFault}
 use Rattle.cast_text.specs.declared.fault.TextFault.TheVariants as faults
 use Rattle.cast_text.specs.Played.{Played, Taken}
@@ -38,7 +38,7 @@ not_memory P (Ok done) is = tt
 not_memory P (Err why) is = λ memory. absurd (cc)
 
 -- an event at which nothing is ordered, delivered or decided leaves no line
-no_lines : (index : ℕ) (event : Event) (answer : Answer) → IsSilent (Ok answer) → lines_for index event (Ok answer) ≡ []
+pub no_lines : (index : ℕ) (event : Event) (answer : Answer) → IsSilent (Ok answer) → lines_for index event (Ok answer) ≡ []
 no_lines index (Order node item) (answers.Sent seq) silent = refl
 no_lines index (Send from to slot) (answers.Sent seq) silent = refl
 no_lines index (Ack from to slot) (answers.Sent seq) silent = refl

@@ -6,5 +6,6 @@ pub mod Migrating
 pub mod Ranges
 pub mod Pictured
 pub mod Drawing
+pub mod Paged
 pub mod PictureLaws
 pub mod RecordLaws

@@ -3,8 +3,8 @@ use Rattle.std.proofs.Common.{◌≡◌, ℕ, List, [], ◌∷◌, ◌++◌, Boo
 use Rattle.std.proofs.KnownBytes.{Appends-nil, Appends-trans}
 use Rattle.cast_record.specs.Text.{record_text}
 use Rattle.cast_record.proofs.WritingLemmas.{record_text-append}
-use Rattle.cast_words.specs.declared.meter.Meter.{Meter}
-use Rattle.cast_words.specs.Written.{WroteAll}
+use Rattle.cast_record.specs.declared.meter.Meter.{Meter}
+use Rattle.cast_record.specs.Written.{WroteAll}
 use Rattle.cast_text.specs.declared.fault.TextFault.{TextFault}
 use Rattle.cast_text.specs.declared.fault.TextFault.TheVariants as faults
 use Rattle.cast_text.specs.Played.{Played, Observes}

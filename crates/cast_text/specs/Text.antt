@@ -4,13 +4,13 @@ use Rattle.std.specs.Io.KnownBytes.{Appends, Consumes, Keeps}
 use Rattle.cast_record.specs.declared.verdict.Verdict.TheVariants.{Good}
 use Rattle.cast_record.specs.Text.{record_text}
 use Rattle.cast_record.specs.Verdicts.{verdict}
-use Rattle.cast_script.specs.declared.live_fault.LiveFault.{LiveFault}
-use Rattle.cast_script.specs.declared.live_fault.LiveFault.TheVariants as lives
+use Rattle.cast_message.specs.declared.live_fault.LiveFault.{LiveFault}
+use Rattle.cast_message.specs.declared.live_fault.LiveFault.TheVariants as lives
 use Rattle.cast_script.specs.declared.script.ScriptFault.TheVariants as scripts
 use Rattle.cast_script.specs.declared.script.Script.{Script}
 use Rattle.cast_script.specs.Script.{Reads}
-use Rattle.cast_words.specs.Written.{WroteAll}
-use Rattle.cast_words.specs.declared.meter.Meter.{Meter}
+use Rattle.cast_record.specs.Written.{WroteAll}
+use Rattle.cast_record.specs.declared.meter.Meter.{Meter}
 use Rattle.cast_text.specs.declared.fault.TextFault.{TextFault}
 use Rattle.cast_text.specs.declared.fault.TextFault.TheVariants as faults
 use Rattle.cast_text.specs.Recorded.{record_of, unended_of}

@@ -1,6 +1,6 @@
 //! Why a text was not read or written.
+use cast_record::WriteFault;
 use cast_script::{LiveFault, ScriptFault};
-use cast_words::WriteFault;
 use std::alloc::AllocError;
 use thiserror::Error;
 

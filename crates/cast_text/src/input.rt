@@ -3,7 +3,7 @@ ghost use Rattle.std.specs.Prelude.{◌≡◌, ◌≤◌, length, false, IfOk, I
 ghost use Rattle.cast_text.specs.Text.{IsOfInput, TakesInput, Tells};
 
 use crate::fault::TextFault;
-use cast_words::Meter;
+use cast_record::Meter;
 use std::alloc::Global;
 use std::io::Read;
 

@@ -6,8 +6,7 @@ ghost use Rattle.cast_text.specs.Text.{IsOfInput, TakesInput, Tells, UsesStreams
 use crate::fault::TextFault;
 use crate::input::{INPUT_LIMIT, PIECE};
 use cast_judge::{Judging, Verdict};
-use cast_record::write_verdict;
-use cast_words::Meter;
+use cast_record::{Meter, write_verdict};
 use std::alloc::Global;
 use std::io::{Read, Write};
 

@@ -5,8 +5,7 @@ ghost use Rattle.cast_text.specs.Text.{UsesStreams};
 
 use crate::fault::TextFault;
 use crate::input::read_input;
-use cast_record::{MigrateFault, migrate};
-use cast_words::{Meter, write_bytes};
+use cast_record::{Meter, MigrateFault, migrate, write_bytes};
 use std::alloc::Global;
 use std::io::{Read, Write};
 

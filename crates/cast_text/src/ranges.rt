@@ -1,6 +1,6 @@
 //! What the types of a script say of its numbers and bytes, told to proofs. Nothing is computed.
 ghost use Rattle.std.specs.Prelude.{◌^◌, ◌<◌, length};
-ghost use Rattle.cast_words.specs.Hex.{AreBytes};
+ghost use Rattle.cast_record.specs.Hex.{AreBytes};
 ghost use Rattle.cast_text.specs.Ranges.{HasItemRange, HasEventRange, HasScriptRange, HaveScriptRanges};
 
 use cast_message::{Event, Item};

@@ -6,8 +6,8 @@ use crate::fault::TextFault;
 use crate::input::read_input;
 use crate::ranges::tell_ranges;
 use crate::record::write_script_record;
+use cast_record::Meter;
 use cast_script::{Script, ScriptFault, read_script};
-use cast_words::Meter;
 use std::alloc::Global;
 use std::io::{Read, Write};
 

@@ -9,9 +9,8 @@ ghost use Rattle.cast_world.specs.Plans.{AreLive, live_at, due_of, due_between_a
 
 use crate::due_slots::{DueSlot, DueSlots};
 use crate::world::World;
-use cast_message::{Event, NodeId};
+use cast_message::{Event, GroupSet, NodeId};
 use cast_node::Node;
-use cast_sets::GroupSet;
 use std::alloc::{AllocError, Global};
 
 impl World {

@@ -7,8 +7,7 @@ ghost use Rattle.cast_world.specs.Plans.{AreLive};
 ghost use Rattle.cast_world.specs.Rounds.{IsSettledWithAll, IsFirstGiver, AgreesAtRest, HaveWhatAnyDelivered};
 
 use crate::world::World;
-use cast_message::NodeId;
-use cast_sets::GroupSet;
+use cast_message::{GroupSet, NodeId};
 
 impl World {
     /// Whether no live node owes a live node a slot. It takes no memory, and looks at nodes alone, at no link.

@@ -1,6 +1,9 @@
 //! The words that the program was called with, and what is shown where they ask for nothing that it does.
-use cast_command::{Refusal, Shown};
-use cast_console::{Failure, Status, explain_output, refuse};
+use crate::console::Console;
+use crate::explain::failure_words;
+use crate::output::{Failure, Target};
+use crate::status::{Status, refuse};
+use cast_command::{Detail, Refusal, Shown};
 use cast_text::TextFault;
 use std::io;
 use std::rt::Runtime;
@@ -11,9 +14,15 @@ pub fn command_words<R: Runtime + AllocGlobal>(rt: &R) -> io::Result<Vec<String>
     Ok(words)
 }
 
-/// Whether the words ask that faults are explained, whatever else they are.
-pub fn asks_to_explain(words: &[String]) -> bool {
-    words.iter().any(|word| word.as_str() == "--explain")
+/// How much detail the words ask for, whatever else they are.
+pub fn detail_of(words: &[String]) -> Detail {
+    if words.iter().any(|word| word.as_str() == "--explain") {
+        Detail::Always
+    } else if words.iter().any(|word| word.as_str() == "--terse") {
+        Detail::Never
+    } else {
+        Detail::OnTerminal
+    }
 }
 
 /// Says why there are no words: one is not UTF-8, or memory is wanting.
@@ -28,25 +37,28 @@ pub fn refuse_words<R: Runtime + AllocGlobal>(rt: &R, error: &io::Error) -> Stat
 
 /// Says why nothing is done.
 pub fn refuse_request<R: Runtime + AllocGlobal>(
-    rt: &R,
+    console: &Console<'_, R>,
     refusal: &Refusal,
-    explains: bool,
 ) -> Status {
     match refusal {
-        Refusal::Shown(shown) => show(rt, shown, explains),
-        Refusal::Memory => refuse(rt, TextFault::Memory),
+        Refusal::Shown(shown) => show(console, shown),
+        Refusal::Memory => refuse(console.rt, TextFault::Memory),
     }
 }
 
 // Shows help or the version on standard output, or a fault of the words on standard error.
-fn show<R: Runtime + AllocGlobal>(rt: &R, shown: &Shown, explains: bool) -> Status {
-    match (shown.is_fault(), shown.print(rt)) {
+fn show<R: Runtime + AllocGlobal>(console: &Console<'_, R>, shown: &Shown) -> Status {
+    match (shown.is_fault(), shown.print(console.rt)) {
         (true, _) => Status::Usage,
         (false, Ok(())) => Status::Good,
-        (false, Err(fault)) => {
-            let status = refuse(rt, TextFault::Write);
-            if explains {
-                explain_output(rt, Failure::of_output(Some(fault)));
+        (false, Err(error)) => {
+            let status = refuse(console.rt, TextFault::Write);
+            if console.explains {
+                let failure = Failure {
+                    target: Target::StandardOutput,
+                    error: Some(error),
+                };
+                console.say_if_made(failure_words(console.rt.alloc(), failure));
             }
             status
         }

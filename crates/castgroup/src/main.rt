@@ -1,23 +1,35 @@
-//! The program `castgroup`: asks `cast_command` what the words of its call want, and has it done, by `cast_console`, or, where a
-//! group runs in threads, by `cast_live`. What came of it is its exit status.
+//! The program `castgroup`: asks `cast_command` what the words of its call want, opens what they name, and has it done by one call
+//! of the library. What came of it is its exit status.
 #![tactic(auto)]
 
 mod command_line;
+mod console;
+mod explain;
+mod input;
+mod judge;
 mod live;
+mod output;
+mod outputs;
 mod progress;
+mod remarks;
 mod seeds;
+mod status;
+mod texts;
 
-use cast_command::{Request, parse};
-use cast_console::{Status, TextCommand, write_text};
+use cast_command::{Task, parse};
 use cast_explain::RULES;
 use cast_text::Window;
-use command_line::{asks_to_explain, command_words, refuse_request, refuse_words};
-use live::live_script;
-use std::io::{IsTerminal, Stderr};
+use command_line::{command_words, detail_of, refuse_request, refuse_words};
+use console::Console;
+use judge::judge_records;
+use live::run_live;
+use status::Status;
+use std::io::Stderr;
 use std::process::ExitCode;
 use std::rt::{Clock, Runtime};
 use std::sync::Wait;
 use std::thread::Threads;
+use texts::{TextCommand, write_text};
 
 fn main(rt: HostRuntime) -> ExitCode {
     ExitCode::from(run(&rt, rt.stderr()).code())
@@ -32,35 +44,37 @@ fn run<R: Runtime + AllocGlobal + Threads + Wait + Clock + Copy + Send + 'static
         Err(error) => return refuse_words(rt, &error),
     };
     match parse(rt.alloc(), words.as_slice(), RULES) {
-        Ok(request) => perform(rt, request, stderr),
-        Err(refusal) => refuse_request(rt, &refusal, asks_to_explain(words.as_slice())),
+        Ok(request) => perform(&Console::new(rt, stderr, request.detail), request.task),
+        Err(refusal) => {
+            let console = Console::new(rt, stderr, detail_of(words.as_slice()));
+            refuse_request(&console, &refusal)
+        }
     }
 }
 
 fn perform<R: Runtime + AllocGlobal + Threads + Wait + Clock + Copy + Send + 'static>(
-    rt: &R,
-    request: Request<'_>,
-    stderr: Stderr,
+    console: &Console<'_, R>,
+    task: Task<'_>,
 ) -> Status {
-    match request {
-        Request::Run(call) => write_text(rt, TextCommand::Run, call),
-        Request::Judge(call) => write_text(rt, TextCommand::Judge, call),
-        Request::Live {
-            call,
-            running,
-            files,
-            tells_progress,
+    match task {
+        Task::Run(script) => write_text(console, TextCommand::Run, script),
+        Task::Judge(records) => judge_records(console, records.as_slice()),
+        Task::Live(task) => run_live(console, task),
+        Task::Draw {
+            script,
+            from,
+            to,
+            as_page,
         } => {
-            let wanted = tells_progress || stderr.is_terminal();
-            let progress_to = if wanted { Some(stderr) } else { None };
-            live_script(rt, call, running, files, progress_to)
+            let window = window(from, to);
+            let command = if as_page {
+                TextCommand::Page(window)
+            } else {
+                TextCommand::Draw(window)
+            };
+            write_text(console, command, script)
         }
-        Request::Draw { call, from, to } => write_text(
-            rt,
-            TextCommand::Draw(window(from, to)),
-            call,
-        ),
-        Request::Migrate(call) => write_text(rt, TextCommand::Migrate, call),
+        Task::Migrate(record) => write_text(console, TextCommand::Migrate, record),
     }
 }
 

@@ -1,8 +1,7 @@
 //! How far a long run of `live` is, a line a second on standard error.
 use cast_run::Progress;
-use cast_script::Script;
 use std::alloc::Global;
-use std::io::Stderr;
+use std::io::{Stderr, Write};
 use std::sync::atomic::{AtomicBool, Ordering};
 use std::sync::{Arc, Wait};
 use std::thread;
@@ -27,32 +26,22 @@ struct Bell {
 
 /// A thread that tells how far a run is, until it is told that the run has ended. It is not joined: where standard error takes
 /// nothing it waits for that, and what became of the run is told all the same. But a line that is being told then is waited for,
-/// about a second at most: where the program began without standard error, the next file that is made stands in its place.
+/// about a second at most.
 #[derive(Drop)]
 pub struct ProgressReporter {
     bell: Arc<Bell, Global>,
 }
 
-/// How many deliveries a run of the script can make: each item at each node. A run in which a node does not stop by itself, or an
-/// item is refused, may end below that.
-pub fn due_deliveries(script: &Script) -> u64 {
-    let mut items = 0u64;
-    for (_node, job) in script.jobs.as_slice() {
-        items = items.saturating_add(job.as_slice().len() as u64);
-    }
-    items.saturating_mul(script.config.nodes())
-}
-
 impl ProgressReporter {
-    /// Starts to tell, in a thread more than those of the run, which is started first. Where no memory or no thread can be had
-    /// for it, nothing is told, and the run goes on all the same.
+    /// Starts to tell, in a thread more than those of the run, which is started first. Where there is no stream, or no memory or no
+    /// thread can be had for it, nothing is told, and the run goes on all the same.
     pub fn start<T: Threads + Wait + Copy + Send + 'static>(
         rt: T,
         alloc: Global,
-        stderr: Stderr,
+        stderr: Option<Stderr>,
         progress: &Arc<Progress, Global>,
-        due: u64,
     ) -> Option<ProgressReporter> {
+        let stderr = open_stream(stderr?)?;
         let bell = Bell {
             ended: AtomicBool::new(false),
             speaks: AtomicBool::new(false),
@@ -61,7 +50,7 @@ impl ProgressReporter {
         let bell = Arc::new(alloc, bell).ok()?;
         let progress = Arc::try_clone(progress).ok()?;
         let heard = Arc::try_clone(&bell).ok()?;
-        let tell = move || tell_each_second(&rt, stderr, &progress, due, &heard);
+        let tell = move || tell_each_second(&rt, stderr, &progress, &heard);
         let _thread = thread::spawn(&rt, tell).ok()?;
         Some(ProgressReporter { bell })
     }
@@ -80,7 +69,13 @@ impl ProgressReporter {
     }
 }
 
-fn tell_each_second<R: Wait>(rt: &R, stderr: Stderr, progress: &Progress, due: u64, bell: &Bell) {
+// A stream that the program began with. Where it began without it, a file of the run that is made stands in its place.
+fn open_stream(mut stderr: Stderr) -> Option<Stderr> {
+    stderr.write(&[]).ok()?;
+    Some(stderr)
+}
+
+fn tell_each_second<R: Wait>(rt: &R, stderr: Stderr, progress: &Progress, bell: &Bell) {
     for _ in rt.forever() {
         bell.parker
             .park_timeout(rt, Duration::from_secs(LINE_SECONDS));
@@ -88,7 +83,7 @@ fn tell_each_second<R: Wait>(rt: &R, stderr: Stderr, progress: &Progress, due: u
         bell.speaks.store(true, Ordering::SeqCst);
         let ended = bell.ended.load(Ordering::SeqCst);
         if !ended {
-            tell_line(&stderr, progress, due);
+            tell_line(&stderr, progress);
         }
         bell.speaks.store(false, Ordering::SeqCst);
         if ended {
@@ -97,9 +92,14 @@ fn tell_each_second<R: Wait>(rt: &R, stderr: Stderr, progress: &Progress, due: u
     }
 }
 
-fn tell_line(stderr: &Stderr, progress: &Progress, due: u64) {
+// Nothing is told before the script is read.
+fn tell_line(stderr: &Stderr, progress: &Progress) {
+    let due = progress.due();
     let deliveries = progress.deliveries();
     let turns = progress.turns();
+    if due == 0 && turns == 0 {
+        return;
+    }
     // Where standard error fails there is nobody to tell.
     let _ = eprintln!(stderr; "castgroup: {deliveries} of {due} deliveries, {turns} turns");
 }

@@ -1,26 +1,102 @@
 //! The command `live` by many seeds: a line for each run that is not as one hopes, and how many runs there were.
-ghost use Rattle.std.specs.Prelude.{IfOk};
-ghost use Rattle.cast_live.specs.Live.{IsFinished};
-
-use crate::live::{Stop, keep_files, run_live_script, status_of, tell_stop, warn_of_lengths};
-use cast_command::{Call, RunFiles};
-use cast_console::{Failure, Status, explain_fault, open_source, refuse};
-use cast_live::{FinishedRun, Summary, summarize};
-use cast_report::EngineEnd;
+use crate::console::Console;
+use crate::explain::{Stop, tell_stop};
+use crate::live::{Group, open_script, progress_stream, run_group, status_of};
+use crate::output::{Sink, Target, open_sink};
+use crate::outputs::summary_target;
+use crate::remarks::remark_on_script;
+use crate::status::Status;
+use cast_command::{LiveTask, Seeds};
+use cast_explain::Taken;
+use cast_live::{FinishedRun, RunOutputs, live_text_by};
+use cast_node::EngineEnd;
+use cast_record::Meter;
+use cast_run::{Progress, Seeded};
 use cast_text::{TextFault, Verdict, read_input};
-use cast_words::Meter;
 use std::alloc::{AllocError, Global};
-use std::io::{self, Stderr};
+use std::io::{self, Read, Write};
 use std::rt::{Clock, Runtime};
-use std::sync::Wait;
+use std::sync::{Arc, Wait};
 use std::thread::Threads;
 use std::time::Instant;
 
-/// So many seeds, of which this is the first. Behind the greatest number comes 0.
-#[derive(Clone, Copy)]
-pub struct Seeds {
-    pub first: u64,
-    pub times: u64,
+/// Runs the group of a script by each of the seeds. What is kept is kept of the first run that is not as one hopes, or else of the
+/// last.
+pub fn live_seeds<R: Runtime + AllocGlobal + Threads + Wait + Clock + Copy + Send + 'static>(
+    console: &Console<'_, R>,
+    task: &LiveTask<'_>,
+    seeds: Seeds,
+) -> Status {
+    let mut source = open_script(console, task);
+    match run_and_keep(console, &mut source, task, seeds) {
+        Ok(status) => {
+            remark_on_script(console, source, Taken::Group);
+            status
+        }
+        Err(stop) => tell_stop(console, stop, source),
+    }
+}
+
+// Runs all, keeps what is wanted of one, and writes how many runs there were.
+fn run_and_keep<
+    'a,
+    I: Read + Drop,
+    R: Runtime + AllocGlobal + Threads + Wait + Clock + Copy + Send + 'static,
+>(
+    console: &Console<'a, R>,
+    input: I,
+    task: &LiveTask<'a>,
+    seeds: Seeds,
+) -> Result<Status, Stop<'a>> {
+    let text = match read_input(console.rt.alloc(), &mut Meter::new(input)) {
+        Ok(text) => text,
+        Err(fault) => return Err(Stop::Fault(fault)),
+    };
+    let mut lines = open_sink(console, summary_target(&task.places));
+    let tally = run_all(console, text.as_slice(), task, seeds, &mut lines)?;
+    let kept = keep_one(console, text.as_slice(), task, tally.kept);
+    let Tally { at_rest, good, .. } = tally;
+    let times = seeds.times;
+    let line = format!(in console.rt.alloc(); "{times} runs, {at_rest} at rest, {good} good\n");
+    match (kept, put_line(line, &mut lines)) {
+        (Ok(()), Ok(())) => Ok(tally.status),
+        (Err(kept), Err(told)) => Err(kept.or_memory(told)),
+        (Err(stop), Ok(())) | (Ok(()), Err(stop)) => Err(stop),
+    }
+}
+
+// Runs the group by this seed once more, where something is to be kept of it.
+fn keep_one<'a, R: Runtime + AllocGlobal + Threads + Wait + Copy + Send + 'static>(
+    console: &Console<'a, R>,
+    mut text: &[u8],
+    task: &LiveTask<'a>,
+    seed: u64,
+) -> Result<(), Stop<'a>> {
+    if task.places.is_empty() {
+        return Ok(());
+    }
+    let group = Group {
+        seed: Some(seed),
+        summary: Target::Memory,
+        places: task.places,
+        progress_to: None,
+    };
+    let _run = run_group(console, &mut text, group)?;
+    Ok(())
+}
+
+// Writes a line, where there was memory to make it.
+fn put_line<'a, R: Runtime>(
+    line: Result<String, AllocError>,
+    lines: &mut Sink<'a, R>,
+) -> Result<(), Stop<'a>> {
+    match line {
+        Ok(line) => match lines.write_all(line.as_bytes()) {
+            Ok(()) => Ok(()),
+            Err(_) => Err(Stop::Output(lines.failure())),
+        },
+        Err(_) => Err(Stop::Fault(TextFault::Memory)),
+    }
 }
 
 /// What came of all runs.
@@ -34,148 +110,117 @@ struct Tally {
     is_as_hoped: bool,
 }
 
-/// Runs the group of a script by each of the seeds. The files are kept of the first run that is not as one hopes, or else of the
-/// last.
-pub fn live_seeds<R: Runtime + AllocGlobal + Threads + Wait + Clock + Copy + Send + 'static>(
-    rt: &R,
-    call: Call<'_>,
-    seeds: Seeds,
-    files: RunFiles<'_>,
-    progress_to: Option<Stderr>,
-) -> Status {
-    let mut source = open_source(rt, call);
-    let done = match read_input(rt.alloc(), &mut Meter::new(&mut source)) {
-        Ok(text) => run_and_keep(rt, text.as_slice(), seeds, files, progress_to),
-        Err(fault) => Err(stop_by(fault)),
-    };
-    match done {
-        Ok(status) => status,
-        Err(stop) if matches!(stop.fault, TextFault::Write) => tell_stop(rt, stop, call.explains),
-        Err(stop) => {
-            let status = refuse(rt, stop.fault);
-            explain_fault(rt, stop.fault, source, stop.output);
-            status
+impl Tally {
+    fn new(seeds: Seeds) -> Tally {
+        Tally {
+            at_rest: 0,
+            good: 0,
+            status: Status::Good,
+            kept: seeds.first,
+            is_as_hoped: true,
         }
     }
-}
 
-// Runs all, and writes the files, the count of runs, and what is to be said of the files.
-fn run_and_keep<'a, R: Runtime + AllocGlobal + Threads + Wait + Clock + Copy + Send + 'static>(
-    rt: &R,
-    text: &[u8],
-    seeds: Seeds,
-    files: RunFiles<'a>,
-    progress_to: Option<Stderr>,
-) -> Result<Status, Stop<'a>> {
-    let tally = run_all(rt, text, seeds, progress_to)?;
-    if files.record.is_none() && files.replay.is_none() {
-        tell_tally(rt, tally, seeds.times)?;
-        return Ok(tally.status);
-    }
-    let run = run_seed(rt, text, tally.kept)?;
-    let kept = keep_files(rt, &run, files);
-    let told = tell_tally(rt, tally, seeds.times);
-    match (told, warn_of_lengths(rt, kept)) {
-        (Ok(()), Ok(())) => Ok(tally.status),
-        (Err(told), Err(file)) => Err(told.or_memory(file)),
-        (Err(stop), Ok(())) | (Ok(()), Err(stop)) => Err(stop),
+    fn add(&mut self, seed: u64, run: &FinishedRun, is_as_hoped: bool) {
+        let summary = run.summary;
+        let is_good = matches!(summary.verdict, Verdict::Good);
+        self.at_rest = self.at_rest.saturating_add(u64::from(summary.rest));
+        self.good = self.good.saturating_add(u64::from(is_good));
+        self.status = self.status.or_worse(status_of(summary));
+        if self.is_as_hoped {
+            self.kept = seed;
+        }
+        self.is_as_hoped = self.is_as_hoped && is_as_hoped;
     }
 }
 
 // Runs all, and writes the line of each run that is not as one hopes.
 fn run_all<'a, R: Runtime + AllocGlobal + Threads + Wait + Clock + Copy + Send + 'static>(
-    rt: &R,
+    console: &Console<'a, R>,
     text: &[u8],
+    task: &LiveTask<'a>,
     seeds: Seeds,
-    progress_to: Option<Stderr>,
+    lines: &mut Sink<'a, R>,
 ) -> Result<Tally, Stop<'a>> {
-    let mut tally = Tally {
-        at_rest: 0,
-        good: 0,
-        status: Status::Good,
-        kept: seeds.first,
-        is_as_hoped: true,
+    let alloc = console.rt.alloc();
+    let Ok(progress) = Progress::for_group(alloc) else {
+        return Err(Stop::Fault(TextFault::Memory));
     };
-    let mut last = Instant::now(rt).ok();
+    let mut tally = Tally::new(seeds);
+    let mut last = match progress_stream(console, task) {
+        Some(_) => Instant::now(console.rt).ok(),
+        None => None,
+    };
     for number in 0..seeds.times {
         let seed = seeds.first.wrapping_add(number);
-        tally.add(seed, run_and_tell(rt, text, seed)?);
-        if let Some(stderr) = &progress_to {
-            last = tell_runs(rt, stderr, last, number, seeds.times);
+        let run = run_seed(console.rt, text, &progress, seed)?;
+        let Ok(oddities) = oddities_of(alloc, &run) else {
+            return Err(Stop::Fault(TextFault::Memory));
+        };
+        if !oddities.is_empty() {
+            put_line(format!(in alloc; "seed {seed}{oddities}\n"), lines)?;
         }
+        tally.add(seed, &run, oddities.is_empty());
+        last = tell_runs(console, last, number, seeds.times);
     }
     Ok(tally)
 }
 
-// Tells how many runs were made, where a second or more has passed since that was told, and answers when it was told.
+// Tells how many runs were made, where a second or more has passed since that was told, and answers when it was told; nothing
+// where it is not to be told.
 fn tell_runs<R: Clock>(
-    rt: &R,
-    stderr: &Stderr,
+    console: &Console<'_, R>,
     last: Option<Instant>,
     before: u64,
     times: u64,
 ) -> Option<Instant> {
-    if last?.elapsed(rt).ok()?.as_secs() == 0 {
+    if last?.elapsed(console.rt).ok()?.as_secs() == 0 {
         return last;
     }
     let runs = before.saturating_add(1);
     // Where standard error fails there is nobody to tell.
-    let _ = eprintln!(stderr; "castgroup: {runs} of {times} runs");
-    Instant::now(rt).ok()
+    let _ = eprintln!(console.stderr; "castgroup: {runs} of {times} runs");
+    Instant::now(console.rt).ok()
 }
 
-// Runs the script's group by the seed.
-fn run_seed<'a, R: Runtime + AllocGlobal + Threads + Wait + Copy + Send + 'static>(
+// Runs the script's group by the seed. The summary's text is nobody's.
+fn run_seed<'a, R: Runtime + AllocGlobal + Threads + Wait>(
     rt: &R,
-    text: &[u8],
+    mut text: &[u8],
+    progress: &Arc<Progress, Global>,
     seed: u64,
-) -> Result<FinishedRun, Stop<'a>>
-    ensures { IfOk result IsFinished }
-{
-    match run_live_script(rt, &mut Meter::new(text), Some(seed), None) {
-        Ok(run) => Ok(run),
-        Err(fault) => Err(stop_by(fault)),
-    }
-}
-
-/// What is told of a run.
-#[derive(Clone, Copy)]
-struct Found {
-    summary: Summary,
-    is_as_hoped: bool,
-}
-
-// Runs the script's group by the seed, and writes its line where it is not as one hopes.
-fn run_and_tell<'a, R: Runtime + AllocGlobal + Threads + Wait + Copy + Send + 'static>(
-    rt: &R,
-    text: &[u8],
-    seed: u64,
-) -> Result<Found, Stop<'a>> {
-    let run = run_seed(rt, text, seed)?;
-    let summary = summarize(&run);
-    let Ok(oddities) = oddities_of(rt.alloc(), &run, summary) else {
-        return Err(stop_by(TextFault::Memory));
+) -> Result<FinishedRun, Stop<'a>> {
+    let mut outputs: RunOutputs<io::Sink, io::Sink> = RunOutputs {
+        summary: Meter::new(io::sink()),
+        record: None,
+        replay: None,
     };
-    let is_as_hoped = oddities.is_empty();
-    if !is_as_hoped {
-        written(println!(rt; "seed {seed}{oddities}"))?;
+    let mut reader = Meter::new(&mut text);
+    let mut schedule = Seeded::mixed(seed);
+    let run = live_text_by(
+        rt,
+        rt.alloc(),
+        &mut reader,
+        &mut outputs,
+        progress,
+        &mut schedule,
+    );
+    match run {
+        Ok(run) => Ok(run),
+        Err(fault) => Err(Stop::Fault(fault)),
     }
-    Ok(Found {
-        summary,
-        is_as_hoped,
-    })
 }
 
 // What is not as one hopes, each after a blank: the nodes that neither stopped nor crashed, as only the plan has it, that there is
 // no rest, and how many orders were left in desks or refused.
-fn oddities_of(alloc: Global, run: &FinishedRun, summary: Summary) -> Result<String, AllocError> {
+fn oddities_of(alloc: Global, run: &FinishedRun) -> Result<String, AllocError> {
     let mut odd = String::new(alloc);
     for (node, report) in run.report.reports().iter().enumerate() {
         if let Some(end) = odd_end(report.ended) {
             odd.push_str(format!(in alloc; " ends {node} {end}")?.as_str())?;
         }
     }
-    if !summary.rest {
+    if !run.summary.rest {
         odd.push_str(" rest no")?;
     }
     if run.left > 0 {
@@ -194,56 +239,5 @@ fn odd_end(ended: EngineEnd) -> Option<&'static str> {
         EngineEnd::TurnLimit => Some("turnlimit"),
         EngineEnd::LogFull => Some("logfull"),
         EngineEnd::ClockFull => Some("clockfull"),
-    }
-}
-
-// Writes how many runs there were.
-fn tell_tally<'a, R: Print>(rt: &R, tally: Tally, times: u64) -> Result<(), Stop<'a>> {
-    let Tally { at_rest, good, .. } = tally;
-    written(println!(rt; "{times} runs, {at_rest} at rest, {good} good"))
-}
-
-// What came of a line for standard output.
-fn written<'a>(line: io::Result<()>) -> Result<(), Stop<'a>> {
-    match line {
-        Ok(()) => Ok(()),
-        Err(error) => Err(Stop {
-            fault: TextFault::Write,
-            output: Failure::of_output(Some(error)),
-        }),
-    }
-}
-
-// What stops all, but for an output that fails.
-fn stop_by<'a>(fault: TextFault) -> Stop<'a> {
-    Stop {
-        fault,
-        output: Failure::of_output(None),
-    }
-}
-
-impl Tally {
-    fn add(&mut self, seed: u64, found: Found) {
-        let Found {
-            summary,
-            is_as_hoped,
-        } = found;
-        self.at_rest = self.at_rest.saturating_add(u64::from(summary.rest));
-        let is_good = matches!(summary.verdict, Verdict::Good);
-        self.good = self.good.saturating_add(u64::from(is_good));
-        self.status = worse(self.status, status_of(summary));
-        if self.is_as_hoped {
-            self.kept = seed;
-        }
-        self.is_as_hoped = self.is_as_hoped && is_as_hoped;
-    }
-}
-
-// The worse of two statuses of runs.
-fn worse(one: Status, other: Status) -> Status {
-    match (one, other) {
-        (Status::Bad, _) | (_, Status::Good) => one,
-        (Status::Restless, Status::Restless) => one,
-        _ => other,
     }
 }

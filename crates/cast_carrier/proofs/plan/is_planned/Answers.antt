@@ -1,7 +1,7 @@
 use Rattle.std.proofs.Common.{take, sym, subst, refl}
 use Rattle.std.proofs.lemmas.List.{take_all}
 use Rattle.std.proofs.lemmas.List.Elements.{All-more, All-same}
-use Rattle.cast_script.specs.declared.script.Fault.{Fault}
+use Rattle.cast_message.specs.declared.plan.Fault.{Fault}
 use Rattle.cast_carrier.specs.Plans.{IsPlanned}
 use Rattle.cast_carrier.proofs.plan.is_planned.Goals as goal
 

@@ -1,7 +1,7 @@
 use Rattle.std.proofs.Common.{◌≡◌, ◌≢◌, ◌+◌, ◌<◌, ◌++◌, ◌∙◌, [], length, take, get_or, ap, sym, rules, arith}
 use Rattle.std.proofs.lemmas.List.{append-nil}
 use Rattle.std.proofs.lemmas.Option.{get_or_from_slice_get}
-use Rattle.cast_node.specs.Logged.{shown_entry, shown_kind}
+use Rattle.cast_log.specs.Logged.{shown_entry, shown_kind}
 use Rattle.cast_desk.specs.Feed.{feed_from, told_by, orders_of, orders_in}
 use Rattle.cast_desk.proofs.Feeds.{fed_at, fed_more, counted_more, silent_tells_none}
 use Rattle.cast_desk.proofs.told.feed.Goals.{in-Whole+in_ok-tell, in_default}

@@ -1,5 +1,5 @@
 use Rattle.std.proofs.Common.{◌++◌, sym}
-use Rattle.cast_words.proofs.WritingLemmas.{going_start, going_again, going_more, going_breaks, going_last}
+use Rattle.cast_record.proofs.WrittenLemmas.{going_start, going_again, going_more, going_breaks, going_last}
 use Rattle.cast_draw.proofs.page.write_drawing.Goals as goal
 
 pub returns-in_err-write_bytes : goal.returns-in_err-write_bytes

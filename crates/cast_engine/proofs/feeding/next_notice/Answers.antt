@@ -1,6 +1,6 @@
 use Rattle.std.proofs.Common.{◌≡◌, ◌∙◌, ◌+◌, ◌<◌, ap, sym, subst, arith, slice_get, get_or, length, None, rules}
 use Rattle.std.proofs.lemmas.Option.{get_or_from_slice_get}
-use Rattle.cast_node.specs.Logged.{shown_entry, shown_kind}
+use Rattle.cast_log.specs.Logged.{shown_entry, shown_kind}
 use Rattle.cast_desk.specs.Feed.{told_by, orders_in}
 use Rattle.cast_desk.proofs.Feeds.{silent_tells_none}
 use Rattle.cast_engine.specs.declared.feeding.Place.{Place}

@@ -1,7 +1,7 @@
 use Rattle.std.proofs.Common.{◌/◌, ◌%◌, ◌*◌, ◌^◌, bit_or, slice_set, ◌∙◌, ap, arith}
 use Rattle.std.proofs.lemmas.List.{get_or_default}
-use Rattle.cast_sets.specs.Bits.{is_set}
-use Rattle.cast_sets.proofs.Places.{is_set-with_place}
+use Rattle.cast_message.specs.Bits.{is_set}
+use Rattle.cast_message.proofs.Places.{is_set-with_place}
 use Rattle.cast_link.proofs.bits.set_bit.Goals as goal
 
 pub returns-clause-bits : goal.returns-clause-bits

@@ -1,5 +1,5 @@
 use Rattle.std.proofs.Common.{ℕ, List, length, slice_index, ap, ◌∙◌, arith, length-append, ◌∷◌, []}
-use Rattle.cast_sets.proofs.Numbers.{padded}
+use Rattle.cast_message.proofs.Numbers.{padded}
 use Rattle.cast_link.proofs.window.add_words.Goals as goal
 
 pub push_back_reserved-requires : goal.push_back_reserved-requires

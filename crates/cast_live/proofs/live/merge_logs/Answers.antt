@@ -1,5 +1,5 @@
 use Rattle.std.proofs.Common.{refl}
-use Rattle.cast_model.specs.Replies.{replies}
+use Rattle.cast_model.specs.Replies.{history, replies}
 use Rattle.cast_merge.specs.ByStamp.{merged_events}
 use Rattle.cast_merge.proofs.Assembling.{tells_merge, all_accepted, whole_history}
 use Rattle.cast_live.proofs.live.merge_logs.Goals as goal
@@ -18,5 +18,5 @@ returns-clause-ok c =
         whole = whole_history config reports linked events refl;
       };
       stands = c.in_ok-world.ensures.stands;
-      good = c.in_ok-world.ensures.good;
+      said = record { rest = c.at_rest.ensures.rest config (history config events) c.in_ok-world.ensures.stands; good = c.in_ok-world.ensures.good };
     }

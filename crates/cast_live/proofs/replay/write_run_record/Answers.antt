@@ -5,9 +5,9 @@ use Rattle.cast_merge.specs.ByStamp.{merged_events}
 use Rattle.cast_record.specs.declared.line.Line.TheVariants.{End}
 use Rattle.cast_record.specs.Lines.{head_of, lines_for}
 use Rattle.cast_record.specs.Text.{line_text, record_text}
-use Rattle.cast_words.specs.Written.{WroteAll}
+use Rattle.cast_record.specs.Written.{WroteAll}
 use Rattle.cast_text.specs.Text.{BreaksOff}
-use Rattle.cast_words.proofs.WritingLemmas.{IsGoing, going_start, going_again, going_more}
+use Rattle.cast_record.proofs.WrittenLemmas.{IsGoing, going_start, going_again, going_more}
 use Rattle.cast_world.specs.Group.{Stands}
 use Rattle.cast_text.specs.RecordLaws.{wants_memory, breaks_longer}
 use Rattle.cast_model.specs.Replies.{after}
@@ -68,13 +68,13 @@ returns-in_err-put_lines g c =
     let why = c.in_err-put_lines.field-0.0 in
     let lines = record_text (lines_for l.index event reply) in
     let left = rest_text config (l.index + 1) (after config w.past event) rest in
-    let next = text_left config events l.index l.merged l.world w event rest (took _ l.merged c.take_next.new.self c.in-Some.event c.in_ok-event.ensures c.in-Some.is) c.take_step.new.world reply c.in_ok-reply.ensures.step in
+    let next = text_left config events l.index l.merged l.world w event rest (took _ l.merged c.take_next.new.self c.in-Some.event c.in_ok-event.ensures c.in-Some.is) c.take_step.new.world reply (c.in_ok-reply.ensures.step config w.past w.stands) in
     rw (p.1, p.2) (writes_last _ _ (Err why) (lines ++ left) (going_again l.invariant.1 next) (breaks_longer why _ _ _ lines left c.in_err-put_lines.ensures.text))
 
 pub returns-in_err-index : goal.returns-in_err-index
 returns-in_err-index g c =
     let l = c.events in
-    let next = text_left c.args.report.now.config (merged_events c.args.report.now.reports) l.index l.merged l.world l.invariant.0 c.in-Some.event c.take_next.new.self (took _ l.merged c.take_next.new.self c.in-Some.event c.in_ok-event.ensures c.in-Some.is) c.take_step.new.world c.in_ok-reply.reply c.in_ok-reply.ensures.step in
+    let next = text_left c.args.report.now.config (merged_events c.args.report.now.reports) l.index l.merged l.world l.invariant.0 c.in-Some.event c.take_next.new.self (took _ l.merged c.take_next.new.self c.in-Some.event c.in_ok-event.ensures c.in-Some.is) c.take_step.new.world c.in_ok-reply.reply (c.in_ok-reply.ensures.step c.args.report.now.config l.invariant.0.past l.invariant.0.stands) in
     wants c.from_residual-in_err-index.result c.from_residual-in_err-index.ensures.1 (going_wants (going_more (going_again l.invariant.1 next) c.in_ok-put_lines.ensures.text))
 
 pub events-preserved : goal.events-preserved
@@ -88,8 +88,8 @@ events-preserved g c =
     let later = c.take_step.new.world in
     let reply = c.in_ok-reply.reply in
     let is = took _ l.merged rest event c.in_ok-event.ensures c.in-Some.is in (
-      walk_next config events l.index l.merged l.world w event rest is later reply c.in_ok-reply.ensures.step _ c.in_ok-index.ensures c.in_ok-reply.ensures.range,
-      going_more (going_again l.invariant.1 (text_next config events l.index l.merged l.world w event rest is later reply c.in_ok-reply.ensures.step _ c.in_ok-index.ensures)) c.in_ok-put_lines.ensures.text,
+      walk_next config events l.index l.merged l.world w event rest is later reply (c.in_ok-reply.ensures.step config w.past w.stands) _ c.in_ok-index.ensures c.in_ok-reply.ensures.range,
+      going_more (going_again l.invariant.1 (text_next config events l.index l.merged l.world w event rest is later reply (c.in_ok-reply.ensures.step config w.past w.stands) _ c.in_ok-index.ensures)) c.in_ok-put_lines.ensures.text,
     )
 
 pub returns : goal.returns

@@ -2,7 +2,7 @@
 use Rattle.std.proofs.Common.{length}
 use Rattle.cast_merge.specs.ByStamp.{merged_events}
 use Rattle.cast_record.specs.Text.{record_text}
-use Rattle.cast_words.proofs.WritingLemmas.{IsGoing}
+use Rattle.cast_record.proofs.WrittenLemmas.{IsGoing}
 use Rattle.cast_live.specs.Replayed.{record_of_accepted}
 use Rattle.cast_live.specs.Walk.{IsWalk}
 use Rattle.cast_live.proofs.Walking.{rest_text}

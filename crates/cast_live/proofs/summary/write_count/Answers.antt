@@ -1,4 +1,4 @@
-use Rattle.cast_words.proofs.WritingLemmas.{going_start, going_more, going_breaks, going_last}
+use Rattle.cast_record.proofs.WrittenLemmas.{going_start, going_more, going_breaks, going_last}
 use Rattle.cast_live.proofs.summary.write_count.Goals as goal
 
 pub returns-in_err-write_bytes : goal.returns-in_err-write_bytes

@@ -1,5 +1,5 @@
 use Rattle.std.proofs.Common.{◌++◌, ap, sym, codes, decimal}
-use Rattle.cast_words.proofs.WritingLemmas.{going_start, going_again, going_more, going_breaks, going_last}
+use Rattle.cast_record.proofs.WrittenLemmas.{going_start, going_again, going_more, going_breaks, going_last}
 use Rattle.cast_live.proofs.summary.write_end.Goals as goal
 
 pub returns-in_err-write_bytes : goal.returns-in_err-write_bytes

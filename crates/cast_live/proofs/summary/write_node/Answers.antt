@@ -1,6 +1,6 @@
 use Rattle.std.proofs.Common.{◌++◌, ap, sym, codes, rules}
 use Rattle.std.specs.List.{range_with_len}
-use Rattle.cast_words.proofs.WritingLemmas.{going_start, going_again, going_more, going_breaks, going_last}
+use Rattle.cast_record.proofs.WrittenLemmas.{going_start, going_again, going_more, going_breaks, going_last}
 use Rattle.cast_live.specs.Live.{end_text, counts_text}
 use Rattle.cast_live.proofs.SummaryLemmas.{all_counts, counts-next, counts-end}
 use Rattle.cast_live.proofs.summary.write_node.Goals as goal

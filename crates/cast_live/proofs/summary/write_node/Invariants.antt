@@ -3,7 +3,7 @@ use Rattle.std.proofs.Common.{◌≡◌, ◌-◌, ◌++◌, false, codes}
 use Rattle.std.specs.List.{range_with_len}
 use Rattle.cast_model.specs.History.{History}
 use Rattle.cast_world.specs.Group.{Stands}
-use Rattle.cast_words.proofs.WritingLemmas.{IsGoing}
+use Rattle.cast_record.proofs.WrittenLemmas.{IsGoing}
 use Rattle.cast_live.specs.Live.{counts_text, node_text}
 use Rattle.cast_live.proofs.summary.write_node.Given as goal
 

@@ -1,4 +1,4 @@
-use Rattle.cast_words.proofs.WritingLemmas.{going_start, going_again, going_more, going_breaks, going_done}
+use Rattle.cast_record.proofs.WrittenLemmas.{going_start, going_again, going_more, going_breaks, going_done}
 use Rattle.cast_live.proofs.SummaryLemmas.{nodes-next, nodes-end}
 use Rattle.cast_live.proofs.summary.write_nodes.Goals as goal
 

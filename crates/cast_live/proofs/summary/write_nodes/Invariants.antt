@@ -2,7 +2,7 @@
 use Rattle.std.proofs.Common.{◌≡◌, false, drop}
 use Rattle.cast_model.specs.History.{History}
 use Rattle.cast_world.specs.Group.{Stands}
-use Rattle.cast_words.proofs.WritingLemmas.{IsGoing}
+use Rattle.cast_record.proofs.WrittenLemmas.{IsGoing}
 use Rattle.cast_live.specs.Live.{nodes_text, ends_of}
 use Rattle.cast_live.proofs.summary.write_nodes.Given as goal
 

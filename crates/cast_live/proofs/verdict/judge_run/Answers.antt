@@ -1,6 +1,7 @@
-use Rattle.std.proofs.Common.{◌≡◌, List, [], ◌∷◌, ◌++◌, ◌∙◌, ap, sym, subst, append-nil}
+use Rattle.std.proofs.Common.{◌≡◌, List, [], ◌∷◌, ◌++◌, ◌∙◌, ap, refl, sym, subst, append-nil}
 use Rattle.cast_message.specs.declared.event.Event.{Event}
 use Rattle.cast_merge.specs.ByStamp.{merged_events}
+use Rattle.cast_model.specs.Replies.{after, reply}
 use Rattle.cast_record.specs.declared.line.Line.TheVariants.{End}
 use Rattle.cast_record.specs.Lines.{head_of}
 use Rattle.cast_record.specs.Text.{record_text}
@@ -34,11 +35,12 @@ events-preserved c =
     let w = l.invariant.0 in
     let event = c.in-Some.event in
     let rest = c.take_next.new.self in
-    let later = c.take_step.new.world in
-    let reply = c.in_ok-reply.reply in
+    let later = c.judge_event.new.world in
+    let answered = reply config w.past event in
+    let step : (answered ≡ reply config w.past event) × Stands config (after config w.past event) later = (refl, c.in_ok-judge_event.ensures.stands config w.past w.stands) in
     let is = took _ l.merged rest event c.in_ok-event.ensures c.in-Some.is in (
-      walk_next config events l.index l.merged l.world w event rest is later reply c.in_ok-reply.ensures.step _ c.in_ok-index.ensures c.in_ok-reply.ensures.range,
-      fed_more _ _ _ _ l.judging c.feed_event.new.judging l.invariant.1 (text_next config events l.index l.merged l.world w event rest is later reply c.in_ok-reply.ensures.step _ c.in_ok-index.ensures) c.in_ok-feed_event.ensures,
+      walk_next config events l.index l.merged l.world w event rest is later answered step _ c.in_ok-index.ensures c.in_ok-judge_event.ensures.range,
+      fed_more _ _ _ _ l.judging c.judge_event.new.judging l.invariant.1 (text_next config events l.index l.merged l.world w event rest is later answered step _ c.in_ok-index.ensures) (c.in_ok-judge_event.ensures.judged config w.past w.stands),
     )
 
 pub returns-clause-stands : goal.returns-clause-stands

@@ -1,6 +1,6 @@
 use Rattle.std.proofs.Common.{ap, ◌∙◌}
 use Rattle.cast_message.specs.declared.event.Event.TheVariants.{Order}
-use Rattle.cast_words.proofs.WritingLemmas.{going_start, going_again, going_more, going_breaks, going_last}
+use Rattle.cast_record.proofs.WrittenLemmas.{going_start, going_again, going_more, going_breaks, going_last}
 use Rattle.cast_record.specs.Lines.{answer_lines}
 use Rattle.cast_record.specs.Text.{record_text}
 use Rattle.cast_record.proofs.event_lines.write_answer.Goals as goal

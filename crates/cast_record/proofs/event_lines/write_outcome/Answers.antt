@@ -1,6 +1,6 @@
 use Rattle.std.proofs.Common.{◌∙◌, ap, map, sym}
 use Rattle.std.proofs.lemmas.List.{get_or_default}
-use Rattle.cast_words.proofs.WritingLemmas.{going_start, going_again, going_more, going_breaks}
+use Rattle.cast_record.proofs.WrittenLemmas.{going_start, going_again, going_more, going_breaks}
 use Rattle.cast_record.specs.declared.line.Line.TheVariants.{Decided, Delivered}
 use Rattle.cast_record.specs.Text.{record_text}
 use Rattle.cast_record.proofs.WritingLemmas.{outcome-parts, made-next, made-before, made-end}

@@ -2,7 +2,7 @@ use Rattle.std.proofs.Common.{◌++◌, drop, map}
 use Rattle.cast_record.specs.declared.line.Line.TheVariants.{Decided, Delivered}
 use Rattle.cast_record.specs.Lines.{outcome_lines}
 use Rattle.cast_record.specs.Text.{record_text}
-use Rattle.cast_words.proofs.WritingLemmas.{IsGoing}
+use Rattle.cast_record.proofs.WrittenLemmas.{IsGoing}
 use Rattle.cast_record.proofs.event_lines.write_outcome.Given as goal
 
 abbrev pub invariant-loop-message : goal.invariant-loop-message

@@ -1,6 +1,6 @@
 use Rattle.std.proofs.Common.{◌≡◌, ◌∙◌, sym, ap, List, ℕ, Option, Some, None, option_map}
 use Rattle.cast_message.specs.declared.message.Item.TheVariants.{Data}
-use Rattle.cast_words.specs.Unhex.{unhex}
+use Rattle.cast_record.specs.Unhex.{unhex}
 use Rattle.cast_record.proofs.ItemWordLemmas.{spells_data, from_on}
 use Rattle.cast_record.proofs.item_word.data_item.Goals as goal
 

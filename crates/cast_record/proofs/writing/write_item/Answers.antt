@@ -1,6 +1,6 @@
 use Rattle.std.proofs.Common.{decimal}
-use Rattle.cast_words.specs.Hex.{hex}
-use Rattle.cast_words.proofs.WritingLemmas.{going_start, going_again, going_more, going_breaks, going_last}
+use Rattle.cast_record.specs.Hex.{hex}
+use Rattle.cast_record.proofs.WrittenLemmas.{going_start, going_again, going_more, going_breaks, going_last}
 use Rattle.cast_record.proofs.WritingLemmas.{propose-parts}
 use Rattle.cast_record.proofs.writing.write_item.Goals as goal
 

@@ -1,7 +1,7 @@
 use Rattle.std.proofs.Common.{drop, map, ◌++◌, ◌∷◌, []}
 use Rattle.std.specs.List.{join_with_byte}
 use Rattle.cast_record.specs.Words.{word_text}
-use Rattle.cast_words.proofs.WritingLemmas.{IsGoing}
+use Rattle.cast_record.proofs.WrittenLemmas.{IsGoing}
 use Rattle.cast_record.proofs.WritingLemmas.{others_text}
 use Rattle.cast_record.proofs.writing.write_words.Given as goal
 

@@ -1,5 +1,5 @@
 use Rattle.std.proofs.Common.{◌≡◌, Some, IfOk, subst, sym, ap, ◌∙◌}
-use Rattle.cast_words.specs.Numbers.{number_of as number_in_words}
+use Rattle.cast_record.specs.Numbers.{number_of as number_in_words}
 use Rattle.serde_json.specs.Data.{unsigned}
 use Rattle.serde_json.specs.Read.{number_of}
 use Rattle.cast_script.specs.declared.element.Unread.TheVariants.{Shape}

@@ -1,5 +1,5 @@
 use Rattle.std.proofs.Common.{map}
-use Rattle.cast_words.proofs.WritingLemmas.{going_start, going_again, going_more, going_breaks, going_last}
+use Rattle.cast_record.proofs.WrittenLemmas.{going_start, going_again, going_more, going_breaks, going_last}
 use Rattle.cast_script.specs.Cells.{cell_text}
 use Rattle.cast_script.specs.Replay.{word_text}
 use Rattle.cast_script.proofs.ReplayWriting.{no_cell, array-parts, cells-next, cells-end}

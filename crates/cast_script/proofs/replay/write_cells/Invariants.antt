@@ -1,6 +1,6 @@
 use Rattle.std.proofs.Common.{drop, map, ◌++◌, ◌∷◌, []}
 use Rattle.std.specs.List.{join_with_byte}
-use Rattle.cast_words.proofs.WritingLemmas.{IsGoing}
+use Rattle.cast_record.proofs.WrittenLemmas.{IsGoing}
 use Rattle.cast_script.specs.Cells.{cell_text}
 use Rattle.cast_script.specs.Replay.{word_text}
 use Rattle.cast_script.proofs.ReplayWriting.{cells_text}

@@ -1,4 +1,4 @@
-use Rattle.cast_words.proofs.WritingLemmas.{going_start, going_again, going_more, going_breaks, going_last}
+use Rattle.cast_record.proofs.WrittenLemmas.{going_start, going_again, going_more, going_breaks, going_last}
 use Rattle.cast_script.proofs.ReplayWriting.{member-parts}
 use Rattle.cast_script.proofs.replay.write_member.Goals as goal
 

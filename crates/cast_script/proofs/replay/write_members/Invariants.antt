@@ -1,5 +1,5 @@
 use Rattle.std.proofs.Common.{drop, map}
-use Rattle.cast_words.proofs.WritingLemmas.{IsGoing}
+use Rattle.cast_record.proofs.WrittenLemmas.{IsGoing}
 use Rattle.cast_script.specs.Cells.{member_in}
 use Rattle.cast_script.specs.Replay.{members_text}
 use Rattle.cast_script.proofs.replay.write_members.Given as goal

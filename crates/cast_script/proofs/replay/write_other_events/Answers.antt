@@ -1,4 +1,4 @@
-use Rattle.cast_words.proofs.WritingLemmas.{going_again, going_more, going_breaks}
+use Rattle.cast_record.proofs.WrittenLemmas.{going_again, going_more, going_breaks}
 use Rattle.cast_script.proofs.ReplayWriting.{others-next}
 use Rattle.cast_script.proofs.replay.write_other_events.Goals as goal
 

@@ -1,5 +1,5 @@
 use Rattle.std.proofs.Common.{drop}
-use Rattle.cast_words.proofs.WritingLemmas.{IsGoing}
+use Rattle.cast_record.proofs.WrittenLemmas.{IsGoing}
 use Rattle.cast_script.specs.Replay.{others_text}
 use Rattle.cast_script.proofs.replay.write_other_events.Given as goal
 

@@ -1,6 +1,6 @@
 use Rattle.std.proofs.Common.{◌∙◌, ap, subst, codes}
-use Rattle.cast_words.specs.Modes.{mode_word}
-use Rattle.cast_words.specs.Written.{Puts}
+use Rattle.cast_record.specs.Modes.{mode_word}
+use Rattle.cast_record.specs.Written.{Puts}
 use Rattle.cast_script.specs.Replay.{number, word}
 use Rattle.cast_script.proofs.ReplayWriting.{settings-parts}
 use Rattle.cast_script.proofs.replay.write_settings.Goals as goal

@@ -1,7 +1,7 @@
 use Rattle.std.proofs.Common.{List, ℕ, subst}
 use Rattle.std.proofs.lemmas.Result.{err_from_is_err_and}
 use Rattle.cast_record.specs.Migration.{IsMigrated}
-use Rattle.cast_words.specs.Written.{WrotePrefix}
+use Rattle.cast_record.specs.Written.{WrotePrefix}
 use Rattle.cast_text.proofs.MigratingLemmas.{input_migrated, migrated_breaks}
 use Rattle.cast_text.proofs.migrate.migrate_text.Goals as goal
 

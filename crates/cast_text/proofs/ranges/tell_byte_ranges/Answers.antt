@@ -1,5 +1,5 @@
 use Rattle.std.proofs.Common.{ℕ, suc, ◌<◌, ◌^◌, List, [], ◌∷◌, get_or, arith}
-use Rattle.cast_words.specs.Hex.{AreBytes}
+use Rattle.cast_record.specs.Hex.{AreBytes}
 use Rattle.cast_text.proofs.ranges.tell_byte_ranges.Goals as goal
 
 are_bytes : (bytes : List ℕ) → ((i : ℕ) → get_or bytes i 0 < 2 ^ 8) → AreBytes bytes

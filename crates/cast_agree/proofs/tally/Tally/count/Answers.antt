@@ -1,7 +1,7 @@
 use Rattle.std.proofs.Common.{◌≡◌, ◌≤◌, ℕ, Bool, true, false, not, ◌&&◌, cond, nat_le, refl, true≢false, sym, ap, ◌∙◌, arith}
 use Rattle.std.specs.FinSet as set
 use Rattle.std.proofs.lemmas.Bool.Decides.{nat_tests}
-use Rattle.cast_sets.specs.Members.{insert-member}
+use Rattle.cast_message.specs.Members.{insert-member}
 use Rattle.cast_agree.specs.declared.tally.Tally.{Tally}
 use Rattle.cast_agree.specs.Tallies.{tally_after, counts, with_proposal}
 use Rattle.cast_agree.proofs.tally.Tally.count.Goals as goal

@@ -1,6 +1,6 @@
 -- The digits of the bytes so far were put.
 use Rattle.std.proofs.Common.{◌≡◌, ◌++◌, take}
-use Rattle.cast_words.specs.Hex.{hex}
+use Rattle.cast_record.specs.Hex.{hex}
 use Rattle.cast_draw.proofs.ink.Ink.put_hex.Given as goal
 
 abbrev pub invariant-loop-byte : goal.invariant-loop-byte

@@ -3,7 +3,7 @@ use Rattle.std.specs.List.{list_any}
 use Rattle.std.specs.Ordering.{nat_cmp}
 use Rattle.std.specs.BTreeMap.{is_at}
 use Rattle.std.proofs.lemmas.Bool.Decides.{nat_tests}
-use Rattle.cast_sets.specs.Bits.{is_set}
+use Rattle.cast_message.specs.Bits.{is_set}
 use Rattle.cast_link.specs.Taken.{bit_of, is_taken}
 use Rattle.cast_link.proofs.Slots.{taken_in}
 use Rattle.cast_link.proofs.link_in.LinkIn.may_ack.Goals as goal

@@ -1,5 +1,5 @@
 use Rattle.std.proofs.Common.{◌^◌, [], ◌∙◌, refl}
-use Rattle.cast_sets.specs.Members.{members_below-empty}
+use Rattle.cast_message.specs.Members.{members_below-empty}
 use Rattle.cast_link.specs.Taken.{is_taken, taken_set}
 use Rattle.cast_link.proofs.Slots.{none_taken}
 use Rattle.cast_link.proofs.link_in.LinkIn.new.Goals as goal

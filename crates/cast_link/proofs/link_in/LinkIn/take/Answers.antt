@@ -1,7 +1,7 @@
 use Rattle.std.proofs.Common.{◌≡◌, ◌<◌, ◌+◌, ◌^◌, ◌/◌, nat_eq, ◌||◌, sym, ap, ◌∙◌, arith}
 use Rattle.std.specs.FinSet as set
-use Rattle.cast_sets.specs.Members.{insert-member}
-use Rattle.cast_sets.specs.Bits.{is_set}
+use Rattle.cast_message.specs.Members.{insert-member}
+use Rattle.cast_message.specs.Bits.{is_set}
 use Rattle.cast_link.proofs.Slots.{far_taken, near_taken, same_taken, not_below, same_window, near_window, far_window}
 use Rattle.cast_link.proofs.link_in.LinkIn.take.Goals as goal
 use Rattle.cast_link.proofs.link_in.LinkIn.take.Goals.{then-slot-self-via-then-slot-self, then-slot-self-via-else-slot-self+then-slot-eq18446744073709551615}

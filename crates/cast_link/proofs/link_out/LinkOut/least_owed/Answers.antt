@@ -2,7 +2,7 @@ use Rattle.std.proofs.Common.{◌≡◌, suc, Bor, refl, false, true≢false, �
 use Rattle.std.specs.FinMap as map
 use Rattle.std.specs.Option.{option_copied}
 use Rattle.std.proofs.lemmas.Bool.Decides.{leb_tells}
-use Rattle.cast_sets.specs.Bits.{is_set}
+use Rattle.cast_message.specs.Bits.{is_set}
 use Rattle.cast_link.specs.Links.{Link}
 use Rattle.cast_link.proofs.Windows.{get-owed_map, none_past, none_below}
 use Rattle.cast_link.proofs.Marks.{none_in_word}

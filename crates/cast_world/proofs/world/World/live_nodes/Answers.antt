@@ -1,6 +1,6 @@
 use Rattle.std.proofs.Common.{◌∙◌, sym, ap}
 use Rattle.std.specs.FinSet as set
-use Rattle.cast_sets.proofs.Below.{none_below, one_below, no_more_below}
+use Rattle.cast_message.proofs.Below.{none_below, one_below, no_more_below}
 use Rattle.cast_world.specs.Group.{node_at}
 use Rattle.cast_world.proofs.world.World.live_nodes.Goals.{then-is_live, else-is_live}
 use Rattle.cast_world.proofs.world.World.live_nodes.Goals as goal

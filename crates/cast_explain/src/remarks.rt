@@ -1,0 +1,66 @@
+//! What is remarked on a script that is taken: lists that the command leaves aside, and a member that stands twice.
+use crate::excerpt::quoted;
+use crate::keys::find_key_twice;
+use cast_script::{Script, ScriptFault, read_script};
+use std::alloc::{AllocError, Global};
+
+/// What a command takes of a script.
+#[derive(Clone, Copy)]
+pub enum Taken {
+    /// Its events, step by step.
+    Events,
+    /// Its plan and jobs, which its group runs by.
+    Group,
+}
+
+/// What the command leaves aside of the script in these bytes, where that is worth a word.
+pub fn aside_words(
+    alloc: Global,
+    bytes: &[u8],
+    taken: Taken,
+) -> Result<Option<String>, AllocError> {
+    match read_script(alloc, bytes) {
+        Ok(script) => match taken {
+            Taken::Events => no_events_words(alloc, &script),
+            Taken::Group => events_words(alloc, &script),
+        },
+        Err(ScriptFault::Memory) => Err(AllocError),
+        Err(_) => Ok(None),
+    }
+}
+
+fn no_events_words(alloc: Global, script: &Script) -> Result<Option<String>, AllocError> {
+    let events = script.events.as_slice().len();
+    let plan = script.plan.faults.as_slice().len();
+    let jobs = script.jobs.as_slice().len();
+    if events > 0 || (plan == 0 && jobs == 0) {
+        return Ok(None);
+    }
+    let words = format!(in alloc;
+        "there are no events: the plan ({plan}) and the jobs ({jobs}) are taken by live alone"
+    )?;
+    Ok(Some(words))
+}
+
+fn events_words(alloc: Global, script: &Script) -> Result<Option<String>, AllocError> {
+    let events = script.events.as_slice().len();
+    if events == 0 {
+        return Ok(None);
+    }
+    let words = format!(in alloc;
+        "the events ({events}) are left aside: live takes the plan and the jobs, run and draw take events"
+    )?;
+    Ok(Some(words))
+}
+
+/// Which member of the object in these bytes stands twice, where one does.
+pub fn twice_words(alloc: Global, bytes: &[u8]) -> Result<Option<String>, AllocError> {
+    match find_key_twice(alloc, bytes)? {
+        Some(key) => {
+            let shown = quoted(alloc, key)?;
+            let words = format!(in alloc; "member {shown} stands twice: the last one holds")?;
+            Ok(Some(words))
+        }
+        None => Ok(None),
+    }
+}

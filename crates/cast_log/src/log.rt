@@ -1,0 +1,364 @@
+//! The log of a node. Most entries bring no news: the node made a frame, or one arrived by which nothing was delivered or decided.
+//! Such an entry is kept in 16 bytes, and any other beside it, whole.
+ghost use Rattle.std.specs.Prelude.{◌≡◌, ◌+◌, ◌<◌, ◌≤◌, ◌^◌, ◌++◌, ◌∷◌, [], List as Entries, length, vec_len, vec_capacity, slice_get, Some, IsTrue, IfOk, IfSome, OnOk, OnErr};
+ghost use Rattle.cast_model.specs.OwnSteps.{nothing};
+ghost use Rattle.cast_log.specs.declared.entry.EntryKind.{EntryKind as Kind};
+ghost use Rattle.cast_log.specs.Logged.{silent, kind_of, IsShort, IsPlaced, StartsWith, shown_kind, shown_entry, is_step, step_event};
+
+use crate::entry::{Entry, EntryKind};
+use cast_message::{Event, NodeId, Outcome};
+use std::alloc::{AllocError, Global};
+use std::marker::Model;
+
+// What an entry tells, beside a number.
+#[derive(Clone, Copy)]
+enum Brief {
+    // The node made a frame that carries the message of the slot of this number.
+    Sent { from: NodeId, to: NodeId },
+    // The node made a frame that tells that the slot of this number was taken.
+    Acked { from: NodeId, to: NodeId },
+    // The frame of this number arrived, and nothing was delivered or decided.
+    Arrived { from: NodeId },
+    // What stands at the place of this number among those that are kept whole.
+    Whole,
+}
+
+// An entry, as a log keeps it.
+#[derive(Clone, Copy)]
+struct Row {
+    stamp: u64,
+    number: u32,
+    brief: Brief,
+}
+
+/// What an entry tells, as a log lends it.
+#[derive(Clone, Copy)]
+pub enum KindRef<'a> {
+    /// `from` made a frame that carries to `to` the message in this slot.
+    Sent { from: NodeId, to: NodeId, slot: u64 },
+    /// `from` made a frame that tells `to` that this slot was taken.
+    Acked { from: NodeId, to: NodeId, slot: u64 },
+    /// The frame number `seq` of `from` arrived, and nothing was delivered or decided.
+    Arrived { from: NodeId, seq: u64 },
+    /// Any other, and such a step where its number has no room in four bytes.
+    Whole(&'a EntryKind),
+}
+
+/// An entry as a log lends it.
+#[derive(Clone, Copy)]
+pub struct EntryRef<'a> {
+    /// What the node's clock showed.
+    pub stamp: u64,
+    pub kind: KindRef<'a>,
+}
+
+/// A log to which entries are put. Contracts see its entries, and for how many there is room: no more are put.
+#[derive(Drop)]
+pub struct OpenLog {
+    rows: Vec<Row>,
+    // What the rows name by place.
+    whole: Vec<EntryKind>,
+}
+
+impl Model for OpenLog {
+    ghost use Rattle.std.specs.Prelude.{vec_capacity};
+    ghost use Rattle.cast_log.specs.Logged.{Logged, IsLog, logged_code, entries_of, room_of};
+    ghost use Rattle.cast_log.specs.contracts.entry.Entry as entry;
+
+    ghost Value = { Logged };
+
+    ghost coded = { logged_code entry.the_row.coded };
+
+    ghost view = { λ log. record {
+      entries = entries_of log.whole.items log.rows.items;
+      room = room_of (vec_capacity log.rows) (vec_capacity log.whole);
+    } };
+
+    ghost invariant = { λ log. IsLog log.whole.items log.rows.items };
+}
+
+/// A log. Contracts see the list of its entries.
+#[derive(Drop)]
+pub struct Log {
+    open: OpenLog,
+}
+
+impl Model for Log {
+    ghost use Rattle.std.specs.Prelude.{List as Entries};
+    ghost use Rattle.std.specs.Coded.{coded_list};
+    ghost use Rattle.cast_log.specs.declared.entry.Entry.{Entry as AnEntry};
+    ghost use Rattle.cast_log.specs.contracts.entry.Entry as entry;
+
+    ghost Value = { Entries AnEntry };
+
+    ghost coded = { coded_list entry.the_row.coded };
+
+    ghost view = { λ log. log.open.entries };
+}
+
+impl OpenLog {
+    /// The empty log, with room for so many entries, or want of memory.
+    pub fn with_room(alloc: Global, entries: usize) -> Result<OpenLog, AllocError>
+        requires { entries ≤ 2 ^ 32 }
+        ensures entries { IfOk result (λ log. log.entries ≡ []) }
+        ensures room { IfOk result (λ log. entries ≤ log.room) }
+    {
+        let mut rows = Vec::new(alloc);
+        rows.reserve(entries)?;
+        let mut whole = Vec::new(alloc);
+        whole.reserve(entries)?;
+        Ok(OpenLog { rows, whole })
+    }
+
+    /// Makes room for an entry more, or answers want of memory, as it does where it has 2^32 of them. No entry changes.
+    pub fn make_room(&mut self) -> Result<(), AllocError>
+        ensures entries { self.new.entries ≡ self.old.entries }
+        ensures room { OnOk result (length self.new.entries < self.new.room) }
+    {
+        let entries = self.rows.len();
+        if entries >= 1 << 32 {
+            return Err(AllocError);
+        }
+        self.rows.reserve(1)?;
+        self.whole.reserve(entries + 1 - self.whole.len())?;
+        Ok(())
+    }
+
+    /// Puts an entry at the end. It takes no memory.
+    pub fn push(&mut self, entry: Entry)
+        requires { length self.old.entries < self.old.room }
+        ensures entries { self.new.entries ≡ self.old.entries ++ entry ∷ [] }
+        ensures room { self.new.room ≡ self.old.room }
+    {
+        let Entry { stamp, kind } = entry;
+        let (brief, number) = keep(&mut self.whole, kind);
+        self.rows.push_reserved(Row {
+            stamp,
+            number,
+            brief,
+        });
+    }
+
+    /// How many entries it has.
+    pub fn len(&self) -> usize
+        ensures { result ≡ length self.now.entries }
+    {
+        self.rows.len()
+    }
+
+    /// The entry at this place.
+    pub fn entry(&self, place: usize) -> EntryRef<'_>
+        requires { place < length self.now.entries }
+        ensures { slice_get self.now.entries place ≡ Some (shown_entry result) }
+    {
+        let row = self.rows[place];
+        EntryRef {
+            stamp: row.stamp,
+            kind: kind_ref(row.brief, row.number, self.whole.as_slice()),
+        }
+    }
+
+    /// The log, to which no more is put.
+    pub fn close(self) -> Log
+        ensures { result ≡ self.entries }
+    {
+        Log { open: self }
+    }
+}
+
+impl Log {
+    /// The empty log, which takes no memory.
+    pub fn new(alloc: Global) -> Log
+        ensures { result ≡ [] }
+    {
+        Log {
+            open: OpenLog {
+                rows: Vec::new(alloc),
+                whole: Vec::new(alloc),
+            },
+        }
+    }
+
+    /// How many entries it has.
+    pub fn len(&self) -> usize
+        ensures { result ≡ length self.now }
+    {
+        self.open.len()
+    }
+
+    /// Puts an entry at the end, or answers want of memory and leaves the log as it was.
+    pub fn push(&mut self, entry: Entry) -> Result<(), AllocError>
+        ensures ok { OnOk result (self.new ≡ self.old ++ entry ∷ []) }
+        ensures err { OnErr result (self.new ≡ self.old) }
+    {
+        self.open.make_room()?;
+        self.open.push(entry);
+        Ok(())
+    }
+
+    /// The entry at this place.
+    pub fn entry(&self, place: usize) -> EntryRef<'_>
+        requires { place < length self.now }
+        ensures { slice_get self.now place ≡ Some (shown_entry result) }
+    {
+        self.open.entry(place)
+    }
+}
+
+// What an entry tells, short where it can be, or else kept whole, for which there is room.
+fn keep(whole: &mut Vec<EntryKind>, kind: EntryKind) -> (Brief, u32)
+    requires room { vec_len whole.old < vec_capacity whole.old }
+    requires few { vec_len whole.old < 2 ^ 32 }
+    ensures kind { kind_of whole.new.items result.0 result.1 ≡ kind }
+    ensures placed { IsPlaced (length whole.new.items) result.0 result.1 }
+    ensures keeps { StartsWith whole.new.items whole.old.items }
+    ensures more { length whole.new.items ≤ length whole.old.items + 1 }
+    ensures capacity { vec_capacity whole.new ≡ vec_capacity whole.old }
+{
+    match brief_of(&kind) {
+        Some(short) => short,
+        None => {
+            let number = whole.len() as u32;
+            whole.push_reserved(kind);
+            (Brief::Whole, number)
+        }
+    }
+}
+
+// The short form of what an entry tells, where it has one.
+fn brief_of(kind: &EntryKind) -> Option<(Brief, u32)>
+    ensures short { IfSome result (λ short. IsShort short.0) }
+    ensures kind { IfSome result (λ short. (whole : Entries Kind) →
+        kind_of whole short.0 short.1 ≡ kind.now) }
+{
+    match kind {
+        EntryKind::Step {
+            event,
+            origin: None,
+            outcome,
+        } => {
+            if is_nothing(outcome) {
+                brief_event(event)
+            } else {
+                None
+            }
+        }
+        _ => None,
+    }
+}
+
+fn is_nothing(outcome: &Outcome) -> bool
+    ensures { IsTrue result → outcome.now ≡ nothing }
+{
+    outcome.deliveries.as_slice().is_empty() && outcome.decisions.as_slice().is_empty()
+}
+
+// The short form of a step without news, where it has one.
+fn brief_event(event: &Event) -> Option<(Brief, u32)>
+    ensures short { IfSome result (λ short. IsShort short.0) }
+    ensures event { IfSome result (λ short. (whole : Entries Kind) →
+        kind_of whole short.0 short.1 ≡ silent event.now) }
+{
+    match event {
+        Event::Send { from, to, slot } => {
+            let number = small(*slot)?;
+            let (from, to) = (*from, *to);
+            Some((Brief::Sent { from, to }, number))
+        }
+        Event::Ack { from, to, slot } => {
+            let number = small(*slot)?;
+            let (from, to) = (*from, *to);
+            Some((Brief::Acked { from, to }, number))
+        }
+        Event::Arrive { from, seq } => {
+            let number = small(*seq)?;
+            let from = *from;
+            Some((Brief::Arrived { from }, number))
+        }
+        _ => None,
+    }
+}
+
+// The number in four bytes, where they have room for it.
+fn small(number: u64) -> Option<u32>
+    ensures { IfSome result (λ small. small ≡ number) }
+{
+    if number < 1 << 32 {
+        Some(number as u32)
+    } else {
+        None
+    }
+}
+
+// What an entry tells.
+fn kind_ref<'a>(brief: Brief, number: u32, whole: &'a [EntryKind]) -> KindRef<'a>
+    requires { IsPlaced (length whole.now) brief number }
+    ensures { shown_kind result ≡ kind_of whole.now brief number }
+{
+    let slot = u64::from(number);
+    match brief {
+        Brief::Sent { from, to } => KindRef::Sent { from, to, slot },
+        Brief::Acked { from, to } => KindRef::Acked { from, to, slot },
+        Brief::Arrived { from } => KindRef::Arrived { from, seq: slot },
+        Brief::Whole => KindRef::Whole(&whole[number as usize]),
+    }
+}
+
+impl<'a> KindRef<'a> {
+    /// Whether it tells a step, and no refused order.
+    pub fn is_step(&self) -> bool
+        ensures { result ≡ is_step (shown_kind self.now) }
+    {
+        !matches!(self, KindRef::Whole(EntryKind::Refused { .. }))
+    }
+
+    /// A copy of the step's event, where it tells a step, or want of memory, which only the bytes of an item take.
+    pub fn copy_event(&self) -> Result<Option<Event>, AllocError>
+        ensures { IfOk result (λ copy. copy ≡ step_event (shown_kind self.now)) }
+    {
+        match self {
+            KindRef::Sent { from, to, slot } => Ok(Some(Event::Send {
+                from: *from,
+                to: *to,
+                slot: *slot,
+            })),
+            KindRef::Acked { from, to, slot } => Ok(Some(Event::Ack {
+                from: *from,
+                to: *to,
+                slot: *slot,
+            })),
+            KindRef::Arrived { from, seq } => Ok(Some(Event::Arrive {
+                from: *from,
+                seq: *seq,
+            })),
+            KindRef::Whole(EntryKind::Step { event, .. }) => Ok(Some(copy_event(event)?)),
+            KindRef::Whole(EntryKind::Refused { .. }) => Ok(None),
+        }
+    }
+}
+
+fn copy_event(event: &Event) -> Result<Event, AllocError>
+    ensures { IfOk result (λ copy. copy ≡ event.now) }
+{
+    match event {
+        Event::Order { node, item } => Ok(Event::Order {
+            node: *node,
+            item: item.copy()?,
+        }),
+        Event::Send { from, to, slot } => Ok(Event::Send {
+            from: *from,
+            to: *to,
+            slot: *slot,
+        }),
+        Event::Ack { from, to, slot } => Ok(Event::Ack {
+            from: *from,
+            to: *to,
+            slot: *slot,
+        }),
+        Event::Arrive { from, seq } => Ok(Event::Arrive {
+            from: *from,
+            seq: *seq,
+        }),
+        Event::Crash { node } => Ok(Event::Crash { node: *node }),
+    }
+}

@@ -1,0 +1,67 @@
+//! Writing words: without memory, each whole or a prefix of it.
+ghost use Rattle.std.specs.Prelude.{◌≡◌, false, decimal};
+ghost use Rattle.cast_record.specs.Hex.{hex};
+ghost use Rattle.cast_record.specs.Written.{Puts};
+
+use crate::hex::put_hex;
+use crate::meter::Meter;
+use itoa::Buffer;
+use std::io::Write;
+use thiserror::Error;
+
+// So many that the writer is called seldom, and so few that a short text doesn't pay for the room.
+const BYTES_AT_ONCE: usize = 128;
+
+/// Why a text was not written: the writer failed, or took no byte, in this call.
+#[derive(Clone, Copy, Debug, PartialEq, Eq, Error)]
+pub enum WriteFault {
+    #[error("the writer failed or took no byte")]
+    Write,
+}
+
+/// What comes of writing a text.
+pub type Written = Result<(), WriteFault>;
+
+/// Writes the number in decimal digits. It takes no memory; a refusal comes as in `write_bytes`.
+pub fn write_number<W: Write>(number: u64, writer: &mut Meter<W>) -> Written
+    requires { writer.old.failed ≡ false }
+    ensures { Puts W.contents writer.old writer.new result (decimal number) }
+{
+    write_bytes(Buffer::new().format(number).as_bytes(), writer)
+}
+
+/// Writes each byte as two digits. It takes no memory; a refusal comes as in `write_bytes`.
+pub fn write_hex<W: Write>(bytes: &[u8], writer: &mut Meter<W>) -> Written
+    requires { writer.old.failed ≡ false }
+    ensures { Puts W.contents writer.old writer.new result (hex bytes.now) }
+{
+    let mut room = [0; 2 * BYTES_AT_ONCE];
+    let mut rest = bytes;
+    while !rest.is_empty() {
+        let (front, others) = rest.split_at(rest.len().min(BYTES_AT_ONCE));
+        let digits = &mut room[..2 * front.len()];
+        put_hex(front, digits);
+        write_bytes(digits, writer)?;
+        rest = others;
+    }
+    Ok(())
+}
+
+/// Writes all the bytes. It takes no memory. A refusal comes only where the writer failed or took no byte; the meter tells
+/// so from then on, and a prefix of the bytes stands.
+pub fn write_bytes<W: Write>(bytes: &[u8], writer: &mut Meter<W>) -> Written
+    requires { writer.old.failed ≡ false }
+    ensures { Puts W.contents writer.old writer.new result bytes.now }
+{
+    let mut rest = bytes;
+    while !rest.is_empty() {
+        let Ok(count) = writer.write(rest) else {
+            return Err(WriteFault::Write);
+        };
+        if count == 0 {
+            return Err(WriteFault::Write);
+        }
+        rest = &rest[count..];
+    }
+    Ok(())
+}

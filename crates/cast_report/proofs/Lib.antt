@@ -1,3 +1,0 @@
-pub mod Made
-pub mod Logging
-pub mod Linking

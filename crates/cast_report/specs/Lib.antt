@@ -1,3 +1,0 @@
-pub mod Linked
-pub mod Linking
-pub mod Group

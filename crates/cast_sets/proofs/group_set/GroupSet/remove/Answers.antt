@@ -1,5 +1,0 @@
-use Rattle.cast_sets.proofs.Group.{bit_removed}
-use Rattle.cast_sets.proofs.group_set.GroupSet.remove.Goals as goal
-
-pub returns : goal.returns
-returns c = bit_removed c.self.inside.word c.args.self.now _ c.args.node c.self.view_is c.node.view_is c.requires

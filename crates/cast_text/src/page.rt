@@ -1,0 +1,103 @@
+//! A page that steps through the run of a script: its picture, the steps as lines of words, and a program of the browser that
+//! shows what each step does.
+ghost use Rattle.std.specs.Prelude.{◌≡◌, true, false, IfErr, OnErr, OnOk};
+ghost use Rattle.cast_text.specs.Text.{UsesStreams};
+
+use crate::fault::TextFault;
+use crate::page_parts::{AFTER_PICTURE, AFTER_STEPS, BEFORE_PICTURE};
+use crate::play::{Observer, play};
+use crate::steps::Steps;
+use crate::text::read_script_text;
+use cast_draw::{Drawing, Picture, Window, write_drawing};
+use cast_message::{Event, Reply};
+use cast_record::{Meter, Written, write_bytes};
+use cast_script::Script;
+use cast_world::World;
+use std::alloc::Global;
+use std::io::{Read, Write};
+
+/// Reads a script to its end, and writes one HTML page, which holds the picture of the events of the window and steps through
+/// them. Nothing is written before all events were taken: after `Write` a prefix of the page stands, or nothing, after any
+/// other fault nothing.
+pub fn page_text<R: Read, W: Write>(
+    alloc: Global,
+    window: Window,
+    reader: &mut Meter<R>,
+    writer: &mut Meter<W>,
+) -> Result<(), TextFault>
+    requires { (reader.old.failed ≡ false) × (writer.old.failed ≡ false) }
+    // What failed is told, and nothing else is; no more is read than tells that there is too much.
+    ensures streams { UsesStreams R.remaining reader.old reader.new writer.new.failed result }
+{
+    let script = read_script_text(alloc, reader)?;
+    let page = play_page(alloc, &script, window)?;
+    let Page { picture, steps } = page;
+    let drawing = picture.finish()?;
+    write_page(&drawing, steps.as_slice(), writer)?;
+    Ok(())
+}
+
+// The picture and the steps of a run as they grow.
+#[derive(Drop)]
+struct Page {
+    picture: Picture,
+    steps: Steps,
+}
+
+fn play_page(alloc: Global, script: &Script, window: Window) -> Result<Page, TextFault>
+    ensures { IfErr result (λ fault. fault ≡ TextFault.Memory) }
+{
+    let mut world = World::new(alloc, script.config)?;
+    let mut page = Page {
+        picture: Picture::new(alloc, &script.config, window)?,
+        steps: Steps::new(alloc, &script.config, window)?,
+    };
+    play(&mut world, script, &mut page)?;
+    // (where no event is shown, the page shows how the run ends)
+    page.steps.begin()?;
+    Ok(page)
+}
+
+fn write_page<W: Write>(drawing: &Drawing, steps: &[u8], writer: &mut Meter<W>) -> Written
+    requires { writer.old.failed ≡ false }
+    ensures ok { OnOk result (writer.new.failed ≡ false) }
+    ensures err { OnErr result (writer.new.failed ≡ true) }
+{
+    write_bytes(BEFORE_PICTURE, writer)?;
+    write_drawing(drawing, writer)?;
+    write_bytes(AFTER_PICTURE, writer)?;
+    write_bytes(steps, writer)?;
+    write_bytes(AFTER_STEPS, writer)
+}
+
+// What is taken is drawn, and is a step.
+impl Observer for Page {
+    ghost use Rattle.cast_text.specs.Paged.{FailsByMemory, observes};
+
+    ghost saw = { FailsByMemory };
+
+    ghost ready = { λ _. Unit {0} };
+
+    fn see_event(&mut self, index: u64, event: &Event, reply: &Reply) -> Result<(), TextFault> {
+        let x = self.picture.column();
+        self.picture.take(index, event, reply)?;
+        self.steps.take(index, x, event, reply)?;
+        Ok(())
+    }
+
+    fn see_settle_begin(&mut self) {
+        self.picture.begin_settle();
+    }
+
+    fn see_settle_end(&mut self, index: u64) -> Result<(), TextFault> {
+        self.picture.end_settle(index)?;
+        Ok(())
+    }
+
+    // (a frame that is made or arrives is a step)
+    fn overlooks_silence(&self) -> bool {
+        false
+    }
+
+    ghost laws = { observes };
+}

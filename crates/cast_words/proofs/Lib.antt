@@ -1,5 +1,0 @@
-pub mod WritingLemmas
-pub mod HexLemmas
-pub mod UnhexLemmas
-pub mod NumberLemmas
-pub mod ShownLemmas

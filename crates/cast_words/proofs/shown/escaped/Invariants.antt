@@ -1,7 +1,0 @@
--- The bytes so far were put.
-use Rattle.std.proofs.Common.{◌≡◌, take, string_bytes}
-use Rattle.cast_words.specs.Shown.{shown}
-use Rattle.cast_words.proofs.shown.escaped.Given as goal
-
-abbrev pub invariant-loop-byte : goal.invariant-loop-byte
-invariant-loop-byte l = string_bytes l.text ≡ shown (take l.byte-index l.bytes)

@@ -1,5 +1,0 @@
-use Rattle.cast_words.proofs.UnhexLemmas.{Stands}
-use Rattle.cast_words.proofs.unhex.put_bytes.Given as goal
-
-abbrev pub invariant-loop-i : goal.invariant-loop-i
-invariant-loop-i l = Stands l.digits l.bytes l.i l.greatest

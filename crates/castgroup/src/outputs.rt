@@ -1,0 +1,205 @@
+//! The outputs of a run: its record, its replay, its picture and its summary, in the order in which they are written.
+ghost use Rattle.std.specs.Prelude.{IfOk};
+ghost use Rattle.cast_live.specs.Outputs.{AreSound, IsSound};
+
+use crate::console::Console;
+use crate::explain::{Stop, done_and_written};
+use crate::output::{Failure, Finished, Sink, Target, finish, open_output};
+use cast_command::{Place, RunPlaces};
+use cast_live::RunOutputs;
+use cast_record::Meter;
+use cast_text::{INPUT_LIMIT, TextFault, Window, draw_text};
+use std::io::{BufWriter, Write};
+use std::rt::Runtime;
+
+/// The outputs that the library writes.
+pub type Outputs<'a, R> = RunOutputs<BufWriter<Sink<'a, R>>, BufWriter<Sink<'a, R>>>;
+
+/// Where the summary goes: the text of another output is not to stand in one stream with it.
+pub fn summary_target<'a>(places: &RunPlaces<'_>) -> Target<'a> {
+    if places.count_standard() > 0 {
+        Target::StandardError
+    } else {
+        Target::StandardOutput
+    }
+}
+
+/// Opens the outputs that are wanted. The replay is kept in memory where a picture is drawn of it.
+pub fn open_outputs<'a, R: Runtime + AllocGlobal>(
+    console: &Console<'a, R>,
+    summary: Target<'a>,
+    places: &RunPlaces<'a>,
+) -> Result<Outputs<'a, R>, TextFault>
+    ensures { IfOk result AreSound }
+{
+    let replay = match (places.picture, places.replay) {
+        (Some(_), _) => Some(Target::Memory),
+        (None, Some(place)) => Some(Target::of(place)),
+        (None, None) => None,
+    };
+    let record = match places.record {
+        Some(place) => Some(Target::of(place)),
+        None => None,
+    };
+    Ok(RunOutputs {
+        summary: Meter::new(open_output(console, summary)?),
+        record: open_wanted(console, record)?,
+        replay: open_wanted(console, replay)?,
+    })
+}
+
+fn open_wanted<'a, R: Runtime + AllocGlobal>(
+    console: &Console<'a, R>,
+    target: Option<Target<'a>>,
+) -> Result<Option<Meter<BufWriter<Sink<'a, R>>>>, TextFault>
+    ensures { IfOk result IsSound }
+{
+    match target {
+        Some(target) => Ok(Some(Meter::new(open_output(console, target)?))),
+        None => Ok(None),
+    }
+}
+
+/// What became of the outputs of a run.
+#[derive(Clone, Copy)]
+pub struct Kept<'a> {
+    record: u64,
+    replay: u64,
+    /// Why one was not written to its end: want of memory, or else the summary's failure, or else the first.
+    pub stop: Option<Stop<'a>>,
+}
+
+impl<'a> Kept<'a> {
+    fn note(&mut self, stop: Stop<'a>) {
+        self.stop = match self.stop {
+            Some(first) => Some(first.or_memory(stop)),
+            None => Some(stop),
+        };
+    }
+
+    // The same of what goes before all that was noted.
+    fn note_before(&mut self, stop: Stop<'a>) {
+        self.stop = match self.stop {
+            Some(first) => Some(stop.or_memory(first)),
+            None => Some(stop),
+        };
+    }
+
+    // How many bytes an output has; nothing where it was not written to its end.
+    fn note_written(&mut self, written: Result<Finished, Failure<'a>>) -> u64 {
+        match written {
+            Ok(finished) => finished.count,
+            Err(failure) => {
+                self.note(Stop::Output(failure));
+                0
+            }
+        }
+    }
+}
+
+/// Writes what is left in the buffers and draws the picture, which is not tried where the replay may have broken off.
+pub fn keep_outputs<'a, R: Runtime + AllocGlobal>(
+    console: &Console<'a, R>,
+    outputs: Outputs<'a, R>,
+    places: &RunPlaces<'a>,
+    is_whole: bool,
+) -> Kept<'a> {
+    let RunOutputs {
+        summary,
+        record,
+        replay,
+    } = outputs;
+    let mut kept = Kept {
+        record: 0,
+        replay: 0,
+        stop: None,
+    };
+    if let Some(record) = record {
+        kept.record = kept.note_written(finish(record.into_inner()));
+    }
+    if let Some(replay) = replay {
+        keep_replay(console, replay.into_inner(), places, is_whole, &mut kept);
+    }
+    if let Err(failure) = finish(summary.into_inner()) {
+        kept.note_before(Stop::Output(failure));
+    }
+    kept
+}
+
+// Writes the replay, and the picture of it, where these are wanted.
+fn keep_replay<'a, R: Runtime + AllocGlobal>(
+    console: &Console<'a, R>,
+    replay: BufWriter<Sink<'a, R>>,
+    places: &RunPlaces<'a>,
+    is_whole: bool,
+    kept: &mut Kept<'a>,
+) {
+    let Some(picture) = places.picture else {
+        kept.replay = kept.note_written(finish(replay));
+        return;
+    };
+    let text = match finish(replay) {
+        Ok(finished) => finished.kept,
+        Err(failure) => return kept.note(Stop::Output(failure)),
+    };
+    if let Some(place) = places.replay {
+        match write_bytes(console, place, text.as_slice()) {
+            Ok(()) => kept.replay = text.len() as u64,
+            Err(stop) => kept.note(stop),
+        }
+    }
+    if is_whole {
+        if let Err(stop) = draw_replay(console, picture, text.as_slice()) {
+            kept.note(stop);
+        }
+    }
+}
+
+fn write_bytes<'a, R: Runtime + AllocGlobal>(
+    console: &Console<'a, R>,
+    place: Place<'a>,
+    bytes: &[u8],
+) -> Result<(), Stop<'a>> {
+    let mut output = match open_output(console, Target::of(place)) {
+        Ok(output) => output,
+        Err(fault) => return Err(Stop::Fault(fault)),
+    };
+    let done = match output.write_all(bytes) {
+        Ok(()) => Ok(()),
+        Err(_) => Err(TextFault::Write),
+    };
+    done_and_written(done, finish(output))
+}
+
+fn draw_replay<'a, R: Runtime + AllocGlobal>(
+    console: &Console<'a, R>,
+    place: Place<'a>,
+    mut text: &[u8],
+) -> Result<(), Stop<'a>> {
+    if text.len() > INPUT_LIMIT {
+        return Err(Stop::LongReplay);
+    }
+    let mut output = match open_output(console, Target::of(place)) {
+        Ok(output) => output,
+        Err(fault) => return Err(Stop::Fault(fault)),
+    };
+    let done = draw_text(
+        console.rt.alloc(),
+        Window::all(),
+        &mut Meter::new(&mut text),
+        &mut Meter::new(&mut output),
+    );
+    done_and_written(done, finish(output))
+}
+
+/// Says so where a text is longer than this program reads. This comes after all else is written, as there may be nobody who reads
+/// it, and after the files are closed: where the program began without standard error, a file stands in its place.
+pub fn warn_of_lengths<R>(console: &Console<'_, R>, kept: Kept<'_>) {
+    let limit = INPUT_LIMIT as u64;
+    if kept.record > limit {
+        console.say("record longer than judge reads");
+    }
+    if kept.replay > limit {
+        console.say("replay longer than run reads");
+    }
+}

@@ -1,0 +1,64 @@
+//! The commands that read one text and write another: `run`, `migrate` and `draw`.
+use crate::console::Console;
+use crate::explain::{Stop, done_and_written, tell_stop};
+use crate::input::{Source, open_source};
+use crate::output::{Target, finish, open_output};
+use crate::remarks::remark_on_script;
+use crate::status::Status;
+use cast_command::Place;
+use cast_explain::Taken;
+use cast_record::Meter;
+use cast_text::{Window, draw_text, migrate_text, page_text, run_text};
+use std::rt::Runtime;
+
+/// A command that reads one text and writes another.
+#[derive(Clone, Copy)]
+pub enum TextCommand {
+    /// Writes the record of a script.
+    Run,
+    /// Writes a record with the new head.
+    Migrate,
+    /// Writes the picture of a script's events, of which those of the window are drawn.
+    Draw(Window),
+    /// Writes a page that holds this picture, and steps through the run.
+    Page(Window),
+}
+
+/// Reads the text in this place, and writes what the command makes of it to standard output.
+pub fn write_text<R: Runtime + AllocGlobal>(
+    console: &Console<'_, R>,
+    command: TextCommand,
+    place: Place<'_>,
+) -> Status {
+    let mut source = open_source(console, place);
+    match make_text(console, command, &mut source) {
+        Ok(()) => {
+            if !matches!(command, TextCommand::Migrate) {
+                remark_on_script(console, source, Taken::Events);
+            }
+            Status::Good
+        }
+        Err(stop) => tell_stop(console, stop, source),
+    }
+}
+
+fn make_text<'a, R: Runtime + AllocGlobal>(
+    console: &Console<'a, R>,
+    command: TextCommand,
+    source: &mut Source<'_, R::File, R::Reader>,
+) -> Result<(), Stop<'a>> {
+    let alloc = console.rt.alloc();
+    let mut output = match open_output(console, Target::StandardOutput) {
+        Ok(output) => output,
+        Err(fault) => return Err(Stop::Fault(fault)),
+    };
+    let reader = &mut Meter::new(source);
+    let writer = &mut Meter::new(&mut output);
+    let done = match command {
+        TextCommand::Run => run_text(alloc, reader, writer),
+        TextCommand::Migrate => migrate_text(alloc, reader, writer),
+        TextCommand::Draw(window) => draw_text(alloc, window, reader, writer),
+        TextCommand::Page(window) => page_text(alloc, window, reader, writer),
+    };
+    done_and_written(done, finish(output))
+}

@@ -1,4 +1,0 @@
-pub mod NewJobs
-pub mod Shapes
-pub mod Silence
-pub mod Plans
