@@ -6,19 +6,25 @@ ghost use Rattle.cast.specs.Groups.{IsRun};
 
 use cast_job::ClientJob;
 use cast_message::{Config, NodeId};
-use cast_run::{LiveFault, LiveRun, OpenGate, Seeded, find_misfit, run_live, run_scheduled};
+use cast_run::{
+    Limits, LiveFault, LiveRun, OpenGate, Seeded, find_misfit, run_live, run_scheduled,
+};
 use cast_script::FaultPlan;
 use std::alloc::Global;
 use std::sync::Wait;
 use std::thread::Threads;
 
-/// How many turns an engine takes at most, and how often a job is called, where nothing else is said.
-pub const USUAL_TURNS: u64 = 4_000_000;
+/// How many turns an engine takes at most, and how often a job is called, where nothing else is said. A job that waits is called some
+/// hundred times while its engine takes a turn.
+pub const USUAL_LIMITS: Limits = Limits {
+    turns: 4_000_000,
+    calls: 400_000_000,
+};
 
 /// How many steps a run by a seed takes at most, where nothing else is said.
 pub const USUAL_STEPS: u64 = 100_000_000;
 
-/// Runs a group in threads as `run_live` does, with gates that let every turn pass, and `USUAL_TURNS`. What is known of the answer
+/// Runs a group in threads as `run_live` does, with gates that let every turn pass, and `USUAL_LIMITS`. What is known of the answer
 /// is what is known there (`ran`), and it is refused as there.
 pub fn run_group<J: ClientJob + Send + Drop + 'static, R: Threads + Wait + Copy + Send + 'static>(
     rt: R,
@@ -39,11 +45,11 @@ pub fn run_group<J: ClientJob + Send + Drop + 'static, R: Threads + Wait + Copy 
         return Err(misfit);
     }
     let gates = OpenGate::for_nodes(alloc, config.nodes())?;
-    run_live(rt, alloc, config, plan, jobs, gates, USUAL_TURNS)
+    run_live(rt, alloc, config, plan, jobs, gates, USUAL_LIMITS)
 }
 
 /// Runs a group in the calling thread as `run_scheduled` does, by the schedule of a seed, as `castgroup live --seed` does, with gates
-/// that let every turn pass, `USUAL_TURNS` and `USUAL_STEPS`. The same seed makes the same run again. What is known of the answer
+/// that let every turn pass, `USUAL_LIMITS` and `USUAL_STEPS`. The same seed makes the same run again. What is known of the answer
 /// is what is known of threads.
 pub fn run_group_by_seed<J: ClientJob + Drop, R: Wait>(
     rt: &R,
@@ -72,7 +78,7 @@ pub fn run_group_by_seed<J: ClientJob + Drop, R: Wait>(
         plan,
         jobs,
         gates,
-        USUAL_TURNS,
+        USUAL_LIMITS,
         USUAL_STEPS,
         &mut schedule,
     )

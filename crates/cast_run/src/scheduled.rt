@@ -10,6 +10,7 @@ ghost use Rattle.cast_run.specs.Planned.{faults_of, KeepsTo};
 ghost use Rattle.cast_run.specs.declared.reports.ClientReport.{ClientReport};
 ghost use Rattle.cast_run.specs.Serves.{AreStamped, AreServed, HaveOrigins};
 
+use crate::limits::Limits;
 use crate::prepared::prepare;
 use crate::room::Room;
 use crate::run::{LiveRun, finish};
@@ -25,20 +26,20 @@ use std::sync::Wait;
 /// that the schedule says. What is known of the answer is the same, clause by clause; and as no thread runs beside it, no clock is
 /// read and nothing else is drawn by lot, the same group by the same schedule has the same logs, which is tested.
 ///
-/// An engine's step is a turn, a carrier's a parcel that it carries, where there is one, and a job's a call. An engine takes at
-/// most `turns` turns, and each job's `turn` is called at most `turns` times. The run ends once all have ended, and after `steps`
-/// steps in any case: an engine that has not ended then ends as one whose turns are used up, and what its carrier has not carried
-/// is lost. A gate, or a job, that waits for another waits for ever.
+/// An engine's step is a turn, a carrier's a parcel that it carries, where there is one, and a job's a call. Turns and calls have the
+/// limits that they have there. The run ends once all have ended, and after `steps` steps in any case: an engine that has not ended
+/// then ends as one whose turns are used up, and what its carrier has not carried is lost. A gate, or a job, that waits for another
+/// waits for ever.
 ///
 /// Refused is what `run_live` refuses, but for threads, of which none is started.
-pub fn run_scheduled<J: ClientJob + Drop, G: Gate + Drop, S: Schedule, R: Wait>(
+pub fn run_scheduled<J: ClientJob + Drop, G: Gate + Drop, L: Into<Limits>, S: Schedule, R: Wait>(
     rt: &R,
     alloc: Global,
     config: Config,
     plan: &FaultPlan,
     jobs: Vec<(NodeId, J)>,
     gates: Vec<G>,
-    turns: u64,
+    limits: L,
     steps: u64,
     schedule: &mut S,
 ) -> Result<LiveRun<J>, LiveFault>
@@ -63,6 +64,7 @@ pub fn run_scheduled<J: ClientJob + Drop, G: Gate + Drop, S: Schedule, R: Wait>(
     ensures fault { IfErr result
         (IsFaultOf config.nodes jobs.items (vec_len gates) plan.now.faults) }
 {
+    let Limits { turns, calls } = limits.into();
     let nodes = config.nodes() as usize;
     let counts = count_fitting(&config, plan, jobs.as_slice(), gates.len())?;
     let counts = &counts[..nodes];
@@ -75,7 +77,7 @@ pub fn run_scheduled<J: ClientJob + Drop, G: Gate + Drop, S: Schedule, R: Wait>(
         made.seats,
         gates,
         &made.board,
-        turns,
+        calls,
         steps,
         schedule,
     )?;

@@ -63,7 +63,7 @@ impl<J: ClientJob + Send + Drop + 'static> Running<J> {
         group: Group,
         seats: Vec<Seat<J>>,
         gates: Vec<G>,
-        turns: u64,
+        calls: u64,
     ) -> Result<(), StartFault>
         requires facts { (i : ℕ) (s : Seat J) → slice_get seats.items i ≡ Some s →
             J.fact s.job s.job (submitted s.client) (got s.client) false }
@@ -81,7 +81,7 @@ impl<J: ClientJob + Send + Drop + 'static> Running<J> {
         let Group { engines, carriers } = group;
         start_engines(rt, alloc, board, &mut self.engines, engines, gates)?;
         start_carriers(rt, board, &mut self.carriers, carriers)?;
-        start_jobs(rt, board, &mut self.jobs, seats, turns)
+        start_jobs(rt, board, &mut self.jobs, seats, calls)
     }
 
     /// Runs each engine, each carrier and each job in a thread of its own, and joins them. Where a thread isn't started, or
@@ -93,7 +93,7 @@ impl<J: ClientJob + Send + Drop + 'static> Running<J> {
         seats: Vec<Seat<J>>,
         gates: Vec<G>,
         board: Arc<Board, Global>,
-        turns: u64,
+        calls: u64,
     ) -> Result<(Group, Vec<Ended<J>>), StartFault>
         requires group { IsGroup group.engines.items group.carriers.items
             × (length group.carriers.items ≡ length group.engines.items) }
@@ -113,7 +113,7 @@ impl<J: ClientJob + Send + Drop + 'static> Running<J> {
         let carriers_back = Vec::with_capacity(alloc, group.carriers.len())?;
         let jobs_back = Vec::with_capacity(alloc, seats.len())?;
         let mut threads = Running::new(alloc, group.engines.len(), seats.len())?;
-        if let Err(fault) = threads.start(rt, alloc, &board, group, seats, gates, turns) {
+        if let Err(fault) = threads.start(rt, alloc, &board, group, seats, gates, calls) {
             board.abandon();
             threads.abandon(&rt);
             return Err(fault);

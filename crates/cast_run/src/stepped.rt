@@ -51,14 +51,14 @@ impl<J: ClientJob + Drop, G: Gate + Drop> Stage<J, G> {
         seats: Vec<Seat<J>>,
         gates: Vec<G>,
         board: &Board,
-        turns: u64,
+        calls: u64,
     ) -> Result<Stage<J, G>, AllocError>
         requires facts { (i : ℕ) (s : Seat J) → slice_get seats.items i ≡ Some s →
             J.fact s.job s.job (submitted s.client) (got s.client) false }
         ensures group { IfOk result (λ stage. stage.group ≡ group) }
         ensures jobs { IfOk result (λ stage. AreEnded J.fact seats.items stage.jobs.items) }
     {
-        let calls = vec![in alloc; turns; seats.len()]?;
+        let calls = vec![in alloc; calls; seats.len()]?;
         let surroundings = surround(alloc, gates, board)?;
         let room = Vec::with_capacity(alloc, seats.len())?;
         Ok(Stage {
@@ -255,7 +255,7 @@ pub fn run_by<J: ClientJob + Drop, G: Gate + Drop, S: Schedule, R: Wait>(
     seats: Vec<Seat<J>>,
     gates: Vec<G>,
     board: &Board,
-    turns: u64,
+    calls: u64,
     steps: u64,
     schedule: &mut S,
 ) -> Result<(Group, Vec<Ended<J>>), AllocError>
@@ -273,7 +273,7 @@ pub fn run_by<J: ClientJob + Drop, G: Gate + Drop, S: Schedule, R: Wait>(
     ensures jobs { IfOk result (λ r. AreEnded J.fact seats.items r.1.items) }
 {
     let mut live = everyone(alloc, group.engines.len(), seats.len())?;
-    let mut stage = Stage::new(alloc, group, seats, gates, board, turns)?;
+    let mut stage = Stage::new(alloc, group, seats, gates, board, calls)?;
     for _ in 0..steps {
         let Some(place) = choose(schedule, live.len()) else {
             break;
