@@ -1,4 +1,4 @@
-# Completions of castgroup for bash, made by scripts/reference from the program's help: `. share/castgroup.bash`.
+# Completions of castgroup for bash, made by tests/completions-and-manual from the program's help: `. share/castgroup.bash`.
 _castgroup() {
     local word=${COMP_WORDS[COMP_CWORD]} command= before
     for before in "${COMP_WORDS[@]:1:COMP_CWORD-1}"; do

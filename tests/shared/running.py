@@ -1,13 +1,13 @@
-"""What the scripts of this folder share: how they are called, how they run a program, how they refuse it memory and threads, how
-they read the summary of a group in threads, and how they tell their counts."""
+"""How tests are called, how they run a program and refuse it memory and threads, how they read the summary of a group in threads,
+and how they tell their counts."""
 import os
 import re
 import subprocess
 import sys
 from pathlib import Path
 
-SCRIPTS = Path(__file__).resolve().parent
-TOP = SCRIPTS.parent
+HERE = Path(__file__).resolve().parent
+TOP = HERE.parent.parent
 # Each allocation of a program is refused in turn, up to this one: those that are run so make some hundreds.
 MOST_ALLOCATIONS = 5000
 # So many runs in succession that were refused nothing are past the last allocation.
@@ -16,7 +16,7 @@ NODE_LINE = re.compile(r"node (\d+) (stopped|crashed|turnlimit|logfull|clockfull
 
 
 def end(usage, why):
-    """Ends a script that lacks what it needs: with its usage, and status 2."""
+    """Ends a test that lacks what it needs: with its usage, and status 2."""
     print(f"{usage}\n{why}", file=sys.stderr)
     sys.exit(2)
 
@@ -29,7 +29,7 @@ def program(usage, path):
 
 
 def words(usage, least=1, most=1):
-    """The words behind the script's name, so many at the least and at most. The first names a program, and is its whole path
+    """The words behind the test's name, so many at the least and at most. The first names a program, and is its whole path
     here."""
     if len(sys.argv) <= least:
         end(usage, "a word is missing")
@@ -62,7 +62,7 @@ def run(command, seconds, variables={}, **options):
 def refusing(folder):
     """The library that refuses allocations and threads (refuse.c), made in the folder: what LD_PRELOAD takes."""
     made = f"{folder}/refuse.so"
-    subprocess.run(["gcc", "-shared", "-fPIC", "-O1", "-o", made, SCRIPTS / "refuse.c", "-ldl"], check=True)
+    subprocess.run(["gcc", "-shared", "-fPIC", "-O1", "-o", made, HERE / "refuse.c", "-ldl"], check=True)
     return made
 
 
@@ -101,7 +101,7 @@ def read_summary(out, nodes):
 
 
 def told(passed, failed):
-    """Prints the last line of a script, its counts, and answers its status. Where nothing was tried, that is a failure."""
+    """Prints the last line of a test, its counts, and answers its status. Where nothing was tried, that is a failure."""
     if passed + failed == 0:
         print("nothing was tried")
         failed = 1

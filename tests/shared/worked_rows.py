@@ -28,9 +28,10 @@ import functools
 import json
 import re
 from dataclasses import dataclass
-from pathlib import Path
 
-ROWS = Path(__file__).resolve().parent.parent / "rows"
+from .running import TOP
+
+ROWS = TOP / "rows"
 DRIVER = "driver-"
 REPEATED = re.compile(r"^\{for ([A-Z]+): (.+)\}\n((?:.*\n)*?)\{end\}\n", re.MULTILINE)
 

@@ -1,4 +1,4 @@
-"""What a group holds, gives and makes, for scripts that follow it by accepted events, each told by its words in a script."""
+"""What a group holds, gives and makes, for tests that follow it by accepted events, each told by its words in a script."""
 
 
 class Group:

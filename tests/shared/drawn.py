@@ -1,5 +1,5 @@
-"""Groups with the titles that their events have in a picture, and random scripts, for the scripts that draw."""
-from group import Group
+"""Groups with the titles that their events have in a picture, and random scripts to draw."""
+from .group import Group
 
 
 class Drawn(Group):
