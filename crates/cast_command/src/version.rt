@@ -1,5 +1,5 @@
 //! What `--version` says of the program. A program can't know the commit that it is built from, so these are constants:
-//! `scripts/version` compares them with the repository and with the toolchain, and writes them anew.
+//! `tests/version` compares them with the repository and with the toolchain, and writes them anew.
 
 /// The version, the commit, and the toolchain. Where a commit is named with `after`, more has changed since.
 pub const VERSION: &str = "0.2.0 (after commit 160c6b03, rattle-kit-13b logic dac8208d650f15bf)";
