@@ -2,6 +2,7 @@
 and how they tell their counts."""
 import os
 import re
+import resource
 import subprocess
 import sys
 from pathlib import Path
@@ -12,6 +13,8 @@ TOP = HERE.parent.parent
 MOST_ALLOCATIONS = 5000
 # So many runs in succession that were refused nothing are past the last allocation.
 PAST_THE_LAST = 50
+# In so many KiB of address space each group that is run so has all that it needs.
+AMPLE_SPACE = 1_000_000
 NODE_LINE = re.compile(r"node (\d+) (stopped|crashed|turnlimit|logfull|clockfull)((?: \d+)+)")
 
 
@@ -46,9 +49,12 @@ def numbers(usage, words, defaults):
     return [int(word) for word in words] + defaults[len(words):]
 
 
-def run(command, seconds, variables={}, **options):
-    """Status, output and standard error of a program. One that goes on for longer has no status, and its error text says so."""
+def run(command, seconds, variables={}, space=None, **options):
+    """Status, output and standard error of a program, in so many KiB of address space. One that goes on for longer has no status,
+    and its error text says so."""
     options = {"stdout": subprocess.PIPE, "stderr": subprocess.PIPE} | options
+    if space:
+        options["preexec_fn"] = lambda: resource.setrlimit(resource.RLIMIT_AS, (space * 1024, space * 1024))
     if "input" not in options:
         options.setdefault("stdin", subprocess.DEVNULL)
     try:
@@ -85,6 +91,18 @@ def each_refused(run, library, is_quiet, least=0):
         if outcome[0] is None or quiet >= PAST_THE_LAST and number >= least:
             return
     sys.exit(f"{MOST_ALLOCATIONS} runs, and none past the last allocation")
+
+
+def least_space(begins):
+    """The least address space in which a program begins, in KiB, by hundreds. `begins` says of a space whether it does."""
+    return next((space for space in range(1000, AMPLE_SPACE, 100) if begins(space)), AMPLE_SPACE)
+
+
+def spaces_from(least):
+    """Address spaces from this one to one that is ample, in KiB, in steps of a tenth."""
+    while least < AMPLE_SPACE:
+        yield least
+        least += least // 10
 
 
 def read_summary(out, nodes):
