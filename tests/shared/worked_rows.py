@@ -14,7 +14,7 @@ come its sections, each headed by such a line; what is left out is empty, or sta
     == calls                input and standard output in turn: a line '> CALL' is one of input, all others are of output
     == status               the status that it must end with; of several, any one
 
-One file may hold a family of rows, NAME-V for each value V of a variable X, with V for {X} and V + 1 for {X+1} in all sections:
+One file may hold a family of rows, NAME-V for each value V of a variable X, with V for {X} in all sections:
 
     == each X: 0..30 64     one row for each of these words; 0..30 stands for all numbers from 0 to 30
     == each X Y Z           one row for each line of the section, which has a word for each variable, and the rest for the last
@@ -132,13 +132,7 @@ def members(heading, lines):
 
 def filled(text, values):
     """A text with its variables filled in."""
-    def value(found):
-        name, more = found.groups()
-        if name not in values:
-            return found[0]
-        return str(int(values[name]) + int(more)) if more else values[name]
-
-    return re.sub(r"\{([A-Z]+)([+-]\d+)?\}", value, text)
+    return re.sub(r"\{([A-Z]+)\}", lambda found: values.get(found[1], found[0]), text)
 
 
 def rows_in(path):
