@@ -98,9 +98,9 @@ fn print_left<R: Print + Wait>(rt: &R, mut gathered: Gathered<u64>) -> Result<()
     Ok(())
 }
 
-/// Each putter of a box puts `count` numbers in a thread of its own, putter a those from a times `count` on, and this thread takes
-/// them all. Answers how many it took. Each putter's must come in order, and none be left.
-pub fn exchange<R: Threads + Wait + Copy + Send + 'static>(
+// Each putter of a box puts `count` numbers in a thread of its own, putter a those from a times `count` on, and this thread takes
+// them all. Answers how many it took. Each putter's must come in order, and none be left.
+fn exchange<R: Threads + Wait + Copy + Send + 'static>(
     rt: R,
     alloc: Global,
     size: u64,

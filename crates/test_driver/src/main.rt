@@ -11,7 +11,6 @@ mod parts;
 mod pieces;
 mod threads;
 mod time;
-mod time_parts;
 mod words;
 mod world;
 
@@ -37,6 +36,17 @@ fn run<R: Runtime + AllocGlobal + Threads + Wait + Copy + Send + 'static>(
     command: &str,
 ) -> Result<()> {
     match command {
+        "time" => time::run(rt),
+        _ => run_lines(rt, command),
+    }
+}
+
+/// Runs a command over the lines of standard input.
+pub fn run_lines<R: Runtime + AllocGlobal + Threads + Wait + Copy + Send + 'static>(
+    rt: R,
+    command: &str,
+) -> Result<()> {
+    match command {
         "parts" => parts::run(&rt),
         "boxes" => boxes::run(rt),
         "desk" => desk::run(&rt),
@@ -45,7 +55,6 @@ fn run<R: Runtime + AllocGlobal + Threads + Wait + Copy + Send + 'static>(
         "merge" => merge::run(&rt),
         "pieces" => pieces::run(&rt),
         "threads" => threads::run(rt),
-        "time" => time::run(rt),
         _ => bail!(USAGE),
     }
 }

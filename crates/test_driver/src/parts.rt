@@ -15,7 +15,7 @@ use std::rt::Runtime;
 
 /// One of the parts.
 #[derive(Drop)]
-pub enum Part {
+enum Part {
     LinkOut(LinkOut<Message>),
     LinkIn(LinkIn),
     Relay(Relaying),
@@ -25,20 +25,20 @@ pub enum Part {
 
 /// A relay, with the number of its node and how many messages are its own.
 #[derive(Drop)]
-pub struct Relaying {
-    pub relay: Relay,
-    pub me: NodeId,
+struct Relaying {
+    relay: Relay,
+    me: NodeId,
     own: u64,
-    pub ghost same: { relay.me ≡ me },
+    ghost same: { relay.me ≡ me },
     ghost counted: { relay.own ≡ own },
 }
 
 /// A hold-back, with the number of its senders.
 #[derive(Drop)]
-pub struct Holding {
-    pub held: HoldBack,
-    pub nodes: u64,
-    pub ghost counted: { length held ≡ nodes },
+struct Holding {
+    held: HoldBack,
+    nodes: u64,
+    ghost counted: { length held ≡ nodes },
 }
 
 pub fn run<R: Runtime + AllocGlobal>(rt: &R) -> Result<()> {
@@ -74,7 +74,7 @@ fn take(rt: &impl Print, alloc: Global, part: &mut Part, line: Words<'_>) -> Res
     }
 }
 
-pub fn make_relay(
+fn make_relay(
     alloc: Global,
     me: NodeId,
     nodes: u64,
@@ -86,12 +86,12 @@ pub fn make_relay(
     }
 }
 
-pub fn make_hold_back(alloc: Global, nodes: u64) -> std::result::Result<Part, AllocError> {
+fn make_hold_back(alloc: Global, nodes: u64) -> std::result::Result<Part, AllocError> {
     let held = HoldBack::new(alloc, nodes)?;
     Ok(Part::HoldBack(Holding { held, nodes }))
 }
 
-pub fn make_agree(alloc: Global, nodes: u64, faults: u64) -> Result<Part> {
+fn make_agree(alloc: Global, nodes: u64, faults: u64) -> Result<Part> {
     ensure!(faults < nodes, "too many faults");
     Ok(Part::Agree(Agree::new(alloc, nodes, faults)))
 }

@@ -1,13 +1,12 @@
-//! How long calls take. The second argument says of what; that of groups is read as a script from standard input:
+//! How long calls take. The second argument says of what:
 //!
-//! `time parts`, `time boxes NUMBERS PLACES`: the calls of a node's parts, and numbers that pass a box (`time_parts.rt`).
-//! `time threads`: the group in threads. Prints deliveries, entries of the logs, microseconds, and 1 where each node stopped.
-//! `time merge`: the group in one thread, all taking their steps in turn, and then nanoseconds an entry of `assemble`, and of the
+//! `time COMMAND`: a command over the lines of standard input, in nanoseconds, behind its answers.
+//! `time threads`: the group of a script in threads. Prints deliveries, entries of the logs, microseconds, and 1 where each node stopped.
+//! `time merge`: the group of a script in one thread, all taking their steps in turn, and then nanoseconds an entry of `assemble`, and of the
 //! replies to the merged events alone, which are a part of it: the least of five times.
 use crate::merge::run_by;
+use crate::run_lines;
 use crate::threads::{Meeting, Wanted, run_signals};
-use crate::time_parts::{time_boxes, time_parts};
-use crate::words::Words;
 use anyhow::{Result, bail};
 use cast_merge::assemble;
 use cast_message::NodeId;
@@ -28,22 +27,23 @@ const ROUNDS: u64 = 5;
 
 pub fn run<R: Runtime + AllocGlobal + Threads + Wait + Copy + Send + 'static>(rt: R) -> Result<()> {
     let Some(what) = env::args(&rt)?.nth(2) else {
-        bail!("usage: test_driver time parts|boxes|threads|merge [NUMBERS PLACES]");
+        bail!("usage: test_driver time threads|merge|COMMAND");
     };
     match what.as_str() {
-        "parts" => time_parts(&rt, rt.alloc()),
-        "boxes" => time_boxes(rt, rt.alloc(), argument(&rt, 3)?, argument(&rt, 4)?),
         "threads" => time_threads(rt, rt.alloc(), input(&rt, rt.alloc())?.as_slice()),
         "merge" => time_merge(&rt, rt.alloc(), input(&rt, rt.alloc())?.as_slice()),
-        other => bail!("{other:?} is not timed"),
+        command => time_lines(rt, command),
     }
 }
 
-fn argument(rt: &impl Runtime, place: usize) -> Result<u64> {
-    match env::args(rt)?.nth(place) {
-        Some(word) => Words::of(word.as_str()).number(),
-        None => bail!("an argument is missing"),
-    }
+fn time_lines<R: Runtime + AllocGlobal + Threads + Wait + Copy + Send + 'static>(
+    rt: R,
+    command: &str,
+) -> Result<()> {
+    let start = Instant::now(&rt)?;
+    run_lines(rt, command)?;
+    println!(&rt; "{} nanoseconds", start.elapsed(&rt)?.as_nanos())?;
+    Ok(())
 }
 
 fn input(rt: &impl Runtime, alloc: Global) -> Result<Vec<u8>> {
