@@ -14,3 +14,4 @@ pub mod Numbering
 mod Marks
 pub mod Far
 mod Silent
+mod Faults
