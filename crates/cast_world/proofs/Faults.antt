@@ -43,7 +43,7 @@ module _ (config : Config) (past : History) (world : State) (st : Stands config 
       by_event (Crash node) l = sym (first_holds config past world st (no_node config node) _ (outside node l))
 
   -- one that is a node's step, where the node was asked
-  by_step : (event : Event) (step : Step) (p : ℕ) (kept : Kept) (found : Option StepFault) → p < length world.nodes → kept ≡ node_at world p → found ≡ kept_fault kept step → IsStep past p event step → found ≡ fault config past event
+  pub by_step : (event : Event) (step : Step) (p : ℕ) (kept : Kept) (found : Option StepFault) → p < length world.nodes → kept ≡ node_at world p → found ≡ kept_fault kept step → IsStep past p event step → found ≡ fault config past event
   by_step event step p kept found inside same asked is =
       let p_in : p < config.nodes = subst (λ n. p < n) st.size inside in
       asked ∙ ap (λ k. kept_fault k step) same ∙ faults_are config p (steps_of past p) (node_at world p) (st.nodes p p_in) step ∙ own_fault-steps_of config past p st.accepted p_in event step is
@@ -60,36 +60,39 @@ module _ (config : Config) (past : History) (world : State) (st : Stands config 
   unfolding kept_fault
   by_crash kept found asked = asked (record { from = 0; seq = 0; to = 0; body = Took 0 })
 
+  -- a mark stands where its frame does
+  pub marked : (from seq : ℕ) → slice_get (marks_at world from) seq ≡ option_map mark_of (slice_get (frames past from) seq)
+  marked from seq = ap (λ row. slice_get row seq) (made_all config past world st from) ∙ mark_at config past world st (frames past from) seq
+
+  pub marked_frame : (from seq : ℕ) (mark : Mark) → slice_get (marks_at world from) seq ≡ Some mark → (frame : Frame) × (slice_get (frames past from) seq ≡ Some frame) × (mark ≡ mark_of frame)
+  marked_frame from seq mark there = by_frame (slice_get (frames past from) seq) refl (sym there ∙ marked from seq)
+    where
+      by_frame : (o : Option Frame) → slice_get (frames past from) seq ≡ o → Some mark ≡ option_map mark_of (slice_get (frames past from) seq) → (frame : Frame) × (slice_get (frames past from) seq ≡ Some frame) × (mark ≡ mark_of frame)
+      by_frame None at e =
+          let none = e ∙ ap (option_map mark_of) at in
+          absurd cc
+      by_frame (Some frame) at e =
+          let one = e ∙ ap (option_map mark_of) at in
+          (frame, at, cc)
+
   -- a frame that is there arrives
   pub by_arrival : (from seq : ℕ) (mark : Mark) (kept : Kept) (found : Option StepFault) → slice_get (marks_at world from) seq ≡ Some mark → kept ≡ node_at world mark.to → ((frame : Frame) → found ≡ kept_fault kept (Arrived frame)) → found ≡ fault config past (Arrive from seq)
-  by_arrival from seq mark kept found there same asked = by_frame (slice_get (frames past from) seq) refl
+  by_arrival from seq mark kept found there same asked =
+      let m = marked_frame from seq mark there in
+      let frame = m.0 in
+      let to_is : mark.to ≡ frame.to = ap (λ (m : Mark). m.to) m.2 ∙ to_again frame.to frame.body in
+      let ends = frame_ends config past st.accepted from frame (Member-slice_get (frames past from) seq frame m.1) in
+      by_step (Arrive from seq) (Arrived frame) frame.to kept found (subst (λ n. frame.to < n) (sym st.size) ends.target_in) (same ∙ ap (node_at world) to_is) (asked frame) (takes from seq frame m.1 refl)
     where
-      marked : slice_get (marks_at world from) seq ≡ option_map mark_of (slice_get (frames past from) seq)
-      marked = ap (λ row. slice_get row seq) (made_all config past world st from) ∙ mark_at config past world st (frames past from) seq
-
       to_again : (to : ℕ) (body : FrameBody) → (mark_by to body).to ≡ to
       to_again to (Carry slot message) = refl
       to_again to (Took slot) = refl
-
-      by_frame : (o : Option Frame) → slice_get (frames past from) seq ≡ o → found ≡ fault config past (Arrive from seq)
-      by_frame None at =
-          let e = sym there ∙ marked ∙ ap (option_map mark_of) at in
-          absurd cc
-      by_frame (Some frame) at =
-          let e = sym there ∙ marked ∙ ap (option_map mark_of) at in
-          let is_mark : mark ≡ mark_of frame = cc in
-          let to_is : mark.to ≡ frame.to = ap (λ (m : Mark). m.to) is_mark ∙ to_again frame.to frame.body in
-          let ends = frame_ends config past st.accepted from frame (Member-slice_get (frames past from) seq frame at) in
-          by_step (Arrive from seq) (Arrived frame) frame.to kept found (subst (λ n. frame.to < n) (sym st.size) ends.target_in) (same ∙ ap (node_at world) to_is) (asked frame) (takes from seq frame at refl)
 
   -- one that isn't
   pub by_none : (from seq : ℕ) (refusal : StepFault) → from < length world.nodes → slice_get (marks_at world from) seq ≡ None → refusal ≡ missing (length world.marks) from → Some refusal ≡ fault config past (Arrive from seq)
   unfolding fault causes
   by_none from seq refusal inside none is = by_frame (slice_get (frames past from) seq) refl
     where
-      marked : slice_get (marks_at world from) seq ≡ option_map mark_of (slice_get (frames past from) seq)
-      marked = ap (λ row. slice_get row seq) (made_all config past world st from) ∙ mark_at config past world st (frames past from) seq
-
       in_group : nat_lt from config.nodes ≡ true
       in_group = lt-ltb from config.nodes (subst (λ n. from < n) st.size inside)
 
@@ -101,5 +104,5 @@ module _ (config : Config) (past : History) (world : State) (st : Stands config 
           ap Some no_frame
           ∙ sym (quiet (no_node config from) (causes_of_arrival config past (slice_get (frames past from) seq)) (ap not in_group) ∙ ap (λ o. first_fault (causes_of_arrival config past o)) at ∙ first_holds config past world st (record { holds = true; refusal = NoFrame }) [] refl)
       by_frame (Some frame) at =
-          let e = sym none ∙ marked ∙ ap (option_map mark_of) at in
+          let e = sym none ∙ marked from seq ∙ ap (option_map mark_of) at in
           absurd cc

@@ -15,3 +15,4 @@ mod Marks
 pub mod Far
 mod Silent
 mod Faults
+mod Offering
