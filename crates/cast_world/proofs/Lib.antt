@@ -14,3 +14,5 @@ pub mod Numbering
 mod Marks
 pub mod Far
 mod Silent
+mod Faults
+mod Offering

@@ -19,7 +19,7 @@ use Rattle.cast_node.proofs.Links.{range-more}
 use Rattle.cast_world.specs.Group.{State, node_at}
 use Rattle.cast_world.specs.Plans.{AreLive, live_at, due_of, due_between_at, owed_slots}
 
-range_more : (n : ℕ) → range_with_len 0 (n + 1) ≡ range_with_len 0 n ++ n ∷ []
+pub range_more : (n : ℕ) → range_with_len 0 (n + 1) ≡ range_with_len 0 n ++ n ∷ []
 range_more n = range-more n 0 ∙ (let z : 0 + n ≡ n = omega arith in ap (λ k. range_with_len 0 n ++ k ∷ []) z)
 
 -- a filter of one more number

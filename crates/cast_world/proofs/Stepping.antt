@@ -168,10 +168,10 @@ module _ (config : Config) (past : History) (world : State) (st : Stands config 
   pub made_count : (p : ℕ) → length (marks_at world p) ≡ length (frames past p)
   made_count p = ap length (made_all p) ∙ length-map mark_of (frames past p)
 
-  out_of_group : (p : ℕ) → config.nodes ≤ p → (no_node config p).holds ≡ true
+  pub out_of_group : (p : ℕ) → config.nodes ≤ p → (no_node config p).holds ≡ true
   out_of_group p l = grind (arith, nat_tests)
 
-  first_holds : (cause : Cause) (more : List Cause) → cause.holds ≡ true → first_fault (cause ∷ more) ≡ Some cause.refusal
+  pub first_holds : (cause : Cause) (more : List Cause) → cause.holds ≡ true → first_fault (cause ∷ more) ≡ Some cause.refusal
   unfolding first_fault
   first_holds cause more e = ap (λ b. cond b (Some cause.refusal) (first_fault more)) e
 

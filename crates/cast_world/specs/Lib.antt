@@ -4,3 +4,4 @@ pub mod Code
 pub mod Plans
 pub mod DueRuns
 pub mod Rounds
+pub mod Offers

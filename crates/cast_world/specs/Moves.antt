@@ -5,6 +5,7 @@
 --     Awaits world event                        where the event is an arrival, its frame is awaited so
 --     StepsTo world event reply new             the world answers the event so, and is this then
 --     IsSilent reply                            a send, an acknowledgement, or an arrival that delivers and decides nothing was accepted
+--     actor_of event                            the node that the event names first: it takes the step, or made the frame
 --     IsSound world                             the nodes are those of the group, and frames go to them
 use Rattle.std.specs.Prelude.{◌≡◌, ◌⊎◌, ℕ, ◌<◌, ◌≤◌, nat_lt, true, if◌then◌else◌, List, [], ◌∷◌, ◌++◌, length, slice_get, slice_index_or, slice_set, Option, Some, None, Result, Ok, Err}
 use Rattle.cast_message.specs.declared.event.Event.{Event}
@@ -97,6 +98,13 @@ abbrev pub IsSilent : Result Answer StepFault → Type 0
 IsSilent (Ok (AnswerSent seq)) = Unit {0}
 IsSilent (Ok (AnswerArrived node outcome)) = outcome ≡ nothing
 IsSilent _ = ⊥
+
+abbrev pub actor_of : Event → ℕ
+actor_of (Order node item) = node
+actor_of (Send from to slot) = from
+actor_of (Ack from to slot) = from
+actor_of (Arrive from seq) = from
+actor_of (Crash node) = node
 
 pub record IsSound (world : State) : Type 0 where
   pub size : length world.nodes ≡ world.config.nodes

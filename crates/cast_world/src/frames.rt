@@ -147,8 +147,8 @@ pub fn arrive_silently(node: &mut Node, from: NodeId, mark: &Mark) -> bool
     false
 }
 
-// Whether a mark is that of an acknowledgement.
-fn is_acknowledgement(mark: &Mark) -> bool
+/// Whether a mark is that of an acknowledgement.
+pub fn is_acknowledgement(mark: &Mark) -> bool
     ensures { result ≡ (mark.now.sender == 255) }
 {
     mark.sender.0 == NOBODY

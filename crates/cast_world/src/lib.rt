@@ -4,6 +4,7 @@
 mod due;
 mod due_run;
 mod due_slots;
+mod enabled;
 mod frames;
 mod rest;
 mod round;

@@ -7,7 +7,7 @@ ghost use Rattle.cast_model.specs.Delivery.{decision};
 ghost use Rattle.cast_model.specs.Shown.{ShowsDelivered, ShowsStream, ShowsOwed};
 ghost use Rattle.cast_world.specs.Group.{Stands, StandingFor, Continues, FindsNode, IsFar, TakesNoMemory, IsRefusedForCause, node_at, marks_at};
 ghost use Rattle.cast_node.specs.Calls.{number_reply, silent_reply};
-ghost use Rattle.cast_world.specs.Moves.{Awaits, IsAwaited, IsSilent, MakesFrame, StepsTo};
+ghost use Rattle.cast_world.specs.Moves.{Awaits, FindsMark, IsAwaited, IsSilent, MakesFrame, StepsTo};
 
 use crate::frames::{self, Mark};
 use cast_message::FrameKind::{Carry, Took};
@@ -287,6 +287,14 @@ impl World {
         ensures size { length self.now.nodes ≡ self.now.config.nodes }
     {
         &self.nodes[usize::from(node.0)]
+    }
+
+    /// The mark of the frame of this number that a node made, or why there is none.
+    pub(crate) fn mark(&self, from: NodeId, seq: u64) -> Result<Mark, StepFault>
+        ensures found { FindsMark self.now.marks from seq result }
+        ensures target { IfOk result (λ mark. mark.to < length self.now.nodes) }
+    {
+        frames::find(&self.marks, from, seq)
     }
 }
 

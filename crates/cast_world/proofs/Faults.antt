@@ -1,0 +1,108 @@
+-- Why an event is refused is read off the nodes that it names.
+use Rattle.std.proofs.Common.{◌≡◌, ℕ, ◌<◌, ◌≤◌, refl, sym, ◌∙◌, ap, subst, true, not, [], length, Option, Some, None}
+use Rattle.std.specs.Prelude.{nat_lt, slice_get, option_map, if◌then◌else◌}
+use Rattle.std.proofs.lemmas.Bool.{lt-ltb}
+use Rattle.cast_message.specs.declared.config.Config.{Config}
+use Rattle.cast_message.specs.declared.event.Event.{Event}
+use Rattle.cast_message.specs.declared.event.Event.TheVariants.{Order, Send, Ack, Arrive, Crash}
+use Rattle.cast_message.specs.declared.event.StepFault.{StepFault}
+use Rattle.cast_message.specs.declared.event.StepFault.TheVariants.{NoNode, NoFrame}
+use Rattle.cast_message.specs.declared.message.Frame.{Frame}
+use Rattle.cast_message.specs.declared.message.FrameBody.{FrameBody}
+use Rattle.cast_message.specs.declared.message.FrameBody.TheVariants.{Carry, Took}
+use Rattle.cast_model.specs.History.{History, frames}
+use Rattle.cast_model.specs.Refusals.{no_node, first_fault}
+use Rattle.cast_model.specs.Replies.{causes, causes_of_arrival, fault}
+use Rattle.cast_model.specs.Steps.{Step, Arrived, Stopped, steps_of}
+use Rattle.cast_model.specs.OwnSteps.{IsStep, takes}
+use Rattle.cast_model.proofs.Members.{Member-slice_get}
+use Rattle.cast_model.proofs.OwnReplies.{own_fault-steps_of, frame_ends}
+use Rattle.cast_model.proofs.RoundFaults.{quiet}
+use Rattle.cast_node.specs.Kept.{Kept}
+use Rattle.cast_node.specs.Turns.{kept_fault}
+use Rattle.cast_node.proofs.Refusals.{faults_are}
+use Rattle.cast_world.specs.declared.frames.Mark.{Mark}
+use Rattle.cast_world.specs.Group.{State, node_at, marks_at, mark_by, mark_of, Stands}
+use Rattle.cast_world.specs.Moves.{actor_of, missing}
+use Rattle.cast_world.proofs.Stepping.{made_all, mark_at, out_of_group, first_holds}
+
+module _ (config : Config) (past : History) (world : State) (st : Stands config past world) where
+  -- an event that names no node
+  pub by_nobody : (event : Event) (p : ℕ) → p ≡ actor_of event → length world.nodes ≤ p → ◌≡◌ {A = Option StepFault} (Some NoNode) (fault config past event)
+  unfolding fault causes
+  by_nobody event p e l = by_event event (subst (λ q. config.nodes ≤ q) e (subst (λ n. n ≤ p) st.size l))
+    where
+      outside : (p : ℕ) → config.nodes ≤ p → (no_node config p).holds ≡ true
+      outside p l = out_of_group config past world st p l
+
+      by_event : (event : Event) → config.nodes ≤ actor_of event → ◌≡◌ {A = Option StepFault} (Some NoNode) (fault config past event)
+      by_event (Order node item) l = sym (first_holds config past world st (no_node config node) _ (outside node l))
+      by_event (Send from to slot) l = sym (first_holds config past world st (no_node config from) _ (outside from l))
+      by_event (Ack from to slot) l = sym (first_holds config past world st (no_node config from) _ (outside from l))
+      by_event (Arrive from seq) l = sym (first_holds config past world st (no_node config from) _ (outside from l))
+      by_event (Crash node) l = sym (first_holds config past world st (no_node config node) _ (outside node l))
+
+  -- one that is a node's step, where the node was asked
+  pub by_step : (event : Event) (step : Step) (p : ℕ) (kept : Kept) (found : Option StepFault) → p < length world.nodes → kept ≡ node_at world p → found ≡ kept_fault kept step → IsStep past p event step → found ≡ fault config past event
+  by_step event step p kept found inside same asked is =
+      let p_in : p < config.nodes = subst (λ n. p < n) st.size inside in
+      asked ∙ ap (λ k. kept_fault k step) same ∙ faults_are config p (steps_of past p) (node_at world p) (st.nodes p p_in) step ∙ own_fault-steps_of config past p st.accepted p_in event step is
+
+  -- one that is a step of the node that it names
+  pub by_actor : (event named : Event) (step : Step) (p : ℕ) (kept : Kept) (found : Option StepFault) → event ≡ named → p ≡ actor_of event → (p < length world.nodes) × (kept ≡ node_at world p) → found ≡ kept_fault kept step → IsStep past (actor_of named) named step → found ≡ fault config past event
+  by_actor event named step p kept found is_named at node asked is =
+      let same : p ≡ actor_of named = at ∙ ap actor_of is_named in
+      subst (λ e. found ≡ fault config past e) (sym is_named)
+      (by_step named step (actor_of named) kept found (subst (λ q. q < length world.nodes) same node.0) (node.1 ∙ ap (node_at world) same) asked is)
+
+  -- a node crashes where it would take a frame
+  pub by_crash : (kept : Kept) (found : Option StepFault) → ((frame : Frame) → found ≡ kept_fault kept (Arrived frame)) → found ≡ kept_fault kept Stopped
+  unfolding kept_fault
+  by_crash kept found asked = asked (record { from = 0; seq = 0; to = 0; body = Took 0 })
+
+  -- a mark stands where its frame does
+  pub marked : (from seq : ℕ) → slice_get (marks_at world from) seq ≡ option_map mark_of (slice_get (frames past from) seq)
+  marked from seq = ap (λ row. slice_get row seq) (made_all config past world st from) ∙ mark_at config past world st (frames past from) seq
+
+  pub marked_frame : (from seq : ℕ) (mark : Mark) → slice_get (marks_at world from) seq ≡ Some mark → (frame : Frame) × (slice_get (frames past from) seq ≡ Some frame) × (mark ≡ mark_of frame)
+  marked_frame from seq mark there = by_frame (slice_get (frames past from) seq) refl (sym there ∙ marked from seq)
+    where
+      by_frame : (o : Option Frame) → slice_get (frames past from) seq ≡ o → Some mark ≡ option_map mark_of (slice_get (frames past from) seq) → (frame : Frame) × (slice_get (frames past from) seq ≡ Some frame) × (mark ≡ mark_of frame)
+      by_frame None at e =
+          let none = e ∙ ap (option_map mark_of) at in
+          absurd cc
+      by_frame (Some frame) at e =
+          let one = e ∙ ap (option_map mark_of) at in
+          (frame, at, cc)
+
+  -- a frame that is there arrives
+  pub by_arrival : (from seq : ℕ) (mark : Mark) (kept : Kept) (found : Option StepFault) → slice_get (marks_at world from) seq ≡ Some mark → kept ≡ node_at world mark.to → ((frame : Frame) → found ≡ kept_fault kept (Arrived frame)) → found ≡ fault config past (Arrive from seq)
+  by_arrival from seq mark kept found there same asked =
+      let m = marked_frame from seq mark there in
+      let frame = m.0 in
+      let to_is : mark.to ≡ frame.to = ap (λ (m : Mark). m.to) m.2 ∙ to_again frame.to frame.body in
+      let ends = frame_ends config past st.accepted from frame (Member-slice_get (frames past from) seq frame m.1) in
+      by_step (Arrive from seq) (Arrived frame) frame.to kept found (subst (λ n. frame.to < n) (sym st.size) ends.target_in) (same ∙ ap (node_at world) to_is) (asked frame) (takes from seq frame m.1 refl)
+    where
+      to_again : (to : ℕ) (body : FrameBody) → (mark_by to body).to ≡ to
+      to_again to (Carry slot message) = refl
+      to_again to (Took slot) = refl
+
+  -- one that isn't
+  pub by_none : (from seq : ℕ) (refusal : StepFault) → from < length world.nodes → slice_get (marks_at world from) seq ≡ None → refusal ≡ missing (length world.marks) from → Some refusal ≡ fault config past (Arrive from seq)
+  unfolding fault causes
+  by_none from seq refusal inside none is = by_frame (slice_get (frames past from) seq) refl
+    where
+      in_group : nat_lt from config.nodes ≡ true
+      in_group = lt-ltb from config.nodes (subst (λ n. from < n) st.size inside)
+
+      no_frame : refusal ≡ NoFrame
+      no_frame = is ∙ ap (λ n. if nat_lt from n then NoFrame else NoNode) st.rows ∙ ap (λ b. if b then NoFrame else NoNode) in_group
+
+      by_frame : (o : Option Frame) → slice_get (frames past from) seq ≡ o → Some refusal ≡ fault config past (Arrive from seq)
+      by_frame None at =
+          ap Some no_frame
+          ∙ sym (quiet (no_node config from) (causes_of_arrival config past (slice_get (frames past from) seq)) (ap not in_group) ∙ ap (λ o. first_fault (causes_of_arrival config past o)) at ∙ first_holds config past world st (record { holds = true; refusal = NoFrame }) [] refl)
+      by_frame (Some frame) at =
+          let e = sym none ∙ marked from seq ∙ ap (option_map mark_of) at in
+          absurd cc
