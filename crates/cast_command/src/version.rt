@@ -2,4 +2,4 @@
 //! `tests/version` compares them with the repository and with the toolchain, and writes them anew.
 
 /// The version, the commit, and the toolchain. Where a commit is named with `after`, more has changed since.
-pub const VERSION: &str = "0.2.0 (after commit 160c6b03, rattle-kit-13b logic dac8208d650f15bf)";
+pub const VERSION: &str = "0.2.0 (after commit ab8836a5, rattle-kit-13f logic dac8208d650f15bf)";
