@@ -1,6 +1,6 @@
 //! How many pushes and pops crossbeam's own `ArrayQueue` passes in a second, with 1, 2, 8 and 64 producers in threads of
-//! their own and the consumer in the first thread: the measure beside `test_driver time boxes`, which takes the same
-//! arguments (how many numbers, how many places).
+//! their own and the consumer in the first thread: the measure beside the boxes of `bench/parts`. Its arguments say how many numbers,
+//! and how many places.
 
 use crossbeam_queue::ArrayQueue;
 use std::sync::Arc;
