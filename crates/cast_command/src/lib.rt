@@ -1,11 +1,15 @@
-//! The command line of the program `castgroup`: its commands with their arguments and help, and what the words of a call ask
-//! for. It stands apart from the program, so that neither is checked over all that the other stands on.
+//! What the program `castgroup` is told and says in words: its command line, with what the words of a call ask for, and why an input
+//! is refused. It stands apart from the program, so that neither is checked over all that the other stands on.
 #![tactic(auto)]
 
 mod commands;
+mod explain;
 mod request;
 mod version;
 
+pub use explain::{
+    RULES, Taken, aside_words, group_words, head_words, script_words, twice_words, verdict_words,
+};
 pub use request::{
     Detail, LiveTask, Place, Refusal, Request, RunPlaces, Running, Seeds, Shown, Task, parse,
 };

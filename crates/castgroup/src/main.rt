@@ -16,8 +16,7 @@ mod seeds;
 mod status;
 mod texts;
 
-use cast_command::{Task, parse};
-use cast_explain::RULES;
+use cast_command::{RULES, Task, parse};
 use cast_text::Window;
 use command_line::{command_words, detail_of, refuse_request, refuse_words};
 use console::Console;

@@ -2,8 +2,7 @@
 use crate::console::Console;
 use crate::explain::input_name;
 use crate::input::Source;
-use cast_command::{LiveTask, Place};
-use cast_explain::{Taken, aside_words, twice_words};
+use cast_command::{LiveTask, Place, Taken, aside_words, twice_words};
 use cast_live::FinishedRun;
 use std::alloc::{AllocError, Global};
 use std::fs;

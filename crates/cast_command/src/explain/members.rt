@@ -1,6 +1,6 @@
 //! What is wrong with a script as a whole: it is no object, or a member is unknown, missing or of a wrong kind.
-use crate::element::{Flaw, NUMBER, not_number, unless};
-use crate::excerpt::quoted;
+use crate::explain::element::{Flaw, NUMBER, not_number, unless};
+use crate::explain::excerpt::quoted;
 use serde_json::Value;
 use std::alloc::{AllocError, Global};
 

@@ -1,5 +1,5 @@
 //! What is wrong with an element of a script's lists: the value that stands where something else is expected.
-use crate::excerpt::cut;
+use crate::explain::excerpt::cut;
 use serde_json::Value;
 use std::alloc::{AllocError, Global};
 

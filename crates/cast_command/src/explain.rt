@@ -1,7 +1,5 @@
 //! Why a script, a group, a head or a record was refused, and what of a script a command leaves aside, in words. Each call reads
 //! the bytes once more. Who says the words puts the input's name before them.
-#![tactic(auto)]
-
 mod element;
 mod excerpt;
 mod group;

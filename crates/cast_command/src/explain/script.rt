@@ -1,7 +1,7 @@
 //! What is wrong with a script: where it is no JSON, which member or element is not as it should be, or which limit it breaks.
-use crate::element::{Flaw, event_flaw, fault_flaw, job_flaw};
-use crate::members::members_words;
-use crate::settings::settings_words;
+use crate::explain::element::{Flaw, event_flaw, fault_flaw, job_flaw};
+use crate::explain::members::members_words;
+use crate::explain::settings::settings_words;
 use cast_script::ScriptFault;
 use serde_json::Value;
 use std::alloc::{AllocError, Global};

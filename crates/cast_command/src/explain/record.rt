@@ -1,5 +1,5 @@
 //! What is wrong with a record: the line that offends, and the rule that it breaks in words.
-use crate::excerpt::quoted;
+use crate::explain::excerpt::quoted;
 use std::alloc::{AllocError, Global};
 
 /// What the line `bad LINE RULE` means: a line a rule, under a title.

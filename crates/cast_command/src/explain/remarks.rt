@@ -1,6 +1,6 @@
 //! What is remarked on a script that is taken: lists that the command leaves aside, and a member that stands twice.
-use crate::excerpt::quoted;
-use crate::keys::find_key_twice;
+use crate::explain::excerpt::quoted;
+use crate::explain::keys::find_key_twice;
 use cast_script::{Script, ScriptFault, read_script};
 use std::alloc::{AllocError, Global};
 
