@@ -72,6 +72,20 @@ impl RunPlaces<'_> {
             .filter(|place| place.is_standard())
             .count()
     }
+
+    // Whether two outputs have one name, as `-` for standard output.
+    fn have_a_name_twice(&self) -> bool {
+        is_again(self.record, self.replay)
+            || is_again(self.record, self.picture)
+            || is_again(self.replay, self.picture)
+    }
+}
+
+fn is_again(place: Option<Place<'_>>, other: Option<Place<'_>>) -> bool {
+    match (place, other) {
+        (Some(place), Some(other)) => place.word() == other.word(),
+        _ => false,
+    }
 }
 
 /// So many seeds, of which this is the first. Behind the greatest number comes 0.
@@ -235,38 +249,26 @@ fn records_of<'a>(alloc: Global, matches: &ArgMatches<'a>) -> Result<Vec<Place<'
     Ok(places)
 }
 
-// Two outputs in one stream are a fault.
+// Two outputs of one name are a fault: one of them would be lost.
 fn live<'a>(alloc: Global, matches: &ArgMatches<'a>) -> Result<Task<'a>, Refusal> {
     let places = RunPlaces {
         record: place_of(matches, "record"),
         replay: place_of(matches, "replay"),
         picture: place_of(matches, "draw"),
     };
-    if places.count_standard() > 1 {
+    if places.have_a_name_twice() {
         let command = live_command(alloc)?.bin_name("castgroup live")?;
         return Err(fault(
             command,
-            "one of --record, --replay and --draw at most is standard output",
+            "two of --record, --replay and --draw have one name",
         ));
     }
     Ok(Task::Live(LiveTask {
         script: input_of(matches, "SCRIPT"),
         running: running_of(matches),
-        places: RunPlaces {
-            record: unless_again(unless_again(places.record, places.replay), places.picture),
-            replay: unless_again(places.replay, places.picture),
-            picture: places.picture,
-        },
+        places,
         tells_progress: matches.get_flag("progress"),
     }))
-}
-
-// An output, unless a later one is written to the same file, which then has that.
-fn unless_again<'a>(place: Option<Place<'a>>, later: Option<Place<'a>>) -> Option<Place<'a>> {
-    match (place, later) {
-        (Some(place), Some(later)) if place.word() == later.word() => None,
-        _ => place,
-    }
 }
 
 // (a number of times without a seed was refused with the words)
