@@ -1,0 +1,5 @@
+-- What the contracts of the exports speak of.
+pub mod JudgeOwning
+pub mod Numbers
+pub mod Steps
+pub mod WorldOwning
