@@ -9,6 +9,11 @@ const MOST_BYTES: usize = 1_024;
 
 /// A group: events go in, replies come out, and readers show what each node has delivered, decided and owes. It may go to another
 /// thread, and is used by one at a time.
+///
+/// ```compile_fail
+/// fn is_sync<T: Sync>() {}
+/// is_sync::<castgroup::World>();
+/// ```
 pub struct World {
     // The library takes the group out of its handle for each call, a reader's too.
     handle: UnsafeCell<raw::Handle>,

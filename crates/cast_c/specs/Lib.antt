@@ -2,4 +2,5 @@
 pub mod JudgeOwning
 pub mod Numbers
 pub mod Steps
+pub mod Texts
 pub mod WorldOwning

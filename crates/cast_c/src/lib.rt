@@ -14,5 +14,6 @@ mod parts;
 mod readers;
 mod status;
 mod step;
+mod text;
 mod world;
 mod world_handle;
