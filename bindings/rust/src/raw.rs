@@ -3,7 +3,6 @@
 pub(crate) const DONE: u32 = 0;
 pub(crate) const REFUSED: u32 = 2;
 pub(crate) const BAD: u32 = 3;
-pub(crate) const OUT_OF_MEMORY: u32 = 5;
 pub(crate) const TOO_SHORT: u32 = 6;
 
 /// A group or a judge that the library holds, or none.
