@@ -1,13 +1,12 @@
-//! How long a group takes for about a million events, each handed over from Rust, against `castgroup run` with the same events.
+//! How long a group takes for about a million events, each handed over from Rust, against `run`, the call of `castgroup run`, with the
+//! same events.
 //!
-//! usage: steps PROGRAM [NODES [ITEMS]]
+//! usage: steps [NODES [ITEMS]]
 //!
 //! Each of the nodes (8) broadcasts so many items (640), and two rounds bring them to all. `run` is given the orders and a settle, so it
 //! reads and writes little, and of its time that of the orders alone is taken off. Prints the least of five times each, and how many
-//! times the program's the first is.
-use castgroup::{Config, Event, Item, World};
-use std::io::Write;
-use std::process::{Command, Stdio};
+//! times the last the first is.
+use castgroup::{run, Config, Event, Item, World};
 use std::time::{Duration, Instant};
 
 const ROUNDS: usize = 5;
@@ -69,20 +68,10 @@ fn least(mut run: impl FnMut()) -> Duration {
     times.min().unwrap_or_default()
 }
 
-fn program(path: &str, script: &str) {
-    let mut child = Command::new(path).arg("run").stdin(Stdio::piped()).stdout(Stdio::null()).spawn().expect("the program");
-    child.stdin.take().expect("its input").write_all(script.as_bytes()).expect("it reads");
-    assert!(child.wait().expect("it ends").success());
-}
-
 fn main() {
     let words: Vec<String> = std::env::args().skip(1).collect();
-    let Some(path) = words.first() else {
-        eprintln!("usage: steps PROGRAM [NODES [ITEMS]]");
-        std::process::exit(1);
-    };
     let word = |place: usize, usual: usize| words.get(place).map_or(usual, |word| word.parse().expect("a number"));
-    let (nodes, items) = (word(1, 8) as u8, word(2, 640));
+    let (nodes, items) = (word(0, 8) as u8, word(1, 640));
     let events = events(nodes, items);
     let stepped = least(|| {
         let mut world = World::new(&Config::of(nodes.into(), 0)).expect("a configuration");
@@ -91,8 +80,8 @@ fn main() {
         }
     });
     let (with, without) = (script(nodes, items, r#"["settle"]"#), script(nodes, items, ""));
-    let settled = least(|| program(path, &with));
-    let read = least(|| program(path, &without));
+    let taken = |script: &str| least(|| assert!(run(script.as_bytes()).is_ok()));
+    let (settled, read) = (taken(&with), taken(&without));
     let played = settled.saturating_sub(read);
     println!("{} events: {stepped:.0?} from Rust; run {settled:.0?}, of which {read:.0?} with the orders alone", events.len());
     println!("{:.2} times what run takes for the rounds", stepped.as_secs_f64() / played.as_secs_f64());

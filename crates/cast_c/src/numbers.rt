@@ -2,7 +2,7 @@
 ghost use Rattle.std.specs.Prelude.{◌≡◌, None, Some, IfOk, IfErr};
 ghost use Rattle.cast_c.specs.Numbers.{IsOf, event_in, first_fault, item_in, says, status_of};
 
-use crate::status::{BAD, DONE, OUT_OF_MEMORY};
+use crate::status::{BAD, DONE};
 use bytes::Bytes;
 use cast_judge::Verdict;
 use cast_message::{Config, ConfigFault, Event, Item, Mode, NodeId, Payload};
