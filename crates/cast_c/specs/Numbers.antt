@@ -2,9 +2,10 @@
 --     mode_in, first_fault, first_code    a mode; the first fault of a configuration; its number
 --     IsOf numbers config                 the configuration of the numbers
 --     item_in, event_in                   an item and an event, with the bytes, or None where no kind has this number
+--     orders_bytes event                  whether it orders bytes, which are copied before it is taken
 --     says, status_of, Tells              the numbers and the status of a verdict; what is told of a judged record
 --     IsNew numbers world                 a group of this configuration in which nothing has happened
-use Rattle.std.specs.Prelude.{◌≡◌, ℕ, ◌==◌, List, [], Option, None, Some, Result, Ok, Err, if◌then◌else◌}
+use Rattle.std.specs.Prelude.{◌≡◌, ℕ, ◌==◌, List, [], Bool, true, false, Option, None, Some, Result, Ok, Err, if◌then◌else◌}
 use Rattle.std.specs.declared.alloc.AllocError.{AllocError}
 use Rattle.std.specs.Option.{option_map}
 use Rattle.cast_message.specs.declared.config.Config.{Config}
@@ -64,6 +65,11 @@ event_in numbers bytes =
     else if numbers.kind == 3 then Some (Arrive numbers.node numbers.number)
     else if numbers.kind == 4 then Some (Crash numbers.node)
     else None
+
+-- whether it orders bytes, which are copied before it is taken
+abbrev pub orders_bytes : Event → Bool
+orders_bytes (Order node (Data bytes)) = true
+orders_bytes _ = false
 
 abbrev pub says : Verdict → VerdictNumbers
 says Good = record { line = 0; rule = 0 }

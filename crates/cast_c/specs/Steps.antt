@@ -1,12 +1,13 @@
 -- What the exports of a group say.
 --     numbers_of_reply, numbers_of_outcome, only_number    a reply, what a step delivers and decides, and nothing delivered, as numbers
---     status_of_reply                       5 where memory was wanted, and else 0
---     IsStep old event told new             these are the numbers of the reply to the event, after which the group is the new one
+--     status_of_reply, status_of_round      5 where memory was wanted, and else 0
+--     IsStep old event status told new      the status, and the numbers of the reply to the event, after which the group is the new one
+--     IsStepBy old numbers bytes status told new    the same of an event that is given as numbers and bytes
 --     IsRound old status told new           the same of a round, with its status
 --     numbers_of_item, bytes_of, PutsItem   an item as numbers and bytes, and its bytes in a buffer
 --     CountsDelivered, TellsItem            what the readers say of the deliveries
 --     shown_by, decision_by                 a number, where the status is 0; a value, where one was found
-use Rattle.std.specs.Prelude.{◌≡◌, ◌⊎◌, ℕ, ◌<◌, ◌≤◌, ◌==◌, ◌++◌, max, Bool, true, false, List, [], ◌∷◌, length, drop, map, slice_get, Option, None, Some, Result, Ok, Err, IfOk, IsSomeAnd, if◌then◌else◌}
+use Rattle.std.specs.Prelude.{◌≡◌, ◌⊎◌, ℕ, ◌<◌, ◌≤◌, ◌==◌, ◌++◌, max, Bool, true, false, List, [], ◌∷◌, length, drop, map, slice_get, Option, None, Some, Result, Ok, Err, IfOk, OnErr, IsSomeAnd, if◌then◌else◌}
 use Rattle.cast_message.specs.StepCode.{step_code}
 use Rattle.cast_message.specs.declared.config.Config.{Config}
 use Rattle.cast_message.specs.declared.event.Answer.{Answer}
@@ -20,10 +21,14 @@ use Rattle.cast_message.specs.declared.message.Item.TheVariants.{Data, Propose, 
 use Rattle.cast_message.specs.declared.message.Message.{Message}
 use Rattle.cast_model.specs.Delivery.{delivered}
 use Rattle.cast_model.specs.History.{History}
-use Rattle.cast_model.specs.Rounds.{Rest, HoldTheSame, after_round}
+use Rattle.cast_model.specs.Replies.{IsAccepted, reply}
+use Rattle.cast_model.specs.Rounds.{Rest, AreAccepted, HoldTheSame, after_round, plan}
 use Rattle.cast_model.specs.Shown.{item_of}
-use Rattle.cast_world.specs.Group.{State, StandingFor, Continues}
+use Rattle.cast_world.specs.Group.{State, Stands, StandingFor, Continues, IsFar, IsRefusedForCause, TakesNoMemory}
+use Rattle.cast_world.specs.Moves.{Awaits}
 use Rattle.cast_world.specs.Rounds.{TakesRound, Spreads}
+use Rattle.cast_c.specs.Numbers.{event_in, orders_bytes}
+use Rattle.cast_c.specs.declared.numbers.EventNumbers.{EventNumbers}
 use Rattle.cast_c.specs.declared.numbers.ItemNumbers.{ItemNumbers}
 use Rattle.cast_c.specs.declared.numbers.ReplyNumbers.{ReplyNumbers}
 
@@ -66,10 +71,32 @@ abbrev pub numbers_of_reply : Result Answer StepFault → ReplyNumbers
 numbers_of_reply (Ok answer) = numbers_of_answer answer
 numbers_of_reply (Err fault) = only_number (step_code fault) 0
 
-pub record IsStep (old : State) (event : Event) (told : ReplyNumbers) (new : State) : Type 0 where
-  pub reply : Result Answer StepFault
-  pub numbers : told ≡ numbers_of_reply reply
-  pub continues : StandingFor old (λ config past. Continues config past event reply new)
+abbrev pub status_of_reply : Result Answer StepFault → ℕ
+status_of_reply (Err Memory) = 5
+status_of_reply reply = 0
+
+-- the clauses of the call
+pub record IsStep (old : State) (event : Event) (status : ℕ) (told : ReplyNumbers) (new : State)
+    : Type 0 where
+  pub made : Result Answer StepFault
+  pub by_status : status ≡ status_of_reply made
+  pub numbers : told ≡ numbers_of_reply made
+  pub stands : StandingFor old (λ config past. Continues config past event made new)
+  pub err : OnErr made (new ≡ old)
+  pub far : StandingFor old (λ config past.
+      IsFar event → IsRefusedForCause config past event made)
+  pub sure : StandingFor old (λ config past.
+      TakesNoMemory config past event → made ≡ reply config past event)
+  pub awaited : OnErr made (Awaits old event)
+
+-- the same of an event that is given as numbers and bytes: these are of no event; or no memory was there to copy bytes that it orders
+abbrev pub IsStepOf : State → Option Event → ℕ → ReplyNumbers → State → Type 0
+IsStepOf old None status told new = ((status ≡ 1) ⊎ (status ≡ 5)) × (new ≡ old)
+IsStepOf old (Some event) status told new =
+    ((status ≡ 5) × (orders_bytes event ≡ true) × (new ≡ old)) ⊎ IsStep old event status told new
+
+abbrev pub IsStepBy : State → EventNumbers → List ℕ → ℕ → ReplyNumbers → State → Type 0
+IsStepBy old numbers bytes status told new = IsStepOf old (event_in numbers bytes) status told new
 
 abbrev pub numbers_of_round : Result ℕ StepFault → ReplyNumbers
 numbers_of_round (Ok frames) = only_number 0 frames
@@ -88,6 +115,9 @@ pub record IsRound (old : State) (status : ℕ) (told : ReplyNumbers) (new : Sta
   pub spreads : StandingFor old (λ config past. IfOk made (λ _. Spreads config past))
   pub rests : StandingFor old (λ config past. HoldTheSame config past →
       IfOk made (λ _. Rest config (after_round config past)))
+  pub second : (config : Config) (past : History) → IsAccepted config past →
+      AreAccepted config past (plan config past) → Stands config (after_round config past) old →
+      IfOk made (λ _. Rest config (after_round config (after_round config past)))
 
 abbrev pub numbers_of_item : Item → ItemNumbers
 numbers_of_item (Data bytes) = record { kind = 0; length = length bytes; instance = 0; value = 0 }

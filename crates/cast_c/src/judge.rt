@@ -1,10 +1,11 @@
 //! The judge: a record whole, or in pieces.
-ghost use Rattle.std.specs.Prelude.{◌≡◌, ℕ, ◌+◌, ◌^◌, ◌<◌, ◌≤◌, ◌++◌, ◌⊎◌, ◌∷◌, [], List, Option, None, Some, true, length, is_some, IfSome, IsSomeAnd};
+ghost use Rattle.std.specs.Prelude.{◌≡◌, ◌<◌, ◌⊎◌, [], None, true, length, is_some, IfSome, IsSomeAnd};
 ghost use Rattle.cast_record.specs.Verdicts.{verdict};
 ghost use Rattle.cast_record.specs.declared.verdict.Verdict.TheVariants.{Good, Bad};
 ghost use Rattle.cast_judge.specs.FitLines.{BeginsWell};
-ghost use Rattle.cast_judge.specs.Judged.{Stands, is_reading, is_refused};
+ghost use Rattle.cast_judge.specs.Judged.{Stands, is_reading};
 ghost use Rattle.cast_c.specs.Numbers.{Tells};
+ghost use Rattle.cast_c.specs.Pieces.{IsDone, IsFed};
 
 use crate::judge_handle::JudgeHandle;
 use crate::numbers::{VerdictNumbers, status_of};
@@ -17,7 +18,7 @@ use std::alloc::{AllocError, Global};
 pub extern "C" fn cast_c_judge(alloc: Global, text: &[u8], said: &mut VerdictNumbers) -> u32
     ensures good { result ≡ 0 → verdict text.now ≡ Good }
     ensures bad { result ≡ 3 → verdict text.now ≡ Bad said.new.line said.new.rule }
-    ensures memory { result ≡ 5 → BeginsWell [] text.now }
+    ensures memory { result ≡ 5 → (0 < length text.now) × BeginsWell [] text.now }
     ensures status { (result ≡ 0) ⊎ (result ≡ 3) ⊎ (result ≡ 5) }
 {
     tell(judge(alloc, text), said)
@@ -60,27 +61,20 @@ pub extern "C" fn cast_c_judge_new(alloc: Global, judge: &mut JudgeHandle) -> u3
 /// After 5 the judge answers 5.
 #[unsafe(no_mangle)]
 pub extern "C" fn cast_c_judge_feed(alloc: Global, judge: &mut JudgeHandle, piece: &[u8]) -> u32
-    ensures stands { (text : List ℕ) → IfSome judge.old.loose.judging (λ old. Stands text old →
-        result ≡ 0 → IsSomeAnd judge.new.loose.judging (Stands (text ++ piece.now))) }
-    ensures none { result ≡ 1 → judge.old.loose.judging ≡ None }
-    ensures long { IfSome judge.old.loose.judging (λ old. result ≡ 2 → 2 ^ 63 ≤ old.fed + length piece.now) }
-    ensures refused { result ≡ 5 → IsSomeAnd judge.new.loose.judging (λ new. is_refused new ≡ true) }
-    ensures held { is_some judge.new.loose.judging ≡ is_some judge.old.loose.judging }
+    ensures fed { IfSome judge.old.loose.judging (λ old.
+        IsSomeAnd judge.new.loose.judging (IsFed old piece.now result)) }
+    ensures none { judge.old.loose.judging ≡ None → (result ≡ 1) × (judge.new.loose.judging ≡ None) }
 {
-    let Some(mut judging) = judge.take(alloc) else {
+    let Some(mut held) = judge.take(alloc) else {
         return MISUSED;
     };
-    let status = feed(&mut judging, piece);
-    *judge = JudgeHandle::of(judging);
+    let status = feed(&mut held, piece);
+    *judge = JudgeHandle::of(held);
     status
 }
 
 fn feed(judging: &mut Judging, piece: &[u8]) -> u32
-    ensures stands { (text : List ℕ) → Stands text judging.old →
-        result ≡ 0 → Stands (text ++ piece.now) judging.new }
-    ensures some { (result ≡ 0) ⊎ (result ≡ 2) ⊎ (result ≡ 5) }
-    ensures long { result ≡ 2 → 2 ^ 63 ≤ judging.old.fed + length piece.now }
-    ensures refused { result ≡ 5 → is_refused judging.new ≡ true }
+    ensures { IsFed judging.old piece.now result judging.new }
 {
     if piece.len() as u64 >= judging.room() {
         return REFUSED;
@@ -99,18 +93,20 @@ pub extern "C" fn cast_c_judge_finish(
     judge: &mut JudgeHandle,
     said: &mut VerdictNumbers,
 ) -> u32
-    ensures good { (text : List ℕ) → IfSome judge.old.loose.judging (λ old. Stands text old →
-        result ≡ 0 → verdict text ≡ Good) }
-    ensures bad { (text : List ℕ) → IfSome judge.old.loose.judging (λ old. Stands text old →
-        result ≡ 3 → verdict text ≡ Bad said.new.line said.new.rule) }
-    ensures none { result ≡ 1 → judge.old.loose.judging ≡ None }
-    ensures refused { IfSome judge.old.loose.judging (λ old. result ≡ 5 → is_refused old ≡ true) }
+    ensures done { IfSome judge.old.loose.judging (λ old. IsDone old result said.new) }
+    ensures none { judge.old.loose.judging ≡ None → result ≡ 1 }
     ensures ended { judge.new.loose.judging ≡ None }
 {
     match judge.take(alloc) {
-        Some(judging) => tell(Box::into_inner(judging).finish(), said),
+        Some(held) => finish(Box::into_inner(held), said),
         None => MISUSED,
     }
+}
+
+fn finish(judging: Judging, said: &mut VerdictNumbers) -> u32
+    ensures { IsDone judging result said.new }
+{
+    tell(judging.finish(), said)
 }
 
 /// Drops the judge, where the handle holds one.

@@ -1,6 +1,7 @@
 //! What crosses as numbers, and what it stands for.
-ghost use Rattle.std.specs.Prelude.{◌≡◌, None, Some, IfOk, IfErr};
-ghost use Rattle.cast_c.specs.Numbers.{IsOf, event_in, first_fault, item_in, says, status_of};
+ghost use Rattle.std.specs.Prelude.{◌≡◌, true, None, Some, IfOk, IfErr, OnErr, IsSomeAnd};
+ghost use Rattle.cast_message.specs.declared.message.Item.TheVariants.{Data};
+ghost use Rattle.cast_c.specs.Numbers.{orders_bytes, IsOf, event_in, first_fault, item_in, says, status_of};
 
 use crate::status::{BAD, DONE};
 use bytes::Bytes;
@@ -106,7 +107,8 @@ impl ConfigNumbers {
 impl EventNumbers {
     /// The event of these numbers, with the bytes of its item, where each kind has one. The bytes are copied.
     pub(crate) fn event(&self, alloc: Global, bytes: &[u8]) -> Result<Option<Event>, AllocError>
-        ensures { IfOk result (λ event. event ≡ event_in self.now bytes.now) }
+        ensures ok { IfOk result (λ event. event ≡ event_in self.now bytes.now) }
+        ensures err { OnErr result (IsSomeAnd (event_in self.now bytes.now) (λ event. orders_bytes event ≡ true)) }
     {
         let node = NodeId(self.node);
         let to = NodeId(self.to);
@@ -138,7 +140,8 @@ impl EventNumbers {
     }
 
     fn item(&self, alloc: Global, bytes: &[u8]) -> Result<Option<Item>, AllocError>
-        ensures { IfOk result (λ item. item ≡ item_in self.now bytes.now) }
+        ensures ok { IfOk result (λ item. item ≡ item_in self.now bytes.now) }
+        ensures err { OnErr result (item_in self.now bytes.now ≡ Some (Data bytes.now)) }
     {
         let item = match self.item {
             0 => Item::Data(Payload::new(Bytes::copy_from_slice(alloc, bytes)?)),

@@ -1,7 +1,6 @@
 //! A group takes an event.
-ghost use Rattle.std.specs.Prelude.{◌≡◌, ◌⊎◌, None, is_some, IfSome, IsSomeAnd};
-ghost use Rattle.cast_c.specs.Numbers.{event_in};
-ghost use Rattle.cast_c.specs.Steps.{IsStep};
+ghost use Rattle.std.specs.Prelude.{◌≡◌, None, IfSome, IsSomeAnd};
+ghost use Rattle.cast_c.specs.Steps.{IsStep, IsStepBy};
 
 use crate::deliveries::numbers_of;
 use crate::numbers::{EventNumbers, ReplyNumbers};
@@ -21,12 +20,9 @@ pub extern "C" fn cast_c_world_step(
     bytes: &[u8],
     reply: &mut ReplyNumbers,
 ) -> u32
-    ensures stepped { IfSome world.old.loose.world (λ old. IfSome (event_in event.now bytes.now) (λ taken.
-        result ≡ 0 → IsSomeAnd world.new.loose.world (IsStep old taken reply.new))) }
-    ensures unknown { result ≡ 1 → (world.old.loose.world ≡ None) ⊎ (event_in event.now bytes.now ≡ None) }
-    ensures kept { (result ≡ 0) ⊎ (world.new.loose.world ≡ world.old.loose.world) }
-    ensures held { is_some world.new.loose.world ≡ is_some world.old.loose.world }
-    ensures status { (result ≡ 0) ⊎ (result ≡ 1) ⊎ (result ≡ 5) }
+    ensures stepped { IfSome world.old.loose.world (λ old.
+        IsSomeAnd world.new.loose.world (IsStepBy old event.now bytes.now result reply.new)) }
+    ensures none { world.old.loose.world ≡ None → (result ≡ 1) × (world.new.loose.world ≡ None) }
 {
     let Some(mut held) = world.take(alloc) else {
         return MISUSED;
@@ -43,11 +39,7 @@ fn step_by(
     bytes: &[u8],
     reply: &mut ReplyNumbers,
 ) -> u32
-    ensures stepped { IfSome (event_in event.now bytes.now) (λ taken.
-        result ≡ 0 → IsStep world.old taken reply.new world.new) }
-    ensures unknown { result ≡ 1 → event_in event.now bytes.now ≡ None }
-    ensures kept { (result ≡ 0) ⊎ (world.new ≡ world.old) }
-    ensures status { (result ≡ 0) ⊎ (result ≡ 1) ⊎ (result ≡ 5) }
+    ensures { IsStepBy world.old event.now bytes.now result reply.new world.new }
 {
     let Ok(event) = event.event(alloc, bytes) else {
         return OUT_OF_MEMORY;
@@ -59,9 +51,7 @@ fn step_by(
 }
 
 fn step(world: &mut World, event: &Event, reply: &mut ReplyNumbers) -> u32
-    ensures stepped { result ≡ 0 → IsStep world.old event.now reply.new world.new }
-    ensures kept { (result ≡ 0) ⊎ (world.new ≡ world.old) }
-    ensures status { (result ≡ 0) ⊎ (result ≡ 5) }
+    ensures { IsStep world.old event.now result reply.new world.new }
 {
     let answered = world.step(event);
     *reply = numbers_of(&answered);
