@@ -31,6 +31,9 @@ pub struct JudgeHandle {
     ghost same: { is_some loose.judging ≡ held },
 }
 
+// What it owns may go to another thread.
+unsafe impl Send for LooseJudge {}
+
 impl LooseJudge {
     fn of_parts(parts: Parts<Judging, Global>) -> LooseJudge
         ensures { result.judging ≡ Some parts.value }

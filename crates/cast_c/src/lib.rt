@@ -17,3 +17,14 @@ mod step;
 mod text;
 mod world;
 mod world_handle;
+
+use judge_handle::JudgeHandle;
+use world_handle::WorldHandle;
+
+// C may hand each handle to another thread.
+fn handles_cross_threads() {
+    cross::<WorldHandle>();
+    cross::<JudgeHandle>();
+}
+
+fn cross<T: Send>() {}

@@ -31,6 +31,9 @@ pub struct WorldHandle {
     ghost same: { is_some loose.world ≡ held },
 }
 
+// What it owns may go to another thread.
+unsafe impl Send for LooseWorld {}
+
 impl LooseWorld {
     fn of_parts(parts: Parts<World, Global>) -> LooseWorld
         ensures { result.world ≡ Some parts.value }
