@@ -8,7 +8,6 @@ use Rattle.std.specs.Prelude.{◌≡◌, ℕ, ◌<◌, ◌≤◌, List, length, 
 use Rattle.std.specs.Global.{Vec}
 use Rattle.cast_message.specs.Limits.{config_code}
 use Rattle.cast_script.specs.Script.{Reads}
-use Rattle.cast_script.specs.declared.script.ScriptFault.{ScriptFault}
 use Rattle.cast_script.specs.declared.script.ScriptFault.TheVariants as scripts
 use Rattle.cast_text.specs.Text.{input_limit}
 use Rattle.cast_text.specs.declared.fault.TextFault.{TextFault}

@@ -44,6 +44,7 @@ pub extern "C" fn cast_c_judge_new(alloc: Global, judge: &mut JudgeHandle) -> u3
         (λ made. Stands [] made × (is_reading made ≡ true) × (made.fed ≡ 0)) }
     ensures held { result ≡ 1 → is_some judge.old.loose.judging ≡ true }
     ensures kept { (result ≡ 0) ⊎ (judge.new ≡ judge.old) }
+    ensures status { (result ≡ 0) ⊎ (result ≡ 1) ⊎ (result ≡ 5) }
 {
     if judge.is_held() {
         return MISUSED;

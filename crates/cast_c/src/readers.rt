@@ -1,5 +1,5 @@
 //! What a group shows. The group is the same after each of these calls.
-ghost use Rattle.std.specs.Prelude.{◌≡◌, ◌↔◌, ◌&&◌, None, IfSome, IsTrue, nat_lt};
+ghost use Rattle.std.specs.Prelude.{◌≡◌, ◌⊎◌, ◌↔◌, ◌&&◌, None, IfSome, IsTrue, cond, is_some, nat_lt};
 ghost use Rattle.cast_message.specs.declared.config.Mode.TheVariants.{Uniform};
 ghost use Rattle.cast_model.specs.Delivery.{decision};
 ghost use Rattle.cast_model.specs.History.{is_live};
@@ -109,7 +109,7 @@ pub extern "C" fn cast_c_world_decision(
 ) -> u32
     ensures shown { IfSome world.old.loose.world (λ old. StandingFor old (λ config past.
         decision_by is_decided.new value.new ≡ decision config past node instance)) }
-    ensures none { world.old.loose.world ≡ None → result ≡ 1 }
+    ensures status { result ≡ cond (is_some world.old.loose.world) 0 1 }
     ensures kept { world.new.loose.world ≡ world.old.loose.world }
 {
     let Some(held) = world.take(alloc) else {
@@ -139,6 +139,7 @@ pub extern "C" fn cast_c_world_owed(
     ensures shown { IfSome world.old.loose.world (λ old. StandingFor old (λ config past.
         ShowsOwed config past from to (shown_by result count.new))) }
     ensures none { world.old.loose.world ≡ None → result ≡ 1 }
+    ensures known { IfSome world.old.loose.world (λ _. (result ≡ 0) ⊎ (result ≡ 2)) }
     ensures kept { world.new.loose.world ≡ world.old.loose.world }
 {
     let Some(held) = world.take(alloc) else {
@@ -165,7 +166,7 @@ pub extern "C" fn cast_c_world_live(
 ) -> u32
     ensures shown { IfSome world.old.loose.world (λ old. StandingFor old (λ config past.
         is_so.new ≡ (nat_lt node config.nodes && is_live past node))) }
-    ensures none { world.old.loose.world ≡ None → result ≡ 1 }
+    ensures status { result ≡ cond (is_some world.old.loose.world) 0 1 }
     ensures kept { world.new.loose.world ≡ world.old.loose.world }
 {
     let Some(held) = world.take(alloc) else {
@@ -190,7 +191,7 @@ pub extern "C" fn cast_c_world_at_rest(
     ensures uniform { IfSome world.old.loose.world (λ old. StandingFor old (λ config past.
         IsTrue is_so.new → config.mode ≡ Uniform →
         HaveFewCrashed config past → HaveWhatAnyDelivered config past)) }
-    ensures none { world.old.loose.world ≡ None → result ≡ 1 }
+    ensures status { result ≡ cond (is_some world.old.loose.world) 0 1 }
     ensures kept { world.new.loose.world ≡ world.old.loose.world }
 {
     let Some(held) = world.take(alloc) else {

@@ -24,6 +24,7 @@ pub extern "C" fn cast_c_run(
     ensures written { (result ≡ 0) ⊎ (result ≡ 6) → IsText (λ text. WritesRecord (Some script.now) (Some []) (Some text))
         result told.new out.old out.new }
     ensures refused { result ≡ 2 → IsRefused script.now told.new }
+    ensures kept { (result ≡ 0) ⊎ (out.new ≡ out.old) }
 {
     put_text(record_of(alloc, script), out, told)
 }
@@ -51,6 +52,7 @@ pub extern "C" fn cast_c_draw(
     ensures written { (result ≡ 0) ⊎ (result ≡ 6) → IsText (λ text. WritesDrawing (record { from = from; to = to }) (Some script.now) (Some []) (Some text))
         result told.new out.old out.new }
     ensures refused { result ≡ 2 → IsRefused script.now told.new }
+    ensures kept { (result ≡ 0) ⊎ (out.new ≡ out.old) }
 {
     put_text(picture_of(alloc, script, Window { from, to }), out, told)
 }

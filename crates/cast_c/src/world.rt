@@ -25,6 +25,7 @@ pub extern "C" fn cast_c_world_new(
     ensures refused { result ≡ 2 → first_code config.now ≡ Some fault.new }
     ensures held { result ≡ 1 → is_some world.old.loose.world ≡ true }
     ensures kept { (result ≡ 0) ⊎ (world.new ≡ world.old) }
+    ensures status { (result ≡ 0) ⊎ (result ≡ 1) ⊎ (result ≡ 2) ⊎ (result ≡ 5) }
 {
     if world.is_held() {
         return MISUSED;

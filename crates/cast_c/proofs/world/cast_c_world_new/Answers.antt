@@ -1,4 +1,4 @@
-use Rattle.std.proofs.Common.{◌≡◌, List, [], IsSomeAnd, sym, subst}
+use Rattle.std.proofs.Common.{[], IsSomeAnd, sym, subst}
 use Rattle.cast_world.specs.Group.{State, Stands}
 use Rattle.cast_c.specs.Numbers.{IsNew}
 use Rattle.cast_c.proofs.world.cast_c_world_new.Goals as goal

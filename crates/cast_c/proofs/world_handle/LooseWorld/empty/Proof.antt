@@ -1,15 +1,15 @@
 -- `empty` makes a null pointer, which owns nothing.
-use Rattle.std.proofs.Common.{◌≡◌, List, [], ◌∷◌, ◌++◌, refl, Some, None, w64, lit<}
-use mir.Val.{Val, vint, vstruct, vcons, vnil}
-use base.Logic.{SProp, emp, id⊢}
+use Rattle.std.proofs.Common.{◌≡◌, List, [], ◌∷◌, refl, None, lit<}
+use mir.Val.{Val, vstruct, vcons, vnil}
+use base.Logic.{SProp, emp}
 use base.Fml.{ftrue}
-use types.Kit.{‵, raw, ◌⊛◌, ◌$◌, ◌∵◌, !, qed, by, move, keep, drop, split, join, fsplit, fjoin, fpack, use0, feq_i}
-use types.Run.{of_opd, lit, no_more, and_then, returns, enter}
+use types.Kit.{‵, raw, ◌⊛◌, ◌$◌, ◌∵◌, !, qed, by, move, keep, split, fjoin, fpack, use0, feq_i}
+use types.Run.{lit, no_more, and_then, returns, enter}
 use types.ByLocal.{alloc_all, pass_all, free_all, look_at, sets}
 use types.Part.{agg}
 use contract.Monad.{fact, fact_i}
 use contract.Running.{tables}
-use denote.RattleType.{RattleType, Valss}
+use denote.RattleType.{Valss}
 use denote.Builtin.{RawPtr}
 use denote.RawPtr.{null_ptr, ptr_val}
 use denote.Steps.{nothing}
