@@ -3,6 +3,8 @@
 
 usage: broadcast.py RECORD               the record is good
        broadcast.py --faulty RECORD      members deliver an item when it arrives, and not in its turn: the record is bad
+       broadcast.py --judge [--faulty] RECORD      each line is also judged as it is logged, and the verdict is written; this takes the
+                                         module castgroup (bindings/python)
 
 Each member is a thread with a UDP socket. It sends its items to the others, and again what they don't acknowledge. The first
 datagrams of one item are lost on purpose, as those of the loopback seldom are: so later items arrive before it.
@@ -19,10 +21,10 @@ RESEND_SECONDS, PATIENCE_SECONDS = 0.05, 30
 class Record:
     """What happened, a line an event. One lock for all members, so that the lines have one order."""
 
-    def __init__(self):
-        self.lock = threading.Lock()
+    def __init__(self, judge=None):
+        self.lock, self.judge, self.lines = threading.Lock(), judge, []
         # No crash is tolerated, and nothing is agreed on.
-        self.lines = [f"cast/1 {MEMBERS} 0 1"]
+        self.log(f"cast/1 {MEMBERS} 0 1")
 
     def broadcast(self, member, item):
         """To be called before the item is sent."""
@@ -34,11 +36,14 @@ class Record:
 
     def log(self, line):
         with self.lock:
-            self.lines.append(line)
+            self.lines.append(line + "\n")
+            if self.judge:
+                self.judge.feed(self.lines[-1].encode())
 
     def text(self):
-        with self.lock:
-            return "".join(line + "\n" for line in [*self.lines, "end"])
+        """To be called once, when no member logs any more."""
+        self.log("end")
+        return "".join(self.lines)
 
 
 def number_in(item):
@@ -110,12 +115,19 @@ class Member(threading.Thread):
         self.delivered[sender] += 1
 
 
+def make_judge():
+    import castgroup
+
+    return castgroup.Judge()
+
+
 def main():
     *options, path = sys.argv[1:] or [""]
-    if options not in ([], ["--faulty"]) or not path or path.startswith("-"):
+    if options not in ([], ["--faulty"], ["--judge"], ["--judge", "--faulty"]) or not path or path.startswith("-"):
         sys.exit(__doc__)
-    record = Record()
-    members = [Member(me, record, bool(options)) for me in range(MEMBERS)]
+    judge = make_judge() if "--judge" in options else None
+    record = Record(judge)
+    members = [Member(me, record, "--faulty" in options) for me in range(MEMBERS)]
     for member in members:
         member.join_group(members)
     for member in members:
@@ -125,6 +137,9 @@ def main():
         member.join(max(0, end - time.monotonic()))
     with open(path, "w", encoding="ascii") as file:
         file.write(record.text())
+    if judge:
+        verdict = judge.finish()
+        print("good" if verdict.good else f"bad {verdict.line} {verdict.rule}")
     if any(member.is_alive() for member in members):
         sys.exit(f"the members had not finished after {PATIENCE_SECONDS} seconds")
 

@@ -1,0 +1,112 @@
+/* Calls that no caller should make, and what they answer: null pointers, handles that hold nothing or hold something where they should
+ * not, buffers that are too short, numbers of no kind. Ends with the number of the first line that is wrong, or 0. */
+#include "castgroup.h"
+#include <string.h>
+
+#define NEED(holds) do { if (!(holds)) return __LINE__ % 251 + 1; } while (0)
+
+static const char SCRIPT[] = "{\"nodes\":2,\"faults\":0,\"choices\":1,\"events\":[[\"order\",0,\"data\",\"61\"]]}";
+static const char RECORD[] = "cast/1 2 0 1\nb 0 0 data:61\nd 0 0 0 data:61\nend\n";
+
+static int judges(void) {
+    struct cast_verdict verdict = {9, 9};
+    struct cast_judging judge = CAST_EMPTY;
+    NEED(cast_judge(NULL, 1, &verdict) == CAST_MISUSED && cast_judge(RECORD, 1, NULL) == CAST_MISUSED);
+    NEED(cast_judge(RECORD, (size_t)-1, &verdict) == CAST_MISUSED);
+    NEED(cast_judge(NULL, 0, &verdict) == CAST_BAD && verdict.line == 1 && verdict.rule == 0);
+    NEED(cast_judge(RECORD, sizeof RECORD - 1, &verdict) == CAST_DONE && verdict.line == 0);
+    NEED(cast_judge_new(NULL) == CAST_MISUSED && cast_judge_feed(&judge, "a", 1) == CAST_MISUSED);
+    NEED(cast_judge_finish(&judge, &verdict) == CAST_MISUSED);
+    NEED(cast_judge_new(&judge) == CAST_DONE && cast_judge_new(&judge) == CAST_MISUSED);
+    NEED(cast_judge_feed(NULL, "a", 1) == CAST_MISUSED && cast_judge_feed(&judge, NULL, 1) == CAST_MISUSED);
+    NEED(cast_judge_feed(&judge, NULL, 0) == CAST_DONE && cast_judge_finish(&judge, NULL) == CAST_MISUSED);
+    NEED(cast_judge_feed(&judge, RECORD, sizeof RECORD - 1) == CAST_DONE);
+    NEED(cast_judge_finish(&judge, &verdict) == CAST_DONE);
+    NEED(cast_judge_feed(&judge, "a", 1) == CAST_MISUSED && cast_judge_finish(&judge, &verdict) == CAST_MISUSED);
+    NEED(cast_judge_new(&judge) == CAST_DONE && cast_judge_feed(&judge, "cast/1 2", 8) == CAST_DONE);
+    cast_judge_drop(&judge);
+    cast_judge_drop(&judge);
+    cast_judge_drop(NULL);
+    return 0;
+}
+
+/* A handle that holds no group answers alike, one that was never made, whose making was refused, or that was dropped. */
+static int is_empty(struct cast_world *world) {
+    struct cast_event event = {.kind = CAST_CRASH};
+    struct cast_reply reply;
+    struct cast_item item;
+    uint64_t count;
+    bool is_so = false;
+    char bytes[4];
+    NEED(cast_world_step(world, &event, NULL, 0, &reply) == CAST_MISUSED && cast_world_round(world, &reply) == CAST_MISUSED);
+    NEED(cast_world_delivered(world, 0, 0, &count) == CAST_MISUSED && cast_world_owed(world, 0, 1, &count) == CAST_MISUSED);
+    NEED(cast_world_item(world, 0, 0, 0, &item, bytes, sizeof bytes) == CAST_MISUSED);
+    NEED(cast_world_decision(world, 0, 0, &is_so, &count) == CAST_MISUSED && cast_world_live(world, 0, &is_so) == CAST_MISUSED);
+    NEED(cast_world_at_rest(world, &is_so) == CAST_MISUSED);
+    cast_world_drop(world);
+    return 0;
+}
+
+static int worlds(void) {
+    struct cast_world world = CAST_EMPTY;
+    struct cast_config config = CAST_CONFIG(2, 0), wrong = CAST_CONFIG(2, 1), odd = CAST_CONFIG(2, 0);
+    struct cast_event event = {.kind = CAST_ORDER, .item = CAST_DATA};
+    struct cast_reply reply;
+    struct cast_item item;
+    uint64_t fault, count;
+    char bytes[4] = "zzz";
+    wrong.mode = 1, odd.mode = 2;
+    NEED(is_empty(NULL) == 0 && is_empty(&world) == 0);
+    NEED(cast_world_new(NULL, &config, &fault) == CAST_MISUSED && cast_world_new(&world, NULL, &fault) == CAST_MISUSED);
+    NEED(cast_world_new(&world, &config, NULL) == CAST_MISUSED);
+    NEED(cast_world_new(&world, &wrong, &fault) == CAST_REFUSED && fault == 7 && is_empty(&world) == 0);
+    NEED(cast_world_new(&world, &odd, &fault) == CAST_REFUSED && fault == 7);
+    NEED(cast_world_new(&world, &config, &fault) == CAST_DONE && cast_world_new(&world, &config, &fault) == CAST_MISUSED);
+    NEED(cast_world_step(&world, NULL, NULL, 0, &reply) == CAST_MISUSED);
+    NEED(cast_world_step(&world, &event, NULL, 0, NULL) == CAST_MISUSED);
+    NEED(cast_world_step(&world, &event, NULL, 3, &reply) == CAST_MISUSED);
+    event.item = 3;
+    NEED(cast_world_step(&world, &event, "abc", 3, &reply) == CAST_MISUSED);
+    event.kind = 5;
+    NEED(cast_world_step(&world, &event, "abc", 3, &reply) == CAST_MISUSED);
+    event.kind = CAST_ORDER, event.item = CAST_DATA;
+    NEED(cast_world_step(&world, &event, "abc", 3, &reply) == CAST_DONE && reply.code == 0 && reply.deliveries == 1);
+    event.node = 255;
+    NEED(cast_world_step(&world, &event, "abc", 3, &reply) == CAST_DONE && reply.code == 1);
+    NEED(cast_world_item(&world, 0, 0, 0, NULL, bytes, 4) == CAST_MISUSED);
+    NEED(cast_world_item(&world, 0, 0, 0, &item, NULL, 4) == CAST_MISUSED);
+    NEED(cast_world_item(&world, 0, 0, 0, &item, bytes, 2) == CAST_TOO_SHORT && item.length == 3 && strcmp(bytes, "zzz") == 0);
+    NEED(cast_world_item(&world, 0, 0, 0, &item, NULL, 0) == CAST_TOO_SHORT && item.kind == CAST_DATA);
+    NEED(cast_world_item(&world, 0, 0, 0, &item, bytes, 3) == CAST_DONE && strcmp(bytes, "abc") == 0);
+    NEED(cast_world_item(&world, 0, 0, 1, &item, bytes, 3) == CAST_REFUSED);
+    NEED(cast_world_delivered(&world, 0, 2, &count) == CAST_REFUSED && cast_world_owed(&world, 1, 1, &count) == CAST_REFUSED);
+    NEED(cast_world_delivered(&world, 0, 0, NULL) == CAST_MISUSED && cast_world_round(&world, NULL) == CAST_MISUSED);
+    cast_world_drop(&world);
+    NEED(is_empty(&world) == 0);
+    NEED(cast_world_new(&world, &config, &fault) == CAST_DONE);
+    cast_world_drop(&world);
+    return 0;
+}
+
+static int texts(void) {
+    struct cast_text told;
+    char out[64];
+    memset(out, 'z', sizeof out);
+    NEED(cast_run(NULL, 1, out, sizeof out, &told) == CAST_MISUSED && cast_run(SCRIPT, 1, NULL, 1, &told) == CAST_MISUSED);
+    NEED(cast_run(SCRIPT, sizeof SCRIPT - 1, out, sizeof out, NULL) == CAST_MISUSED);
+    NEED(cast_run(SCRIPT, sizeof SCRIPT - 1, NULL, 0, &told) == CAST_TOO_SHORT && told.length == sizeof RECORD - 1);
+    NEED(cast_run(SCRIPT, sizeof SCRIPT - 1, out, sizeof RECORD - 2, &told) == CAST_TOO_SHORT && out[0] == 'z');
+    NEED(cast_run(SCRIPT, sizeof SCRIPT - 1, out, sizeof out, &told) == CAST_DONE && told.length == sizeof RECORD - 1);
+    NEED(memcmp(out, RECORD, sizeof RECORD - 1) == 0 && out[sizeof RECORD - 1] == 'z');
+    NEED(cast_run(NULL, 0, out, sizeof out, &told) == CAST_REFUSED && told.fault == 2);
+    NEED(cast_draw(SCRIPT, 5, 0, 9, out, sizeof out, &told) == CAST_REFUSED && told.fault == 2);
+    NEED(cast_draw(SCRIPT, sizeof SCRIPT - 1, 0, 9, out, sizeof out, &told) == CAST_TOO_SHORT && told.length > 1000);
+    return 0;
+}
+
+int main(void) {
+    int wrong = judges();
+    if (wrong == 0) wrong = worlds();
+    if (wrong == 0) wrong = texts();
+    return wrong;
+}

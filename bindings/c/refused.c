@@ -1,0 +1,94 @@
+/* Each allocation of the library refused in turn: a call then answers CAST_OUT_OF_MEMORY, what it was given is as it says, and nothing is
+ * left behind. To be linked with --wrap=malloc and --wrap=realloc. Ends with the number of the first line that is wrong, or 0. */
+#include "castgroup.h"
+#include <string.h>
+
+#define NEED(holds) do { if (!(holds)) return __LINE__ % 251 + 1; } while (0)
+
+void *__real_malloc(size_t size);
+void *__real_realloc(void *block, size_t size);
+
+/* So many allocations are still given; none is refused after the one. */
+static long left;
+static bool is_refused(void) { return left-- == 0; }
+
+void *__wrap_malloc(size_t size) { return is_refused() ? NULL : __real_malloc(size); }
+void *__wrap_realloc(void *block, size_t size) { return is_refused() ? NULL : __real_realloc(block, size); }
+
+static const char SCRIPT[] =
+    "{\"nodes\":3,\"faults\":1,\"choices\":2,\"events\":[[\"order\",0,\"data\",\"61\"],[\"order\",1,\"propose\",7,2],[\"settle\"]]}";
+static const char RECORD[] = "cast/1 2 0 1\nb 0 0 data:61\nd 0 0 0 data:61\nd 1 0 0 data:61\nend\n";
+static char out[65536];
+
+static int judges(void) {
+    struct cast_verdict verdict;
+    struct cast_judging judge = CAST_EMPTY;
+    uint32_t status = cast_judge(RECORD, sizeof RECORD - 1, &verdict), last = CAST_DONE;
+    NEED(status == CAST_DONE || status == CAST_OUT_OF_MEMORY);
+    status = cast_judge_new(&judge);
+    NEED(status == CAST_DONE || (status == CAST_OUT_OF_MEMORY && cast_judge_new(&judge) == CAST_DONE));
+    for (size_t at = 0; at < sizeof RECORD - 1; at += 5) {
+        size_t rest = sizeof RECORD - 1 - at;
+        status = cast_judge_feed(&judge, RECORD + at, rest < 5 ? rest : 5);
+        NEED(status == CAST_OUT_OF_MEMORY || (status == CAST_DONE && last == CAST_DONE));
+        last = status;
+    }
+    NEED(cast_judge_finish(&judge, &verdict) == last);
+    return 0;
+}
+
+static int worlds(void) {
+    struct cast_world world = CAST_EMPTY;
+    struct cast_config config = CAST_CONFIG(3, 1);
+    struct cast_event order = {.kind = CAST_ORDER, .item = CAST_DATA};
+    struct cast_reply reply;
+    struct cast_item item;
+    uint64_t fault, count;
+    bool is_so = false;
+    uint32_t status = cast_world_new(&world, &config, &fault);
+    NEED(status == CAST_DONE || (status == CAST_OUT_OF_MEMORY && cast_world_new(&world, &config, &fault) == CAST_DONE));
+    for (uint8_t node = 0; node < 3; node++) {
+        order.node = node;
+        status = cast_world_step(&world, &order, "abcd", 4, &reply);
+        if (status == CAST_OUT_OF_MEMORY) {
+            NEED(cast_world_delivered(&world, node, node, &count) == CAST_DONE && count == 0);
+            status = cast_world_step(&world, &order, "abcd", 4, &reply);
+        }
+        NEED(status == CAST_DONE && reply.code == 0 && reply.deliveries == 1);
+    }
+    for (int round = 0; round < 3; round++) {
+        status = cast_world_round(&world, &reply);
+        NEED(status == CAST_DONE || status == CAST_OUT_OF_MEMORY);
+    }
+    NEED(cast_world_at_rest(&world, &is_so) == CAST_DONE && is_so);
+    NEED(cast_world_item(&world, 2, 0, 0, &item, out, 4) == CAST_DONE && memcmp(out, "abcd", 4) == 0);
+    cast_world_drop(&world);
+    return 0;
+}
+
+static int texts(void) {
+    struct cast_text told;
+    uint32_t status = cast_run(SCRIPT, sizeof SCRIPT - 1, out, sizeof out, &told);
+    NEED(status == CAST_DONE || status == CAST_OUT_OF_MEMORY);
+    status = cast_draw(SCRIPT, sizeof SCRIPT - 1, 0, 9, out, sizeof out, &told);
+    NEED(status == CAST_DONE || status == CAST_OUT_OF_MEMORY);
+    return 0;
+}
+
+/* The calls, again and again, until none of their allocations is refused. */
+static int each(int (*calls)(void)) {
+    for (long given = 0; given < 100000; given++) {
+        left = given;
+        int wrong = calls();
+        if (wrong != 0) return wrong;
+        if (left >= 0) return given > 5 ? 0 : 254;
+    }
+    return 255;
+}
+
+int main(void) {
+    int wrong = each(judges);
+    if (wrong == 0) wrong = each(worlds);
+    if (wrong == 0) wrong = each(texts);
+    return wrong;
+}

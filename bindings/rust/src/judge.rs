@@ -1,0 +1,109 @@
+//! The judge of records.
+use crate::error::{JudgeError, OutOfMemory};
+use crate::raw;
+
+/// What a judge says of a record.
+#[derive(Clone, Copy, Debug, PartialEq, Eq)]
+pub enum Verdict {
+    /// It is a record, and no line breaks a rule.
+    Good,
+    /// This line, counted from 1, is the first that offends, and this is the least rule that it breaks, 0 to 6.
+    Bad {
+        /// The line.
+        line: u64,
+        /// The rule.
+        rule: u64,
+    },
+}
+
+/// The verdict on a record, or want of memory.
+///
+/// ```
+/// use castgroup::{judge, Verdict};
+///
+/// assert_eq!(judge(b"cast/1 2 0 1\nend\n"), Ok(Verdict::Good));
+/// ```
+pub fn judge(record: &[u8]) -> Result<Verdict, OutOfMemory> {
+    let mut said = raw::Verdict::default();
+    // SAFETY: see `raw`.
+    let status = unsafe { raw::cast_c_judge(record.as_ptr(), record.len(), &mut said) };
+    verdict(status, &said)
+}
+
+fn verdict(status: u32, said: &raw::Verdict) -> Result<Verdict, OutOfMemory> {
+    match status {
+        raw::DONE => Ok(Verdict::Good),
+        raw::BAD => Ok(Verdict::Bad { line: said.line, rule: said.rule }),
+        _ => Err(OutOfMemory),
+    }
+}
+
+/// A judge of a record that comes in pieces, however it is cut.
+///
+/// ```
+/// use castgroup::{Judge, Verdict};
+///
+/// let mut judge = Judge::new()?;
+/// judge.feed(b"cast/1 2 ")?;
+/// judge.feed(b"0 1\nend\n")?;
+/// assert_eq!(judge.finish()?, Verdict::Good);
+/// # Ok::<(), Box<dyn std::error::Error>>(())
+/// ```
+pub struct Judge {
+    handle: raw::Handle,
+}
+
+// SAFETY: a judge owns its memory, and calls of it take `&mut` or the judge itself.
+unsafe impl Send for Judge {}
+
+impl Judge {
+    /// A judge to which nothing was fed.
+    pub fn new() -> Result<Judge, OutOfMemory> {
+        let mut judge = Judge { handle: raw::Handle::EMPTY };
+        // SAFETY: see `raw`.
+        match unsafe { raw::cast_c_judge_new(&mut judge.handle) } {
+            raw::DONE => Ok(judge),
+            _ => Err(OutOfMemory),
+        }
+    }
+
+    /// Takes the next piece. After `OutOfMemory` that is the answer to every later one, and to `finish`.
+    pub fn feed(&mut self, piece: &[u8]) -> Result<(), JudgeError> {
+        // SAFETY: see `raw`.
+        match unsafe { raw::cast_c_judge_feed(&mut self.handle, piece.as_ptr(), piece.len()) } {
+            raw::DONE => Ok(()),
+            raw::REFUSED => Err(JudgeError::TooLong),
+            _ => Err(JudgeError::OutOfMemory),
+        }
+    }
+
+    /// The verdict on all pieces joined.
+    pub fn finish(mut self) -> Result<Verdict, OutOfMemory> {
+        let mut said = raw::Verdict::default();
+        // SAFETY: see `raw`. The handle is empty afterwards, so that the drop does nothing.
+        let status = unsafe { raw::cast_c_judge_finish(&mut self.handle, &mut said) };
+        verdict(status, &said)
+    }
+}
+
+impl Drop for Judge {
+    fn drop(&mut self) {
+        // SAFETY: see `raw`.
+        unsafe { raw::cast_c_judge_drop(&mut self.handle) }
+    }
+}
+
+impl std::io::Write for Judge {
+    /// Feeds the judge.
+    fn write(&mut self, piece: &[u8]) -> std::io::Result<usize> {
+        match self.feed(piece) {
+            Ok(()) => Ok(piece.len()),
+            Err(JudgeError::OutOfMemory) => Err(std::io::Error::from(std::io::ErrorKind::OutOfMemory)),
+            Err(fault) => Err(std::io::Error::new(std::io::ErrorKind::InvalidInput, fault)),
+        }
+    }
+
+    fn flush(&mut self) -> std::io::Result<()> {
+        Ok(())
+    }
+}

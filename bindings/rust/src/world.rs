@@ -1,0 +1,153 @@
+//! A group as one value.
+use crate::error::{ConfigError, Refusal, StepError};
+use crate::event::{Config, Event, Item, Reply};
+use crate::raw;
+use std::cell::UnsafeCell;
+
+/// The longest payload that a group takes.
+const MOST_BYTES: usize = 1_024;
+
+/// A group: events go in, replies come out, and readers show what each node has delivered, decided and owes. It may go to another
+/// thread, and is used by one at a time.
+///
+/// ```compile_fail
+/// fn is_sync<T: Sync>() {}
+/// is_sync::<castgroup::World>();
+/// ```
+pub struct World {
+    // The library takes the group out of its handle for each call, a reader's too.
+    handle: UnsafeCell<raw::Handle>,
+}
+
+// SAFETY: a group owns its memory. It is not `Sync`, so its calls come one after another.
+unsafe impl Send for World {}
+
+impl World {
+    /// A group in which nothing has happened.
+    ///
+    /// ```
+    /// use castgroup::{Config, ConfigError, World};
+    ///
+    /// assert!(World::new(&Config::of(3, 1)).is_ok());
+    /// assert_eq!(World::new(&Config::of(0, 0)).err(), Some(ConfigError::Nodes));
+    /// ```
+    pub fn new(config: &Config) -> Result<World, ConfigError> {
+        let mut handle = raw::Handle::EMPTY;
+        let mut fault = 0;
+        // SAFETY: see `raw`.
+        match unsafe { raw::cast_c_world_new(&mut handle, &config.numbers(), &mut fault) } {
+            raw::DONE => Ok(World { handle: UnsafeCell::new(handle) }),
+            raw::REFUSED => Err(ConfigError::from_code(fault).unwrap_or(ConfigError::Mode)),
+            _ => Err(ConfigError::OutOfMemory),
+        }
+    }
+
+    /// Takes one event. A refused one changes nothing.
+    ///
+    /// ```
+    /// use castgroup::{Config, Event, Refusal, StepError, World};
+    ///
+    /// let mut world = World::new(&Config::of(2, 0)).unwrap();
+    /// let crash = Event::Crash { node: 1 };
+    /// assert!(world.step(&crash).is_ok());
+    /// assert_eq!(world.step(&crash), Err(StepError::Refused(Refusal::Crashed)));
+    /// ```
+    pub fn step(&mut self, event: &Event) -> Result<Reply, StepError> {
+        let (numbers, bytes) = event.numbers();
+        let mut told = raw::Reply::default();
+        // SAFETY: see `raw`.
+        let status = unsafe {
+            raw::cast_c_world_step(self.handle.get_mut(), &numbers, bytes.as_ptr(), bytes.len(), &mut told)
+        };
+        accept(status, &told)?;
+        Ok(event.reply(&told))
+    }
+
+    /// Takes the events of one round: all that live nodes owe one another is sent, taken and acknowledged. Answers how many frames
+    /// were made. Two rounds that are not refused bring rest.
+    pub fn round(&mut self) -> Result<u64, StepError> {
+        let mut told = raw::Reply::default();
+        // SAFETY: see `raw`.
+        let status = unsafe { raw::cast_c_world_round(self.handle.get_mut(), &mut told) };
+        accept(status, &told)?;
+        Ok(told.number)
+    }
+
+    /// How many items `node` delivered from `sender`, where both are nodes.
+    pub fn delivered_count(&self, node: u8, sender: u8) -> Option<u64> {
+        let mut count = 0;
+        // SAFETY: see `raw`.
+        let status = unsafe { raw::cast_c_world_delivered(self.handle.get(), node, sender, &mut count) };
+        (status == raw::DONE).then_some(count)
+    }
+
+    /// The item with this number, from 0 on, of those that `node` delivered from `sender`.
+    pub fn item(&self, node: u8, sender: u8, number: u64) -> Option<Item> {
+        let mut told = raw::Item::default();
+        let mut room = [0; MOST_BYTES];
+        // SAFETY: see `raw`.
+        let status = unsafe {
+            raw::cast_c_world_item(self.handle.get(), node, sender, number, &mut told, room.as_mut_ptr(), room.len())
+        };
+        if status != raw::DONE {
+            return None;
+        }
+        Some(match told.kind {
+            0 => Item::Data(room[..told.length as usize].to_vec()),
+            1 => Item::Propose { instance: told.instance, value: told.value },
+            _ => Item::Close,
+        })
+    }
+
+    /// The items that `node` delivered from `sender`, in order, where both are nodes.
+    pub fn delivered(&self, node: u8, sender: u8) -> Option<Vec<Item>> {
+        let count = self.delivered_count(node, sender)?;
+        (0..count).map(|number| self.item(node, sender, number)).collect()
+    }
+
+    /// The value that `node` decided in the instance, if it did.
+    pub fn decision(&self, node: u8, instance: u64) -> Option<u64> {
+        let (mut is_decided, mut value) = (false, 0);
+        // SAFETY: see `raw`.
+        unsafe { raw::cast_c_world_decision(self.handle.get(), node, instance, &mut is_decided, &mut value) };
+        is_decided.then_some(value)
+    }
+
+    /// How many slots of what `from` gives `to` are not acknowledged, where both are nodes and not the same.
+    pub fn owed(&self, from: u8, to: u8) -> Option<u64> {
+        let mut count = 0;
+        // SAFETY: see `raw`.
+        let status = unsafe { raw::cast_c_world_owed(self.handle.get(), from, to, &mut count) };
+        (status == raw::DONE).then_some(count)
+    }
+
+    /// Whether `node` is one of the group and has not crashed.
+    pub fn live(&self, node: u8) -> bool {
+        let mut is_so = false;
+        // SAFETY: see `raw`.
+        unsafe { raw::cast_c_world_live(self.handle.get(), node, &mut is_so) };
+        is_so
+    }
+
+    /// Whether no live node owes a live node a slot. Then live nodes have delivered the same.
+    pub fn at_rest(&self) -> bool {
+        let mut is_so = false;
+        // SAFETY: see `raw`.
+        unsafe { raw::cast_c_world_at_rest(self.handle.get(), &mut is_so) };
+        is_so
+    }
+}
+
+fn accept(status: u32, told: &raw::Reply) -> Result<(), StepError> {
+    if status != raw::DONE {
+        return Err(StepError::OutOfMemory);
+    }
+    Refusal::from_code(told.code).map_or(Ok(()), |refusal| Err(StepError::Refused(refusal)))
+}
+
+impl Drop for World {
+    fn drop(&mut self) {
+        // SAFETY: see `raw`.
+        unsafe { raw::cast_c_world_drop(self.handle.get_mut()) }
+    }
+}

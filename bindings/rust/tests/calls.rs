@@ -1,0 +1,102 @@
+//! Refusals, errors, and handles.
+use castgroup::{Config, ConfigError, Event, Item, Judge, Mode, OutOfMemory, Refusal, Reply, StepError, TextError, World};
+use std::error::Error;
+use std::io::Write;
+
+fn is_send<T: Send>() {}
+
+#[test]
+fn a_group_goes_to_another_thread() {
+    is_send::<World>();
+    is_send::<Judge>();
+    let mut world = World::new(&Config::of(3, 1)).unwrap();
+    world.step(&Event::Order { node: 0, item: Item::Data(vec![1, 2]) }).unwrap();
+    let world = std::thread::spawn(move || {
+        world.round().unwrap();
+        world.round().unwrap();
+        world
+    })
+    .join()
+    .unwrap();
+    assert!(world.at_rest());
+    assert_eq!(world.delivered(2, 0), Some(vec![Item::Data(vec![1, 2])]));
+}
+
+#[test]
+fn configurations_are_refused_by_their_first_fault() {
+    let refused = |config: Config| World::new(&config).err();
+    assert_eq!(refused(Config::of(65, 0)), Some(ConfigError::Nodes));
+    assert_eq!(refused(Config::of(2, 2)), Some(ConfigError::Faults));
+    assert_eq!(refused(Config { choices: 0, ..Config::of(2, 0) }), Some(ConfigError::Choices));
+    assert_eq!(refused(Config { item_limit: 4_097, ..Config::of(2, 0) }), Some(ConfigError::ItemLimit));
+    assert_eq!(refused(Config { log_limit: 0, ..Config::of(2, 0) }), Some(ConfigError::LogLimit));
+    assert_eq!(refused(Config { box_size: u64::MAX, ..Config::of(2, 0) }), Some(ConfigError::BoxSize));
+    assert_eq!(refused(Config { mode: Mode::Uniform, ..Config::of(2, 1) }), Some(ConfigError::Mode));
+}
+
+#[test]
+fn refused_events_have_their_codes() {
+    let mut world = World::new(&Config::of(2, 1)).unwrap();
+    let mut code = |event| match world.step(&event) {
+        Err(StepError::Refused(refusal)) => refusal.code(),
+        _ => 0,
+    };
+    let data = |length| Item::Data(vec![0; length]);
+    assert_eq!(code(Event::Order { node: 2, item: data(1) }), 1);
+    assert_eq!(code(Event::Send { from: 1, to: 1, slot: 0 }), 2);
+    assert_eq!(code(Event::Order { node: 0, item: data(1_025) }), 5);
+    assert_eq!(code(Event::Order { node: 0, item: data(1_024) }), 0);
+    assert_eq!(code(Event::Send { from: 0, to: 1, slot: 1 }), 8);
+    assert_eq!(code(Event::Ack { from: 1, to: 0, slot: 0 }), 10);
+    assert_eq!(code(Event::Arrive { from: 0, seq: 0 }), 11);
+    assert_eq!(code(Event::Order { node: 0, item: Item::Close }), 0);
+    assert_eq!(code(Event::Order { node: 0, item: Item::Close }), 4);
+    assert_eq!(code(Event::Crash { node: 0 }), 0);
+    assert_eq!(code(Event::Crash { node: 0 }), 3);
+    assert_eq!(code(Event::Crash { node: 255 }), 1);
+    assert!((1..=12).all(|code| Refusal::from_code(code).map(Refusal::code) == Some(code)));
+    assert_eq!((Refusal::from_code(0), Refusal::from_code(13)), (None, None));
+}
+
+#[test]
+fn readers_say_what_is_there() {
+    let mut world = World::new(&Config::of(2, 0)).unwrap();
+    let reply = world.step(&Event::Order { node: 0, item: Item::Propose { instance: 7, value: 3 } }).unwrap();
+    let Reply::Ordered { number: 0, outcome } = reply else { panic!("{reply:?}") };
+    assert_eq!((outcome.sender, outcome.first, outcome.deliveries, outcome.decisions), (0, 0, 1, 0));
+    world.step(&Event::Order { node: 1, item: Item::Propose { instance: 7, value: 2 } }).unwrap();
+    assert_eq!((world.owed(0, 1), world.owed(0, 0), world.owed(0, 2)), (Some(1), None, None));
+    assert!(!world.at_rest());
+    assert_eq!(world.round(), Ok(4));
+    assert!(world.at_rest());
+    assert_eq!((world.decision(0, 7), world.decision(1, 7), world.decision(1, 8)), (Some(2), Some(2), None));
+    assert_eq!((world.delivered_count(0, 1), world.delivered_count(0, 2)), (Some(1), None));
+    assert_eq!(world.item(1, 0, 0), Some(Item::Propose { instance: 7, value: 3 }));
+    assert_eq!((world.item(1, 0, 1), world.item(1, 0, u64::MAX)), (None, None));
+    assert!(world.live(1) && !world.live(2));
+}
+
+#[test]
+fn a_judge_is_a_writer_and_is_dropped_unasked() {
+    let mut judge = Judge::new().unwrap();
+    write!(judge, "cast/1 {} 0 1\n", 2).unwrap();
+    drop(judge);
+}
+
+#[test]
+fn texts_are_as_long_as_they_are() {
+    let orders = r#"["order",0,"data","00112233"],"#.repeat(4_000);
+    let script = format!(r#"{{"nodes":1,"faults":0,"choices":1,"events":[{orders}["crash",0]]}}"#);
+    let record = castgroup::run(script.as_bytes()).unwrap();
+    assert!(record.len() > 100_000 && record.ends_with(b"x 0\nend\n"));
+    assert!(castgroup::draw(script.as_bytes(), 0..=9).unwrap().ends_with(b"</svg>\n"));
+    assert_eq!(castgroup::run(b"{"), Err(TextError::NotJson));
+    assert_eq!(castgroup::run(b"{}"), Err(TextError::Shape(0)));
+    let wrong = br#"{"nodes":1,"faults":0,"choices":1,"events":[["crash",0],["crash"]]}"#;
+    assert_eq!(castgroup::draw(wrong, 0..=9), Err(TextError::Shape(2)));
+    let many = br#"{"nodes":65,"faults":0,"choices":1}"#;
+    assert_eq!(castgroup::run(many), Err(TextError::Config(ConfigError::Nodes)));
+    assert!(castgroup::run(many).unwrap_err().source().is_some());
+    assert_eq!(castgroup::run(&vec![b' '; 67_108_865]), Err(TextError::TooLong));
+    assert_eq!(OutOfMemory.to_string(), "out of memory");
+}

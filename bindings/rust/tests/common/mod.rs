@@ -1,0 +1,256 @@
+//! Random scripts, what a group makes of them event by event, and the program to compare with, which CASTGROUP names.
+#![allow(dead_code)] // each test uses some of it
+use castgroup::{Config, Event, Item, Mode, Outcome, Reply, StepError, World};
+use std::collections::HashSet;
+use std::io::Write;
+use std::process::{Command, Stdio};
+
+/// A number made of the last one (Marsaglia's xorshift).
+pub struct Numbers(pub u64);
+
+impl Numbers {
+    pub fn below(&mut self, bound: u64) -> u64 {
+        self.0 ^= self.0 << 13;
+        self.0 ^= self.0 >> 7;
+        self.0 ^= self.0 << 17;
+        self.0 % bound
+    }
+}
+
+/// An element of a script.
+pub enum Element {
+    Event(Event),
+    Settle,
+}
+
+/// A script as it grows with its group.
+pub struct Group {
+    pub config: Config,
+    pub elements: Vec<Element>,
+    pub record: String,
+    pub world: World,
+    // Of each node's frames: the target, the slot, and whether it acknowledges.
+    frames: Vec<Vec<(u8, u64, bool)>>,
+    acked: HashSet<(u8, u8, u64)>,
+    decided: HashSet<(u8, u64)>,
+}
+
+impl Group {
+    pub fn new(config: Config) -> Group {
+        let world = World::new(&config).expect("a good configuration");
+        let (nodes, faults, choices) = (config.nodes, config.faults, config.choices);
+        let head = match config.mode {
+            Mode::Basic if nodes <= 16 => format!("cast/1 {nodes} {faults} {choices}\n"),
+            Mode::Basic => format!("cast/2 {nodes} {faults} {choices} basic\n"),
+            Mode::Uniform => format!("cast/2 {nodes} {faults} {choices} uniform\n"),
+        };
+        let frames = vec![Vec::new(); nodes as usize];
+        Group {
+            config,
+            elements: Vec::new(),
+            record: head,
+            world,
+            frames,
+            acked: HashSet::new(),
+            decided: HashSet::new(),
+        }
+    }
+
+    fn given(&self, from: u8, to: u8) -> u64 {
+        let acked = self.acked.iter().filter(|key| (key.0, key.1) == (from, to)).count() as u64;
+        self.world.owed(from, to).map_or(0, |owed| owed + acked)
+    }
+
+    /// Takes an event of the script, and writes what came of it.
+    pub fn take(&mut self, event: Event) {
+        let index = self.elements.len();
+        self.step(&event, index);
+        self.elements.push(Element::Event(event));
+    }
+
+    /// Takes two rounds, slot by slot, up to an event that is refused.
+    pub fn settle(&mut self) {
+        let index = self.elements.len();
+        self.elements.push(Element::Settle);
+        for _ in 0..2 {
+            for event in self.round() {
+                if !self.step(&event, index) {
+                    return;
+                }
+            }
+        }
+    }
+
+    // The events of one round, as docs/FORMATS.md says.
+    fn round(&self) -> Vec<Event> {
+        let live: Vec<u8> = (0..self.config.nodes as u8).filter(|&node| self.world.live(node)).collect();
+        let mut made: Vec<u64> = self.frames.iter().map(|row| row.len() as u64).collect();
+        let mut events = Vec::new();
+        for &from in &live {
+            for &to in live.iter().filter(|&&to| to != from) {
+                for slot in (0..self.given(from, to)).filter(|&slot| !self.acked.contains(&(from, to, slot))) {
+                    events.push(Event::Send { from, to, slot });
+                    events.push(Event::Arrive { from, seq: made[from as usize] });
+                    events.push(Event::Ack { from: to, to: from, slot });
+                    events.push(Event::Arrive { from: to, seq: made[to as usize] });
+                    made[from as usize] += 1;
+                    made[to as usize] += 1;
+                }
+            }
+        }
+        events
+    }
+
+    // Whether the event was accepted.
+    fn step(&mut self, event: &Event, index: usize) -> bool {
+        let reply = match self.world.step(event) {
+            Ok(reply) => reply,
+            Err(StepError::Refused(refusal)) => {
+                self.record += &format!("r {index} {}\n", refusal.code());
+                return false;
+            }
+            Err(StepError::OutOfMemory) => panic!("out of memory"),
+        };
+        match (event, &reply) {
+            (Event::Order { node, item }, Reply::Ordered { number, outcome }) => {
+                self.record += &format!("b {node} {number} {}\n", word(item));
+                self.tell(*node, outcome);
+            }
+            (Event::Send { from, to, slot }, Reply::Sent { seq }) => self.make(*from, *seq, (*to, *slot, false)),
+            (Event::Ack { from, to, slot }, Reply::Sent { seq }) => self.make(*from, *seq, (*to, *slot, true)),
+            (Event::Arrive { from, seq }, Reply::Arrived { node, outcome }) => {
+                let (to, slot, acks) = self.frames[*from as usize][*seq as usize];
+                assert_eq!(to, *node);
+                if acks {
+                    self.acked.insert((to, *from, slot));
+                }
+                self.tell(*node, outcome);
+            }
+            (Event::Crash { node }, Reply::Down) => self.record += &format!("x {node}\n"),
+            _ => panic!("{event:?} was answered by {reply:?}"),
+        }
+        true
+    }
+
+    fn make(&mut self, from: u8, seq: u64, frame: (u8, u64, bool)) {
+        let row = &mut self.frames[from as usize];
+        assert_eq!(row.len() as u64, seq);
+        row.push(frame);
+    }
+
+    fn tell(&mut self, node: u8, outcome: &Outcome) {
+        let sender = outcome.sender;
+        let mut decisions = Vec::new();
+        for number in outcome.first..outcome.first + outcome.deliveries {
+            let item = self.world.item(node, sender, number).expect("a delivered item");
+            self.record += &format!("d {node} {sender} {number} {}\n", word(&item));
+            if let Item::Propose { instance, .. } = item {
+                if let (Some(value), true) = (self.world.decision(node, instance), !self.decided.contains(&(node, instance))) {
+                    self.decided.insert((node, instance));
+                    decisions.push((instance, value));
+                }
+            }
+        }
+        assert_eq!(decisions.len() as u64, outcome.decisions);
+        for (instance, value) in decisions {
+            self.record += &format!("v {node} {instance} {value}\n");
+        }
+    }
+
+    /// The script as JSON.
+    pub fn script(&self) -> String {
+        let mode = if self.config.mode == Mode::Basic { "basic" } else { "uniform" };
+        let events: Vec<String> = self.elements.iter().map(json).collect();
+        format!(
+            r#"{{"nodes":{},"faults":{},"choices":{},"item_limit":{},"mode":"{mode}","events":[{}]}}"#,
+            self.config.nodes,
+            self.config.faults,
+            self.config.choices,
+            self.config.item_limit,
+            events.join(",")
+        )
+    }
+}
+
+fn hex(bytes: &[u8]) -> String {
+    bytes.iter().map(|byte| format!("{byte:02x}")).collect()
+}
+
+fn word(item: &Item) -> String {
+    match item {
+        Item::Data(bytes) => format!("data:{}", hex(bytes)),
+        Item::Propose { instance, value } => format!("prop:{instance}:{value}"),
+        Item::Close => "close".to_string(),
+    }
+}
+
+fn json(element: &Element) -> String {
+    match element {
+        Element::Settle => r#"["settle"]"#.to_string(),
+        Element::Event(Event::Order { node, item }) => match item {
+            Item::Data(bytes) => format!(r#"["order",{node},"data","{}"]"#, hex(bytes)),
+            Item::Propose { instance, value } => format!(r#"["order",{node},"propose",{instance},{value}]"#),
+            Item::Close => format!(r#"["order",{node},"close"]"#),
+        },
+        Element::Event(Event::Send { from, to, slot }) => format!(r#"["send",{from},{to},{slot}]"#),
+        Element::Event(Event::Ack { from, to, slot }) => format!(r#"["ack",{from},{to},{slot}]"#),
+        Element::Event(Event::Arrive { from, seq }) => format!(r#"["arrive",{from},{seq}]"#),
+        Element::Event(Event::Crash { node }) => format!(r#"["crash",{node}]"#),
+    }
+}
+
+/// A group that took random events, some of which are refused.
+pub fn random_group(numbers: &mut Numbers) -> Group {
+    let nodes = 1 + numbers.below(6);
+    let faults = numbers.below(nodes);
+    let uniform = 2 * faults < nodes && numbers.below(2) == 0;
+    let mut group = Group::new(Config {
+        choices: 1 + numbers.below(nodes),
+        item_limit: 1 + numbers.below(12),
+        mode: if uniform { Mode::Uniform } else { Mode::Basic },
+        ..Config::of(nodes, faults)
+    });
+    for _ in 0..numbers.below(120) {
+        let node = (numbers.below(20 * nodes + 1) % (nodes + 1)).min(numbers.below(nodes) + numbers.below(20) / 19) as u8;
+        let to = numbers.below(nodes) as u8;
+        match numbers.below(40) {
+            0..=8 => {
+                let item = random_item(numbers);
+                group.take(Event::Order { node, item });
+            }
+            9..=19 => {
+                let slot = numbers.below(group.given(node, to) + 1);
+                group.take(Event::Send { from: node, to, slot });
+            }
+            20..=24 => {
+                let slot = numbers.below(group.given(to, node) + 1);
+                group.take(Event::Ack { from: node, to, slot });
+            }
+            25..=37 => {
+                let made = group.frames.get(node as usize).map_or(0, |row| row.len() as u64);
+                group.take(Event::Arrive { from: node, seq: numbers.below(made + 1) });
+            }
+            38 => group.settle(),
+            _ => group.take(Event::Crash { node }),
+        }
+    }
+    group.record += "end\n";
+    group
+}
+
+fn random_item(numbers: &mut Numbers) -> Item {
+    match numbers.below(12) {
+        0 => Item::Close,
+        1..=6 => Item::Propose { instance: numbers.below(3), value: numbers.below(9) },
+        7 => Item::Data(vec![7; 1_020 + numbers.below(8) as usize]),
+        _ => Item::Data((0..numbers.below(5)).map(|byte| byte as u8).collect()),
+    }
+}
+
+/// What the program writes for an input, where CASTGROUP names it.
+pub fn program(word: &str, input: &[u8]) -> Option<Vec<u8>> {
+    let path = std::env::var_os("CASTGROUP")?;
+    let mut child = Command::new(path).arg(word).stdin(Stdio::piped()).stdout(Stdio::piped()).spawn().expect("the program");
+    child.stdin.take().expect("its input").write_all(input).expect("it reads");
+    Some(child.wait_with_output().expect("it ends").stdout)
+}

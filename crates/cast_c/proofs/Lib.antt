@@ -1,0 +1,3 @@
+mod AsJudgeBox
+mod AsWorldBox
+mod Holds

@@ -1,0 +1,25 @@
+-- The pointer to a world may go to another thread, as what it owns may.
+use Rattle.std.proofs.Common.{Option, Some, None}
+use mir.Raw.{raw}
+use base.Shift.{Keyless}
+use denote.Memory.{lone}
+use denote.RawPtr.{Ptr}
+use denote.Struct.Struct.{exits_of}
+use denote.Struct.Owning.{shape, fields, to}
+use denote.Param.Send.{IsSend, AllSend, owning_send, struct_send, sendable}
+use Rattle.std_alloc.proofs.SendSync.{quiet, lies}
+use Rattle.libc.specs.Heap.{chunk-Keyless}
+use Rattle.cast_world.specs.contracts.world.World as World
+use Rattle.cast_world.proofs.world.World.TheSendSync.{the_send as world}
+use Rattle.cast_c.specs.WorldOwning.{world_owns}
+use Rattle.cast_c.specs.contracts.world_handle.LooseWorld.{the_row, the_type}
+
+owned : (at : Ptr) (held : Option (World.the_row).Denot) → Keyless (world_owns at held)
+owned at (Some x) = (lies World.the_row world at x, chunk-Keyless (raw (lone World.the_row.mir)) at)
+owned at None = tt
+
+pub send : IsSend the_row
+send =
+    let all : AllSend (fields the_type) = (search sendable, tt) in
+    owning_send the_type all (λ d. owned d.at d.world)
+    (λ k. quiet (to the_type) (exits_of k (fields the_type)) ((struct_send (shape the_type) all).leaving k))

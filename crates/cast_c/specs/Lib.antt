@@ -1,0 +1,7 @@
+-- What the contracts of the exports speak of.
+pub mod JudgeOwning
+pub mod Numbers
+pub mod Pieces
+pub mod Steps
+pub mod Texts
+pub mod WorldOwning

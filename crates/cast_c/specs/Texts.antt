@@ -1,0 +1,60 @@
+-- What the exports of texts say.
+--     only_length, numbers_of_fault, status_of_fault    how a text ended, as numbers, and the status
+--     RefusesAs script fault                   the fault is the script's, or none of a script
+--     IsRefused script told                    the script is refused, and this tells why
+--     IsText Writes status told old new        a text that was written, its length, and the text in the buffer, where that has room
+--     PutsText made status told old new        a text in the buffer, or why there is none
+use Rattle.std.specs.Prelude.{◌≡◌, ℕ, ◌<◌, ◌≤◌, List, length, Result, Ok, Err}
+use Rattle.std.specs.Global.{Vec}
+use Rattle.cast_message.specs.Limits.{config_code}
+use Rattle.cast_script.specs.Script.{Reads}
+use Rattle.cast_script.specs.declared.script.ScriptFault.TheVariants as scripts
+use Rattle.cast_text.specs.Text.{input_limit}
+use Rattle.cast_text.specs.declared.fault.TextFault.{TextFault}
+use Rattle.cast_text.specs.declared.fault.TextFault.TheVariants as faults
+use Rattle.cast_c.specs.Steps.{Puts}
+use Rattle.cast_c.specs.declared.numbers.TextNumbers.{TextNumbers}
+
+abbrev pub only_length : ℕ → TextNumbers
+only_length count = record { length = count; fault = 0; place = 0 }
+
+abbrev pub of_fault : ℕ → ℕ → TextNumbers
+of_fault fault place = record { length = 0; fault = fault; place = place }
+
+abbrev pub numbers_of_fault : TextFault → TextNumbers
+numbers_of_fault faults.TooLong = of_fault 1 0
+numbers_of_fault (faults.Script scripts.NotJson) = of_fault 2 0
+numbers_of_fault (faults.Script (scripts.Shape index)) = of_fault 3 index
+numbers_of_fault (faults.Script (scripts.Config fault)) = of_fault 4 (config_code fault)
+numbers_of_fault _ = of_fault 0 0
+
+abbrev pub status_of_fault : TextFault → ℕ
+status_of_fault faults.Memory = 5
+status_of_fault faults.Write = 5
+status_of_fault faults.TooLong = 2
+status_of_fault (faults.Script fault) = 2
+status_of_fault _ = 1
+
+abbrev pub RefusesAs : List ℕ → TextFault → Type 0
+RefusesAs script faults.TooLong = input_limit < length script
+RefusesAs script (faults.Script fault) = (length script ≤ input_limit) × Reads (Err fault) script
+RefusesAs script _ = Unit {0}
+
+pub record IsRefused (script : List ℕ) (told : TextNumbers) : Type 0 where
+  pub fault : TextFault
+  pub numbers : told ≡ numbers_of_fault fault
+  pub refused : status_of_fault fault ≡ 2
+  pub cause : RefusesAs script fault
+
+pub record IsText (Writes : List ℕ → Type 0) (status : ℕ) (told : TextNumbers) (old new : List ℕ)
+    : Type 0 where
+  pub text : List ℕ
+  pub writes : Writes text
+  pub told_length : told ≡ only_length (length text)
+  pub puts : Puts text status old new
+
+abbrev pub PutsText : Result (Vec ℕ) TextFault → ℕ → TextNumbers → List ℕ → List ℕ → Type 0
+PutsText (Ok text) status told old new =
+    Puts text.items status old new × (told ≡ only_length (length text.items))
+PutsText (Err fault) status told old new =
+    (status ≡ status_of_fault fault) × (told ≡ numbers_of_fault fault) × (new ≡ old)
