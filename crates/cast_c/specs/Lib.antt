@@ -1,4 +1,5 @@
 -- What the contracts of the exports speak of.
+pub mod Freeing
 pub mod JudgeOwning
 pub mod Numbers
 pub mod Pieces

@@ -8,14 +8,15 @@ use denote.Struct.Struct.{exits_of}
 use denote.Struct.Owning.{shape, fields, to}
 use denote.Param.Send.{IsSend, AllSend, owning_send, struct_send, sendable}
 use Rattle.std_alloc.proofs.SendSync.{quiet, lies}
-use Rattle.libc.specs.Heap.{chunk-Keyless}
+use Rattle.std.proofs.Crossing.{frees}
+use Rattle.cast_c.specs.Freeing.{heap}
 use Rattle.cast_judge.specs.contracts.judging.Judging as Judging
 use Rattle.cast_judge.proofs.judging.Judging.TheSendSync.{the_send as judging}
 use Rattle.cast_c.specs.JudgeOwning.{judge_owns}
 use Rattle.cast_c.specs.contracts.judge_handle.LooseJudge.{the_row, the_type}
 
 owned : (at : Ptr) (held : Option (Judging.the_row).Denot) → Keyless (judge_owns at held)
-owned at (Some x) = (lies Judging.the_row judging at x, chunk-Keyless (raw (lone Judging.the_row.mir)) at)
+owned at (Some x) = (lies Judging.the_row judging at x, frees.frees heap (raw (lone Judging.the_row.mir)) at)
 owned at None = tt
 
 pub send : IsSend the_row

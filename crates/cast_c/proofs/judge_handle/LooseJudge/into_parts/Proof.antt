@@ -22,7 +22,7 @@ use denote.Triple.Walked.{Stays, stay_dropped, walk_of, Goes-dropped}
 use Rattle.std.proofs.BoxSteps.Form as box
 use Rattle.std.proofs.BoxSteps.Steps.{box_in}
 use Rattle.std.specs.Box.Ownership.{box_owns}
-use Rattle.libc.specs.Heap.{chunk}
+use Rattle.cast_c.specs.Freeing.{freeing}
 use Rattle.std.proofs.alloc.Calls.{handle_tells}
 use Rattle.cast_c.specs.JudgeOwning.{judge_owns}
 use Rattle.cast_c.proofs.Holds.{shown}
@@ -56,7 +56,7 @@ into_parts_spec 𝓤 𝓛 𝓜 𝓡 wired =
     let held = shown from.judging some in let x = held.value in let a = z.0.3.1.0 in
     split ! $ move ! (1 ∷ []) $ fsplit ! $ fsplit ! $ fpick ! (λ vss. fsplit ! $ feq_l ! (λ ev. fsplit ! $ feq_l ! (λ ep. drop ! $
     rewrite ! 0 (λ (o : Option E.row.Denot). ‵ (judge_owns from.at o)) held.is refl $
-    in_a_block ! from.at (λ p. box_owns chunk E.row p x) (fst∗ 𝓤 (never 𝓤) (sem 𝓛 (chunk (bare (lone E.row.mir)) null_ptr))) (λ b o e.
+    in_a_block ! from.at (λ p. box_owns freeing E.row p x) (fst∗ 𝓤 (never 𝓤) (sem 𝓛 (freeing (bare (lone E.row.mir)) null_ptr))) (λ b o e.
     -- [the value with its token; what is owned of the handle, and true; the tokens]
     fsplit ! $ move ! (2 ∷ []) $ fsplit ! $ handle_tells E.al ! a z.0.4.1.0 (λ h eh fits.
     let w : Val = vstruct (vcons (vptr b o) vnil) in let out : Val = box.word E h b o in

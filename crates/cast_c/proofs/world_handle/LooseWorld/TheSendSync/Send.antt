@@ -8,14 +8,15 @@ use denote.Struct.Struct.{exits_of}
 use denote.Struct.Owning.{shape, fields, to}
 use denote.Param.Send.{IsSend, AllSend, owning_send, struct_send, sendable}
 use Rattle.std_alloc.proofs.SendSync.{quiet, lies}
-use Rattle.libc.specs.Heap.{chunk-Keyless}
+use Rattle.std.proofs.Crossing.{frees}
+use Rattle.cast_c.specs.Freeing.{heap}
 use Rattle.cast_world.specs.contracts.world.World as World
 use Rattle.cast_world.proofs.world.World.TheSendSync.{the_send as world}
 use Rattle.cast_c.specs.WorldOwning.{world_owns}
 use Rattle.cast_c.specs.contracts.world_handle.LooseWorld.{the_row, the_type}
 
 owned : (at : Ptr) (held : Option (World.the_row).Denot) → Keyless (world_owns at held)
-owned at (Some x) = (lies World.the_row world at x, chunk-Keyless (raw (lone World.the_row.mir)) at)
+owned at (Some x) = (lies World.the_row world at x, frees.frees heap (raw (lone World.the_row.mir)) at)
 owned at None = tt
 
 pub send : IsSend the_row
