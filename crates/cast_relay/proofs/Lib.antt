@@ -1,2 +1,1 @@
 pub mod Senders
-pub mod TakenBack

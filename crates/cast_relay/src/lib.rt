@@ -3,9 +3,9 @@
 //! but its sender and the peer that brought it.
 #![tactic(auto)]
 
-ghost use Rattle.std.specs.Prelude.{◌≡◌, ◌≢◌, ◌+◌, ◌<◌, false, ◌≤◌, ◌^◌, length, replicate, IfOk, OnOk, OnErr};
+ghost use Rattle.std.specs.Prelude.{◌≡◌, ◌≢◌, ◌+◌, ◌<◌, ◌≤◌, ◌^◌, length, replicate, IfOk, OnOk, OnErr};
 ghost use Rattle.std.specs.FinSet as set;
-ghost use Rattle.cast_relay.specs.Held.{by_sender, holds, with_pair, without_pair, with_own, without_own, relays_to};
+ghost use Rattle.cast_relay.specs.Pairs.{by_sender, holds, with_pair, with_own, goes_on, relays_to};
 ghost use Rattle.cast_relay.specs.Answers.{taken_of};
 
 use cast_message::{Item, Message, NodeId, NumberSet};
@@ -34,18 +34,15 @@ pub struct Relay {
 
 impl Model for Relay {
     ghost use Rattle.std.specs.Prelude.{◌<◌, ◌≤◌, length};
-    ghost use Rattle.cast_relay.specs.Held.{Held, held_code, by_sender};
+    ghost use Rattle.cast_relay.specs.Pairs.{Pairs, pairs_code, by_sender};
 
-    ghost Value = { Held };
+    ghost Value = { Pairs };
 
-    ghost coded = { held_code };
+    ghost coded = { pairs_code };
 
     ghost view = { λ r. record { me = r.me; own = r.own; numbers = by_sender r.numbers.items } };
 
-    ghost use Rattle.cast_relay.specs.Held.{HoldsOwnBelow};
-
-    ghost invariant = { λ r. (r.me < length r.numbers.items) × (length r.numbers.items ≤ 256)
-        × HoldsOwnBelow r.me r.own r.numbers.items };
+    ghost invariant = { λ r. (r.me < length r.numbers.items) × (length r.numbers.items ≤ 256) };
 }
 
 impl Relay {
@@ -75,7 +72,6 @@ impl Relay {
             (λ message. message
             ≡ record { sender = self.old.me; number = self.old.own; item = item }) }
         ensures ok { OnOk result (self.new ≡ with_own self.old) }
-        ensures back { OnOk result (without_own self.new ≡ self.old) }
         ensures err { OnErr result (self.new ≡ self.old) }
     {
         let number = self.own;
@@ -90,18 +86,14 @@ impl Relay {
     }
 
     /// Holds the pair of another node's message that arrived from a peer, and says whether it was held before, by whichever
-    /// peer. A pair that was held takes no memory.
+    /// peer.
     pub fn arrive(&mut self, message: &Message, _from: NodeId) -> Result<Taken, AllocError>
         requires { message.now.sender ≢ self.old.me }
         ensures taken { IfOk result
             (λ taken. taken ≡ taken_of self.old message.now.sender message.now.number) }
         ensures ok { OnOk result
             (self.new ≡ with_pair self.old message.now.sender message.now.number) }
-        ensures back { holds self.old message.now.sender message.now.number ≡ false → OnOk result
-            (without_pair self.new message.now.sender message.now.number ≡ self.old) }
         ensures err { OnErr result (self.new ≡ self.old) }
-        ensures again { OnErr result
-            (holds self.old message.now.sender message.now.number ≡ false) }
     {
         let place = place_of(message.sender);
         make_places(self.alloc, &mut self.numbers, place)?;
@@ -110,28 +102,6 @@ impl Relay {
             return Ok(Taken::Known);
         }
         Ok(Taken::New)
-    }
-
-    /// Takes back the last item of the node's own: just after `own`, the state is again that before it. There is such an
-    /// item. It takes no memory.
-    pub fn disown(&mut self)
-        requires { 0 < self.old.own }
-        ensures { self.new ≡ without_own self.old }
-    {
-        self.own -= 1;
-        let place = place_of(self.me);
-        self.numbers[place].remove(self.own);
-    }
-
-    /// Forgets a pair of another node: just after `arrive` was `New`, the state is again that before it. It takes no memory.
-    pub fn forget(&mut self, sender: NodeId, number: u64)
-        requires { sender ≢ self.old.me }
-        ensures { self.new ≡ without_pair self.old sender number }
-    {
-        let place = place_of(sender);
-        if place < self.numbers.len() {
-            self.numbers[place].remove(number);
-        }
     }
 
     /// Whether the node holds the pair. It takes no memory.
@@ -148,8 +118,16 @@ impl Relay {
     pub fn relays_to(&self, sender: NodeId, from: NodeId, to: NodeId) -> bool
         ensures { result ≡ relays_to self.now sender from to }
     {
-        to.0 != self.me.0 && to.0 != sender.0 && to.0 != from.0
+        goes_on(self.me, sender, from, to)
     }
+}
+
+/// Whether a message of `sender` that came to the node `me` from the peer `from` goes on from there to `to`: to all but
+/// itself, the sender, and the peer that brought it. It takes no memory.
+pub fn goes_on(me: NodeId, sender: NodeId, from: NodeId, to: NodeId) -> bool
+    ensures { result ≡ goes_on me sender from to }
+{
+    to.0 != me.0 && to.0 != sender.0 && to.0 != from.0
 }
 
 // Where a node stands in a list of all nodes.
@@ -168,7 +146,6 @@ fn make_places(alloc: Global, numbers: &mut Vec<NumberSet>, place: usize) -> Res
     ensures same { by_sender numbers.new.items ≡ by_sender numbers.old.items }
     ensures few { length numbers.new.items ≤ 256 }
     ensures more { length numbers.old.items ≤ length numbers.new.items }
-    ensures needed { OnErr result (length numbers.old.items ≤ place) }
 {
     for _new in numbers.len()..place + 1 {
         numbers.push(NumberSet::new(alloc))?;

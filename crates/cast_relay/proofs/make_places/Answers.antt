@@ -1,5 +1,5 @@
 use Rattle.std.proofs.Common.{◌<◌, ◌++◌, ◌∷◌, [], length, ap, ◌∙◌, arith}
-use Rattle.cast_relay.specs.Held.{by_sender}
+use Rattle.cast_relay.specs.Pairs.{by_sender}
 use Rattle.cast_relay.proofs.Senders.{by_sender-push}
 use Rattle.cast_relay.proofs.make_places.Goals as goal
 

@@ -1,5 +1,5 @@
 use Rattle.std.proofs.Common.{◌≡◌, ◌≤◌, length}
-use Rattle.cast_relay.specs.Held.{by_sender}
+use Rattle.cast_relay.specs.Pairs.{by_sender}
 use Rattle.cast_relay.proofs.make_places.Given as goal
 
 abbrev pub invariant-loop-new : goal.invariant-loop-new
