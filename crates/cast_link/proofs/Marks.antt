@@ -1,5 +1,5 @@
 -- The marks of a link: those of the slots that were acknowledged are set, and no others.
-use Rattle.std.specs.Prelude.{◌≡◌, ◌≢◌, ℕ, ◌+◌, ◌-◌, ◌*◌, ◌/◌, ◌%◌, ◌^◌, ◌≤◌, ◌<◌, nat_lt, nat_eq, Bool, true, false, cond, not, ◌&&◌, ◌||◌, min, List, [], ◌∷◌, ◌++◌, length, take, drop, slice_index, slice_set, Option, Some, None, is_some, refl}
+use Rattle.std.specs.Prelude.{◌≡◌, ◌≢◌, ℕ, ◌+◌, ◌-◌, ◌*◌, ◌/◌, ◌%◌, ◌^◌, ◌≤◌, ◌<◌, nat_lt, nat_eq, Bool, true, false, cond, not, ◌&&◌, ◌||◌, List, [], ◌∷◌, ◌++◌, length, drop, slice_index, slice_set, Option, Some, None, is_some, refl}
 use Rattle.std.specs.Ordering.{nat_cmp, eq_by_cmp}
 use Rattle.std.specs.Cmp.{nat_cmp_total}
 use Rattle.std.specs.FinMap as map
@@ -7,8 +7,7 @@ use Rattle.std.specs.FinMap.{get-insert, get-remove}
 use Rattle.std.specs.Int.{bit_at}
 use Rattle.std.proofs.Common.{inl, inr, sym, ap, ◌∙◌, subst, arith, length-append, length-drop, true≢false}
 use Rattle.std.proofs.Math.ListN.{length-set}
-use Rattle.std.proofs.lemmas.Bool.Decides.{nat_tests, eqb_tells, leb_tells}
-use Rattle.std.proofs.lemmas.List.{get_or-take, length-take}
+use Rattle.std.proofs.lemmas.Bool.Decides.{nat_tests, eqb_tells}
 use Rattle.std.proofs.lemmas.Nat.Bits.{bit_at_ones, same_from_bits_below}
 use Rattle.std.proofs.lemmas.Bool.{le-ltb, lt-ltb}
 use Rattle.cast_message.proofs.Tests.{cmp_other, cmp_same}
@@ -18,7 +17,7 @@ use Rattle.cast_message.proofs.Numbers.{no_bit}
 use Rattle.cast_link.specs.Taken.{bit_of, SetsBit, IsFullWord}
 use Rattle.cast_link.specs.Links.{Link, with_given, with_acknowledged, owed_map, link_of, is_acknowledged, StartsOwed, KeepsOwed}
 use Rattle.cast_link.proofs.Slots.{is_set-drop}
-use Rattle.cast_link.proofs.Windows.{get-owed_map, none_past, owed_map-push, owed_map-acked, owed_map-none, len-put_new, StartsOwed-push, StartsOwed-front}
+use Rattle.cast_link.proofs.Windows.{get-owed_map, none_past, owed_map-push, owed_map-acked, owed_map-none, len-put_new, StartsOwed-push}
 
 module _ {X : Type 0} where
   not_some : (b : Bool) (o : Option X) → (b && not (is_some o)) ≡ true → o ≡ None
@@ -92,9 +91,6 @@ full_by_bits words place l full = same_from_bits_below 64 (slice_index words pla
 same_bits : (marks room : List ℕ) → ((k : ℕ) → slice_index room k ≡ slice_index marks k) → (bit : ℕ) → is_set room bit ≡ is_set marks bit
 same_bits marks room same bit = ap (λ w. nat_eq (bit_at w (bit % 64)) 1) (same (bit / 64))
 
-bits_in_front : (words : List ℕ) (n bit : ℕ) → bit / 64 < n → is_set (take n words) bit ≡ is_set words bit
-bits_in_front words n bit l = ap (λ w. nat_eq (bit_at w (bit % 64)) 1) (get_or-take n words (bit / 64) 0 l)
-
 -- ---- what keeps a link
 
 module _ {X : Type 0} where
@@ -111,14 +107,14 @@ module _ {X : Type 0} where
       none_marked base places marks owed other h (omega (arith, l, m)) (ap (is_set marks) (sym same) ∙ marked (other - slot) (omega (arith, m, below)))
 
   -- more room for marks, up to the next slot's
-  pub more_room : (base : ℕ) (places : List (Option X)) (marks room : List ℕ) (owed : ℕ) → KeepsOwed base places marks owed → ((k : ℕ) → slice_index room k ≡ slice_index marks k) → length marks ≤ length room → ((n : ℕ) → length marks ≤ n → bit_of base (base + length places) / 64 < n → length room ≤ n) → KeepsOwed base places room owed
-  more_room base places marks room owed h same more few = record {
+  pub more_room : (base : ℕ) (places after : List (Option X)) (marks room : List ℕ) (owed bit : ℕ) → KeepsOwed base places marks owed → after ≡ places → ((k : ℕ) → slice_index room k ≡ slice_index marks k) → length marks ≤ length room → bit ≡ bit_of base (base + length places) → ((n : ℕ) → length marks ≤ n → bit / 64 < n → length room ≤ n) → KeepsOwed base after room owed
+  more_room base places after marks room owed bit h e same more at few = subst (λ ps. KeepsOwed base ps room owed) (sym e) record {
     fits = h.fits;
     starts = h.starts;
     count = h.count;
     exact = λ bit. same_bits marks room same bit ∙ h.exact bit;
     room = omega (arith, h.room, more);
-    few = let most = few (bit_of base (base + length places) / 64 + 1) (omega (arith, h.few)) (omega arith) in omega (arith, most);
+    few = let most = few (bit / 64 + 1) (omega (arith, at, h.few)) (omega arith) in omega (arith, at, most);
   }
 
   -- the slot given last is owed, and was not acknowledged
@@ -144,44 +140,6 @@ module _ {X : Type 0} where
 
       absent : map.get (owed_map base places) (base + length places) ≡ None
       absent = get-owed_map base places (base + length places) ∙ none_past base places (base + length places) (omega arith)
-
-  -- the last slot fewer, which is owed, and the words behind it
-  pub one_taken_back : (base : ℕ) (places after : List (Option X)) (marks : List ℕ) (owed : ℕ) (message : X) → KeepsOwed base places marks owed → places ≡ after ++ Some message ∷ [] → KeepsOwed base after (take (bit_of base (base + length after) / 64 + 1) marks) (owed - 1)
-  one_taken_back base places after marks owed message h e = record {
-    fits = omega (arith, h.fits, long);
-    starts = StartsOwed-front after (Some message) (subst StartsOwed e h.starts);
-    count = omega (arith, h.count, fewer);
-    exact = λ bit. kept bit ∙ h.exact bit ∙ same bit;
-    room = omega (arith, h.room, long, short);
-    few = omega (arith, short);
-  }
-    where
-      words : ℕ
-      words = bit_of base (base + length after) / 64 + 1
-
-      short : length (take words marks) ≡ min words (length marks)
-      short = length-take words marks
-
-      long : length places ≡ length after + 1
-      long = ap length e ∙ length-append after (Some message ∷ [])
-
-      absent : map.get (owed_map base after) (base + length after) ≡ None
-      absent = get-owed_map base after (base + length after) ∙ none_past base after (base + length after) (omega arith)
-
-      fewer : map.len (owed_map base places) ≡ map.len (owed_map base after) + 1
-      fewer = ap (λ ps. map.len (owed_map base ps)) e ∙ ap map.len (owed_map-push base after message) ∙ len-put_new (owed_map base after) (base + length after) message absent
-
-      same : (bit : ℕ) → is_acknowledged (link_of base places) (64 * (base / 64) + bit) ≡ is_acknowledged (link_of base after) (64 * (base / 64) + bit)
-      same bit = ap (λ (ps : List (Option X)). is_acknowledged (link_of base ps) (64 * (base / 64) + bit)) e ∙ marks_with_last base after message bit
-
-      -- behind the words that stay no mark was set
-      kept : (bit : ℕ) → is_set (take words marks) bit ≡ is_set marks bit
-      kept bit = elim (leb_tells words (bit / 64)) [
-        | inl l ↦
-            no_bit (take words marks) bit (omega (arith, short, l.1))
-            ∙ sym (h.exact bit ∙ same bit ∙ ap (λ b. b && not (map.contains_key (owed_map base after) (64 * (base / 64) + bit))) (le-ltb (64 * (base / 64) + bit) (base + length after) (omega (arith, l.1))))
-        | inr l ↦ bits_in_front marks words bit l.1
-      ]
 
   -- the marks once one more slot is acknowledged
   pub one_marked : (base : ℕ) (places : List (Option X)) (marks after : List ℕ) (owed slot i : ℕ) → KeepsOwed base places marks owed → slot ≡ base + i → i < length places → SetsBit marks (bit_of base slot) after → (bit : ℕ) → is_set after bit ≡ is_acknowledged (link_of base (slice_set places i None)) (64 * (base / 64) + bit)

@@ -13,7 +13,7 @@ use Rattle.std.proofs.lemmas.Bool.{le-ltb, lt-ltb}
 use Rattle.cast_message.proofs.Tests.{tie}
 use Rattle.cast_message.proofs.Booleans.{or_false}
 use Rattle.cast_message.specs.Bits.{is_set}
-use Rattle.cast_message.specs.Members.{contains-members_below, members_below-insert, members_below-same}
+use Rattle.cast_message.specs.Members.{contains-members_below, members_below-insert}
 use Rattle.cast_message.proofs.Numbers.{no_bit}
 use Rattle.cast_link.specs.Taken.{bit_of, is_taken, is_marked, taken_set, IsWindow}
 
@@ -65,9 +65,6 @@ near_taken base words room far s k e least l h =
       | inl m ↦ ap (λ b. b || (is_set room (bit_of base q) || list_any (is_at (nat_cmp q)) far)) m.0 ∙ sym (ap (λ b. b || is_taken base words far q) (below_test q base k least m.1) ∙ ap (λ b. b || (is_set words (bit_of base q) || list_any (is_at (nat_cmp q)) far)) m.0)
       | inr m ↦ ap (λ b. nat_lt q base || (b || list_any (is_at (nat_cmp q)) far)) (h (bit_of base q) ∙ ap (λ b. b || is_set words (bit_of base q)) (in_reach q (omega (arith, m.1)))) ∙ near_or (nat_lt q base) (nat_eq q k) (is_set words (bit_of base q)) _
     ]
-
-pub same_taken : (base : ℕ) (words room far : List ℕ) → ((i : ℕ) → slice_index room i ≡ slice_index words i) → taken_set base room far ≡ taken_set base words far
-same_taken base words room far same = members_below-same (2 ^ 64) (is_taken base room far) (is_taken base words far) (λ q _. ap (λ w. nat_lt q base || (nat_eq (bit_at w (bit_of base q % 64)) 1 || list_any (is_at (nat_cmp q)) far)) (same (bit_of base q / 64)))
 
 -- ---- the window moves on
 
@@ -151,28 +148,6 @@ not_below base words far s q e l f = elim (leb_tells base q) [
   | inl m ↦ m.1
   | inr m ↦ absurd (true≢false (sym (ap (λ b. b || is_marked base words far q) (lt-ltb q base m.1)) ∙ taken_in base words far s e q l ∙ f))
 ]
-
--- words with the same bits
-pub same_window : (base : ℕ) (words room far : List ℕ) → ((k : ℕ) → slice_index room k ≡ slice_index words k) → length room ≤ 4097 → IsWindow base words far → IsWindow base room far
-same_window base words room far same l h = record {
-  least = λ m. ap (λ w. nat_eq (bit_at w (bit_of base base % 64)) 1) (same (bit_of base base / 64)) ∙ h.least m;
-  short = l;
-  beyond = h.beyond;
-}
-
-apart_bits : (base slot : ℕ) → base < slot → nat_eq (bit_of base base) (bit_of base slot) ≡ false
-apart_bits base slot l = not_same (bit_of base base) (bit_of base slot) (omega (arith, l))
-  where
-    not_same : (a b : ℕ) → a < b → nat_eq a b ≡ false
-    not_same a b l = grind (arith, nat_tests)
-
--- a bit more, past the base
-pub near_window : (base : ℕ) (words marked far : List ℕ) (slot : ℕ) → IsWindow base words far → (base + 1 < 2 ^ 64 → base < slot) → length marked ≡ length words → ((other : ℕ) → is_set marked other ≡ (nat_eq other (bit_of base slot) || is_set words other)) → IsWindow base marked far
-near_window base words marked far slot h past len bits = record {
-  least = λ m. bits (bit_of base base) ∙ ap (λ b. b || is_set words (bit_of base base)) (apart_bits base slot (past m)) ∙ h.least m;
-  short = omega (arith, len, h.short);
-  beyond = h.beyond;
-}
 
 -- a slot more, farther away
 pub far_window : (base : ℕ) (words far more : List ℕ) (slot : ℕ) → IsWindow base words far → base + 262144 ≤ slot → more ≡ insert_key nat_cmp far slot → IsWindow base words more

@@ -7,7 +7,7 @@ use Rattle.std.specs.FinMap.{find, get-from_entries, get-insert, get-remove, get
 use Rattle.std.proofs.Common.{inl, inr, sym, ap, ◌∙◌, arith, true≢false, drop}
 use Rattle.std.proofs.lemmas.Bool.Decides.{nat_tests, eqb_tells, leb_tells}
 use Rattle.cast_message.proofs.Tests.{cmp_other, cmp_same}
-use Rattle.cast_link.specs.Links.{Link, owed_from, owed_map, StartsOwed}
+use Rattle.cast_link.specs.Links.{owed_from, owed_map, StartsOwed}
 
 module _ {X : Type 0} where
   -- the message owed at a slot
@@ -156,13 +156,6 @@ module _ {X : Type 0} where
   pub len-put_new : (m : map.FinMap nat_cmp X) (k : ℕ) (v : X) → map.get m k ≡ None → map.len (map.insert m k v) ≡ map.len m + 1
   len-put_new m k v h = len-insert nat_cmp_total m k v ∙ ap (λ o. cond (is_some o) (map.len m) (map.len m + 1)) h
 
-  -- a slot that is new, put in and taken out again
-  pub remove-inserted : (m : map.FinMap nat_cmp X) (k : ℕ) (v : X) → map.get m k ≡ None → map.remove (map.insert m k v) k ≡ m
-  remove-inserted m k v h = same_map nat_cmp_total nat_cmp-IsAntisymmetric _ _ (λ q. get-remove nat_cmp_total (map.insert m k v) k q ∙ elim (eqb_tells q k) [
-    | inl e ↦ ap (λ b. cond b None (map.get (map.insert m k v) q)) (cmp_same q k e.1) ∙ sym (ap (map.get m) e.1 ∙ h)
-    | inr e ↦ ap (λ b. cond b None (map.get (map.insert m k v) q)) (cmp_other q k e.1) ∙ get-insert nat_cmp_total m k v q ∙ ap (λ b. cond b (Some v) (map.get m q)) (cmp_other q k e.1)
-  ])
-
   pub len-taken : (m : map.FinMap nat_cmp X) (k : ℕ) → map.contains_key m k ≡ true → map.len (map.remove m k) ≡ map.len m - 1
   len-taken m k h = len-remove nat_cmp_total m k ∙ ap (λ b. cond b (map.len m - 1) (map.len m)) h
 
@@ -211,38 +204,3 @@ module _ {X : Type 0} where
   pub popped : (before after : List (Option X)) → 0 < length before → slice_index_or before 0 None ≡ None → after ≡ drop 1 before → before ≡ None ∷ after
   popped [] after l h e = absurd (omega arith)
   popped (x ∷ before) after l h e = λ i. h i ∷ sym e i
-
-  pub StartsOwed-front : (places : List (Option X)) (p : Option X) → StartsOwed (places ++ p ∷ []) → StartsOwed places
-  StartsOwed-front [] p h = tt
-  StartsOwed-front (None ∷ places) p h = h
-  StartsOwed-front (Some m ∷ places) p h = tt
-
-  -- what is owed then
-  pub owed_taken_back : (base : ℕ) (places after : List (Option X)) (message : X) → places ≡ after ++ Some message ∷ [] → owed_map base after ≡ map.remove (owed_map base places) (base + length after)
-  owed_taken_back base places after message e =
-      sym (ap (λ ps. map.remove (owed_map base ps) (base + length after)) e
-      ∙ ap (λ m. map.remove m (base + length after)) (owed_map-push base after message)
-      ∙ remove-inserted (owed_map base after) (base + length after) message (get-owed_map base after (base + length after) ∙ none_past base after (base + length after) (omega arith)))
-
-  -- the last place, which is owed
-  pub last_place : (base : ℕ) (places : List (Option X)) (link : Link X) → (let l : Link X = record { given = base + length places; owed = owed_map base places } in l) ≡ link → map.contains_key link.owed (link.given - 1) ≡ true → (0 < length places) × ((message : X) × (slice_index_or places (length places - 1) None ≡ Some message))
-  last_place base places link is h = (some_places, go (slice_index_or places (length places - 1) None) some)
-    where
-      slot : ℕ
-      slot = base + length places - 1
-
-      hit : map.contains_key (owed_map base places) slot ≡ true
-      hit = ap (λ (l : Link X). map.contains_key l.owed (l.given - 1)) is ∙ h
-
-      inside : (base ≤ slot) × (slot - base < length places)
-      inside = owed_place base places slot hit
-
-      some_places : 0 < length places
-      some_places = omega (arith, inside.1)
-
-      some : is_some (slice_index_or places (length places - 1) None) ≡ true
-      some = sym (ap is_some (get-owed_map base places slot ∙ owed_inside base places slot (length places - 1) (omega (arith, some_places)))) ∙ hit
-
-      go : (p : Option X) → is_some p ≡ true → (message : X) × (p ≡ Some message)
-      go None g = absurd (true≢false (sym g))
-      go (Some m) g = (m, refl)

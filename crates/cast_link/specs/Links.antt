@@ -1,22 +1,28 @@
 -- What a node gave another, as callers see it. A slot keeps the message itself, or whatever its user finds it by.
 --     Link X                     how many slots were given, and the owed ones with what they keep
+--     Outward X                  a link, and whether there is room for one slot more
 --     with_given link kept       a slot more is given
 --     with_acknowledged link slot      a slot is owed no more
---     without_last link          the slot given last is taken back, where it is owed
 --     IsLeastFrom owed from slot the least slot owed from `from` on
 --     owed_map base places       the owed slots, where places stand for the slots from base on
 --     link_of base places        the same as a link
+--     outward_of base places ..  the same with the room
 --     is_acknowledged link slot  the slot was given and is not owed
 --     KeepsOwed base places ..   how they are kept
-use Rattle.std.specs.Prelude.{◌≡◌, ℕ, ◌+◌, ◌-◌, ◌*◌, ◌/◌, ◌%◌, ◌^◌, ◌≤◌, ◌<◌, nat_lt, Bool, true, not, ◌&&◌, List, [], ◌∷◌, length, Option, Some, None, MatchOption, if◌then◌else◌, refl}
+use Rattle.std.specs.Prelude.{◌≡◌, ℕ, ◌+◌, ◌*◌, ◌/◌, ◌%◌, ◌^◌, ◌≤◌, ◌<◌, nat_lt, Bool, true, not, ◌&&◌, List, [], ◌∷◌, length, Option, Some, None, MatchOption, refl}
 use Rattle.std.specs.Ordering.{nat_cmp}
 use Rattle.std.specs.FinMap as map
-use Rattle.std.specs.Coded.{Coded, code_by, coded×, coded_ℕ}
+use Rattle.std.specs.Coded.{Coded, code_by, coded×, coded_ℕ, coded_bool}
 use Rattle.cast_message.specs.Bits.{is_set}
+use Rattle.cast_link.specs.Taken.{bit_of}
 
 pub record Link (X : Type 0) : Type 0 where
   pub given : ℕ
   pub owed : map.FinMap nat_cmp X
+
+pub record Outward (X : Type 0) : Type 0 where
+  pub link : Link X
+  pub room : Bool
 
 module _ {X : Type 0} where
   abbrev pub with_given : Link X → X → Link X
@@ -25,12 +31,6 @@ module _ {X : Type 0} where
 
   abbrev pub with_acknowledged : Link X → ℕ → Link X
   with_acknowledged link slot = record { given = link.given; owed = map.remove link.owed slot }
-
-  abbrev pub without_last : Link X → Link X
-  without_last link =
-      if map.contains_key link.owed (link.given - 1)
-      then record { given = link.given - 1; owed = map.remove link.owed (link.given - 1) }
-      else link
 
   -- slot is the least one owed that isn't below `from`, or `None` where there is none
   abbrev pub IsLeastFrom : map.FinMap nat_cmp X → ℕ → Option ℕ → Type 0
@@ -52,6 +52,14 @@ module _ {X : Type 0} where
   abbrev pub link_of : ℕ → List (Option X) → Link X
   link_of base places = record { given = base + length places; owed = owed_map base places }
 
+  -- there is room for a slot where there is for its place, and where its mark has a word
+  abbrev pub outward_of : ℕ → List (Option X) → ℕ → List ℕ → Outward X
+  outward_of base places capacity marks =
+      record {
+        link = link_of base places;
+        room = nat_lt (length places) capacity && nat_lt (bit_of base (base + length places) / 64) (length marks);
+      }
+
   -- the first place, if any, is owed
   abbrev pub StartsOwed : List (Option X) → Type 0
   StartsOwed [] = Unit {0}
@@ -62,6 +70,11 @@ module _ {X : Type 0} where
   link_code kept =
       code_by (ℕ × map.FinMap nat_cmp X) (coded× coded_ℕ (map.code coded_ℕ kept))
       (λ l. (l.given, l.owed)) (λ p. record { given = p.0; owed = p.1 }) (λ _. refl)
+
+  abbrev pub outward_code : Coded X → Coded (Outward X)
+  outward_code kept =
+      code_by (Link X × Bool) (coded× (link_code kept) coded_bool)
+      (λ o. (o.link, o.room)) (λ p. record { link = p.0; room = p.1 }) (λ _. refl)
 
   -- a slot that was given and is not owed
   abbrev pub is_acknowledged : Link X → ℕ → Bool

@@ -3,11 +3,15 @@
 --     IsFullWord words place          all bits of that word are set
 --     is_marked base words far slot   the slot has a bit or is farther away
 --     taken_set base words far        the slots taken
+--     Inward                          the slots taken, and for which more there is room
+--     has_room inward slot            there is room for the slot
+--     inward_of base words ..         the same of a base, words with this capacity, and slots farther away
 --     IsWindow base words far         how they are kept
-use Rattle.std.specs.Prelude.{◌≡◌, ◌+◌, ◌≤◌, ◌<◌, length, true, false, ℕ, ◌-◌, ◌*◌, ◌/◌, ◌^◌, nat_eq, nat_lt, Bool, ◌||◌, List}
+use Rattle.std.specs.Prelude.{◌≡◌, ◌+◌, ◌≤◌, ◌<◌, length, true, false, ℕ, ◌-◌, ◌*◌, ◌/◌, ◌^◌, nat_eq, nat_lt, nat_le, Bool, ◌||◌, ◌&&◌, List, refl}
 use Rattle.std.specs.List.{list_any, All}
 use Rattle.std.specs.Ordering.{nat_cmp}
 use Rattle.std.specs.FinSet as set
+use Rattle.std.specs.Coded.{Coded, code_by, coded×, coded_ℕ, coded_bool}
 use Rattle.std.specs.BTreeMap.{is_at}
 use Rattle.cast_message.specs.Members.{members_below}
 use Rattle.cast_message.specs.Bits.{is_set}
@@ -38,6 +42,29 @@ is_taken base words far slot = nat_lt slot base || is_marked base words far slot
 
 abbrev pub taken_set : ℕ → List ℕ → List ℕ → set.FinSet nat_cmp
 taken_set base words far = members_below (2 ^ 64) (is_taken base words far)
+
+pub record Inward : Type 0 where
+  pub slots : set.FinSet nat_cmp
+  pub reach : ℕ
+  pub settled : Bool
+
+abbrev pub inward_code : Coded Inward
+inward_code =
+    code_by (set.FinSet nat_cmp × (ℕ × Bool)) (coded× (set.code coded_ℕ) (coded× coded_ℕ coded_bool))
+    (λ i. (i.slots, (i.reach, i.settled))) (λ p. record { slots = p.0; reach = p.1.0; settled = p.1.1 }) (λ _. refl)
+
+abbrev pub has_room : Inward → ℕ → Bool
+has_room inward slot = inward.settled && nat_lt slot inward.reach
+
+-- the reach is the first slot that has no bit; it is settled that the base may move on where nothing is far that would
+-- come within reach, or where there is memory for all words
+abbrev pub inward_of : ℕ → List ℕ → ℕ → List ℕ → Inward
+inward_of base words capacity far =
+    record {
+      slots = taken_set base words far;
+      reach = 64 * (base / 64) + 64 * length words;
+      settled = nat_eq (length far) 0 || nat_le 4097 capacity;
+    }
 
 -- the base is the least slot not taken, or the greatest slot there is; bits reach 262,144 slots from the base on; all
 -- other slots taken lie beyond

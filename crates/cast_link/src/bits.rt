@@ -1,6 +1,6 @@
 //! Bits in words, one for each slot of a link from the word of its base on: those that were taken, or acknowledged. The words at
-//! the front, and at the back, can go.
-ghost use Rattle.std.specs.Prelude.{◌≡◌, ◌+◌, ◌-◌, ◌≤◌, ◌<◌, ◌/◌, ◌%◌, ℕ, ◌^◌, true, false, take, drop, length, slice_index, OnOk};
+//! the front can go.
+ghost use Rattle.std.specs.Prelude.{◌≡◌, ◌+◌, ◌-◌, ◌≤◌, ◌<◌, ◌/◌, ◌%◌, ℕ, ◌^◌, true, false, drop, length, slice_index, OnOk};
 ghost use Rattle.std.specs.VecDeque.{deque_capacity};
 ghost use Rattle.cast_message.specs.Bits.{is_set};
 ghost use Rattle.cast_link.specs.Taken.{bit_of, SetsBit, IsFullWord};
@@ -77,11 +77,4 @@ pub fn drop_front(words: &mut VecDeque<u64>, count: u64)
     for _word in 0..count {
         words.pop_front();
     }
-}
-
-/// Drops the words behind that of a bit.
-pub fn drop_back(words: &mut VecDeque<u64>, bit: u64)
-    ensures { words.new.items ≡ take (bit / 64 + 1) words.old.items }
-{
-    words.truncate((bit / 64) as usize + 1);
 }

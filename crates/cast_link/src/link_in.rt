@@ -1,9 +1,10 @@
 //! The slots taken from a peer, as a base, bits for the slots from the base on, and an ordered set for those farther away.
-ghost use Rattle.std.specs.Prelude.{◌≡◌, false, not, IfOk, OnOk, OnErr};
+ghost use Rattle.std.specs.Prelude.{◌≡◌, ◌<◌, true, not, IfOk, OnOk, OnErr};
 ghost use Rattle.std.specs.FinSet as set;
+ghost use Rattle.cast_link.specs.Taken.{has_room};
 
-use crate::bits::{bit_of, has_bit, make_room, set_bit};
-use crate::window::{REACH, advance};
+use crate::bits::{bit_of, has_bit, set_bit};
+use crate::window::{REACH, advance, make_bit};
 use std::alloc::{AllocError, Global};
 use std::collections::{BTreeSet, VecDeque};
 use std::marker::Model;
@@ -20,17 +21,14 @@ pub struct LinkIn {
 }
 
 impl Model for LinkIn {
-    ghost use Rattle.std.specs.Ordering.{nat_cmp};
-    ghost use Rattle.std.specs.FinSet as set;
-    ghost use Rattle.std.specs.Coded.{coded_ℕ};
+    ghost use Rattle.std.specs.VecDeque.{deque_capacity};
+    ghost use Rattle.cast_link.specs.Taken.{Inward, inward_code, inward_of, IsWindow};
 
-    ghost Value = { set.FinSet nat_cmp };
+    ghost Value = { Inward };
 
-    ghost coded = { set.code coded_ℕ };
+    ghost coded = { inward_code };
 
-    ghost use Rattle.cast_link.specs.Taken.{taken_set, IsWindow};
-
-    ghost view = { λ l. taken_set l.base l.words.items l.far.keys };
+    ghost view = { λ l. inward_of l.base l.words.items (deque_capacity l.words) l.far.keys };
 
     ghost invariant = { λ l. IsWindow l.base l.words.items l.far.keys };
 }
@@ -38,7 +36,7 @@ impl Model for LinkIn {
 impl LinkIn {
     /// No slot was taken. It takes no memory.
     pub fn new(alloc: Global) -> LinkIn
-        ensures { result ≡ set.empty }
+        ensures { result.slots ≡ set.empty }
     {
         LinkIn {
             base: 0,
@@ -47,33 +45,50 @@ impl LinkIn {
         }
     }
 
-    /// Takes a slot, and says whether it is the first time. A slot that was taken takes no memory.
-    pub fn take(&mut self, slot: u64) -> Result<bool, AllocError>
-        ensures test { IfOk result (λ first. first ≡ not (set.contains self.old slot)) }
-        ensures ok { OnOk result (self.new ≡ set.insert self.old slot) }
-        ensures err { OnErr result (self.new ≡ self.old) }
-        ensures again { OnErr result (set.contains self.old slot ≡ false) }
+    /// Makes room for a slot.
+    pub fn reserve(&mut self, slot: u64) -> Result<(), AllocError>
+        requires { slot < 262144 }
+        ensures same { self.new.slots ≡ self.old.slots }
+        ensures room { OnOk result (has_room self.new slot ≡ true) }
+    {
+        make_bit(self.base, &mut self.words, &self.far, slot)
+    }
+
+    /// Takes a slot for which there is room, and says whether it is the first time. It takes no memory.
+    pub fn take_reserved(&mut self, slot: u64) -> bool
+        requires { has_room self.old slot ≡ true }
+        ensures first { result ≡ not (set.contains self.old.slots slot) }
+        ensures after { self.new.slots ≡ set.insert self.old.slots slot }
     {
         if self.may_ack(slot) {
-            return Ok(false);
-        }
-        if slot - self.base >= REACH {
-            self.far.insert(slot)?;
-            return Ok(true);
+            return false;
         }
         if slot > self.base || slot == u64::MAX {
-            let bit = bit_of(self.base, slot);
-            make_room(&mut self.words, bit)?;
-            set_bit(&mut self.words, bit);
-            return Ok(true);
+            set_bit(&mut self.words, bit_of(self.base, slot));
+            return true;
         }
-        advance(&mut self.base, &mut self.words, &mut self.far)?;
-        Ok(true)
+        advance(&mut self.base, &mut self.words, &mut self.far);
+        true
+    }
+
+    /// Takes a slot, and says whether it is the first time.
+    pub fn take(&mut self, slot: u64) -> Result<bool, AllocError>
+        ensures test { IfOk result (λ first. first ≡ not (set.contains self.old.slots slot)) }
+        ensures ok { OnOk result (self.new.slots ≡ set.insert self.old.slots slot) }
+        ensures err { OnErr result (self.new.slots ≡ self.old.slots) }
+    {
+        if slot.saturating_sub(self.base) < REACH {
+            make_bit(self.base, &mut self.words, &self.far, slot)?;
+            return Ok(self.take_reserved(slot));
+        }
+        let first = !self.may_ack(slot);
+        self.far.insert(slot)?;
+        Ok(first)
     }
 
     /// Whether the slot was taken, so that it may be acknowledged. It takes no memory.
     pub fn may_ack(&self, slot: u64) -> bool
-        ensures { result ≡ set.contains self.now slot }
+        ensures { result ≡ set.contains self.now.slots slot }
     {
         if slot < self.base {
             return true;

@@ -1,13 +1,13 @@
 //! The slots taken from a peer as a window: a base, bits for the slots within reach of it, and a set for those farther away. As the
 //! base goes on, slots move from the set to the bits.
-ghost use Rattle.std.specs.Prelude.{◌≡◌, ◌+◌, ◌≤◌, ◌<◌, ◌∷◌, ◌||◌, ℕ, ◌^◌, OnErr, IsTrue, false, nat_eq, length, slice_index, OnOk};
+ghost use Rattle.std.specs.Prelude.{◌≡◌, ◌+◌, ◌≤◌, ◌<◌, ◌∷◌, ◌||◌, ℕ, ◌^◌, IsTrue, true, false, nat_eq, length, slice_index, OnOk};
 ghost use Rattle.std.specs.List.{All};
 ghost use Rattle.std.specs.FinSet as set;
 ghost use Rattle.std.specs.VecDeque.{deque_capacity};
 ghost use Rattle.cast_message.specs.Bits.{is_set};
-ghost use Rattle.cast_link.specs.Taken.{bit_of, is_marked, MarksTheSame, taken_set, IsWindow};
+ghost use Rattle.cast_link.specs.Taken.{bit_of, is_marked, MarksTheSame, taken_set, inward_of, has_room, IsWindow};
 
-use crate::bits::{bit_of, drop_front, has_bit, set_bit};
+use crate::bits::{bit_of, drop_front, has_bit, make_room, set_bit};
 use std::alloc::AllocError;
 use std::collections::{BTreeSet, VecDeque};
 
@@ -17,26 +17,42 @@ pub const REACH: u64 = 262_144;
 // Words for that many bits, wherever in its word the base is.
 const WORDS: usize = 4097;
 
-/// Takes the base: the next slot that was not taken becomes the base, and what comes within reach gets a bit.
-pub fn advance(
-    base: &mut u64,
+/// Makes a bit for a slot within reach, and room for those that far slots get where the base moves on.
+pub fn make_bit(
+    base: u64,
     words: &mut VecDeque<u64>,
-    far: &mut BTreeSet<u64>,
+    far: &BTreeSet<u64>,
+    slot: u64,
 ) -> Result<(), AllocError>
+    requires reach { slot < base + 262144 }
+    requires window { IsWindow base words.old.items far.now.keys }
+    ensures window { IsWindow base words.new.items far.now.keys }
+    ensures same { taken_set base words.new.items far.now.keys
+        ≡ taken_set base words.old.items far.now.keys }
+    ensures room { OnOk result
+        (has_room (inward_of base words.new.items (deque_capacity words.new) far.now.keys) slot ≡ true) }
+{
+    make_room(words, bit_of(base, slot))?;
+    if far.is_empty() {
+        return Ok(());
+    }
+    words.reserve(WORDS - words.len())
+}
+
+/// Takes the base: the next slot that was not taken becomes the base, and what comes within reach gets a bit. It takes no
+/// memory.
+pub fn advance(base: &mut u64, words: &mut VecDeque<u64>, far: &mut BTreeSet<u64>)
     requires more { base.old + 1 < 2 ^ 64 }
     requires window { IsWindow base.old words.old.items far.old.keys }
+    requires room { 0 < length far.old.keys → 4097 ≤ deque_capacity words.old }
     ensures window { IsWindow base.new words.new.items far.new.keys }
-    ensures ok { OnOk result (taken_set base.new words.new.items far.new.keys
-        ≡ set.insert (taken_set base.old words.old.items far.old.keys) base.old) }
-    ensures err { OnErr result (taken_set base.new words.new.items far.new.keys
-        ≡ taken_set base.old words.old.items far.old.keys) }
+    ensures after { taken_set base.new words.new.items far.new.keys
+        ≡ set.insert (taken_set base.old words.old.items far.old.keys) base.old }
 {
     let next = first_free(*base, words, far, *base + 1);
-    make_reach(words, far)?;
     drop_front(words, next / 64 - *base / 64);
     *base = next;
     gather(next, words, far);
-    Ok(())
 }
 
 // The first slot from one on that neither has a bit nor is far, or the greatest slot there is.
@@ -53,18 +69,6 @@ fn first_free(base: u64, words: &VecDeque<u64>, far: &BTreeSet<u64>, from: u64) 
         }
     }
     u64::MAX
-}
-
-// Room for all bits, where slots are farther away that they may reach in time.
-fn make_reach(words: &mut VecDeque<u64>, far: &BTreeSet<u64>) -> Result<(), AllocError>
-    requires { length words.old.items ≤ 4097 }
-    ensures same { words.new.items ≡ words.old.items }
-    ensures ok { OnOk result (0 < length far.now.keys → 4097 ≤ deque_capacity words.new) }
-{
-    if far.is_empty() {
-        return Ok(());
-    }
-    words.reserve(WORDS - words.len())
 }
 
 // Gives bits to the far slots that a base reaches.
