@@ -1,17 +1,15 @@
 -- The marks of a link: those of the slots that were acknowledged are set, and no others.
-use Rattle.std.specs.Prelude.{◌≡◌, ◌≢◌, ℕ, ◌+◌, ◌-◌, ◌*◌, ◌/◌, ◌%◌, ◌^◌, ◌≤◌, ◌<◌, nat_lt, nat_eq, Bool, true, false, cond, not, ◌&&◌, ◌||◌, List, [], ◌∷◌, ◌++◌, length, drop, slice_index, slice_set, Option, Some, None, is_some, refl}
-use Rattle.std.specs.Ordering.{nat_cmp, eq_by_cmp}
+use Rattle.std.specs.Prelude.{◌≡◌, ℕ, ◌+◌, ◌-◌, ◌*◌, ◌/◌, ◌%◌, ◌^◌, ◌≤◌, ◌<◌, nat_lt, nat_eq, Bool, true, not, ◌&&◌, ◌||◌, List, [], ◌∷◌, ◌++◌, length, drop, slice_index, slice_set, Option, Some, None, is_some, refl}
+use Rattle.std.specs.Ordering.{nat_cmp}
 use Rattle.std.specs.Cmp.{nat_cmp_total}
 use Rattle.std.specs.FinMap as map
 use Rattle.std.specs.FinMap.{get-insert, get-remove}
 use Rattle.std.specs.Int.{bit_at}
-use Rattle.std.proofs.Common.{inl, inr, sym, ap, ◌∙◌, subst, arith, length-append, length-drop, true≢false}
+use Rattle.std.proofs.Common.{sym, ap, ◌∙◌, subst, arith, length-append, length-drop}
 use Rattle.std.proofs.Math.ListN.{length-set}
-use Rattle.std.proofs.lemmas.Bool.Decides.{nat_tests, eqb_tells}
+use Rattle.std.proofs.lemmas.Bool.Decides.{nat_tests}
 use Rattle.std.proofs.lemmas.Nat.Bits.{bit_at_ones, same_from_bits_below}
-use Rattle.std.proofs.lemmas.Bool.{le-ltb, lt-ltb}
-use Rattle.cast_message.proofs.Tests.{cmp_other, cmp_same}
-use Rattle.cast_message.proofs.Booleans.{and_false}
+use Rattle.std.proofs.lemmas.Bool.{le-ltb}
 use Rattle.cast_message.specs.Bits.{is_set}
 use Rattle.cast_message.proofs.Numbers.{no_bit}
 use Rattle.cast_link.specs.Taken.{bit_of, SetsBit, IsFullWord}
@@ -21,51 +19,19 @@ use Rattle.cast_link.proofs.Windows.{get-owed_map, none_past, owed_map-push, owe
 
 module _ {X : Type 0} where
   not_some : (b : Bool) (o : Option X) → (b && not (is_some o)) ≡ true → o ≡ None
-  not_some true None e = refl
-  not_some true (Some m) e = absurd (true≢false (sym e))
-  not_some false o e = absurd (true≢false (sym e))
+  not_some b None e = refl
+  not_some b (Some m) e = grind (arith, nat_tests, e)
 
 -- ---- which slots were acknowledged
 
 module _ {X : Type 0} where
   -- a slot that was not given before is not
   none_new : (link : Link X) (message : X) (slot : ℕ) → is_acknowledged (with_given link message) slot ≡ is_acknowledged link slot
-  none_new link message slot = elim (eqb_tells slot link.given) [
-    | inl e ↦
-        ap (λ o. nat_lt slot (link.given + 1) && not (is_some o)) (at ∙ ap (λ b. cond b (Some message) (map.get link.owed slot)) (cmp_same slot link.given e.1))
-        ∙ and_false (nat_lt slot (link.given + 1))
-        ∙ sym (ap (λ b. b && not (map.contains_key link.owed slot)) (le-ltb slot link.given (omega (arith, e.1))))
-    | inr e ↦
-        ap (λ o. nat_lt slot (link.given + 1) && not (is_some o)) (at ∙ ap (λ b. cond b (Some message) (map.get link.owed slot)) (cmp_other slot link.given e.1))
-        ∙ ap (λ b. b && not (map.contains_key link.owed slot)) (same_side e.1)
-  ]
-    where
-      at : map.get (map.insert link.owed link.given message) slot ≡ cond (eq_by_cmp nat_cmp slot link.given) (Some message) (map.get link.owed slot)
-      at = get-insert nat_cmp_total link.owed link.given message slot
-
-      same_side : slot ≢ link.given → nat_lt slot (link.given + 1) ≡ nat_lt slot link.given
-      same_side e = grind (arith, nat_tests)
+  none_new link message slot = grind (arith, nat_tests, get-insert nat_cmp_total link.owed link.given message slot)
 
   -- one slot more, where it was given
   one_more : (link : Link X) (slot q : ℕ) → slot < link.given → is_acknowledged (with_acknowledged link slot) q ≡ (nat_eq q slot || is_acknowledged link q)
-  one_more link slot q l = elim (eqb_tells q slot) [
-    | inl e ↦
-        ap (λ o. nat_lt q link.given && not (is_some o)) (at ∙ ap (λ b. cond b None (map.get link.owed q)) (cmp_same q slot e.1))
-        ∙ ap (λ b. b && true) (lt-ltb q link.given (omega (arith, e.1, l)))
-        ∙ sym (ap (λ b. b || is_acknowledged link q) (same q slot e.1))
-    | inr e ↦
-        ap (λ o. nat_lt q link.given && not (is_some o)) (at ∙ ap (λ b. cond b None (map.get link.owed q)) (cmp_other q slot e.1))
-        ∙ sym (ap (λ b. b || is_acknowledged link q) (other q slot e.1))
-  ]
-    where
-      at : map.get (map.remove link.owed slot) q ≡ cond (eq_by_cmp nat_cmp q slot) None (map.get link.owed q)
-      at = get-remove nat_cmp_total link.owed slot q
-
-      same : (a b : ℕ) → a ≡ b → nat_eq a b ≡ true
-      same a b e = grind (arith, nat_tests)
-
-      other : (a b : ℕ) → a ≢ b → nat_eq a b ≡ false
-      other a b e = grind (arith, nat_tests)
+  one_more link slot q l = grind (arith, nat_tests, l, get-remove nat_cmp_total link.owed slot q)
 
 -- ---- bits in words
 

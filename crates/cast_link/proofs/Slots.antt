@@ -1,17 +1,16 @@
 -- Slots taken, as a base, bits and an ordered set.
-use Rattle.std.specs.Prelude.{◌≡◌, ℕ, zero, suc, ◌+◌, ◌-◌, ◌*◌, ◌/◌, ◌%◌, ◌^◌, ◌≤◌, ◌<◌, nat_eq, nat_lt, Bool, true, false, cond, ◌&&◌, ◌||◌, List, [], ◌∷◌, length, slice_index, drop, refl}
+use Rattle.std.specs.Prelude.{◌≡◌, ℕ, zero, suc, ◌+◌, ◌-◌, ◌*◌, ◌/◌, ◌%◌, ◌^◌, ◌≤◌, ◌<◌, nat_eq, Bool, true, false, cond, ◌&&◌, ◌||◌, List, [], ◌∷◌, length, slice_index, drop, refl}
 use Rattle.std.specs.List.{All, list_any}
 use Rattle.std.specs.Int.{bit_at}
 use Rattle.std.specs.Ordering.{nat_cmp}
 use Rattle.std.specs.BTreeMap.{is_at}
 use Rattle.std.specs.FinSet as set
-use Rattle.std.proofs.Common.{sym, ap, ◌∙◌, subst, arith, inl, inr, true≢false}
+use Rattle.std.proofs.Common.{sym, ap, ◌∙◌, subst, arith, inl, inr}
 use Rattle.std.specs.BTreeSet.{insert_key}
 use Rattle.std.proofs.lemmas.Map.Views.{All-insert_key}
 use Rattle.std.proofs.lemmas.Bool.Decides.{nat_tests, leb_tells}
-use Rattle.std.proofs.lemmas.Bool.{le-ltb, lt-ltb}
+use Rattle.std.proofs.lemmas.Bool.{lt-ltb}
 use Rattle.cast_message.proofs.Tests.{tie}
-use Rattle.cast_message.proofs.Booleans.{or_false}
 use Rattle.cast_message.specs.Bits.{is_set}
 use Rattle.cast_message.specs.Members.{contains-members_below, members_below-insert}
 use Rattle.cast_message.proofs.Numbers.{no_bit}
@@ -21,50 +20,18 @@ pub taken_in : (base : ℕ) (words far : List ℕ) (s : set.FinSet nat_cmp) → 
 taken_in base words far s e q l = sym (contains-members_below (2 ^ 64) (is_taken base words far) q ∙ ap (λ b. b && is_taken base words far q) (lt-ltb q (2 ^ 64) l)) ∙ ap (λ s. set.contains s q) e
 
 pub none_taken : (words : List ℕ) → words ≡ [] → (q : ℕ) → is_taken 0 words [] q ≡ false
-none_taken words e q =
-    let no : nat_lt q 0 ≡ false = grind (arith, nat_tests) in
-    ap (λ b. b || (is_set words (bit_of 0 q) || false)) no ∙ or_false (is_set words (bit_of 0 q)) ∙ no_bit words (bit_of 0 q) (omega (arith, ap length e))
-
-far_or : (a b t c : Bool) → (a || (b || cond t true c)) ≡ (t || (a || (b || c)))
-far_or true b true c = refl
-far_or true b false c = refl
-far_or false true true c = refl
-far_or false true false c = refl
-far_or false false true c = refl
-far_or false false false c = refl
+none_taken words e q = grind (arith, nat_tests, no_bit words (bit_of 0 q) (omega (arith, ap length e)))
 
 pub far_taken : (base : ℕ) (words far more : List ℕ) (s : set.FinSet nat_cmp) (k : ℕ) → taken_set base words far ≡ s → k < 2 ^ 64 → ((q : ℕ) → list_any (is_at (nat_cmp q)) more ≡ cond (is_at (nat_cmp k) q) true (list_any (is_at (nat_cmp q)) far)) → taken_set base words more ≡ set.insert s k
 far_taken base words far more s k e l h =
-    members_below-insert (2 ^ 64) (is_taken base words far) (is_taken base words more) k l (λ q _.
-    ap (λ b. nat_lt q base || (is_set words (bit_of base q) || b)) (h q)
-    ∙ far_or (nat_lt q base) (is_set words (bit_of base q)) (is_at (nat_cmp k) q) _
-    ∙ ap (λ b. b || is_taken base words far q) (tie q k))
-    ∙ ap (λ s. set.insert s k) e
-
-near_or : (a t b c : Bool) → (a || ((t || b) || c)) ≡ (t || (a || (b || c)))
-near_or true true b c = refl
-near_or true false b c = refl
-near_or false true b c = refl
-near_or false false b c = refl
-
-same_places : (i j q k : ℕ) → i + k ≡ q + j → nat_eq i j ≡ nat_eq q k
-same_places i j q k e = grind (arith, nat_tests)
-
-below_test : (q base k : ℕ) → base ≤ k → q < base → nat_eq q k ≡ false
-below_test q base k l m = grind (arith, nat_tests)
+    members_below-insert (2 ^ 64) (is_taken base words far) (is_taken base words more) k l (λ q _. grind (arith, nat_tests, h q, tie q k)) ∙ ap (λ s. set.insert s k) e
 
 pub near_taken : (base : ℕ) (words room far : List ℕ) (s : set.FinSet nat_cmp) (k : ℕ) → taken_set base words far ≡ s → base ≤ k → k < 2 ^ 64 → ((other : ℕ) → is_set room other ≡ (nat_eq other (bit_of base k) || is_set words other)) → taken_set base room far ≡ set.insert s k
 near_taken base words room far s k e least l h =
     members_below-insert (2 ^ 64) (is_taken base words far) (is_taken base room far) k l at ∙ ap (λ s. set.insert s k) e
   where
-    in_reach : (q : ℕ) → base ≤ q → nat_eq (bit_of base q) (bit_of base k) ≡ nat_eq q k
-    in_reach q m = same_places (bit_of base q) (bit_of base k) q k (omega (arith, m, least))
-
     at : (q : ℕ) → q < 2 ^ 64 → is_taken base room far q ≡ (nat_eq q k || is_taken base words far q)
-    at q _ = elim (leb_tells (suc q) base) [
-      | inl m ↦ ap (λ b. b || (is_set room (bit_of base q) || list_any (is_at (nat_cmp q)) far)) m.0 ∙ sym (ap (λ b. b || is_taken base words far q) (below_test q base k least m.1) ∙ ap (λ b. b || (is_set words (bit_of base q) || list_any (is_at (nat_cmp q)) far)) m.0)
-      | inr m ↦ ap (λ b. nat_lt q base || (b || list_any (is_at (nat_cmp q)) far)) (h (bit_of base q) ∙ ap (λ b. b || is_set words (bit_of base q)) (in_reach q (omega (arith, m.1)))) ∙ near_or (nat_lt q base) (nat_eq q k) (is_set words (bit_of base q)) _
-    ]
+    at q _ = grind (arith, nat_tests, least, h (bit_of base q))
 
 -- ---- the window moves on
 
@@ -109,45 +76,17 @@ moved_window base words far next words' far' h = record {
 pub moved_set : (base : ℕ) (words far : List ℕ) (next : ℕ) (words' far' : List ℕ) → Moves base words far next words' far' → base < 2 ^ 64 → taken_set next words' far' ≡ set.insert (taken_set base words far) base
 moved_set base words far next words' far' h l = members_below-insert (2 ^ 64) (is_taken base words far) (is_taken next words' far') base l at
   where
-    marked : ℕ → Bool
-    marked q = is_marked base words far q
-
-    eq_true : (q : ℕ) → q ≡ base → nat_eq q base ≡ true
-    eq_true q e = grind (arith, nat_tests)
-
-    eq_false : (q : ℕ) → base < q → nat_eq q base ≡ false
-    eq_false q e = grind (arith, nat_tests)
-
-    or_true : (b : Bool) → (b || true) ≡ true
-    or_true true = refl
-    or_true false = refl
-
-    passed : (q : ℕ) → q < next → (nat_eq q base || (nat_lt q base || is_marked base words far q)) ≡ true
-    passed q m = elim (leb_tells (suc q) base) [
-      | inl a ↦ ap (λ b. nat_eq q base || (b || is_marked base words far q)) (lt-ltb q base a.1) ∙ or_true (nat_eq q base)
-      | inr a ↦ elim (leb_tells (suc base) q) [
-        | inl b ↦ ap (λ c. nat_eq q base || (nat_lt q base || c)) (h.taken q (omega (arith, b.1)) m) ∙ ap (λ c. nat_eq q base || c) (or_true (nat_lt q base)) ∙ or_true (nat_eq q base)
-        | inr b ↦ ap (λ c. c || (nat_lt q base || is_marked base words far q)) (eq_true q (omega (arith, a.1, b.1)))
-      ]
-    ]
-
     at : (q : ℕ) → q < 2 ^ 64 → is_taken next words' far' q ≡ (nat_eq q base || is_taken base words far q)
     at q _ = elim (leb_tells (suc q) next) [
-      | inl m ↦ ap (λ b. b || is_marked next words' far' q) (lt-ltb q next m.1) ∙ sym (passed q m.1)
-      | inr m ↦
-          ap (λ b. b || is_marked next words' far' q) (le-ltb q next (omega (arith, m.1)))
-          ∙ marked_stays base words far next words' far' h q (omega (arith, m.1))
-          ∙ sym ((λ i. eq_false q (omega (arith, m.1, h.later)) i || (le-ltb q base (omega (arith, m.1, h.later)) i || is_marked base words far q)))
+      | inl m ↦ grind (arith, nat_tests, m.1, h.taken q)
+      | inr m ↦ grind (arith, nat_tests, m.1, h.later, marked_stays base words far next words' far' h q (omega (arith, m.1)))
     ]
 
 -- ---- one slot more
 
 -- a slot that wasn't taken isn't below the base
 pub not_below : (base : ℕ) (words far : List ℕ) (s : set.FinSet nat_cmp) (q : ℕ) → taken_set base words far ≡ s → q < 2 ^ 64 → set.contains s q ≡ false → base ≤ q
-not_below base words far s q e l f = elim (leb_tells base q) [
-  | inl m ↦ m.1
-  | inr m ↦ absurd (true≢false (sym (ap (λ b. b || is_marked base words far q) (lt-ltb q base m.1)) ∙ taken_in base words far s e q l ∙ f))
-]
+not_below base words far s q e l f = grind (arith, nat_tests, taken_in base words far s e q l, f)
 
 -- a slot more, farther away
 pub far_window : (base : ℕ) (words far more : List ℕ) (slot : ℕ) → IsWindow base words far → base + 262144 ≤ slot → more ≡ insert_key nat_cmp far slot → IsWindow base words more

@@ -1,5 +1,5 @@
 -- The slots from a base on, as a map of what is owed.
-use Rattle.std.specs.Prelude.{◌≡◌, ◌≢◌, ℕ, zero, suc, ◌+◌, ◌-◌, ◌≤◌, ◌<◌, nat_lt, nat_eq, Bool, true, false, cond, List, [], ◌∷◌, ◌++◌, length, slice_index_or, slice_set, Option, Some, None, is_some, refl}
+use Rattle.std.specs.Prelude.{◌≡◌, ◌≢◌, ℕ, zero, suc, ◌+◌, ◌-◌, ◌≤◌, ◌<◌, nat_lt, nat_eq, true, cond, List, [], ◌∷◌, ◌++◌, length, slice_index_or, slice_set, Option, Some, None, is_some, refl}
 use Rattle.std.specs.Ordering.{nat_cmp, eq_by_cmp}
 use Rattle.std.specs.Cmp.{nat_cmp_total}
 use Rattle.std.specs.FinMap as map
@@ -16,74 +16,38 @@ module _ {X : Type 0} where
 
   first_apart : (base : ℕ) (p : Option X) (places : List (Option X)) (q : ℕ) → q ≢ base → owed_at base (p ∷ places) q ≡ owed_at (base + 1) places q
   first_apart base p places q e = elim (leb_tells (suc q) base) [
-    | inl h ↦ below h.1
-    | inr h ↦ above h.1
+    | inl h ↦ grind (arith, nat_tests, h.1)
+    | inr h ↦ grind (arith, nat_tests, h.1, ap (λ j. slice_index_or (p ∷ places) j None) (let e2 : q - base ≡ suc (q - (base + 1)) = omega (arith, e, h.1) in e2))
   ]
-    where
-      lt : (a b : ℕ) → a < b → nat_lt a b ≡ true
-      lt a b l = grind (arith, nat_tests)
-
-      ge : (a b : ℕ) → b ≤ a → nat_lt a b ≡ false
-      ge a b l = grind (arith, nat_tests)
-
-      at : (j : ℕ) → cond false None (slice_index_or (p ∷ places) (suc j) None) ≡ slice_index_or places j None
-      at j = refl
-
-      below : q < base → owed_at base (p ∷ places) q ≡ owed_at (base + 1) places q
-      below l = ap (λ b. cond b None (slice_index_or (p ∷ places) (q - base) None)) (lt q base l) ∙ sym (ap (λ b. cond b None (slice_index_or places (q - (base + 1)) None)) (lt q (base + 1) (omega arith)))
-
-      above : base < suc q → owed_at base (p ∷ places) q ≡ owed_at (base + 1) places q
-      above l =
-          let past : base < q = omega (arith, e) in
-          ap (λ b. cond b None (slice_index_or (p ∷ places) (q - base) None)) (ge q base (omega arith))
-          ∙ ap (λ j. slice_index_or (p ∷ places) j None) (let e2 : q - base ≡ suc (q - (base + 1)) = omega (arith, past) in e2)
-          ∙ sym (ap (λ b. cond b None (slice_index_or places (q - (base + 1)) None)) (ge q (base + 1) (omega (arith, past))))
 
   first_here : (base : ℕ) (p : Option X) (places : List (Option X)) → owed_at base (p ∷ places) base ≡ p
-  first_here base p places =
-      let no : nat_lt base base ≡ false = grind (arith, nat_tests) in
-      ap (λ b. cond b None (slice_index_or (p ∷ places) (base - base) None)) no ∙ ap (λ j. slice_index_or (p ∷ places) j None) (let e : base - base ≡ 0 = omega arith in e)
+  first_here base p places = grind (arith, nat_tests, ap (λ j. slice_index_or (p ∷ places) j None) (let e : base - base ≡ 0 = omega arith in e))
 
-  below_none : (base : ℕ) (places : List (Option X)) (q : ℕ) → q < base → owed_at base places q ≡ None
-  below_none base places q l =
-      let yes : nat_lt q base ≡ true = grind (arith, nat_tests) in
-      ap (λ b. cond b None (slice_index_or places (q - base) None)) yes
+  pub none_below : (base : ℕ) (places : List (Option X)) (q : ℕ) → q < base → owed_at base places q ≡ None
+  none_below base places q l = grind (arith, nat_tests)
 
 module _ {X : Type 0} where
   find-owed_from : (base : ℕ) (places : List (Option X)) (q : ℕ) → find nat_cmp q (owed_from base places) ≡ owed_at base places q
-  find-owed_from base [] q = empty (nat_lt q base)
-    where
-      empty : (b : Bool) → ◌≡◌ {A = Option X} None (cond b None None)
-      empty true = refl
-      empty false = refl
-  find-owed_from base (None ∷ places) q = find-owed_from (base + 1) places q ∙ elim (eqb_tells q base) [
-    | inl e ↦ below_none (base + 1) places q (omega (arith, e.1)) ∙ sym (ap (owed_at base (None ∷ places)) e.1 ∙ first_here base None places)
-    | inr e ↦ sym (first_apart base None places q e.1)
+  find-owed_from base [] q = grind (arith, nat_tests)
+  find-owed_from base (None ∷ places) q = elim (eqb_tells q base) [
+    | inl e ↦ grind (arith, nat_tests, find-owed_from (base + 1) places q, e.1, none_below (base + 1) places q (omega (arith, e.1)), first_here base None places)
+    | inr e ↦ find-owed_from (base + 1) places q ∙ sym (first_apart base None places q e.1)
   ]
   find-owed_from base (Some message ∷ places) q = elim (eqb_tells q base) [
-    | inl e ↦ ap (λ b. cond b (Some message) (find nat_cmp q (owed_from (base + 1) places))) (cmp_same q base e.1) ∙ sym (ap (owed_at base (Some message ∷ places)) e.1 ∙ first_here base (Some message) places)
-    | inr e ↦ ap (λ b. cond b (Some message) (find nat_cmp q (owed_from (base + 1) places))) (cmp_other q base e.1) ∙ find-owed_from (base + 1) places q ∙ sym (first_apart base (Some message) places q e.1)
+    | inl e ↦ grind (arith, nat_tests, e.1, cmp_same q base e.1, first_here base (Some message) places)
+    | inr e ↦ grind (arith, nat_tests, cmp_other q base e.1, find-owed_from (base + 1) places q, first_apart base (Some message) places q e.1)
   ]
 
   pub get-owed_map : (base : ℕ) (places : List (Option X)) (q : ℕ) → map.get (owed_map base places) q ≡ owed_at base places q
   unfolding owed_map
   get-owed_map base places q = get-from_entries nat_cmp_total (owed_from base places) q ∙ find-owed_from base places q
 
-suc_zero : (i : ℕ) → nat_eq (suc i) 0 ≡ false
-suc_zero i = grind (arith, nat_tests)
-
-zero_suc : (i : ℕ) → nat_eq 0 (suc i) ≡ false
-zero_suc i = grind (arith, nat_tests)
-
-suc_suc : (i j : ℕ) → nat_eq (suc i) (suc j) ≡ nat_eq i j
-suc_suc i j = grind (arith, nat_tests)
-
 module _ {X : Type 0} where
   at_end : (places : List (Option X)) (p : Option X) (i : ℕ) → slice_index_or (places ++ p ∷ []) i None ≡ cond (nat_eq i (length places)) p (slice_index_or places i None)
   at_end [] p zero = refl
-  at_end [] p (suc i) = sym (ap (λ b. cond b p None) (suc_zero i))
-  at_end (x ∷ places) p zero = sym (ap (λ b. cond b p x) (zero_suc (length places)))
-  at_end (x ∷ places) p (suc i) = at_end places p i ∙ sym (ap (λ b. cond b p (slice_index_or places i None)) (suc_suc i (length places)))
+  at_end [] p (suc i) = grind (arith, nat_tests)
+  at_end (x ∷ places) p zero = grind (arith, nat_tests)
+  at_end (x ∷ places) p (suc i) = grind (arith, nat_tests, at_end places p i)
 
   past_end : (places : List (Option X)) (i : ℕ) → length places ≤ i → slice_index_or places i None ≡ None
   past_end [] i l = refl
@@ -91,67 +55,38 @@ module _ {X : Type 0} where
   past_end (x ∷ places) (suc i) l = past_end places i (omega arith)
 
   pub none_past : (base : ℕ) (places : List (Option X)) (q : ℕ) → base + length places ≤ q → owed_at base places q ≡ None
-  none_past base places q l = ap (cond (nat_lt q base) None) (past_end places (q - base) (omega arith)) ∙ both (nat_lt q base)
-    where
-      both : (b : Bool) → ◌≡◌ {A = Option X} (cond b None None) None
-      both true = refl
-      both false = refl
-
-  pub none_below : (base : ℕ) (places : List (Option X)) (q : ℕ) → q < base → owed_at base places q ≡ None
-  none_below = below_none
+  none_past base places q l = grind (arith, nat_tests, past_end places (q - base) (omega (arith, l)))
 
   pub owed_inside : (base : ℕ) (places : List (Option X)) (q i : ℕ) → q ≡ base + i → owed_at base places q ≡ slice_index_or places i None
   owed_inside base places q i e =
-      let no : nat_lt q base ≡ false = grind (arith, nat_tests) in
-      ap (λ b. cond b None (slice_index_or places (q - base) None)) no ∙ ap (λ j. slice_index_or places j None) (let f : q - base ≡ i = omega arith in f)
-
-end_test : (base n q : ℕ) → base ≤ q → nat_eq (q - base) n ≡ eq_by_cmp nat_cmp q (base + n)
-end_test base n q l = grind (arith, nat_tests)
-
-before_end : (base n q : ℕ) → q < base → eq_by_cmp nat_cmp q (base + n) ≡ false
-before_end base n q l = grind (arith, nat_tests)
+      grind (arith, nat_tests, ap (λ j. slice_index_or places j None) (let f : q - base ≡ i = omega (arith, e) in f))
 
 module _ {X : Type 0} where
   pub owed_map-push : (base : ℕ) (places : List (Option X)) (message : X) → owed_map base (places ++ Some message ∷ []) ≡ map.insert (owed_map base places) (base + length places) message
   owed_map-push base places message = same_map nat_cmp_total nat_cmp-IsAntisymmetric _ _ (λ q. get-owed_map base _ q ∙ at q ∙ sym (get-insert nat_cmp_total (owed_map base places) (base + length places) message q ∙ ap (cond (eq_by_cmp nat_cmp q (base + length places)) (Some message)) (get-owed_map base places q)))
     where
       at : (q : ℕ) → owed_at base (places ++ Some message ∷ []) q ≡ cond (eq_by_cmp nat_cmp q (base + length places)) (Some message) (owed_at base places q)
-      at q = elim (leb_tells (suc q) base) [
-        | inl h ↦ below_none base _ q h.1 ∙ sym (ap (λ b. cond b (Some message) (owed_at base places q)) (before_end base (length places) q h.1) ∙ below_none base places q h.1)
-        | inr h ↦
-            let l : base ≤ q = omega (arith, h.1) in
-            let e : q ≡ base + (q - base) = omega (arith, l) in
-            owed_inside base _ q (q - base) e ∙ at_end places (Some message) (q - base) ∙ (λ i. cond (end_test base (length places) q l i) (Some message) (sym (owed_inside base places q (q - base) e) i))
-      ]
+      at q = grind (arith, nat_tests, at_end places (Some message) (q - base))
 
   set_at : (places : List (Option X)) (i j : ℕ) → i < length places → slice_index_or (slice_set places i None) j None ≡ cond (nat_eq j i) None (slice_index_or places j None)
   set_at [] i j l = absurd (omega arith)
   set_at (x ∷ places) zero zero l = refl
-  set_at (x ∷ places) zero (suc j) l = sym (ap (λ b. cond b None (slice_index_or places j None)) (suc_zero j))
-  set_at (x ∷ places) (suc i) zero l = sym (ap (λ b. cond b None x) (zero_suc i))
-  set_at (x ∷ places) (suc i) (suc j) l = set_at places i j (omega arith) ∙ sym (ap (λ b. cond b None (slice_index_or places j None)) (suc_suc j i))
+  set_at (x ∷ places) zero (suc j) l = grind (arith, nat_tests)
+  set_at (x ∷ places) (suc i) zero l = grind (arith, nat_tests)
+  set_at (x ∷ places) (suc i) (suc j) l = grind (arith, nat_tests, set_at places i j (omega (arith, l)))
 
   pub owed_map-acked : (base : ℕ) (places : List (Option X)) (slot i : ℕ) → slot ≡ base + i → i < length places → owed_map base (slice_set places i None) ≡ map.remove (owed_map base places) slot
   owed_map-acked base places slot i f l = same_map nat_cmp_total nat_cmp-IsAntisymmetric _ _ (λ q. get-owed_map base _ q ∙ at q ∙ sym (get-remove nat_cmp_total (owed_map base places) slot q ∙ ap (cond (eq_by_cmp nat_cmp q slot) None) (get-owed_map base places q)))
     where
-      below : (q : ℕ) → q < base → eq_by_cmp nat_cmp q slot ≡ false
-      below q h = grind (arith, nat_tests)
-
-      test : (q : ℕ) → base ≤ q → nat_eq (q - base) i ≡ eq_by_cmp nat_cmp q slot
-      test q h = grind (arith, nat_tests)
-
       at : (q : ℕ) → owed_at base (slice_set places i None) q ≡ cond (eq_by_cmp nat_cmp q slot) None (owed_at base places q)
-      at q = elim (leb_tells (suc q) base) [
-        | inl h ↦ below_none base _ q h.1 ∙ sym (ap (λ b. cond b None (owed_at base places q)) (below q h.1) ∙ below_none base places q h.1)
-        | inr h ↦
-            let m : base ≤ q = omega (arith, h.1) in
-            let e : q ≡ base + (q - base) = omega (arith, m) in
-            owed_inside base _ q (q - base) e ∙ set_at places i (q - base) l ∙ (λ k. cond (test q m k) None (sym (owed_inside base places q (q - base) e) k))
-      ]
+      at q = grind (arith, nat_tests, f, set_at places i (q - base) l)
 
   -- a slot that isn't owed is taken out in vain
   pub remove-absent : (m : map.FinMap nat_cmp X) (k : ℕ) → map.get m k ≡ None → map.remove m k ≡ m
-  remove-absent m k h = same_map nat_cmp_total nat_cmp-IsAntisymmetric _ _ (λ q. get-remove nat_cmp_total m k q ∙ elim (eqb_tells q k) [ inl e ↦ ap (λ b. cond b None (map.get m q)) (cmp_same q k e.1) ∙ sym (ap (map.get m) e.1 ∙ h) | inr e ↦ ap (λ b. cond b None (map.get m q)) (cmp_other q k e.1) ])
+  remove-absent m k h = same_map nat_cmp_total nat_cmp-IsAntisymmetric _ _ (λ q. elim (eqb_tells q k) [
+    | inl e ↦ grind (arith, nat_tests, get-remove nat_cmp_total m k q, e.1, ap (map.get m) e.1, h)
+    | inr e ↦ grind (arith, nat_tests, get-remove nat_cmp_total m k q, e.1)
+  ])
 
   pub len-put_new : (m : map.FinMap nat_cmp X) (k : ℕ) (v : X) → map.get m k ≡ None → map.len (map.insert m k v) ≡ map.len m + 1
   len-put_new m k v h = len-insert nat_cmp_total m k v ∙ ap (λ o. cond (is_some o) (map.len m) (map.len m + 1)) h
@@ -190,13 +125,15 @@ module _ {X : Type 0} where
 
   -- a slot that is owed is a place
   pub owed_place : (base : ℕ) (places : List (Option X)) (slot : ℕ) → map.contains_key (owed_map base places) slot ≡ true → (base ≤ slot) × (slot - base < length places)
-  owed_place base places slot h = elim (leb_tells (suc slot) base) [
-    | inl l ↦ absurd (owed_some _ (get-owed_map base places slot ∙ below_none base places slot l.1) h)
-    | inr l ↦ elim (leb_tells (base + length places) slot) [
-      | inl m ↦ absurd (owed_some _ (get-owed_map base places slot ∙ none_past base places slot m.1) h)
-      | inr m ↦ (omega (arith, l.1), omega (arith, l.1, m.1))
-    ]
-  ]
+  owed_place base places slot h =
+      let hit = sym (ap is_some (get-owed_map base places slot)) ∙ h in
+      let least : base ≤ slot = grind (arith, nat_tests, hit) in (
+        least,
+        elim (leb_tells (length places) (slot - base)) [
+          | inl m ↦ absurd (owed_some _ (none_past base places slot (omega (arith, least, m.1))) hit)
+          | inr m ↦ omega (arith, m.1)
+        ],
+      )
 
   pub len-some : (m : map.FinMap nat_cmp X) (k : ℕ) → map.contains_key m k ≡ true → 1 ≤ map.len m
   len-some m k h = elim (leb_tells 1 (map.len m)) [ inl l ↦ l.1 | inr l ↦ absurd (owed_some _ (ap (λ m. map.get m k) (map.empty_of_len m (omega (arith, l.1))) ∙ get-empty nat_cmp k) h) ]
