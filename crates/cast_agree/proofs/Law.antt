@@ -1,5 +1,5 @@
 -- A quorum of senders decides, by the least of their values.
-use Rattle.std.specs.Prelude.{◌≡◌, ℕ, zero, suc, ◌+◌, ◌==◌, ◌<◌, ◌≤◌, nat_le, nat_eq, min, Bool, true, false, not, ◌&&◌, ◌||◌, cond, if◌then◌else◌, List, [], ◌∷◌, ◌++◌, length, take, Option, Some, None, unwrap_or, option_map, refl}
+use Rattle.std.specs.Prelude.{◌≡◌, ℕ, suc, ◌+◌, ◌==◌, ◌<◌, ◌≤◌, nat_le, nat_eq, min, Bool, true, false, not, ◌&&◌, ◌||◌, cond, if◌then◌else◌, List, [], ◌∷◌, ◌++◌, length, take, Option, Some, None, unwrap_or, option_map, refl}
 use Rattle.std.specs.List.{fold}
 use Rattle.std.specs.Ordering.{nat_cmp, eq_by_cmp}
 use Rattle.std.specs.Cmp.{nat_cmp_total}
@@ -8,6 +8,7 @@ use Rattle.std.specs.FinSet as set
 use Rattle.std.specs.FinSet.{len-empty, contains-empty, contains-insert}
 use Rattle.std.specs.FinMap.{get-insert, get-empty}
 use Rattle.std.proofs.Common.{sym, ap, ◌∙◌, subst, arith, inl, inr, length-append}
+use Rattle.std.proofs.lemmas.List.{take_all, take-append-le, map-append, length-map}
 use Rattle.std.proofs.lemmas.Bool.Decides.{nat_tests, leb_tells, eqb_tells}
 use Rattle.cast_message.specs.Members.{len-new_member}
 use Rattle.cast_message.specs.declared.message.Item.{Item}
@@ -23,35 +24,15 @@ pub record StandsFor (quorum : ℕ) (tally : Tally) (ps : List (ℕ × ℕ)) : T
   pub members : length ps < quorum → (s : ℕ) → set.contains tally.proposers s ≡ has_proposed ps s
   pub value : tally.least ≡ least (take quorum (values ps))
 
-take_all : (xs : List ℕ) (n : ℕ) → length xs ≤ n → take n xs ≡ xs
-take_all [] zero l = refl
-take_all [] (suc n) l = refl
-take_all (x ∷ xs) zero l = absurd (omega arith)
-take_all (x ∷ xs) (suc n) l = ap (λ ys. x ∷ ys) (take_all xs n (omega arith))
+values-push : (ps : List (ℕ × ℕ)) (s v : ℕ) → values (ps ++ (s, v) ∷ []) ≡ values ps ++ v ∷ []
+values-push ps s v = map-append (λ p. p.1) ps ((s, v) ∷ [])
 
-take_some : (xs ys : List ℕ) (n : ℕ) → n ≤ length xs → take n (xs ++ ys) ≡ take n xs
-take_some [] [] zero l = refl
-take_some [] (y ∷ ys) zero l = refl
-take_some [] ys (suc n) l = absurd (omega arith)
-take_some (x ∷ xs) ys zero l = refl
-take_some (x ∷ xs) ys (suc n) l = ap (λ zs. x ∷ zs) (take_some xs ys n (omega arith))
-
-pub values-push : (ps : List (ℕ × ℕ)) (s v : ℕ) → values (ps ++ (s, v) ∷ []) ≡ values ps ++ v ∷ []
-values-push [] s v = refl
-values-push (p ∷ ps) s v = ap (λ xs. p.1 ∷ xs) (values-push ps s v)
-
-pub length-values : (ps : List (ℕ × ℕ)) → length (values ps) ≡ length ps
-length-values [] = refl
-length-values (p ∷ ps) = ap suc (length-values ps)
+length-values : (ps : List (ℕ × ℕ)) → length (values ps) ≡ length ps
+length-values ps = length-map ps (λ p. p.1)
 
 pub proposed-push : (ps : List (ℕ × ℕ)) (s v q : ℕ) → has_proposed (ps ++ (s, v) ∷ []) q ≡ ((q == s) || has_proposed ps q)
 proposed-push [] s v q = refl
-proposed-push (p ∷ ps) s v q = ap (λ b. (q == p.0) || b) (proposed-push ps s v q) ∙ swap (q == p.0) (q == s) (has_proposed ps q)
-  where
-    swap : (a b c : Bool) → (a || (b || c)) ≡ (b || (a || c))
-    swap true true c = refl
-    swap true false c = refl
-    swap false b c = refl
+proposed-push (p ∷ ps) s v q = let rest = proposed-push ps s v q in grind (arith, nat_tests, rest)
 
 fold-push : (x : ℕ) (xs : List ℕ) (v : ℕ) → fold min x (xs ++ v ∷ []) ≡ min (fold min x xs) v
 fold-push x [] v = refl
@@ -66,7 +47,7 @@ module _ (quorum : ℕ) where
   still tally ps s v l h = record {
     count = omega (arith, h.count, length-append ps ((s, v) ∷ []));
     members = λ m. absurd (omega (arith, m, length-append ps ((s, v) ∷ [])));
-    value = h.value ∙ sym (ap (λ xs. least (take quorum xs)) (values-push ps s v) ∙ ap least (take_some (values ps) (v ∷ []) quorum (omega (arith, length-values ps))));
+    value = h.value ∙ sym (ap (λ xs. least (take quorum xs)) (values-push ps s v) ∙ ap least (take-append-le quorum (values ps) (v ∷ []) (omega (arith, length-values ps))));
   }
 
   complete : (tally : Tally) (ps : List (ℕ × ℕ)) → quorum ≤ length ps → StandsFor quorum tally ps → is_complete quorum tally ≡ true
@@ -84,14 +65,14 @@ module _ (quorum : ℕ) where
     members = λ _ q. contains-insert nat_cmp_total tally.proposers s q ∙ (λ i. eq_cmp q s i || h.members l q i) ∙ sym (proposed-push ps s v q);
     value =
         (λ i. if (len_is i) == 0 then v else min (least_is i) v)
-        ∙ sym (ap (λ xs. least (take quorum xs)) (values-push ps s v) ∙ ap least (take_all (values ps ++ v ∷ []) quorum (omega (arith, length-append (values ps) (v ∷ []), length-values ps))) ∙ least-push (values ps) v);
+        ∙ sym (ap (λ xs. least (take quorum xs)) (values-push ps s v) ∙ ap least (take_all quorum (values ps ++ v ∷ []) (omega (arith, length-append (values ps) (v ∷ []), length-values ps))) ∙ least-push (values ps) v);
   }
     where
       len_is : set.len tally.proposers ≡ length (values ps)
       len_is = omega (arith, h.count, length-values ps)
 
       least_is : tally.least ≡ least (values ps)
-      least_is = h.value ∙ ap least (take_all (values ps) quorum (omega (arith, length-values ps)))
+      least_is = h.value ∙ ap least (take_all quorum (values ps) (omega (arith, length-values ps)))
 
   chosen : (tally : Tally) (s v : ℕ) (a b : Bool) → is_complete quorum tally ≡ a → set.contains tally.proposers s ≡ b → tally_after quorum tally s v ≡ cond (not a && not b) (with_proposal tally s v) tally
   chosen tally s v a b e f = λ i. cond (not (e i) && not (f i)) (with_proposal tally s v) tally
@@ -117,7 +98,7 @@ module _ (quorum : ℕ) where
   quorum_of ((s, Close) ∷ past) = quorum_of past
 
   stands : (past : List (ℕ × Item)) (j : ℕ) → StandsFor quorum (tally_at (counted_of quorum past) j) (proposals j past)
-  stands [] j = subst (λ t. StandsFor quorum t []) (sym (ap (λ o. unwrap_or o no_tally) (get-empty nat_cmp j))) record { count = len-empty nat_cmp ∙ (let e : 0 ≡ min 0 quorum = omega arith in e); members = λ _ s. contains-empty nat_cmp s; value = ap least (sym (take_all [] quorum (omega arith))) }
+  stands [] j = subst (λ t. StandsFor quorum t []) (sym (ap (λ o. unwrap_or o no_tally) (get-empty nat_cmp j))) record { count = len-empty nat_cmp ∙ (let e : 0 ≡ min 0 quorum = omega arith in e); members = λ _ s. contains-empty nat_cmp s; value = ap least (sym (take_all quorum [] (omega arith))) }
   stands ((s, Data b) ∷ past) j = stands past j
   stands ((s, Close) ∷ past) j = stands past j
   stands ((s, Propose i v) ∷ past) j = elim (eqb_tells i j) [ inl e ↦ here (stands past j) e.0 e.1 | inr e ↦ elsewhere (stands past j) e.0 e.1 ]
@@ -166,7 +147,7 @@ module _ (quorum : ℕ) where
   settled_push : (ps : List (ℕ × ℕ)) (s v : ℕ) → length ps < quorum → settled quorum (ps ++ (s, v) ∷ []) ≡ (if length ps + 1 == quorum then Some (least (values ps ++ v ∷ [])) else None)
   settled_push ps s v l =
       let test : nat_le quorum (length (ps ++ (s, v) ∷ [])) ≡ nat_eq (length ps + 1) quorum = ap (nat_le quorum) (length-append ps ((s, v) ∷ [])) ∙ last (length ps) l in
-      λ i. if (test i) then Some ((ap (λ xs. least (take quorum xs)) (values-push ps s v) ∙ ap least (take_all (values ps ++ v ∷ []) quorum (omega (arith, length-append (values ps) (v ∷ []), length-values ps)))) i) else None
+      λ i. if (test i) then Some ((ap (λ xs. least (take quorum xs)) (values-push ps s v) ∙ ap least (take_all quorum (values ps ++ v ∷ []) (omega (arith, length-append (values ps) (v ∷ []), length-values ps)))) i) else None
     where
       last : (n : ℕ) → n < quorum → nat_le quorum (n + 1) ≡ nat_eq (n + 1) quorum
       last n l = grind (arith, nat_tests)

@@ -3,20 +3,20 @@
 //! lie below any value decided so, so that at most f + 1 are.
 #![tactic(auto)]
 
-ghost use Rattle.std.specs.Prelude.{◌≡◌, ◌≢◌, ◌-◌, ◌<◌, ◌++◌, [], IfOk, OnOk, OnErr};
+ghost use Rattle.std.specs.Prelude.{◌≡◌, ◌+◌, ◌-◌, ◌<◌, ◌≤◌, ◌++◌, length, option_map, unwrap_or, vec_len, vec_capacity, IfOk, OnOk, OnErr};
 ghost use Rattle.std.specs.Option.{option_to_list};
 ghost use Rattle.std.specs.FinMap as map;
-ghost use Rattle.cast_agree.specs.Counted.{counted_after, decision_by, decision, IsFirst};
-ghost use Rattle.cast_agree.specs.Journal.{counted_all, decisions_all, befores_all, with_before, restored, before_of};
+ghost use Rattle.std.specs.HashMap.{spare};
+ghost use Rattle.cast_agree.specs.Tallies.{no_tally};
+ghost use Rattle.cast_agree.specs.Counted.{tallies_of, seen, counted_after, decision_by, decision};
+ghost use Rattle.cast_agree.specs.Journal.{counted_all, decisions_all};
 ghost use Rattle.cast_agree.specs.Proposals.{DecidesLeast};
 
-mod counting;
 mod tally;
 
 use cast_message::{Decision, Item, Message, NodeId};
-pub use counting::{Before, Counting};
 use std::alloc::{AllocError, Global};
-use std::collections::BTreeMap;
+use std::collections::HashMap;
 use std::marker::Model;
 use tally::Tally;
 
@@ -26,26 +26,18 @@ pub struct Agree {
     alloc: Global,
     // How many distinct senders decide an instance.
     quorum: u64,
-    // What is counted, by instance.
-    tallies: BTreeMap<u64, Tally>,
+    // What is counted, by instance, in a map that can make its room before anything is counted.
+    tallies: HashMap<u64, Tally>,
 }
 
 impl Model for Agree {
-    ghost use Rattle.std.specs.FinMap as map;
-    ghost use Rattle.cast_agree.specs.Counted.{Counted, counted_code};
+    ghost use Rattle.cast_agree.specs.Counted.{Counted, counted_code, seen};
 
     ghost Value = { Counted };
 
     ghost coded = { counted_code };
 
-    ghost view = { λ a. record {
-      quorum = a.quorum;
-      tallies = map.from_entries a.tallies.entries;
-    } };
-
-    ghost use Rattle.std.specs.Prelude.{◌<◌};
-
-    ghost invariant = { λ a. 0 < a.quorum };
+    ghost view = { λ a. seen a.quorum a.tallies.entries };
 }
 
 impl Agree {
@@ -58,138 +50,128 @@ impl Agree {
         Agree {
             alloc,
             quorum: nodes - faults,
-            tallies: BTreeMap::new(alloc),
+            tallies: HashMap::new(alloc),
         }
     }
 
     /// Counts an item that was delivered from a sender, and gives the decision that it completes: there is one exactly
     /// where this is the proposal of the (n - f)-th distinct sender in its instance. A second proposal of a sender in an
-    /// instance is not counted. It takes memory only for the first proposal of an instance.
+    /// instance is not counted.
     pub fn delivered(&mut self, sender: NodeId, item: &Item) -> Result<Option<Decision>, AllocError>
         ensures decision { IfOk result
             (λ decision. decision ≡ decision_by self.old sender item.now) }
         ensures ok { OnOk result (self.new ≡ counted_after self.old sender item.now) }
         ensures err { OnErr result (self.new ≡ self.old) }
-        ensures first { OnErr result (IsFirst self.old item.now) }
     {
-        let Item::Propose { instance, value } = item else {
-            return Ok(None);
-        };
-        let instance = *instance;
-        let decided = match self.tallies.get_mut(&instance) {
-            Some(tally) => tally.count(self.quorum, sender, *value),
-            None => {
-                let mut tally = Tally::new();
-                let decided = tally.count(self.quorum, sender, *value);
-                self.tallies.insert(instance, tally)?;
-                decided
-            }
-        };
-        Ok(decided.map(|value| Decision { instance, value }))
+        self.tallies.reserve(1)?;
+        Ok(count(self.quorum, &mut self.tallies, sender, item))
     }
 
-    /// Counts the items of messages that were delivered, in order, as `delivered` does. Where memory is wanting it counts none
-    /// of them. It takes memory only where one of them is a proposal.
-    pub fn count_all(&mut self, messages: &[Message]) -> Result<Counting, AllocError>
+    /// Counts the items of messages that were delivered, in order, as `delivered` does, and gives the decisions that they
+    /// complete. Where memory is wanting it counts none of them.
+    pub fn count_all(&mut self, messages: &[Message]) -> Result<Vec<Decision>, AllocError>
         ensures decisions { IfOk result
-            (λ counting. counting.decisions.items ≡ decisions_all self.old messages.now) }
-        ensures before { IfOk result
-            (λ counting. counting.before.items ≡ befores_all self.old messages.now) }
+            (λ decisions. decisions.items ≡ decisions_all self.old messages.now) }
         ensures ok { OnOk result (self.new ≡ counted_all self.old messages.now) }
-        ensures back { IfOk result
-            (λ counting. restored self.new counting.before.items ≡ self.old) }
         ensures err { OnErr result (self.new ≡ self.old) }
-        ensures proposals { OnErr result (befores_all self.old messages.now ≢ []) }
     {
-        let mut decisions = Vec::new(self.alloc);
-        let mut before = Vec::new(self.alloc);
-        for message in messages {
-            if let Err(refused) = self.count(message, &mut decisions, &mut before) {
-                self.restore_all(before);
-                return Err(refused);
-            }
-        }
-        Ok(Counting { decisions, before })
-    }
-
-    /// Takes back what was counted at one go: right after `count_all`, the state is again that before it. It takes no memory.
-    pub fn take_back(&mut self, counting: Counting)
-        ensures { self.new ≡ restored self.old counting.before.items }
-    {
-        self.restore_all(counting.before);
+        let mut decisions = Vec::with_capacity(self.alloc, messages.len())?;
+        self.tallies.reserve(messages.len())?;
+        count_each(self.quorum, &mut self.tallies, messages, &mut decisions);
+        Ok(decisions)
     }
 
     /// The value decided in an instance, if it is. It takes no memory.
     pub fn decision(&self, instance: u64) -> Option<u64>
         ensures { result ≡ decision self.now instance }
     {
-        self.tallies.get(&instance)?.decided(self.quorum)
+        tally_of(&self.tallies, instance).decided(self.quorum)
     }
+}
 
-    // Counts the item of a message, and puts the decision that it completes, and the tally as it was, at the end of others.
-    fn count(
-        &mut self,
-        message: &Message,
-        decisions: &mut Vec<Decision>,
-        before: &mut Vec<Before>,
-    ) -> Result<(), AllocError>
-        ensures ok { OnOk result
-            (self.new ≡ counted_after self.old message.now.sender message.now.item) }
-        ensures decisions { OnOk result
-            (decisions.new.items ≡ decisions.old.items ++ option_to_list
-            (decision_by self.old message.now.sender message.now.item)) }
-        ensures before { OnOk result
-            (before.new.items ≡ before.old.items ++ before_of self.old message.now.item) }
-        ensures err { OnErr result (self.new ≡ self.old) }
-        ensures as_before { OnErr result (before.new.items ≡ before.old.items) }
-        ensures proposes { OnErr result (before_of self.old message.now.item ≢ []) }
-    {
-        let Item::Propose { instance, .. } = &message.item else {
-            return Ok(());
-        };
-        decisions.reserve(1)?;
-        before.reserve(1)?;
-        let instance = *instance;
-        let tally = self.tally(instance);
-        let decided = self.delivered(message.sender, &message.item)?;
-        before.push_reserved(Before { instance, tally });
-        if let Some(decision) = decided {
-            decisions.push_reserved(decision);
-        }
-        Ok(())
+// Counts the items of messages among tallies that have room for one more for each.
+fn count_each(
+    quorum: u64,
+    tallies: &mut HashMap<u64, Tally>,
+    messages: &[Message],
+    decisions: &mut Vec<Decision>,
+)
+    requires room { length messages.now ≤ spare tallies.old }
+    requires space { vec_len decisions.old + length messages.now ≤ vec_capacity decisions.old }
+    ensures counted { seen quorum tallies.new.entries
+        ≡ counted_all (seen quorum tallies.old.entries) messages.now }
+    ensures decided { decisions.new.items ≡ decisions.old.items
+        ++ decisions_all (seen quorum tallies.old.entries) messages.now }
+{
+    for message in messages {
+        let decision = count(quorum, tallies, message.sender, &message.item);
+        put(decisions, decision);
     }
+}
 
-    // What is counted of an instance, if anything is.
-    fn tally(&self, instance: u64) -> Option<Tally>
-        ensures { result ≡ map.get self.now.tallies instance }
-    {
-        Some(self.tallies.get(&instance)?.copy())
+// Counts an item of a sender among tallies that have room for one more, and gives the decision that it completes.
+fn count(
+    quorum: u64,
+    tallies: &mut HashMap<u64, Tally>,
+    sender: NodeId,
+    item: &Item,
+) -> Option<Decision>
+    requires { 0 < spare tallies.old }
+    ensures decision { result ≡ decision_by (seen quorum tallies.old.entries) sender item.now }
+    ensures after { seen quorum tallies.new.entries
+        ≡ counted_after (seen quorum tallies.old.entries) sender item.now }
+    ensures room { spare tallies.old ≤ spare tallies.new + 1 }
+{
+    let Item::Propose { instance, value } = item else {
+        return None;
+    };
+    let mut tally = tally_of(tallies, *instance);
+    let decided = tally.count(quorum, sender, *value);
+    store(tallies, *instance, tally);
+    decision_of(*instance, decided)
+}
+
+// What is counted of an instance.
+fn tally_of(tallies: &HashMap<u64, Tally>, instance: u64) -> Tally
+    ensures { result ≡ unwrap_or (map.get (tallies_of tallies.now.entries) instance) no_tally }
+{
+    match tallies.get(&instance) {
+        Some(tally) => tally.copy(),
+        None => Tally::new(),
     }
+}
 
-    // Gives tallies the values that they had, the last first.
-    fn restore_all(&mut self, mut before: Vec<Before>)
-        ensures { self.new ≡ restored self.old before.items }
-    {
-        while let Some(kept) = before.pop() {
-            self.restore(kept);
-        }
+// Keeps what is counted of an instance, for which there is room.
+fn store(tallies: &mut HashMap<u64, Tally>, instance: u64, tally: Tally)
+    requires { 0 < spare tallies.old }
+    ensures tallies { tallies_of tallies.new.entries
+        ≡ map.insert (tallies_of tallies.old.entries) instance tally }
+    ensures room { spare tallies.old ≤ spare tallies.new + 1 }
+{
+    match tallies.insert(instance, tally) {
+        Ok(_before) => {}
+        Err(_) => unreachable!(),
     }
+}
 
-    // Gives a tally the value that it had.
-    fn restore(&mut self, before: Before)
-        ensures { self.new ≡ with_before self.old before.instance before.tally }
-    {
-        let Before { instance, tally } = before;
-        match tally {
-            None => {
-                self.tallies.remove(&instance);
-            }
-            Some(tally) => {
-                if let Some(place) = self.tallies.get_mut(&instance) {
-                    *place = tally;
-                }
-            }
-        }
+fn decision_of(instance: u64, decided: Option<u64>) -> Option<Decision>
+    ensures { result ≡ option_map (λ value. record { instance = instance; value = value }) decided }
+{
+    Some(Decision {
+        instance,
+        value: decided?,
+    })
+}
+
+// Puts a decision, if there is one, at the end of others, which have room for it.
+fn put(decisions: &mut Vec<Decision>, decision: Option<Decision>)
+    requires { vec_len decisions.old < vec_capacity decisions.old }
+    ensures items { decisions.new.items ≡ decisions.old.items ++ option_to_list decision }
+    ensures len { vec_len decisions.new ≤ vec_len decisions.old + 1 }
+    ensures room { vec_capacity decisions.new ≡ vec_capacity decisions.old }
+{
+    if let Some(decision) = decision {
+        decisions.push_reserved(decision);
     }
 }
 

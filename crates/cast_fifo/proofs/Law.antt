@@ -1,10 +1,9 @@
 -- What a hold-back does, by induction over its calls.
 use Rattle.std.specs.Prelude.{◌≡◌, ◌≢◌, ℕ, zero, suc, ◌-◌, ◌<◌, ◌==◌, Bool, true, false, ◌&&◌, ◌||◌, if◌then◌else◌, List, [], ◌∷◌, map, length, replicate, slice_set, Option, Some, None, is_some, unwrap_or, refl}
 use Rattle.std.specs.List.{list_any, range_with_len}
-use Rattle.std.specs.BTreeMap.{insert_entry}
-use Rattle.std.specs.Ordering.{nat_cmp}
 use Rattle.std.proofs.Common.{sym, ap, ◌∙◌, subst, arith, inl, inr, true≢false}
 use Rattle.std.proofs.Math.ListN.{length-set}
+use Rattle.std.proofs.lemmas.List.{get_or-set_same, get_or-set_other, length-replicate}
 use Rattle.std.proofs.lemmas.Bool.Decides.{nat_tests, eqb_tells}
 use Rattle.cast_message.proofs.Tests.{turned_about}
 use Rattle.cast_message.proofs.Booleans.{or_assoc, or_comm, or_false}
@@ -12,11 +11,11 @@ use Rattle.cast_message.specs.declared.message.Item.{Item}
 use Rattle.cast_message.specs.declared.message.Item.TheVariants.{Close}
 use Rattle.cast_message.specs.declared.message.Message.{Message}
 use Rattle.cast_model.specs.History.{numbered}
-use Rattle.cast_fifo.specs.Held.{Held, nothing_held, held_of, came, with_item, known_items, known_after, offered_items, offered_after}
+use Rattle.cast_fifo.specs.HeldBack.{HeldBack, nothing_held, held_of, with_item, known_items, known_after, offered_items, offered_after}
 use Rattle.cast_fifo.specs.HoldsBack.{HoldsBack}
 use Rattle.cast_fifo.specs.Calls.{Call, Hold, Known, Offer, is_pair, is_offer_of, is_hold_of, is_mark_of, is_ready, first_of, item_of, message_of, between, sender_of, held_after, held_by, answer, MayCall, MayBeCalled, GivesInOrder}
+use Rattle.cast_fifo.proofs.Turns.{next_kept}
 use Rattle.cast_fifo.proofs.Stands.{same_stands, came_is, holds, knows, with_one, numbered-map, first_none, or_true}
-use Rattle.cast_fifo.proofs.Came.{held_of-set}
 
 some_first : (a b : Option Item) → is_some (first_of a b) ≡ (is_some a || is_some b)
 some_first None b = refl
@@ -73,31 +72,13 @@ pair_of_other : (t s k i : ℕ) → t ≢ s → (t == s && k == i) ≡ false
 pair_of_other t s k i e = grind (arith, nat_tests)
 
 by_hold : (o h m p : Bool) → (m ≡ true → (o || h) ≡ true) → (o || ((p || h) && m)) ≡ (o || (h && m))
-by_hold true h m p f = refl
-by_hold false true m true f = refl
-by_hold false true m false f = refl
-by_hold false false true p f = absurd (true≢false (sym (f refl)))
-by_hold false false false true f = refl
-by_hold false false false false f = refl
+by_hold o h m p f = grind (arith, nat_tests)
 
 by_mark : (o h m t : Bool) → (t ≡ true → (o || h) ≡ true) → (o || (h && (t || m))) ≡ ((o || (h && m)) || t)
-by_mark true h m t f = refl
-by_mark false true true true f = refl
-by_mark false true true false f = refl
-by_mark false true false true f = refl
-by_mark false true false false f = refl
-by_mark false false m true f = absurd (true≢false (sym (f refl)))
-by_mark false false m false f = refl
-
-next_kept : (held : Held) (k : ℕ) (item : Item) → (with_item held k item).next ≡ held.next
-next_kept held k item = go (came held k)
-  where
-    go : (b : Bool) → (if b then held else record held { waiting = insert_entry nat_cmp held.waiting k (record { item = item; known = false }) }).next ≡ held.next
-    go true = refl
-    go false = refl
+by_mark o h m t f = grind (arith, nat_tests)
 
 -- the stand of one sender after a call of its own, and what the call answers
-record Step (call : Call) (past : List Call) (before after : Held) (given : List Message) : Type 0 where
+record Step (call : Call) (past : List Call) (before after : HeldBack) (given : List Message) : Type 0 where
   stands : HoldsBack (item_of (call ∷ past) (sender_of call)) (is_ready (call ∷ past) (sender_of call)) after
   answers : given ≡ between (call ∷ past) (sender_of call) before.next after.next
 
@@ -105,7 +86,7 @@ none_between : (calls : List Call) (s n m : ℕ) → m ≡ n → [] ≡ between 
 none_between calls s n m e = ap (λ k. map (message_of calls s) (range_with_len n k)) (let z : 0 ≡ m - n = omega (arith, e) in z)
 
 module _ (nodes : ℕ) (past : List Call) (may : MayBeCalled nodes past) where
-  hold_step : (m : Message) (held : Held) → HoldsBack (item_of past m.sender) (is_ready past m.sender) held → Step (Hold m) past held (with_item held m.number m.item) []
+  hold_step : (m : Message) (held : HeldBack) → HoldsBack (item_of past m.sender) (is_ready past m.sender) held → Step (Hold m) past held (with_item held m.number m.item) []
   hold_step m held h =
       let s = m.sender in
       let kept = holds (item_of past s) (is_ready past s) held m.number m.item h (ready_came past s) in
@@ -117,7 +98,7 @@ module _ (nodes : ℕ) (past : List Call) (may : MayBeCalled nodes past) where
         answers = none_between (Hold m ∷ past) s held.next (with_item held m.number m.item).next (next_kept held m.number m.item);
       }
 
-  known_step : (s k : ℕ) (held : Held) → is_some (item_of past s k) ≡ true → HoldsBack (item_of past s) (is_ready past s) held → Step (Known s k) past held (known_after held k) (numbered s held.next (known_items held k))
+  known_step : (s k : ℕ) (held : HeldBack) → is_some (item_of past s k) ≡ true → HoldsBack (item_of past s) (is_ready past s) held → Step (Known s k) past held (known_after held k) (numbered s held.next (known_items held k))
   known_step s k held e h =
       let calls = Known s k ∷ past in
       let kept = same_stands (item_of past s) (item_of calls s) (is_ready past s) (is_ready past s) held (λ i. first_none (item_of past s i)) (λ i. refl) h in
@@ -129,7 +110,7 @@ module _ (nodes : ℕ) (past : List Call) (may : MayBeCalled nodes past) where
         answers = ap (numbered s held.next) t.run_is ∙ numbered-map s (λ i. unwrap_or (item_of calls s i) Close) held.next ((known_after held k).next - held.next);
       }
 
-  offer_step : (m : Message) (held : Held) → HoldsBack (item_of past m.sender) (is_ready past m.sender) held → Step (Offer m) past held (offered_after held m.number m.item) (numbered m.sender held.next (offered_items held m.number m.item))
+  offer_step : (m : Message) (held : HeldBack) → HoldsBack (item_of past m.sender) (is_ready past m.sender) held → Step (Offer m) past held (offered_after held m.number m.item) (numbered m.sender held.next (offered_items held m.number m.item))
   offer_step m held h =
       let s = m.sender in
       let k = m.number in
@@ -156,12 +137,8 @@ module _ (nodes : ℕ) (past : List Call) (may : MayBeCalled nodes past) where
           own : (s k : ℕ) → (s == s && k == k) ≡ true
           own s k = grind (arith, nat_tests)
 
-length-replicate : (n : ℕ) → length (replicate n nothing_held) ≡ n
-length-replicate zero = refl
-length-replicate (suc n) = ap suc (length-replicate n)
-
 length-held_by : (nodes : ℕ) (calls : List Call) → length (held_by nodes calls) ≡ nodes
-length-held_by nodes [] = length-replicate nodes
+length-held_by nodes [] = length-replicate nodes nothing_held
 length-held_by nodes (Hold m ∷ past) = length-set (held_by nodes past) m.sender _ ∙ length-held_by nodes past
 length-held_by nodes (Known s k ∷ past) = length-set (held_by nodes past) s _ ∙ length-held_by nodes past
 length-held_by nodes (Offer m ∷ past) = length-set (held_by nodes past) m.sender _ ∙ length-held_by nodes past
@@ -171,12 +148,11 @@ nothing_of zero s = refl
 nothing_of (suc n) zero = refl
 nothing_of (suc n) (suc s) = nothing_of n s
 
-set_elsewhere : (all : List Held) (t s : ℕ) (v : Held) → t ≢ s → held_of (slice_set all t v) s ≡ held_of all s
-set_elsewhere [] t s v e = refl
-set_elsewhere (x ∷ all) zero zero v e = absurd (e refl)
-set_elsewhere (x ∷ all) zero (suc s) v e = refl
-set_elsewhere (x ∷ all) (suc t) zero v e = refl
-set_elsewhere (x ∷ all) (suc t) (suc s) v e = set_elsewhere all t s v (λ f. e (ap suc f))
+held_of-set : (all : List HeldBack) (s : ℕ) (v : HeldBack) → s < length all → held_of (slice_set all s v) s ≡ v
+held_of-set all s v l = get_or-set_same all s v nothing_held l
+
+set_elsewhere : (all : List HeldBack) (t s : ℕ) (v : HeldBack) → t ≢ s → held_of (slice_set all t v) s ≡ held_of all s
+set_elsewhere all t s v e = get_or-set_other all t s v nothing_held (λ f. e (sym f))
 
 -- a call of another sender
 item_elsewhere : (call : Call) (past : List Call) (s i : ℕ) → sender_of call ≢ s → item_of (call ∷ past) s i ≡ item_of past s i
@@ -189,7 +165,7 @@ ready_elsewhere (Hold m) past s i e = ap (λ b. list_any (is_offer_of s i) past 
 ready_elsewhere (Known t k) past s i e = ap (λ b. list_any (is_offer_of s i) past || (list_any (is_hold_of s i) past && (b || list_any (is_mark_of s i) past))) (pair_of_other t s k i e)
 ready_elsewhere (Offer m) past s i e = ap (λ b. (b || list_any (is_offer_of s i) past) || (list_any (is_hold_of s i) past && list_any (is_mark_of s i) past)) (pair_of_other m.sender s m.number i e)
 
-held_elsewhere : (all : List Held) (call : Call) (s : ℕ) → sender_of call ≢ s → held_of (held_after all call) s ≡ held_of all s
+held_elsewhere : (all : List HeldBack) (call : Call) (s : ℕ) → sender_of call ≢ s → held_of (held_after all call) s ≡ held_of all s
 held_elsewhere all (Hold m) s e = set_elsewhere all m.sender s _ e
 held_elsewhere all (Known t k) s e = set_elsewhere all t s _ e
 held_elsewhere all (Offer m) s e = set_elsewhere all m.sender s _ e

@@ -2,109 +2,47 @@
 use Rattle.std.specs.Prelude.{◌≡◌, ◌≢◌, ℕ, zero, suc, ◌+◌, ◌-◌, ◌≤◌, ◌<◌, ◌==◌, Bool, true, false, ◌&&◌, ◌||◌, cond, if◌then◌else◌, List, [], ◌∷◌, map, length, Option, Some, None, is_some, unwrap_or, refl}
 use Rattle.std.specs.List.{list_any, range_with_len}
 use Rattle.std.specs.Map.{set_value}
-use Rattle.std.specs.Ordering.{nat_cmp, match_ordering}
-use Rattle.std.specs.declared.cmp.Ordering.{Ordering}
-use Rattle.std.specs.declared.cmp.Ordering.TheVariants.{Less, Equal, Greater}
+use Rattle.std.specs.Ordering.{nat_cmp}
 use Rattle.std.specs.BTreeMap.{insert_entry, is_at}
 use Rattle.std.proofs.Common.{sym, ap, ◌∙◌, subst, arith, inl, inr, true≢false}
 use Rattle.std.proofs.lemmas.Bool.Decides.{nat_tests, leb_tells, eqb_tells}
-use Rattle.std.proofs.lemmas.Bool.{eq-eqb, le-ltb, lt-ltb, ne_eqb}
+use Rattle.std.proofs.lemmas.Bool.{eq-eqb, lt-ltb, ne_eqb}
 use Rattle.cast_message.proofs.Booleans.{or_assoc, or_false}
 use Rattle.cast_message.specs.declared.message.Item.{Item}
 use Rattle.cast_message.specs.declared.message.Item.TheVariants.{Close}
 use Rattle.cast_message.specs.declared.message.Message.{Message}
 use Rattle.cast_model.specs.History.{numbered}
 use Rattle.cast_fifo.specs.declared.waiting.Waiting.{Waiting}
-use Rattle.cast_fifo.specs.Held.{Held, waiting_at, came, marked, with_mark, with_item, run_from, rest_from, advanced, known_items, known_after}
+use Rattle.cast_fifo.specs.HeldBack.{HeldBack, waiting_at, came, marked, with_mark, with_item, run_from, rest_from, advanced, known_items, known_after}
 use Rattle.cast_message.specs.Items.{is_close}
 use Rattle.cast_fifo.specs.Calls.{first_of}
 use Rattle.cast_fifo.specs.HoldsBack.{Ascends, waiting_of, close_at, HoldsBack}
-use Rattle.cast_fifo.proofs.Entries.{Entries, at_true, at_false}
+use Rattle.cast_fifo.proofs.Entries.{Entries, at_false}
 use Rattle.cast_fifo.proofs.Turns.{numbered-cons, numbered-none}
-
-pub lower : (n m : ℕ) (es : Entries) → m ≤ n → Ascends n es → Ascends m es
-lower n m [] l h = tt
-lower n m (e ∷ es) l h = (omega (arith, l, h.0), h.1)
 
 pub none_below : (n q : ℕ) (es : Entries) → Ascends n es → q < n → waiting_at es q ≡ None
 none_below n q [] h l = refl
 none_below n q (e ∷ es) h l =
     ap (λ b. cond b (Some e.1) (waiting_at es q)) (at_false q e.0 (omega (arith, l, h.0))) ∙ none_below (e.0 + 1) q es h.1 (omega (arith, l, h.0))
 
-pub less_tells : (k q : ℕ) → nat_cmp k q ≡ Less → k < q
-less_tells k q e = grind (arith, nat_tests)
-
-equal_tells : (k q : ℕ) → nat_cmp k q ≡ Equal → k ≡ q
-equal_tells k q e = grind (arith, nat_tests)
-
-greater_tells : (k q : ℕ) → nat_cmp k q ≡ Greater → q < k
-greater_tells k q e = grind (arith, nat_tests)
-
 Ascends-insert : (n k : ℕ) (w : Waiting) (es : Entries) → Ascends n es → n ≤ k → Ascends n (insert_entry nat_cmp es k w)
 Ascends-insert n k w [] h l = (l, tt)
-Ascends-insert n k w (e ∷ es) h l = go (nat_cmp k e.0) refl (λ m. Ascends-insert (e.0 + 1) k w es h.1 m)
-  where
-    go : (o : Ordering) → nat_cmp k e.0 ≡ o → (e.0 + 1 ≤ k → Ascends (e.0 + 1) (insert_entry nat_cmp es k w)) → Ascends n (match_ordering o ((k, w) ∷ e ∷ es) ((e.0, w) ∷ es) (e ∷ insert_entry nat_cmp es k w))
-    go Less f rest = (l, (let m = less_tells k e.0 f in omega (arith, m), h.1))
-    go Equal f rest = h
-    go Greater f rest = (h.0, rest (let m = greater_tells k e.0 f in omega (arith, m)))
+Ascends-insert n k w (e ∷ es) h l = grind (arith, nat_tests, Ascends-insert (e.0 + 1) k w es)
 
 pub Ascends-set : (n : ℕ) (test : ℕ → Bool) (w : Waiting) (es : Entries) → Ascends n es → Ascends n (set_value test es w)
 Ascends-set n test w [] h = tt
-Ascends-set n test w (e ∷ es) h = go (test e.0) (Ascends-set (e.0 + 1) test w es h.1)
-  where
-    go : (b : Bool) → Ascends (e.0 + 1) (set_value test es w) → Ascends n (cond b ((e.0, w) ∷ es) (e ∷ set_value test es w))
-    go true rest = h
-    go false rest = (h.0, rest)
+Ascends-set n test w (e ∷ es) h = grind (arith, nat_tests, Ascends-set (e.0 + 1) test w es)
 
 same_at : (q k : ℕ) → is_at (nat_cmp q) k ≡ (q == k)
 same_at q k = grind (arith, nat_tests)
 
--- two tests that don't both hold may be tried in either order
-swap : (a b : Bool) (x y : Option Waiting) (z : Option Waiting) → (a ≡ true → b ≡ false) → cond a x (cond b y z) ≡ cond b y (cond a x z)
-swap true true x y z f = absurd (true≢false (f refl))
-swap true false x y z f = refl
-swap false b x y z f = refl
-
--- a test that failed fails where it is tried again
-twice : (a : Bool) (x y z : Option Waiting) → cond a x z ≡ cond a x (cond a y z)
-twice true x y z = refl
-twice false x y z = refl
-
 pub look_inserted : (k q : ℕ) (w : Waiting) (es : Entries) → waiting_at (insert_entry nat_cmp es k w) q ≡ cond (q == k) (Some w) (waiting_at es q)
 look_inserted k q w [] = ap (λ b. cond b (Some w) None) (same_at q k)
-look_inserted k q w (e ∷ es) = go (nat_cmp k e.0) refl (look_inserted k q w es)
-  where
-    apart : (q k m : ℕ) → m < k → is_at (nat_cmp q) m ≡ true → (q == k) ≡ false
-    apart q k m l f = grind (arith, nat_tests)
-
-    go : (o : Ordering) → nat_cmp k e.0 ≡ o → waiting_at (insert_entry nat_cmp es k w) q ≡ cond (q == k) (Some w) (waiting_at es q) → waiting_at (match_ordering o ((k, w) ∷ e ∷ es) ((e.0, w) ∷ es) (e ∷ insert_entry nat_cmp es k w)) q ≡ cond (q == k) (Some w) (waiting_at (e ∷ es) q)
-    go Less f rest = ap (λ b. cond b (Some w) (waiting_at (e ∷ es) q)) (same_at q k)
-    go Equal f rest =
-        let is : is_at (nat_cmp q) e.0 ≡ (q == k) = ap (λ m. is_at (nat_cmp q) m) (sym (equal_tells k e.0 f)) ∙ same_at q k in
-        ap (λ b. cond b (Some w) (waiting_at es q)) is ∙ twice (q == k) (Some w) (Some e.1) (waiting_at es q) ∙ ap (λ b. cond (q == k) (Some w) (cond b (Some e.1) (waiting_at es q))) (sym is)
-    go Greater f rest = ap (cond (is_at (nat_cmp q) e.0) (Some e.1)) rest ∙ swap (is_at (nat_cmp q) e.0) (q == k) (Some e.1) (Some w) (waiting_at es q) (apart q k e.0 (greater_tells k e.0 f))
+look_inserted k q w (e ∷ es) = grind (arith, nat_tests, look_inserted k q w es)
 
 pub look_changed : (k q : ℕ) (w v : Waiting) (es : Entries) → waiting_at es k ≡ Some v → waiting_at (set_value (is_at (nat_cmp k)) es w) q ≡ cond (q == k) (Some w) (waiting_at es q)
-look_changed k q w v [] h = absurd (none_some h)
-  where
-    none_some : ◌≡◌ {A = Option Waiting} None (Some v) → ⊥
-    none_some e = cc
-look_changed k q w v (e ∷ es) h = go (is_at (nat_cmp k) e.0) refl (λ f. look_changed k q w v es f)
-  where
-    tells : (k m : ℕ) → is_at (nat_cmp k) m ≡ true → m ≡ k
-    tells k m e = grind (arith, nat_tests)
-
-    apart : (q k m : ℕ) → is_at (nat_cmp k) m ≡ false → is_at (nat_cmp q) m ≡ true → (q == k) ≡ false
-    apart q k m l f = grind (arith, nat_tests)
-
-    go : (b : Bool) → is_at (nat_cmp k) e.0 ≡ b → (waiting_at es k ≡ Some v → waiting_at (set_value (is_at (nat_cmp k)) es w) q ≡ cond (q == k) (Some w) (waiting_at es q)) → waiting_at (cond b ((e.0, w) ∷ es) (e ∷ set_value (is_at (nat_cmp k)) es w)) q ≡ cond (q == k) (Some w) (waiting_at (e ∷ es) q)
-    go true f rest =
-        let is : is_at (nat_cmp q) e.0 ≡ (q == k) = ap (λ m. is_at (nat_cmp q) m) (tells k e.0 f) ∙ same_at q k in
-        ap (λ b. cond b (Some w) (waiting_at es q)) is ∙ twice (q == k) (Some w) (Some e.1) (waiting_at es q) ∙ ap (λ b. cond (q == k) (Some w) (cond b (Some e.1) (waiting_at es q))) (sym is)
-    go false f rest =
-        let later : waiting_at es k ≡ Some v = sym (ap (λ b. cond b (Some e.1) (waiting_at es k)) f) ∙ h in
-        ap (cond (is_at (nat_cmp q) e.0) (Some e.1)) (rest later) ∙ swap (is_at (nat_cmp q) e.0) (q == k) (Some e.1) (Some w) (waiting_at es q) (apart q k e.0 f)
+look_changed k q w v [] h = cc
+look_changed k q w v (e ∷ es) h = grind (arith, nat_tests, look_changed k q w v es)
 
 -- the item that waits, and whether it is known
 abbrev pub item_in : Option Waiting → Item
@@ -150,16 +88,13 @@ released_some n e es is known up h run run_is = (
     next = omega (arith, count)
 
     here : (i : ℕ) → i ≡ n → waiting_at (e ∷ es) i ≡ Some e.1
-    here i f = ap (λ b. cond b (Some e.1) (waiting_at es i)) (at_true i e.0 (f ∙ sym is))
+    here i f = grind (arith, nat_tests)
 
     past : (i : ℕ) → i ≢ n → waiting_at (e ∷ es) i ≡ waiting_at es i
-    past i f = ap (λ b. cond b (Some e.1) (waiting_at es i)) (at_false i e.0 (λ g. f (g ∙ is)))
+    past i f = grind (arith, nat_tests)
 
 test_some : (k n : ℕ) (b : Bool) → (k == n && b) ≡ true → (k ≡ n) × (b ≡ true)
 test_some k n b e = grind (arith, nat_tests)
-
-test_none : (k n : ℕ) (b : Bool) → (k == n && b) ≡ false → k ≡ n → b ≡ false
-test_none k n b e f = grind (arith, nat_tests)
 
 plus_none : (n : ℕ) → n + 0 ≡ n
 plus_none n = omega arith
@@ -194,17 +129,14 @@ released n (e ∷ es) h = go (e.0 == n && e.1.known) refl (λ f. released (n + 1
         }
       where
         stopped : (e.0 == n && e.1.known) ≡ false → known_in (waiting_at (e ∷ es) n) ≡ false
-        stopped f = elim (eqb_tells e.0 n) [
-          | inl g ↦ ap known_in (ap (λ b. cond b (Some e.1) (waiting_at es n)) (at_true n e.0 (sym g.1))) ∙ test_none e.0 n e.1.known f g.1
-          | inr g ↦ ap known_in (ap (λ b. cond b (Some e.1) (waiting_at es n)) (at_false n e.0 (λ k. g.1 (sym k))) ∙ none_below (e.0 + 1) n es h.1 (omega (arith, h.0)))
-        ]
+        stopped f = let none = none_below (e.0 + 1) n es h.1 (omega (arith, h.0)) in grind (arith, nat_tests, none)
 
 same_any : (f g : ℕ → Bool) (a n : ℕ) → ((i : ℕ) → a ≤ i → i < a + n → f i ≡ g i) → list_any f (range_with_len a n) ≡ list_any g (range_with_len a n)
 same_any f g a zero h = refl
 same_any f g a (suc n) h = λ k. h a (omega arith) (omega arith) k || same_any f g (a + 1) n (λ i l m. h i (omega (arith, l)) (omega (arith, m))) k
 
 -- the same items and marks
-pub same_stands : (items items' : ℕ → Option Item) (ready ready' : ℕ → Bool) (held : Held) → ((i : ℕ) → items' i ≡ items i) → ((i : ℕ) → ready' i ≡ ready i) → HoldsBack items ready held → HoldsBack items' ready' held
+pub same_stands : (items items' : ℕ → Option Item) (ready ready' : ℕ → Bool) (held : HeldBack) → ((i : ℕ) → items' i ≡ items i) → ((i : ℕ) → ready' i ≡ ready i) → HoldsBack items ready held → HoldsBack items' ready' held
 same_stands items items' ready ready' held a b h = record {
   below = λ i l. b i ∙ h.below i l;
   stops = b held.next ∙ h.stops;
@@ -213,46 +145,36 @@ same_stands items items' ready ready' held a b h = record {
   closed = h.closed ∙ sym (same_any (close_at items') (close_at items) 0 held.next (λ i l m. ap (λ o. is_close (unwrap_or o Close)) (a i)));
 }
 
-is_some-waiting_of : (o : Option Item) (b : Bool) → is_some (waiting_of o b) ≡ is_some o
-is_some-waiting_of None b = refl
-is_some-waiting_of (Some x) b = refl
-
-module _ (items : ℕ → Option Item) (ready : ℕ → Bool) (held : Held) (h : HoldsBack items ready held) (some : (i : ℕ) → ready i ≡ true → is_some (items i) ≡ true) where
+module _ (items : ℕ → Option Item) (ready : ℕ → Bool) (held : HeldBack) (h : HoldsBack items ready held) (some : (i : ℕ) → ready i ≡ true → is_some (items i) ≡ true) where
   -- what came is what had its turn or waits
   pub came_is : (i : ℕ) → came held i ≡ is_some (items i)
-  came_is i = elim (leb_tells held.next i) [
-    | inl l ↦ (λ k. le-ltb i held.next l.1 k || is_some (h.waits i l.1 k)) ∙ is_some-waiting_of (items i) (ready i)
-    | inr l ↦ ap (λ b. b || is_some (waiting_at held.waiting i)) (lt-ltb i held.next l.1) ∙ sym (some i (h.below i l.1))
-  ]
+  came_is i = let w = h.waits i in let b = h.below i in let t = some i in grind (arith, nat_tests, w, b, t)
 
 pub first_none : (o : Option Item) → first_of o None ≡ o
 first_none None = refl
 first_none (Some x) = refl
 
 first_some : (o p : Option Item) → is_some o ≡ true → first_of o p ≡ o
-first_some None p e = absurd (true≢false (sym e))
-first_some (Some x) p e = refl
+first_some o p e = grind (arith, nat_tests)
 
 none_of : (o : Option Item) → is_some o ≡ false → o ≡ None
-none_of None e = refl
-none_of (Some x) e = absurd (true≢false e)
+none_of o e = grind (arith, nat_tests)
 
 -- the items with one more, of two of one number the first
 abbrev pub with_one : (ℕ → Option Item) → ℕ → Item → ℕ → Option Item
 with_one items k item i = first_of (items i) (if k == i then Some item else None)
 
 not_ready : (o : Option Item) (b : Bool) → o ≡ None → (b ≡ true → is_some o ≡ true) → b ≡ false
-not_ready o true e f = absurd (true≢false (sym (f refl) ∙ ap is_some e))
-not_ready o false e f = refl
+not_ready o b e f = grind (arith, nat_tests)
 
 -- a message is kept
-pub holds : (items : ℕ → Option Item) (ready : ℕ → Bool) (held : Held) (k : ℕ) (item : Item) → HoldsBack items ready held → ((i : ℕ) → ready i ≡ true → is_some (items i) ≡ true) → HoldsBack (with_one items k item) ready (with_item held k item)
+pub holds : (items : ℕ → Option Item) (ready : ℕ → Bool) (held : HeldBack) (k : ℕ) (item : Item) → HoldsBack items ready held → ((i : ℕ) → ready i ≡ true → is_some (items i) ≡ true) → HoldsBack (with_one items k item) ready (with_item held k item)
 holds items ready held k item h some = go (came held k) refl
   where
     there : ℕ → Bool
     there i = is_some (items i)
 
-    kept : Held
+    kept : HeldBack
     kept = record held { waiting = insert_entry nat_cmp held.waiting k (record { item = item; known = false }) }
 
     old_item : (i : ℕ) → is_some (items i) ≡ true → with_one items k item i ≡ items i
@@ -269,14 +191,7 @@ holds items ready held k item h some = go (came held k) refl
     go false e = record {
       below = h.below;
       stops = h.stops;
-      waits = λ i l. look_inserted k i (record { item = item; known = false }) held.waiting ∙ elim (eqb_tells i k) [
-        | inl f ↦
-            ap (λ b. cond b (Some (record { item = item; known = false })) (waiting_at held.waiting i)) (eq-eqb i k f.1)
-            ∙ sym ((λ j. waiting_of (new_item i f.1 j) (idle i f.1 j)))
-        | inr f ↦
-            ap (λ b. cond b (Some (record { item = item; known = false })) (waiting_at held.waiting i)) (ne_eqb i k f.1)
-            ∙ h.waits i l ∙ sym (ap (λ o. waiting_of o (ready i)) (other_item i f.1))
-      ];
+      waits = λ i l. let a = look_inserted k i (record { item = item; known = false }) held.waiting in let b = h.waits i l in let o = absent i in let r = idle i in grind (arith, nat_tests, a, b, o, r);
       ascends = Ascends-insert held.next k (record { item = item; known = false }) held.waiting h.ascends (elim (leb_tells held.next k) [ inl l ↦ l.1 | inr l ↦ absurd (true≢false (sym (ap (λ b. b || is_some (waiting_at held.waiting k)) (lt-ltb k held.next l.1)) ∙ e)) ]);
       closed = h.closed ∙ sym (same_any (close_at (with_one items k item)) (close_at items) 0 held.next (λ i l m. ap (λ o. is_close (unwrap_or o Close)) (old_item i (some i (h.below i (omega (arith, m)))))));
     }
@@ -303,7 +218,7 @@ there_is : (o : Option Item) (b : Bool) (es : Entries) (k : ℕ) → is_some o �
 there_is None b es k e f = absurd (true≢false (sym e))
 there_is (Some x) b es k e f = (record { item = x; known = b }, f, refl)
 
-pub marks : (items : ℕ → Option Item) (ready ready' : ℕ → Bool) (held : Held) (k : ℕ) → HoldsBack items ready held → is_some (items k) ≡ true → ((i : ℕ) → ready' i ≡ (ready i || i == k)) → Marked items ready' held.next (with_mark held k).waiting
+pub marks : (items : ℕ → Option Item) (ready ready' : ℕ → Bool) (held : HeldBack) (k : ℕ) → HoldsBack items ready held → is_some (items k) ≡ true → ((i : ℕ) → ready' i ≡ (ready i || i == k)) → Marked items ready' held.next (with_mark held k).waiting
 marks items ready ready' held k h e is = elim (leb_tells held.next k) [ inl l ↦ later l.1 | inr l ↦ before l.1 ]
   where
     n : ℕ
@@ -325,14 +240,7 @@ marks items ready ready' held k h e is = elim (leb_tells held.next k) [ inl l �
             let w = found.0 in
             let put : marked held.waiting k (waiting_at held.waiting k) ≡ set_value (is_at (nat_cmp k)) held.waiting (record { item = w.item; known = true }) = ap (marked held.waiting k) found.1 in
             record {
-              waits = λ i m. ap (λ es. waiting_at es i) put ∙ look_changed k i (record { item = w.item; known = true }) w held.waiting found.1 ∙ elim (eqb_tells i k) [
-                | inl f ↦
-                    ap (λ b. cond b (Some (record { item = w.item; known = true })) (waiting_at held.waiting i)) (eq-eqb i k f.1)
-                    ∙ sym (λ j. waiting_of ((ap items f.1 ∙ found.2) j) ((is i ∙ ap (λ b. ready i || b) (eq-eqb i k f.1) ∙ or_true (ready i)) j))
-                | inr f ↦
-                    ap (λ b. cond b (Some (record { item = w.item; known = true })) (waiting_at held.waiting i)) (ne_eqb i k f.1)
-                    ∙ h.waits i m ∙ ap (waiting_of (items i)) (sym (is i ∙ ap (λ b. ready i || b) (ne_eqb i k f.1) ∙ or_false (ready i)))
-              ];
+              waits = λ i m. ap (λ es. waiting_at es i) put ∙ (let a = look_changed k i (record { item = w.item; known = true }) w held.waiting found.1 in let b = h.waits i m in let r = is i in let o = found.2 in grind (arith, nat_tests, a, b, r, o));
               ascends = subst (Ascends n) (sym put) (Ascends-set n (is_at (nat_cmp k)) (record { item = w.item; known = true }) held.waiting h.ascends);
             }
 
@@ -348,13 +256,10 @@ any_map f [] = refl
 any_map f (n ∷ ns) = ap (λ b. is_close (f n) || b) (any_map f ns)
 
 item_in-waiting_of : (o : Option Item) (b : Bool) → item_in (waiting_of o b) ≡ unwrap_or o Close
-item_in-waiting_of None b = refl
-item_in-waiting_of (Some x) b = refl
+item_in-waiting_of o b = grind (arith, nat_tests)
 
 known_in-waiting_of : (o : Option Item) (b : Bool) → (b ≡ true → is_some o ≡ true) → known_in (waiting_of o b) ≡ b
-known_in-waiting_of None true f = absurd (true≢false (sym (f refl)))
-known_in-waiting_of None false f = refl
-known_in-waiting_of (Some x) b f = refl
+known_in-waiting_of o b f = grind (arith, nat_tests)
 
 -- the messages of s from n on
 pub numbered-map : (s : ℕ) (f : ℕ → Item) (n k : ℕ) → numbered s n (map f (range_with_len n k)) ≡ map (λ i. let m : Message = record { sender = s; number = i; item = f i } in m) (range_with_len n k)
@@ -362,7 +267,7 @@ numbered-map s f n zero = numbered-none s n
 numbered-map s f n (suc k) = numbered-cons s n (f n) (map f (range_with_len (n + 1) k)) ∙ ap (λ ms. record { sender = s; number = n; item = f n } ∷ ms) (numbered-map s f (n + 1) k)
 
 -- what is marked has its turn
-pub record Turned (items : ℕ → Option Item) (ready : ℕ → Bool) (n : ℕ) (run : List Item) (held : Held) : Type 0 where
+pub record Turned (items : ℕ → Option Item) (ready : ℕ → Bool) (n : ℕ) (run : List Item) (held : HeldBack) : Type 0 where
   pub stands : HoldsBack items ready held
   pub run_is : run ≡ map (λ i. unwrap_or (items i) Close) (range_with_len n (held.next - n))
   pub from : n ≤ held.next
@@ -389,6 +294,6 @@ turns items ready n closed es m below shut some =
     }
 
 -- a number that came is marked
-pub knows : (items : ℕ → Option Item) (ready ready' : ℕ → Bool) (held : Held) (k : ℕ) → HoldsBack items ready held → is_some (items k) ≡ true → ((i : ℕ) → ready' i ≡ (ready i || i == k)) → ((i : ℕ) → ready' i ≡ true → is_some (items i) ≡ true) → Turned items ready' held.next (known_items held k) (known_after held k)
+pub knows : (items : ℕ → Option Item) (ready ready' : ℕ → Bool) (held : HeldBack) (k : ℕ) → HoldsBack items ready held → is_some (items k) ≡ true → ((i : ℕ) → ready' i ≡ (ready i || i == k)) → ((i : ℕ) → ready' i ≡ true → is_some (items i) ≡ true) → Turned items ready' held.next (known_items held k) (known_after held k)
 knows items ready ready' held k h e is some =
     turns items ready' held.next held.closed (with_mark held k).waiting (marks items ready ready' held k h e is) (λ i l. is i ∙ ap (λ b. b || i == k) (h.below i l)) h.closed some

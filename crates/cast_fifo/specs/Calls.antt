@@ -12,7 +12,7 @@ use Rattle.cast_message.specs.declared.message.Item.{Item}
 use Rattle.cast_message.specs.declared.message.Item.TheVariants.{Close}
 use Rattle.cast_message.specs.declared.message.Message.{Message}
 use Rattle.cast_model.specs.History.{numbered}
-use Rattle.cast_fifo.specs.Held.{Held, nothing_held, held_of, came, with_item, known_items, known_after, offered_items, offered_after}
+use Rattle.cast_fifo.specs.HeldBack.{HeldBack, nothing_held, held_of, came, with_item, known_items, known_after, offered_items, offered_after}
 use Rattle.cast_message.specs.Items.{is_close}
 
 pub data Call : Type 0 where
@@ -77,7 +77,7 @@ sender_of (Hold message) = message.sender
 sender_of (Known sender number) = sender
 sender_of (Offer message) = message.sender
 
-abbrev pub held_after : List Held → Call → List Held
+abbrev pub held_after : List HeldBack → Call → List HeldBack
 held_after all (Hold message) =
     let held = held_of all message.sender in
     slice_set all message.sender (with_item held message.number message.item)
@@ -87,12 +87,12 @@ held_after all (Offer message) =
     let held = held_of all message.sender in
     slice_set all message.sender (offered_after held message.number message.item)
 
-abbrev pub held_by : ℕ → List Call → List Held
+abbrev pub held_by : ℕ → List Call → List HeldBack
 held_by nodes [] = replicate nodes nothing_held
 held_by nodes (call ∷ past) = held_after (held_by nodes past) call
 
 -- what a call answers; `hold` answers no messages
-abbrev pub answer : List Held → Call → List Message
+abbrev pub answer : List HeldBack → Call → List Message
 answer all (Hold message) = []
 answer all (Known sender number) =
     numbered sender (held_of all sender).next (known_items (held_of all sender) number)

@@ -5,7 +5,7 @@ use Rattle.std.specs.List.{list_any, range_with_len}
 use Rattle.cast_message.specs.declared.message.Item.{Item}
 use Rattle.cast_message.specs.declared.message.Item.TheVariants.{Close}
 use Rattle.cast_fifo.specs.declared.waiting.Waiting.{Waiting}
-use Rattle.cast_fifo.specs.Held.{Held, waiting_at}
+use Rattle.cast_fifo.specs.HeldBack.{HeldBack, waiting_at}
 use Rattle.cast_message.specs.Items.{is_close}
 
 -- numbers that rise from one on
@@ -22,7 +22,7 @@ abbrev pub close_at : (ℕ → Option Item) → ℕ → Bool
 close_at items i = is_close (unwrap_or (items i) Close)
 
 -- what is held, where these are the items that came, by number, and whether they are ready
-pub record HoldsBack (items : ℕ → Option Item) (ready : ℕ → Bool) (held : Held) : Type 0 where
+pub record HoldsBack (items : ℕ → Option Item) (ready : ℕ → Bool) (held : HeldBack) : Type 0 where
   pub below : (i : ℕ) → i < held.next → ready i ≡ true
   pub stops : ready held.next ≡ false
   pub waits : (i : ℕ) → held.next ≤ i → waiting_at held.waiting i ≡ waiting_of (items i) (ready i)

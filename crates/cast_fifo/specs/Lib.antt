@@ -1,4 +1,4 @@
-pub mod Held
+pub mod HeldBack
 pub mod Windows
 pub mod Calls
 pub mod HoldsBack

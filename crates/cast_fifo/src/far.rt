@@ -1,10 +1,8 @@
 //! The ordered map of the numbers that the ring doesn't reach.
-ghost use Rattle.std.specs.Prelude.{◌≡◌, ◌<◌, ◌^◌, ◌∷◌, length};
+ghost use Rattle.std.specs.Prelude.{◌≡◌, ◌<◌, ◌∷◌, length};
 ghost use Rattle.std.specs.List.{All};
-ghost use Rattle.std.specs.Map.{keys_of, remove_entry};
-ghost use Rattle.std.specs.Ordering.{nat_cmp};
-ghost use Rattle.std.specs.BTreeMap.{is_at};
-ghost use Rattle.cast_fifo.specs.Held.{waiting_at, marked, run_from};
+ghost use Rattle.std.specs.Map.{keys_of};
+ghost use Rattle.cast_fifo.specs.HeldBack.{waiting_at, marked};
 
 use crate::waiting::Waiting;
 use std::collections::BTreeMap;
@@ -18,13 +16,6 @@ pub fn mark_far(far: &mut BTreeMap<u64, Waiting>, number: u64)
     }
 }
 
-/// Takes away what waits at a number.
-pub fn clear_far(far: &mut BTreeMap<u64, Waiting>, number: u64)
-    ensures { far.new.entries ≡ remove_entry (is_at (nat_cmp number)) far.old.entries }
-{
-    far.remove(&number);
-}
-
 /// The first entry goes.
 pub fn take_first(far: &mut BTreeMap<u64, Waiting>) -> (u64, Waiting)
     requires { 0 < length far.old.entries }
@@ -35,21 +26,4 @@ pub fn take_first(far: &mut BTreeMap<u64, Waiting>) -> (u64, Waiting)
         Some(entry) => entry,
         None => unreachable!(),
     }
-}
-
-/// How many entries are marked at a number and right after it.
-pub fn ready_in_map(far: &BTreeMap<u64, Waiting>, first: u64) -> usize
-    ensures value { result ≡ length (run_from first far.now.entries) }
-    ensures small { result < 2 ^ 63 }
-{
-    // (for the proof alone: what the contract of `len` says)
-    let _most = far.len();
-    let mut count = 0;
-    for (number, waiting) in far {
-        if number.checked_sub(first) != Some(count as u64) || !waiting.known {
-            return count;
-        }
-        count += 1;
-    }
-    count
 }

@@ -3,8 +3,10 @@
 //! first and marked later, so that it goes only once its node knows enough of it.
 #![tactic(auto)]
 
-ghost use Rattle.std.specs.Prelude.{[], nat_lt, IsTrue, ◌≡◌, ◌≢◌, ◌+◌, ◌<◌, ◌≤◌, ◌^◌, ◌++◌, true, false, length, replicate, vec_len, vec_capacity, IfOk, OnOk, OnErr};
-ghost use Rattle.cast_fifo.specs.Held.{nothing_held, held_of, came, without_message, known_items, known_after, IsNear};
+ghost use Rattle.std.specs.Prelude.{[], ◌≡◌, ◌≢◌, ◌+◌, ◌<◌, ◌≤◌, ◌^◌, ◌++◌, true, length, replicate, slice_set, vec_len, vec_capacity, nat_lt, IsTrue, IsSome, IfOk, OnOk, OnErr};
+ghost use Rattle.std.specs.Option.{option_copied};
+ghost use Rattle.cast_model.specs.History.{numbered};
+ghost use Rattle.cast_fifo.specs.HeldBack.{nothing_held, held_of, came, heard_items, heard_after, known_items, known_after};
 ghost use Rattle.cast_fifo.specs.Calls.{Hold, Known, Offer, held_after, answer, GivesInOrder};
 
 mod far;
@@ -26,9 +28,9 @@ pub struct HoldBack {
 
 impl Model for HoldBack {
     ghost use Rattle.std.specs.Prelude.{List};
-    ghost use Rattle.cast_fifo.specs.Held.{Held};
+    ghost use Rattle.cast_fifo.specs.HeldBack.{HeldBack};
 
-    ghost Value = { List Held };
+    ghost Value = { List HeldBack };
 
     ghost view = { λ h. h.senders.items };
 }
@@ -63,17 +65,12 @@ impl HoldBack {
     }
 
     /// Keeps a message, of two of one pair the first. The sender is below the number of nodes, and the number below
-    /// `u64::MAX`. What was kept can be taken back. For the second it takes no memory.
-    #[tactic(auto, using(crate::proofs::TakenBack::all_taken_back))]
+    /// `u64::MAX`.
     pub fn hold(&mut self, message: Message) -> Result<(), AllocError>
         requires sender { message.sender < length self.old }
         requires number { message.number + 1 < 2 ^ 64 }
         ensures ok { OnOk result (self.new ≡ held_after self.old (Hold message)) }
-        ensures back { came (held_of self.old message.sender) message.number ≡ false → OnOk result
-            (without_message self.new message.sender message.number ≡ self.old) }
         ensures err { OnErr result (self.new ≡ self.old) }
-        ensures again { OnErr result
-            (came (held_of self.old message.sender) message.number ≡ false) }
     {
         let Message {
             sender,
@@ -85,7 +82,7 @@ impl HoldBack {
     }
 
     /// Marks a pair that was held or offered, and answers the messages whose turn has come, in order. The sender is
-    /// below the number of nodes. It takes memory only where it is this pair's turn.
+    /// below the number of nodes.
     pub fn known(&mut self, sender: NodeId, number: u64) -> Result<Vec<Message>, AllocError>
         requires sender { sender < length self.old }
         requires came { came (held_of self.old sender) number ≡ true }
@@ -93,9 +90,28 @@ impl HoldBack {
             messages.items ≡ answer self.old (Known sender number)) }
         ensures ok { OnOk result (self.new ≡ held_after self.old (Known sender number)) }
         ensures err { OnErr result (self.new ≡ self.old) }
-        ensures turn { OnErr result (number ≡ (held_of self.old sender).next) }
     {
-        self.senders[usize::from(sender.0)].known(self.alloc, sender, number)
+        self.senders[usize::from(sender.0)].turn(self.alloc, sender, number, None)
+    }
+
+    /// Keeps a message and marks its pair in one, and answers the messages whose turn has come, in order: none where the
+    /// pair was offered before. The sender is below the number of nodes, and the number below `u64::MAX`.
+    pub fn offer(&mut self, message: Message) -> Result<Vec<Message>, AllocError>
+        requires sender { message.sender < length self.old }
+        requires number { message.number + 1 < 2 ^ 64 }
+        ensures messages { IfOk result (λ messages.
+            messages.items ≡ answer self.old (Offer message)) }
+        ensures ok { OnOk result (self.new ≡ held_after self.old (Offer message)) }
+        ensures err { OnErr result (self.new ≡ self.old) }
+        ensures other { message.number ≢ (held_of self.old message.sender).next →
+            IfOk result (λ messages. messages.items ≡ []) }
+    {
+        let Message {
+            sender,
+            number,
+            item,
+        } = message;
+        self.senders[usize::from(sender.0)].offer(self.alloc, sender, number, item)
     }
 
     /// Whether a pair was held or offered. The sender is below the number of nodes. It takes no memory.
@@ -118,67 +134,43 @@ impl HoldBack {
         self.senders[usize::from(sender.0)].had_turn(number)
     }
 
-    /// Takes back a message that waits for its turn: just after `hold` kept it, the state is again that before `hold`. The
-    /// sender is below the number of nodes. It takes no memory.
-    pub fn take_back(&mut self, sender: NodeId, number: u64)
-        requires { sender < length self.old }
-        ensures { self.new ≡ without_message self.old sender number }
+    /// Copies of the messages whose turn comes once the pair is marked, or once an item is offered for it, which is the
+    /// next. The sender is below the number of nodes.
+    pub fn ready(
+        &self,
+        sender: NodeId,
+        number: u64,
+        offered: Option<&Item>,
+    ) -> Result<Vec<Message>, AllocError>
+        requires sender { sender < length self.now }
+        requires offered { IsSome offered → number ≡ (held_of self.now sender).next }
+        ensures messages { IfOk result (λ messages. messages.items
+            ≡ numbered sender (held_of self.now sender).next
+            (heard_items (held_of self.now sender) number (option_copied offered.entry))) }
     {
-        self.senders[usize::from(sender.0)].take_back(number);
+        self.senders[usize::from(sender.0)].ready(self.alloc, sender, number, offered)
     }
 
-    /// Copies of the messages that `known` of a pair would answer, in order: none where the pair was not held or offered, and none
-    /// where it is not its turn. The sender is below the number of nodes. It takes memory only where the pair was held and it is
-    /// its turn.
-    pub fn ready(&self, sender: NodeId, number: u64) -> Result<Vec<Message>, AllocError>
-        requires { sender < length self.now }
-        ensures messages { IfOk result (λ messages.
-            messages.items ≡ answer self.now (Known sender number)) }
-        ensures none { came (held_of self.now sender) number ≡ false →
-            IfOk result (λ messages. messages.items ≡ []) }
-        ensures other { number ≢ (held_of self.now sender).next →
-            IfOk result (λ messages. messages.items ≡ []) }
-        ensures turn { OnErr result (number ≡ (held_of self.now sender).next) }
-        ensures came { OnErr result (came (held_of self.now sender) number ≡ true) }
-    {
-        self.senders[usize::from(sender.0)].ready(self.alloc, sender, number)
-    }
-
-    /// Marks a pair as `known` does, where it was held or offered, and puts the items whose turn has come at the end of
-    /// `items`, in order. The sender is below the number of nodes, `items` has room for them, and no message waits 4,096
-    /// numbers or more past the next. It takes no memory.
-    pub fn release(&mut self, sender: NodeId, number: u64, items: &mut Vec<Item>)
+    /// Marks a pair, or takes the item that is offered for the next one, and puts the items whose turn has come at the end
+    /// of `items`, which has room for them. The sender is below the number of nodes. It takes no memory.
+    pub fn release(
+        &mut self,
+        sender: NodeId,
+        number: u64,
+        offered: Option<Item>,
+        items: &mut Vec<Item>,
+    )
         requires sender { sender < length self.old }
-        requires near { IsNear (held_of self.old sender) }
-        requires room { vec_len items.old + length (known_items (held_of self.old sender) number)
-            ≤ vec_capacity items.old }
+        requires number { IsSome offered → number + 1 < 2 ^ 64 }
+        requires offered { IsSome offered → number ≡ (held_of self.old sender).next }
+        requires room { vec_len items.old
+            + length (heard_items (held_of self.old sender) number offered) ≤ vec_capacity items.old }
         ensures items { items.new.items
-            ≡ items.old.items ++ known_items (held_of self.old sender) number }
-        ensures room { vec_capacity items.new ≡ vec_capacity items.old }
-        ensures after { self.new ≡ held_after self.old (Known sender number) }
+            ≡ items.old.items ++ heard_items (held_of self.old sender) number offered }
+        ensures after { self.new
+            ≡ slice_set self.old sender (heard_after (held_of self.old sender) number offered) }
     {
-        self.senders[usize::from(sender.0)].release(number, items);
-    }
-
-    /// Keeps a message and marks its pair in one, and answers the messages whose turn has come, in order: none where the
-    /// pair was offered before. The sender is below the number of nodes, and the number below `u64::MAX`. For a pair that was
-    /// held or offered it takes memory only where it is this pair's turn.
-    pub fn offer(&mut self, message: Message) -> Result<Vec<Message>, AllocError>
-        requires sender { message.sender < length self.old }
-        requires number { message.number + 1 < 2 ^ 64 }
-        ensures messages { IfOk result (λ messages.
-            messages.items ≡ answer self.old (Offer message)) }
-        ensures ok { OnOk result (self.new ≡ held_after self.old (Offer message)) }
-        ensures err { OnErr result (self.new ≡ self.old) }
-        ensures again { came (held_of self.old message.sender) message.number ≡ true →
-            OnErr result (message.number ≡ (held_of self.old message.sender).next) }
-    {
-        let Message {
-            sender,
-            number,
-            item,
-        } = message;
-        self.senders[usize::from(sender.0)].offer(self.alloc, sender, number, item)
+        self.senders[usize::from(sender.0)].release(number, offered, items);
     }
 }
 

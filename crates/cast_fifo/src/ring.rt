@@ -1,7 +1,9 @@
 //! The ring of places for the numbers from the next on.
-ghost use Rattle.std.specs.Prelude.{◌≡◌, ◌+◌, ◌-◌, ◌<◌, ◌≤◌, ◌++◌, length, replicate, drop, None, OnOk, OnErr, option_map, if◌then◌else◌, is_some, true};
+ghost use Rattle.std.specs.Prelude.{◌≡◌, ◌+◌, ◌-◌, ◌<◌, ◌≤◌, ◌++◌, length, replicate, drop, None, Some, OnOk, OnErr, option_map, if◌then◌else◌, is_some, true};
 ghost use Rattle.std.specs.VecDeque.{deque_capacity};
-ghost use Rattle.cast_fifo.specs.Windows.{is_marked, marked_front, due_front};
+ghost use Rattle.std.specs.Option.{option_copied};
+ghost use Rattle.cast_fifo.specs.HeldBack.{item_due};
+ghost use Rattle.cast_fifo.specs.Windows.{due_front, front_item};
 
 use crate::waiting::Waiting;
 use cast_message::Item;
@@ -17,6 +19,7 @@ pub fn make_places(ring: &mut VecDeque<Option<Waiting>>, place: usize) -> Result
     ensures ok { OnOk result (ring.new.items
         ≡ ring.old.items ++ replicate (place + 1 - length ring.old.items) None) }
     ensures err { OnErr result (ring.new.items ≡ ring.old.items) }
+    ensures room { deque_capacity ring.old ≤ deque_capacity ring.new }
 {
     let more = (place + 1).saturating_sub(ring.len());
     ring.reserve(more)?;
@@ -44,19 +47,13 @@ pub fn mark_place(place: &mut Option<Waiting>)
     }
 }
 
-/// Takes away what waits at a place.
-pub fn clear_place(place: &mut Option<Waiting>)
-    ensures { place.new ≡ None }
-{
-    *place = None;
-}
-
-fn is_marked(place: &Option<Waiting>) -> bool
-    ensures { result ≡ is_marked place.now }
+/// The item of a place that is marked.
+pub fn due(place: &Option<Waiting>) -> Option<&Item>
+    ensures { option_copied result ≡ item_due place.now }
 {
     match place {
-        Some(waiting) => waiting.known,
-        None => false,
+        Some(waiting) if waiting.known => Some(&waiting.item),
+        _ => None,
     }
 }
 
@@ -65,22 +62,21 @@ pub fn take_marked(ring: &mut VecDeque<Option<Waiting>>) -> Option<Item>
     ensures item { result ≡ due_front ring.old.items }
     ensures ring { ring.new.items
         ≡ (if is_some result then drop 1 ring.old.items else ring.old.items) }
+    ensures room { deque_capacity ring.new ≡ deque_capacity ring.old }
 {
-    if !is_marked(ring.front()?) {
-        return None;
-    }
+    due(ring.front()?)?;
     let waiting = ring.pop_front()??;
     Some(waiting.item)
 }
 
-/// How many places are marked right behind the first.
-pub fn ready_in_ring(ring: &VecDeque<Option<Waiting>>) -> usize
-    ensures { result ≡ marked_front (drop 1 ring.now.items) }
+/// The first place goes, and its item, or else this one.
+pub fn take_front(ring: &mut VecDeque<Option<Waiting>>, item: Item) -> Item
+    ensures item { result ≡ front_item ring.old.items item }
+    ensures ring { ring.new.items ≡ drop 1 ring.old.items }
+    ensures room { deque_capacity ring.new ≡ deque_capacity ring.old }
 {
-    for index in 1..ring.len() {
-        if !is_marked(&ring[index]) {
-            return index - 1;
-        }
+    match ring.pop_front() {
+        Some(Some(waiting)) => waiting.item,
+        _ => item,
     }
-    ring.len().saturating_sub(1)
 }

@@ -15,9 +15,9 @@ use Rattle.cast_model.specs.OwnSteps.{own_copies, own_is_ready, own_known_enough
 use Rattle.cast_model.proofs.Members.{Member, here, there}
 use Rattle.cast_model.proofs.Dues.{range_bounds}
 use Rattle.cast_model.proofs.OwnFronts.{own_below_next, own_not_at_next, own_held_below}
-use Rattle.cast_fifo.specs.Held.{Held as HeldBack, with_item, known_items, known_after}
+use Rattle.cast_fifo.specs.HeldBack.{HeldBack, with_item, known_items, known_after}
 use Rattle.cast_fifo.specs.Calls.{first_of}
-use Rattle.cast_fifo.specs.HoldsBack.{HoldsBack}
+use Rattle.cast_fifo.specs.HoldsBack.{HoldsBack, waiting_of}
 use Rattle.cast_fifo.proofs.Stands.{same_stands, with_one, holds, Turned, knows, numbered-map}
 use Rattle.cast_model.proofs.OwnGrowth.{own_ready_kept}
 use Rattle.cast_model.specs.Shown.{item_of}
@@ -58,6 +58,19 @@ found (h ∷ hs) s i e = by_test (is_pair (copy_of h) s i) refl e (found hs s i)
 
 pub item_there : (hs : List Held) (s i : ℕ) → has_pair (map copy_of hs) s i ≡ true → is_some (item_at hs s i) ≡ true
 item_there hs s i e = ap (λ o. is_some (option_map item_of o)) (found hs s i e).at
+
+pub item_is : (hs : List Held) (s i : ℕ) → is_some (item_at hs s i) ≡ has_pair (map copy_of hs) s i
+unfolding message_at has_pair
+item_is [] s i = refl
+item_is (h ∷ hs) s i = by_test (is_pair (copy_of h) s i) (item_is hs s i)
+  where
+    by_test : (b : Bool) → is_some (item_at hs s i) ≡ has_pair (map copy_of hs) s i → is_some (option_map item_of (cond b (Some h.message) (message_at hs s i))) ≡ (b || has_pair (map copy_of hs) s i)
+    by_test true ih = refl
+    by_test false ih = ih
+
+pub some_waiting : (o : Option Item) (ready : Bool) → is_some (waiting_of o ready) ≡ is_some o
+some_waiting None ready = refl
+some_waiting (Some item) ready = refl
 
 -- the next number of the hold-back is the node's
 pub next_is : (config : Config) (me : ℕ) (steps : Steps) (s : ℕ) (items : ℕ → Option Item) (held : HeldBack) → HoldsBack items (own_is_ready config me steps s) held → held.next ≡ own_next config me steps s

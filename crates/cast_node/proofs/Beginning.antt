@@ -12,7 +12,7 @@ use Rattle.cast_message.specs.declared.message.Message.{Message}
 use Rattle.cast_model.specs.History.{has_pair}
 use Rattle.cast_model.specs.Steps.{each, frame_count, held}
 use Rattle.cast_model.specs.OwnSteps.{own_live, own_given, own_taken, own_acked, own_owed, own_is_ready, own_log, message_in, message_at, IsOwnAccepted}
-use Rattle.cast_fifo.specs.Held.{nothing_held}
+use Rattle.cast_fifo.specs.HeldBack.{nothing_held}
 use Rattle.cast_fifo.specs.HoldsBack.{HoldsBack}
 use Rattle.cast_node.specs.Kept.{nothing_kept}
 use Rattle.cast_node.specs.Stands.{item_at, newest_first, StandsOut, Stands}
@@ -49,9 +49,6 @@ stands_for_nothing config me place = record {
   live = refl;
   frames = refl;
   stream = refl;
-  relay_me = refl;
-  relay_size = length-replicated 256 (set.empty {R = nat_cmp});
-  relay_holds = λ s i l. ap (λ numbers. set.contains numbers i) (at_replicate 256 s (set.empty {R = nat_cmp})) ∙ contains-empty nat_cmp i;
   peers_out = length-replicated config.nodes (record { given = 0; owed = finite.empty });
   out = λ q l e. subst (StandsOut me [] q) (sym (at_replicate config.nodes q (record { given = 0; owed = finite.empty }))) (nothing_out me q);
   peers_in = length-replicated config.nodes (set.empty {R = nat_cmp});

@@ -3,7 +3,7 @@ use Rattle.std.proofs.Common.{◌≡◌, ℕ, ◌+◌, ◌-◌, ◌<◌, refl, s
 use Rattle.std.specs.Prelude.{◌==◌, nat_le, is_some, take, if◌then◌else◌, option_to_list}
 use Rattle.std.specs.List.{list_any, cons_option}
 use Rattle.std.proofs.lemmas.Bool.Decides.{nat_tests, eqb_tells}
-use Rattle.std.proofs.lemmas.List.{append-nil}
+use Rattle.std.proofs.lemmas.List.{append-nil, map-append, length-map}
 use Rattle.std.proofs.lemmas.List.Folds.{list_any-append}
 use Rattle.cast_message.proofs.Booleans.{and_false, and_true, or_comm, or_false}
 use Rattle.cast_message.specs.declared.config.Config.{Config}
@@ -16,7 +16,7 @@ use Rattle.cast_model.specs.OwnSteps.{is_first_vote, first_votes, own_decision_o
 use Rattle.cast_model.proofs.FirstVotes.{first_votes-last}
 use Rattle.cast_agree.specs.Counted.{decision as decision_counted, decision_by as decision_counted_by}
 use Rattle.cast_agree.specs.Proposals.{has_proposed, with_item, proposals, counted_of, values, least as least_of}
-use Rattle.cast_agree.proofs.Law.{decides_least, values-push, length-values, proposed-push}
+use Rattle.cast_agree.proofs.Law.{decides_least, proposed-push}
 use Rattle.cast_agree.specs.Journal.{counted_all, decisions_all}
 use Rattle.cast_node.specs.Stands.{newest_first}
 
@@ -83,7 +83,7 @@ module _ (j : ℕ) where
       proposing v e false new is = record {
         proposed = λ s. ap (λ qs. has_proposed qs s) is ∙ proposed-push ps m.sender v s ∙ ap (λ b. (s == m.sender) || b) (h.proposed s) ∙ or_comm (s == m.sender) (voted seen s) ∙ ap (λ b. voted seen s || b) (sym (or_false _ ∙ and_true (s == m.sender))) ∙ ap (λ b. voted seen s || ((b && true) || false)) (flip s m.sender)
             ∙ sym (list_any-append _ seen (m ∷ []) ∙ ap (λ o. voted seen s || ((m.sender == s && is_some o) || false)) e);
-        votes_are = ap values is ∙ values-push ps m.sender v ∙ ap (λ xs. xs ++ v ∷ []) h.votes_are
+        votes_are = ap values is ∙ map-append (λ (p : ℕ × ℕ). p.1) ps ((m.sender, v) ∷ []) ∙ ap (λ xs. xs ++ v ∷ []) h.votes_are
             ∙ sym (first_votes-last j [] seen m ∙ ap (λ b. first_votes j [] seen ++ (if not b then votes j (m ∷ []) else [])) (sym (h.proposed m.sender) ∙ new) ∙ ap (λ o. first_votes j [] seen ++ cons_option o []) e);
       }
         where
@@ -123,7 +123,7 @@ module _ (config : Config) where
   decision_is log j =
       let h = counts_votes j log in
       (decides_least (config.nodes - config.faults) some_quorum (newest_first [] log) j).0
-      ∙ (λ k. if nat_le (config.nodes - config.faults) ((sym (length-values (proposals j (newest_first [] log))) ∙ ap length h.votes_are) k)
+      ∙ (λ k. if nat_le (config.nodes - config.faults) ((sym (length-map (proposals j (newest_first [] log)) (λ (p : ℕ × ℕ). p.1)) ∙ ap length h.votes_are) k)
       then Some ((ap (λ xs. least_of (take (config.nodes - config.faults) xs)) h.votes_are ∙ least_same (take (config.nodes - config.faults) (first_votes j [] log))) k) else None)
 
   none_or_one : (b : Bool) (x : Decision) → option_to_list (if b then Some x else None) ≡ (if b then x ∷ [] else [])
@@ -139,7 +139,7 @@ module _ (config : Config) where
       let h = counts_votes j log in
       ap option_to_list ((decides_least (config.nodes - config.faults) some_quorum (newest_first [] log) j).1 m.sender v)
       ∙ none_or_one (not (has_proposed (proposals j (newest_first [] log)) m.sender) && length (proposals j (newest_first [] log)) + 1 == config.nodes - config.faults) (record { instance = j; value = least_of (values (proposals j (newest_first [] log)) ++ v ∷ []) })
-      ∙ (λ k. if not (h.proposed m.sender k) && (sym (length-values (proposals j (newest_first [] log))) ∙ ap length h.votes_are) k + 1 == config.nodes - config.faults
+      ∙ (λ k. if not (h.proposed m.sender k) && (sym (length-map (proposals j (newest_first [] log)) (λ (p : ℕ × ℕ). p.1)) ∙ ap length h.votes_are) k + 1 == config.nodes - config.faults
       then record { instance = j; value = (ap (λ xs. least_of (xs ++ v ∷ [])) h.votes_are ∙ least_same (first_votes j [] log ++ v ∷ [])) k } ∷ [] else [])
       ∙ by_test (is_first_vote j log m.sender) refl
     where

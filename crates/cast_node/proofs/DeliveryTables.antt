@@ -1,27 +1,23 @@
 -- What is told of a pair, at the rows of its sender.
-use Rattle.std.specs.Prelude.{◌≡◌, ℕ, ◌<◌, true, false, if◌then◌else◌, List, [], ◌++◌, length, map, slice_set, slice_index_or}
+use Rattle.std.specs.Prelude.{◌≡◌, ℕ, ◌<◌, true, false, if◌then◌else◌, List, [], ◌∷◌, ◌++◌, length, map, slice_set, slice_index_or, Some, None}
 use Rattle.std.specs.Ordering.{nat_cmp}
 use Rattle.std.specs.FinSet as set
 use Rattle.std.proofs.Common.{Bool, Vec, Global, refl, sym, ap, ◌∙◌, append-nil, arith}
 use Rattle.std.proofs.Math.ListN.{length-set}
-use Rattle.std.proofs.lemmas.List.{set-get_or}
-use Rattle.cast_message.specs.declared.config.Mode.{Mode}
+use Rattle.std.proofs.lemmas.List.{set-get_or, set-set, get_or-set_same, nil_from_length}
+use Rattle.cast_message.specs.declared.config.Config.{Config}
 use Rattle.cast_message.specs.declared.message.Item.{Item}
 use Rattle.cast_message.specs.declared.message.Message.{Message}
 use Rattle.cast_model.specs.History.{numbered}
-use Rattle.cast_model.specs.OwnSteps.{nothing as nothing_comes}
-use Rattle.cast_fifo.specs.Held.{Held as HeldBack, nothing_held, held_of, known_items, known_after, came}
-use Rattle.cast_fifo.proofs.Came.{All-known_after}
-use Rattle.cast_fifo.proofs.TakenBack.{all_taken_back}
-use Rattle.cast_fifo.proofs.Turns.{numbered-none}
+use Rattle.cast_model.specs.OwnSteps.{nothing}
+use Rattle.cast_model.proofs.Fronts.{length-numbered}
+use Rattle.cast_fifo.specs.HeldBack.{HeldBack, nothing_held, held_of, came, with_item, heard_items, offered_items, known_items, known_after}
+use Rattle.cast_fifo.specs.Calls.{Hold, Offer, held_after, answer}
 use Rattle.cast_agree.specs.Counted.{Counted}
 use Rattle.cast_agree.specs.Journal.{counted_all, decisions_all}
-use Rattle.cast_node.specs.Kept.{is_enough_in}
-use Rattle.cast_node.specs.Turns.{known_row}
 use Rattle.cast_node.specs.Code.{IsSound}
-use Rattle.cast_node.specs.Delivering.{Delivering, BringsNothing, news_in, noted, let_go, told_in, outcome_in, waiting_in, forgotten_in}
+use Rattle.cast_node.specs.Delivering.{Delivering, is_enough, known_row, heard_news, heard_by, news_in, news_outcome, noted, let_go, told_in, outcome_in, waiting_in, waits_by}
 use Rattle.cast_node.proofs.Parts.{rows-length, same_rows, changed_rows}
-use Rattle.cast_node.proofs.Sound.{sound_set, sound_rows}
 
 abbrev Members : Type 0
 Members = set.FinSet nat_cmp
@@ -39,62 +35,121 @@ abbrev streamed : List Stream → List (List Item)
 streamed streams = map (λ (items : Stream). items.items) streams
 
 -- deliveries with these fields, as callers see them
-abbrev pub seen : Mode → ℕ → List Row → List HeldBack → List Stream → Counted → Delivering
-seen mode faults rows hold_back streams agree = record { mode = mode; faults = faults; knowers = known rows; hold_back = hold_back; delivered = streamed streams; agree = agree }
+abbrev pub seen : List Row → List HeldBack → List Stream → Counted → Delivering
+seen rows hold_back streams agree = record { knowers = known rows; hold_back = hold_back; delivered = streamed streams; agree = agree }
 
-told_not : (ds : Delivering) (s i : ℕ) (members : Members) → is_enough_in ds.mode ds.faults members ≡ false → noted ds s i members ≡ told_in ds s i members
-told_not ds s i members e = sym (ap (λ b. if b then let_go (noted ds s i members) s i else noted ds s i members) e)
+-- what is kept of a pair of s that these nodes hold, and the outcome
+module _ (config : Config) (ds : Delivering) (s i : ℕ) (members : Members) where
+  -- too few
+  pub told_not : is_enough config members ≡ false → (noted ds s i members ≡ told_in config ds s i members) × (nothing ≡ outcome_in config ds s i members)
+  told_not e = (
+    sym (ap (λ b. if b then let_go (noted ds s i members) s i else noted ds s i members) e),
+    sym (ap (λ b. if b then news_outcome ds.agree (news_in ds s i) else nothing) e),
+  )
 
-told_yes : (ds : Delivering) (s i : ℕ) (members : Members) → is_enough_in ds.mode ds.faults members ≡ true → let_go (noted ds s i members) s i ≡ told_in ds s i members
-told_yes ds s i members e = sym (ap (λ b. if b then let_go (noted ds s i members) s i else noted ds s i members) e)
+  -- enough
+  pub told_yes : is_enough config members ≡ true → (let_go (noted ds s i members) s i ≡ told_in config ds s i members) × (news_outcome ds.agree (news_in ds s i) ≡ outcome_in config ds s i members)
+  told_yes e = (
+    sym (ap (λ b. if b then let_go (noted ds s i members) s i else noted ds s i members) e),
+    sym (ap (λ b. if b then news_outcome ds.agree (news_in ds s i) else nothing) e),
+  )
 
--- where a mark changes nothing
-module _ (ds : Delivering) (s i : ℕ) (members : Members) (nothing : BringsNothing ds.mode ds.faults (held_of ds.hold_back s) i members) where
-  told_none : noted ds s i members ≡ told_in ds s i members
-  unfolding counted_all
-  told_none = by_test (is_enough_in ds.mode ds.faults members) refl
+  -- enough, but nothing has its turn by it
+  pub told_none : is_enough config members ≡ true → heard_items (held_of ds.hold_back s) i None ≡ [] → (record (noted ds s i members) { hold_back = heard_by ds.hold_back s i None } ≡ told_in config ds s i members) × (nothing ≡ outcome_in config ds s i members)
+  unfolding counted_all decisions_all numbered
+  told_none e none =
+      let news : [] ≡ news_in ds s i = sym (ap (numbered s (held_of ds.hold_back s).next) none) in (
+        (λ k. record (noted ds s i members) {
+          hold_back = heard_by ds.hold_back s i None;
+          delivered = (sym (set-get_or ds.delivered s []) ∙ ap (slice_set ds.delivered s) (sym (append-nil (slice_index_or ds.delivered s [])) ∙ ap (λ items. slice_index_or ds.delivered s [] ++ items) (sym none))) k;
+          agree = ap (counted_all ds.agree) news k;
+        })
+        ∙ (told_yes e).0,
+        ap (news_outcome ds.agree) news ∙ (told_yes e).1,
+      )
+
+-- a message that is kept back and marked is one that is offered
+module _ (all : List HeldBack) (message : Message) (within : message.sender < length all) where
+  abbrev waiting : List HeldBack
+  waiting = held_after all (Hold message)
+
+  kept_here : held_of waiting message.sender ≡ with_item (held_of all message.sender) message.number message.item
+  kept_here = get_or-set_same all message.sender _ nothing_held within
+
+  next_same : (held_of waiting message.sender).next ≡ (held_of all message.sender).next
+  next_same = ap (λ (h : HeldBack). h.next) kept_here ∙ by_test (came (held_of all message.sender) message.number)
     where
-      by_test : (b : Bool) → is_enough_in ds.mode ds.faults members ≡ b → noted ds s i members ≡ told_in ds s i members
-      by_test false e = told_not ds s i members e
-      by_test true e =
-          let none = nothing e in
-          (λ k. record ds {
-            knowers = (noted ds s i members).knowers;
-            hold_back = (sym (set-get_or ds.hold_back s nothing_held) ∙ ap (slice_set ds.hold_back s) (sym none.1)) k;
-            delivered = (sym (set-get_or ds.delivered s []) ∙ ap (slice_set ds.delivered s) (sym (append-nil (slice_index_or ds.delivered s [])) ∙ ap (λ items. slice_index_or ds.delivered s [] ++ items) (sym none.0))) k;
-            agree = (ap (counted_all ds.agree) (sym (ap (numbered s (held_of ds.hold_back s).next) none.0 ∙ numbered-none s (held_of ds.hold_back s).next))) k;
-          })
-          ∙ told_yes ds s i members e
+      by_test : (b : Bool) → (if b then held_of all message.sender else record (held_of all message.sender) { waiting = (Rattle.cast_fifo.specs.HeldBack.with_waiting (held_of all message.sender) message.number (record { item = message.item; known = false })).waiting }).next ≡ (held_of all message.sender).next
+      by_test true = refl
+      by_test false = refl
 
-  pub outcome_none : nothing_comes ≡ outcome_in ds s i members
-  unfolding decisions_all
-  outcome_none = by_test (is_enough_in ds.mode ds.faults members) refl
-    where
-      by_test : (b : Bool) → is_enough_in ds.mode ds.faults members ≡ b → nothing_comes ≡ outcome_in ds s i members
-      by_test false e = sym (ap (λ b. if b then record { deliveries = news_in ds s i; decisions = decisions_all ds.agree (news_in ds s i) } else nothing_comes) e)
-      by_test true e =
-          let none = nothing e in
-          let news : [] ≡ news_in ds s i = sym (ap (numbered s (held_of ds.hold_back s).next) none.0 ∙ numbered-none s (held_of ds.hold_back s).next) in
-          ap (λ (messages : List Message). record { deliveries = messages; decisions = decisions_all ds.agree messages }) news
-          ∙ sym (ap (λ b. if b then record { deliveries = news_in ds s i; decisions = decisions_all ds.agree (news_in ds s i) } else nothing_comes) e)
+  pub items_offered : heard_items (held_of waiting message.sender) message.number None ≡ heard_items (held_of all message.sender) message.number (Some message.item)
+  items_offered = ap (λ h. known_items h message.number) kept_here
 
-module _ (mode : Mode) (faults : ℕ) (rows : List Row) (hold_back : List HeldBack) (streams : List Stream) (agree : Counted) (now : Delivering) (is : seen mode faults rows hold_back streams agree ≡ now) (sound : IsSound (known rows) hold_back (streamed streams)) (place s : ℕ) (at : place ≡ s) (within : s < length now.hold_back) where
+  pub news_offered : heard_news waiting message.sender message.number None ≡ heard_news all message.sender message.number (Some message.item)
+  news_offered = λ k. numbered message.sender (next_same k) (items_offered k)
+
+  pub after_offered : heard_by waiting message.sender message.number None ≡ heard_by all message.sender message.number (Some message.item)
+  after_offered = ap (λ h. slice_set waiting message.sender (known_after h message.number)) kept_here ∙ set-set all message.sender _ _
+
+  -- of no messages no item
+  pub none_offered : answer all (Offer message) ≡ [] → heard_items (held_of waiting message.sender) message.number None ≡ []
+  none_offered none =
+      let items = offered_items (held_of all message.sender) message.number message.item in
+      items_offered ∙ nil_from_length items (omega (arith, ap length none, length-numbered message.sender (held_of all message.sender).next items))
+
+-- a message is kept back, marked where these nodes are enough, and nothing has its turn by that
+module _ (config : Config) (ds : Delivering) (message : Message) (members : Members) (within : message.sender < length ds.hold_back) where
+  pub waited : (known : Bool) → known ≡ is_enough config members → (known ≡ true → answer ds.hold_back (Offer message) ≡ []) →
+      (record (noted ds message.sender message.number members) { hold_back = held_after ds.hold_back (waits_by known message) } ≡ told_in config (waiting_in ds message) message.sender message.number members)
+      × (nothing ≡ outcome_in config (waiting_in ds message) message.sender message.number members)
+  waited false e none = told_not config (waiting_in ds message) message.sender message.number members (sym e)
+  waited true e none =
+      let told = told_none config (waiting_in ds message) message.sender message.number members (sym e) (none_offered ds.hold_back message within (none refl)) in
+      ((λ k. record (noted ds message.sender message.number members) { hold_back = sym (after_offered ds.hold_back message within) k }) ∙ told.0, told.1)
+
+  -- or it passes at once
+  pub passed : is_enough config members ≡ true →
+      record (noted ds message.sender message.number members) {
+        hold_back = heard_by ds.hold_back message.sender message.number (Some message.item);
+        delivered = slice_set ds.delivered message.sender (slice_index_or ds.delivered message.sender [] ++ heard_items (held_of ds.hold_back message.sender) message.number (Some message.item));
+        agree = counted_all ds.agree (heard_news ds.hold_back message.sender message.number (Some message.item));
+      }
+      ≡ told_in config (waiting_in ds message) message.sender message.number members
+  passed e =
+      (λ k. record (noted ds message.sender message.number members) {
+        hold_back = sym (after_offered ds.hold_back message within) k;
+        delivered = slice_set ds.delivered message.sender (slice_index_or ds.delivered message.sender [] ++ sym (items_offered ds.hold_back message within) k);
+        agree = counted_all ds.agree (sym (news_offered ds.hold_back message within) k);
+      })
+      ∙ (told_yes config (waiting_in ds message) message.sender message.number members e).0
+
+-- a pair that had its turn
+pub heard_none : (all : List HeldBack) (s i : ℕ) → known_after (held_of all s) i ≡ held_of all s → heard_by all s i None ≡ all
+heard_none all s i same = ap (slice_set all s) same ∙ set-get_or all s nothing_held
+
+pub told_had : (config : Config) (ds : Delivering) (s i : ℕ) (members : Members) → known_items (held_of ds.hold_back s) i ≡ [] → known_after (held_of ds.hold_back s) i ≡ held_of ds.hold_back s → (noted ds s i members ≡ told_in config ds s i members) × (nothing ≡ outcome_in config ds s i members)
+told_had config ds s i members none same = by_test (is_enough config members) refl
+  where
+    by_test : (b : Bool) → is_enough config members ≡ b → (noted ds s i members ≡ told_in config ds s i members) × (nothing ≡ outcome_in config ds s i members)
+    by_test false e = told_not config ds s i members e
+    by_test true e = let told = told_none config ds s i members e none in ((λ k. record (noted ds s i members) { hold_back = sym (heard_none ds.hold_back s i same) k }) ∙ told.0, told.1)
+
+module _ (rows : List Row) (hold_back : List HeldBack) (streams : List Stream) (agree : Counted) (now : Delivering) (is : seen rows hold_back streams agree ≡ now) (sound : IsSound (known rows) hold_back (streamed streams)) (place s : ℕ) (at : place ≡ s) (within : s < length now.hold_back) where
   in_rows : place < length rows
   in_rows = omega (arith, at, within, ap (λ (ds : Delivering). length ds.hold_back) is, sound.rows, rows-length (λ (row : Row). row.items) rows)
 
   in_streams : place < length streams
   in_streams = omega (arith, at, within, ap (λ (ds : Delivering). length ds.hold_back) is, sound.streams, rows-length (λ (items : Stream). items.items) streams)
 
-  pub row_same : (r x : Row) → r ≡ slice_index_or rows place r → x.items ≡ r.items → seen mode faults (slice_set rows place x) hold_back streams agree ≡ now
-  row_same r x e same = (λ k. record { mode = mode; faults = faults; knowers = same_rows (λ (row : Row). row.items) rows place r x in_rows e same k; hold_back = hold_back; delivered = streamed streams; agree = agree }) ∙ is
+  pub row_same : (r x : Row) → r ≡ slice_index_or rows place r → x.items ≡ r.items → (back : List HeldBack) → back ≡ hold_back → seen (slice_set rows place x) back streams agree ≡ now
+  row_same r x e same back b = (λ k. record { knowers = same_rows (λ (row : Row). row.items) rows place r x in_rows e same k; hold_back = b k; delivered = streamed streams; agree = agree }) ∙ is
 
-  pub both_same : (r x : Row) (t y : Stream) (other : Counted) → r ≡ slice_index_or rows place r → x.items ≡ r.items → t ≡ slice_index_or streams place t → y.items ≡ t.items → other ≡ agree → seen mode faults (slice_set rows place x) hold_back (slice_set streams place y) other ≡ now
-  both_same r x t y other e same e2 same2 a =
+  pub both_same : (r x : Row) (t y : Stream) (back : List HeldBack) (other : Counted) → r ≡ slice_index_or rows place r → x.items ≡ r.items → t ≡ slice_index_or streams place t → y.items ≡ t.items → back ≡ hold_back → other ≡ agree → seen (slice_set rows place x) back (slice_set streams place y) other ≡ now
+  both_same r x t y back other e same e2 same2 b a =
       (λ k. record {
-        mode = mode;
-        faults = faults;
         knowers = same_rows (λ (row : Row). row.items) rows place r x in_rows e same k;
-        hold_back = hold_back;
+        hold_back = b k;
         delivered = same_rows (λ (items : Stream). items.items) streams place t y in_streams e2 same2 k;
         agree = a k;
       })
@@ -104,39 +159,47 @@ module _ (mode : Mode) (faults : ℕ) (rows : List Row) (hold_back : List HeldBa
   known_is : (r x x2 : Row) (i : ℕ) (members : Members) → r ≡ slice_index_or rows place r → x.items ≡ r.items → x2.items ≡ known_row x.items i members → known (slice_set rows place x2) ≡ slice_set (known rows) s (known_row (slice_index_or (known rows) s []) i members)
   known_is r x x2 i members e same change = changed_rows (λ (row : Row). row.items) (λ row. known_row row i members) rows place s r x x2 [] at in_rows e same change
 
-  pub noted_is : (r x x2 : Row) (i : ℕ) (members : Members) → r ≡ slice_index_or rows place r → x.items ≡ r.items → x2.items ≡ known_row x.items i members → BringsNothing now.mode now.faults (held_of now.hold_back s) i members → seen mode faults (slice_set rows place x2) hold_back streams agree ≡ told_in now s i members
-  noted_is r x x2 i members e same change none =
-      (λ k. record { mode = mode; faults = faults; knowers = known_is r x x2 i members e same change k; hold_back = hold_back; delivered = streamed streams; agree = agree })
-      ∙ ap (λ ds. noted ds s i members) is
-      ∙ told_none now s i members none
+  pub noted_is : (r x x2 : Row) (i : ℕ) (members : Members) (back after : List HeldBack) → r ≡ slice_index_or rows place r → x.items ≡ r.items → x2.items ≡ known_row x.items i members → back ≡ after →
+      seen (slice_set rows place x2) back streams agree ≡ record (noted now s i members) { hold_back = after }
+  noted_is r x x2 i members back after e same change b =
+      (λ k. record { knowers = known_is r x x2 i members e same change k; hold_back = b k; delivered = streamed streams; agree = agree })
+      ∙ ap (λ ds. record (noted ds s i members) { hold_back = after }) is
 
-  pub told_is : (r x x2 : Row) (t y y2 : Stream) (i : ℕ) (members : Members) (after : List HeldBack) (counted : Counted) →
+  pub told_is : (r x x2 : Row) (t y2 : Stream) (i : ℕ) (members : Members) (back after : List HeldBack) (items : List Item) (news : List Message) (counted : Counted) →
       r ≡ slice_index_or rows place r → x.items ≡ r.items → x2.items ≡ known_row x.items i members →
-      t ≡ slice_index_or streams place t → y.items ≡ t.items → y2.items ≡ y.items ++ known_items (held_of hold_back s) i →
-      after ≡ slice_set hold_back s (known_after (held_of hold_back s) i) → counted ≡ counted_all agree (numbered s (held_of hold_back s).next (known_items (held_of hold_back s) i)) →
-      is_enough_in now.mode now.faults members ≡ true →
-      seen mode faults (slice_set rows place x2) after (slice_set streams place y2) counted ≡ told_in now s i members
-  told_is r x x2 t y y2 i members after counted e same change e2 same2 more back count test =
+      t ≡ slice_index_or streams place t → y2.items ≡ t.items ++ items → back ≡ after → counted ≡ counted_all agree news →
+      seen (slice_set rows place x2) back (slice_set streams place y2) counted
+      ≡ record (noted now s i members) { hold_back = after; delivered = slice_set now.delivered s (slice_index_or now.delivered s [] ++ items); agree = counted_all now.agree news }
+  told_is r x x2 t y2 i members back after items news counted e same change e2 more b count =
       (λ k. record {
-        mode = mode;
-        faults = faults;
         knowers = known_is r x x2 i members e same change k;
-        hold_back = back k;
-        delivered = changed_rows (λ (items : Stream). items.items) (λ items. items ++ known_items (held_of hold_back s) i) streams place s t y y2 [] at in_streams e2 same2 more k;
+        hold_back = b k;
+        delivered = changed_rows (λ (items : Stream). items.items) (λ all. all ++ items) streams place s t t y2 [] at in_streams e2 refl more k;
         agree = count k;
       })
-      ∙ ap (λ ds. let_go (noted ds s i members) s i) is
-      ∙ told_yes now s i members test
+      ∙ ap (λ (ds : Delivering). record (noted ds s i members) { hold_back = after; delivered = slice_set ds.delivered s (slice_index_or ds.delivered s [] ++ items); agree = counted_all ds.agree news }) is
 
--- what is kept after it is sound
-pub told_sound : (rows : List Row) (hold_back : List HeldBack) (streams : List Stream) (place s i : ℕ) (x : Row) (y : Stream) (after : List HeldBack) → IsSound (known rows) hold_back (streamed streams) → after ≡ slice_set hold_back s (known_after (held_of hold_back s) i) → IsSound (known (slice_set rows place x)) after (streamed (slice_set streams place y))
-told_sound rows hold_back streams place s i x y after sound back =
-    let more = rows-length (λ (row : Row). row.items) (slice_set rows place x) ∙ length-set rows place x ∙ sym (rows-length (λ (row : Row). row.items) rows) in
-    let further = rows-length (λ (items : Stream). items.items) (slice_set streams place y) ∙ length-set streams place y ∙ sym (rows-length (λ (items : Stream). items.items) streams) in
-    sound_set _ hold_back _ after s (known_after (held_of hold_back s) i) (sound_rows _ _ hold_back _ _ sound more further) back (All-known_after (λ number. number < 4096) (held_of hold_back s) i (sound.near s))
+-- the lists are as long as before
+pub sound_after : (rows : List Row) (hold_back after : List HeldBack) (streams : List Stream) (place s : ℕ) (x : Row) (v : HeldBack) → IsSound (known rows) hold_back (streamed streams) → after ≡ slice_set hold_back s v → IsSound (known (slice_set rows place x)) after (streamed streams)
+sound_after rows hold_back after streams place s x v sound back =
+    let long = ap length back ∙ length-set hold_back s v in
+    record {
+      rows = rows-length (λ (row : Row). row.items) (slice_set rows place x) ∙ length-set rows place x ∙ sym (rows-length (λ (row : Row). row.items) rows) ∙ sound.rows ∙ sym long;
+      streams = sound.streams ∙ sym long;
+    }
 
--- a message that did not come, kept back and forgotten
-pub forgot : (ds held told after : Delivering) (message : Message) → message.sender < length ds.hold_back → came (held_of ds.hold_back message.sender) message.number ≡ false → held ≡ waiting_in ds message → told ≡ held → after ≡ forgotten_in told message.sender message.number → after ≡ ds
-forgot ds held told after message l e h t a =
-    a ∙ ap (λ ds. forgotten_in ds message.sender message.number) (t ∙ h)
-    ∙ (λ k. record ds { hold_back = all_taken_back ds.hold_back (waiting_in ds message).hold_back message.sender message.number message.item l e (λ _. (waiting_in ds message).hold_back) k })
+pub sound_told : (rows : List Row) (hold_back after : List HeldBack) (streams : List Stream) (place s : ℕ) (x : Row) (y : Stream) (v : HeldBack) → IsSound (known rows) hold_back (streamed streams) → after ≡ slice_set hold_back s v → IsSound (known (slice_set rows place x)) after (streamed (slice_set streams place y))
+sound_told rows hold_back after streams place s x y v sound back =
+    let first = sound_after rows hold_back after streams place s x v sound back in
+    record { rows = first.rows; streams = rows-length (λ (items : Stream). items.items) (slice_set streams place y) ∙ length-set streams place y ∙ sym (rows-length (λ (items : Stream). items.items) streams) ∙ first.streams }
+
+-- what is told keeps as many rows
+pub told_keeps : (config : Config) (ds : Delivering) (s i : ℕ) (members : Members) → (length (told_in config ds s i members).hold_back ≡ length ds.hold_back) × (length (told_in config ds s i members).knowers ≡ length ds.knowers)
+told_keeps config ds s i members = go (is_enough config members)
+  where
+    rows : length (noted ds s i members).knowers ≡ length ds.knowers
+    rows = length-set ds.knowers s _
+
+    go : (b : Bool) → (length (if b then let_go (noted ds s i members) s i else noted ds s i members).hold_back ≡ length ds.hold_back) × (length (if b then let_go (noted ds s i members) s i else noted ds s i members).knowers ≡ length ds.knowers)
+    go true = (length-set ds.hold_back s _, rows)
+    go false = (refl, rows)

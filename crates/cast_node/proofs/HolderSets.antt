@@ -17,12 +17,11 @@ use Rattle.cast_message.specs.declared.config.Config.{Config}
 use Rattle.cast_message.specs.declared.config.Mode.{Mode}
 use Rattle.cast_message.specs.declared.config.Mode.TheVariants.{Basic, Uniform}
 use Rattle.cast_model.specs.History.{has_pair}
-use Rattle.cast_model.specs.Delivery.{nodes_of}
+use Rattle.cast_model.specs.Delivery.{nodes_of, are_enough}
 use Rattle.cast_model.specs.Steps.{Step, Steps, Held, copy_of}
 use Rattle.cast_model.specs.OwnSteps.{own_copies, own_knows, own_known_by, own_known_enough, own_is_ready}
 use Rattle.cast_model.proofs.OwnGrowth.{brought, own_copies-more}
-use Rattle.cast_node.specs.Kept.{knowers_in, is_enough_in}
-use Rattle.cast_node.specs.Turns.{known_row}
+use Rattle.cast_node.specs.Delivering.{knowers_in, is_enough, known_row}
 use Rattle.cast_node.proofs.Links.{range-more}
 use Rattle.cast_node.proofs.Places.{at_set, at_padded, length-replicated}
 
@@ -112,11 +111,11 @@ known_by-is config me steps all h s i l = by_test (has_pair (own_copies me steps
     by_test true e = len_by_test (knowers_in all s i) config.nodes (own_knows me steps s i) e
     by_test false e = ap set.len (same_set nat_cmp_total nat_cmp-IsAntisymmetric (knowers_in all s i) set.empty (λ q. e q ∙ sym (contains-empty nat_cmp q))) ∙ len-empty nat_cmp
 
-pub enough-is : (config : Config) (me : ℕ) (steps : Steps) (all : List (List (set.FinSet nat_cmp))) → KnowsAll config me steps all → (s i : ℕ) → s < config.nodes → is_enough_in config.mode config.faults (knowers_in all s i) ≡ own_known_enough config.mode config me steps s i
+pub enough-is : (config : Config) (me : ℕ) (steps : Steps) (all : List (List (set.FinSet nat_cmp))) → KnowsAll config me steps all → (s i : ℕ) → s < config.nodes → is_enough config (knowers_in all s i) ≡ own_known_enough config.mode config me steps s i
 unfolding own_known_enough
 enough-is config me steps all h s i l = by_mode config.mode
   where
-    by_mode : (mode : Mode) → is_enough_in mode config.faults (knowers_in all s i) ≡ own_known_enough mode config me steps s i
+    by_mode : (mode : Mode) → are_enough mode config.faults (set.len (knowers_in all s i)) ≡ own_known_enough mode config me steps s i
     by_mode Basic = refl
     by_mode Uniform = ap (nat_lt config.faults) (known_by-is config me steps all h s i l)
 

@@ -15,11 +15,9 @@ use Rattle.cast_model.specs.Refusals.{is_second_proposal}
 use Rattle.cast_message.specs.Items.{is_close, proposes_in}
 use Rattle.cast_message.specs.declared.message.Message.{Message}
 use Rattle.cast_link.specs.Links.{Link}
-use Rattle.cast_relay.specs.Held.{Held}
 use Rattle.cast_message.specs.Members.{remove-inserted}
 use Rattle.cast_node.specs.Delivering.{Delivering}
-use Rattle.cast_node.specs.Taking.{with_proposal, without_proposal}
-use Rattle.cast_node.specs.Sound.{IsNode, Owes}
+use Rattle.cast_node.specs.Sound.{IsNode, Owes, with_proposal, without_proposal}
 
 any_end : (f : Item → Bool) (items : List Item) (item : Item) → list_any f (items ++ item ∷ []) ≡ (list_any f items || f item)
 any_end f [] item = or_false (f item)
@@ -43,55 +41,45 @@ withdrawn proposed items (Data payload) h e = refl
 withdrawn proposed items Close h e = refl
 withdrawn proposed items (Propose j value) h e = remove-inserted proposed j (h j ∙ e)
 
--- nothing changes
-pub keeps_all : (config : Config) (me : ℕ) (stream stream' : List Item) (closed : Bool) (proposed proposed' : set.FinSet nat_cmp) (relay relay' : Held) (outgoing outgoing' : List (Link Message)) (incoming : List (set.FinSet nat_cmp)) (ds ds' : Delivering) →
-    IsNode config me stream closed proposed relay outgoing incoming ds → stream' ≡ stream → proposed' ≡ proposed → relay' ≡ relay → outgoing' ≡ outgoing → ds' ≡ ds → IsNode config me stream' closed proposed' relay' outgoing' incoming ds'
-keeps_all config me stream stream' closed proposed proposed' relay relay' outgoing outgoing' incoming ds ds' h s p r o d =
-    subst (λ x. IsNode config me x closed proposed' relay' outgoing' incoming ds') (sym s)
-    (subst (λ x. IsNode config me stream closed x relay' outgoing' incoming ds') (sym p)
-    (subst (λ x. IsNode config me stream closed proposed x outgoing' incoming ds') (sym r)
-    (subst (λ x. IsNode config me stream closed proposed relay x incoming ds') (sym o)
-    (subst (λ x. IsNode config me stream closed proposed relay outgoing incoming x) (sym d) h))))
+module _ (config : Config) (me : ℕ) (stream : List Item) (closed : Bool) (proposed : set.FinSet nat_cmp) (outgoing outgoing' : List (Link Message)) (incoming incoming' : List (set.FinSet nat_cmp)) (ds ds' : Delivering) (h : IsNode config me stream closed proposed outgoing incoming ds) where
+  -- nothing changes
+  pub keeps_all : (stream' : List Item) (proposed' : set.FinSet nat_cmp) → stream' ≡ stream → proposed' ≡ proposed → outgoing' ≡ outgoing → incoming' ≡ incoming → ds' ≡ ds → IsNode config me stream' closed proposed' outgoing' incoming' ds'
+  keeps_all stream' proposed' s p o i d =
+      subst (λ x. IsNode config me x closed proposed' outgoing' incoming' ds') (sym s)
+      (subst (λ x. IsNode config me stream closed x outgoing' incoming' ds') (sym p)
+      (subst (λ x. IsNode config me stream closed proposed x incoming' ds') (sym o)
+      (subst (λ x. IsNode config me stream closed proposed outgoing x ds') (sym i)
+      (subst (λ x. IsNode config me stream closed proposed outgoing incoming x) (sym d) h))))
 
--- lists of the same length
-pub keeps_rows : (config : Config) (me : ℕ) (stream : List Item) (closed : Bool) (proposed : set.FinSet nat_cmp) (relay relay' : Held) (outgoing outgoing' : List (Link Message)) (incoming incoming' : List (set.FinSet nat_cmp)) (ds ds' : Delivering) →
-    IsNode config me stream closed proposed relay outgoing incoming ds → relay'.me ≡ relay.me → relay'.own ≡ relay.own → length outgoing' ≡ length outgoing → length incoming' ≡ length incoming →
-    ds'.mode ≡ ds.mode → ds'.faults ≡ ds.faults → length ds'.hold_back ≡ length ds.hold_back → length ds'.knowers ≡ length ds.knowers → Owes config.nodes config.item_limit outgoing' → IsNode config me stream closed proposed relay' outgoing' incoming' ds'
-keeps_rows config me stream closed proposed relay relay' outgoing outgoing' incoming incoming' ds ds' h m w o i a b c d owes = record {
-  place = h.place;
-  relay_me = m ∙ h.relay_me;
-  relay_own = w ∙ h.relay_own;
-  room = h.room;
-  closes = h.closes;
-  proposals = h.proposals;
-  mode = a ∙ h.mode;
-  faults = b ∙ h.faults;
-  peers_out = o ∙ h.peers_out;
-  peers_in = i ∙ h.peers_in;
-  senders = c ∙ h.senders;
-  rows = d ∙ h.rows;
-  owes = owes;
-}
+  -- lists of the same length
+  pub keeps_rows : length outgoing' ≡ length outgoing → length incoming' ≡ length incoming → length ds'.hold_back ≡ length ds.hold_back → length ds'.knowers ≡ length ds.knowers → Owes config.nodes config.item_limit outgoing' → IsNode config me stream closed proposed outgoing' incoming' ds'
+  keeps_rows o i c d owes = record {
+    place = h.place;
+    room = h.room;
+    closes = h.closes;
+    proposals = h.proposals;
+    peers_out = o ∙ h.peers_out;
+    peers_in = i ∙ h.peers_in;
+    senders = c ∙ h.senders;
+    rows = d ∙ h.rows;
+    owes = owes;
+  }
 
 below : (n m : ℕ) (b : Bool) → (not b && nat_le (n - 1) m) ≡ false → b ≡ false → m + 2 ≤ n
 below n m b e f = grind (arith, nat_tests)
 
 -- an item of its own
-pub keeps_own : (config : Config) (me : ℕ) (stream stream' : List Item) (closed closed' : Bool) (proposed proposed' : set.FinSet nat_cmp) (relay relay' : Held) (outgoing outgoing' : List (Link Message)) (incoming : List (set.FinSet nat_cmp)) (ds ds' : Delivering) (item : Item) →
-    IsNode config me stream closed proposed relay outgoing incoming ds → list_any is_close stream ≡ false → (not (is_close item) && nat_le (config.item_limit - 1) (length stream)) ≡ false →
-    stream' ≡ stream ++ item ∷ [] → closed' ≡ is_close item → proposed' ≡ with_proposal proposed item → relay'.me ≡ relay.me → relay'.own ≡ relay.own + 1 → length outgoing' ≡ length outgoing →
-    ds'.mode ≡ ds.mode → ds'.faults ≡ ds.faults → length ds'.hold_back ≡ length ds.hold_back → length ds'.knowers ≡ length ds.knowers → Owes config.nodes config.item_limit outgoing' → IsNode config me stream' closed' proposed' relay' outgoing' incoming ds'
-keeps_own config me stream stream' closed closed' proposed proposed' relay relay' outgoing outgoing' incoming ds ds' item h unclosed full s cl p m w o a b c d owes =
+pub keeps_own : (config : Config) (me : ℕ) (stream stream' : List Item) (closed closed' : Bool) (proposed proposed' : set.FinSet nat_cmp) (outgoing outgoing' : List (Link Message)) (incoming : List (set.FinSet nat_cmp)) (ds ds' : Delivering) (item : Item) →
+    IsNode config me stream closed proposed outgoing incoming ds → list_any is_close stream ≡ false → (not (is_close item) && nat_le (config.item_limit - 1) (length stream)) ≡ false →
+    stream' ≡ stream ++ item ∷ [] → closed' ≡ is_close item → proposed' ≡ with_proposal proposed item → length outgoing' ≡ length outgoing →
+    length ds'.hold_back ≡ length ds.hold_back → length ds'.knowers ≡ length ds.knowers → Owes config.nodes config.item_limit outgoing' → IsNode config me stream' closed' proposed' outgoing' incoming ds'
+keeps_own config me stream stream' closed closed' proposed proposed' outgoing outgoing' incoming ds ds' item h unclosed full s cl p o c d owes =
     let long : length stream' ≡ length stream + 1 = ap length s ∙ length-append stream (item ∷ []) in
     record {
       place = h.place;
-      relay_me = m ∙ h.relay_me;
-      relay_own = omega (arith, w, h.relay_own, long);
       room = λ e. let l = below config.item_limit (length stream) (is_close item) full (sym cl ∙ e) in omega (arith, l, long);
       closes = cl ∙ sym (ap (list_any is_close) s ∙ any_end is_close stream item ∙ ap (λ b. b || is_close item) unclosed);
       proposals = λ j. ap (λ x. set.contains x j) p ∙ proposed_more proposed stream item j (h.proposals j) ∙ ap (list_any (proposes_in j)) (sym s);
-      mode = a ∙ h.mode;
-      faults = b ∙ h.faults;
       peers_out = o ∙ h.peers_out;
       peers_in = h.peers_in;
       senders = c ∙ h.senders;

@@ -2,7 +2,6 @@ pub mod Places
 pub mod Links
 pub mod KnownHolders
 pub mod HolderSets
-pub mod Again
 pub mod Back
 pub mod Counting
 pub mod StandsBeforeDelivery
@@ -13,7 +12,6 @@ pub mod Continuing
 pub mod Beginning
 pub mod Showing
 pub mod Parts
-pub mod Sound
 pub mod DeliveryTables
 pub mod Gifts
 pub mod Wholes

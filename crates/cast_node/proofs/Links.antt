@@ -24,25 +24,25 @@ use Rattle.cast_model.proofs.Members.{Member-list_any}
 use Rattle.cast_model.proofs.OwnGrowth.{frames_given, GivenTo}
 use Rattle.cast_link.specs.Links.{Link, with_given}
 use Rattle.cast_node.specs.Giving.{given_on}
-use Rattle.cast_relay.specs.Held.{Held as HeldPairs, relays_to}
+use Rattle.cast_relay.specs.Pairs.{goes_on}
 use Rattle.cast_node.specs.Turns.{given_from}
 use Rattle.cast_node.specs.Stands.{owed_in, StandsOut}
 
-pub length-given_from : (q : ℕ) (relay : HeldPairs) (source : ℕ) (message : Message) (links : List (Link Message)) → length (given_from q relay source message links) ≡ length links
+pub length-given_from : (q : ℕ) (me : ℕ) (source : ℕ) (message : Message) (links : List (Link Message)) → length (given_from q me source message links) ≡ length links
 unfolding given_on
-length-given_from q relay source message [] = refl
-length-given_from q relay source message (link ∷ links) = ap suc (length-given_from (q + 1) relay source message links)
+length-given_from q me source message [] = refl
+length-given_from q me source message (link ∷ links) = ap suc (length-given_from (q + 1) me source message links)
 
-abbrev pub goes : HeldPairs → ℕ → Message → ℕ → Link Message → Link Message
-goes relay source message q link = cond (relays_to relay message.sender source q) (with_given link message) link
+abbrev pub goes : ℕ → ℕ → Message → ℕ → Link Message → Link Message
+goes me source message q link = cond (goes_on me message.sender source q) (with_given link message) link
 
-pub given_from-at : (q : ℕ) (relay : HeldPairs) (source : ℕ) (message : Message) (links : List (Link Message)) (i : ℕ) (d : Link Message) → i < length links → slice_index_or (given_from q relay source message links) i d ≡ goes relay source message (q + i) (slice_index_or links i d)
+pub given_from-at : (q : ℕ) (me : ℕ) (source : ℕ) (message : Message) (links : List (Link Message)) (i : ℕ) (d : Link Message) → i < length links → slice_index_or (given_from q me source message links) i d ≡ goes me source message (q + i) (slice_index_or links i d)
 unfolding given_on
-given_from-at q relay source message [] i d h = absurd (omega (arith, h))
-given_from-at q relay source message (link ∷ links) zero d h = ap (λ k. goes relay source message k link) (let z : q ≡ q + 0 = omega arith in z)
-given_from-at q relay source message (link ∷ links) (suc i) d h =
-    given_from-at (q + 1) relay source message links i d (omega (arith, h))
-    ∙ ap (λ k. goes relay source message k (slice_index_or links i d)) (let z : (q + 1) + i ≡ q + suc i = omega arith in z)
+given_from-at q me source message [] i d h = absurd (omega (arith, h))
+given_from-at q me source message (link ∷ links) zero d h = ap (λ k. goes me source message k link) (let z : q ≡ q + 0 = omega arith in z)
+given_from-at q me source message (link ∷ links) (suc i) d h =
+    given_from-at (q + 1) me source message links i d (omega (arith, h))
+    ∙ ap (λ k. goes me source message k (slice_index_or links i d)) (let z : (q + 1) + i ≡ q + suc i = omega arith in z)
 
 -- a slot that isn't given is not acknowledged
 pub acked_given : (config : Config) (me : ℕ) (steps : Steps) → IsOwnAccepted config me steps → (q slot : ℕ) → own_acked steps q slot ≡ true → slot < length (own_given me steps q)

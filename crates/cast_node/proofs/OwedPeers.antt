@@ -12,9 +12,11 @@ use Rattle.std.proofs.lemmas.Grind.{get_or-set_at}
 use Rattle.std.proofs.Math.ListN.{length-set}
 use Rattle.std.proofs.lemmas.List.{get_or_default, get_or-set_other, length-map}
 use Rattle.cast_message.specs.declared.message.Message.{Message}
-use Rattle.cast_link.specs.Links.{Link, with_acknowledged}
-use Rattle.cast_node.specs.Giving.{link_in, OwesNoneOf, AreOwed}
+use Rattle.cast_link.specs.Links.{Link, Outward, with_acknowledged}
+use Rattle.cast_node.specs.Giving.{link_in, bare, OwesNoneOf, AreOwed}
 use Rattle.cast_node.specs.Outgoing.{Outbound, owed_through, link_through, links_of, IsOutgoing}
+use Rattle.cast_node.proofs.Gifts.{bare_long}
+use Rattle.cast_node.proofs.Parts.{rows-at, rows-set}
 use Rattle.cast_node.proofs.Owing.{owes_acked}
 use Rattle.cast_node.proofs.Through.{link_at, link_here, len_through, through_empty, acknowledged_through}
 
@@ -45,18 +47,18 @@ module _ {X : Type 0} where
       beyond (x ∷ links) (suc q) l = beyond links q (omega (arith, l))
 
   -- the link that stands at a peer's place owes so many slots
-  module _ (links : List (Link X)) (q owed : ℕ) (found : Link X) (finds : found ≡ slice_index_or links q found) (within : q < length links) (counts : owed ≡ finite.len found.owed) where
-    counted : owed ≡ finite.len (link_in links q).owed
-    counted = counts ∙ ap (λ (l : Link X). finite.len l.owed) (finds ∙ get_or_default links q found (record { given = 0; owed = finite.empty }) within)
+  module _ (links : List (Outward X)) (q owed : ℕ) (found : Outward X) (finds : found ≡ slice_index_or links q found) (within : q < length links) (counts : owed ≡ finite.len found.link.owed) where
+    counted : owed ≡ finite.len (link_in (bare links) q).owed
+    counted = counts ∙ ap (λ (l : Link X). finite.len l.owed) (ap (λ (o : Outward X). o.link) finds ∙ sym (rows-at (λ (o : Outward X). o.link) links q found _ within))
 
-    pub owed_here : (owed ≡ 0 → ⊥) → is_owed links q ≡ true
+    pub owed_here : (owed ≡ 0 → ⊥) → is_owed (bare links) q ≡ true
     owed_here some = ap (λ n. nat_lt 0 n) (sym counted) ∙ positive owed some
       where
         positive : (n : ℕ) → (n ≡ 0 → ⊥) → nat_lt 0 n ≡ true
         positive zero some = absurd (some refl)
         positive (suc n) some = grind (arith, nat_tests)
 
-    pub not_owed_here : owed ≡ 0 → is_owed links q ≡ false
+    pub not_owed_here : owed ≡ 0 → is_owed (bare links) q ≡ false
     not_owed_here none = ap (λ n. nat_lt 0 n) (sym counted ∙ none) ∙ none_at_all
       where
         none_at_all : nat_lt 0 0 ≡ false
@@ -131,29 +133,32 @@ none_of_through messages links peers = (
 )
 
 -- a node heard that a slot was taken: the link that stands for the peer is changed in its place
-module _ (out now : Outbound) (owed : set.FinSet nat_cmp) (place to slot : ℕ) (found none acked : Link ℕ) (is : out ≡ now) (at : place ≡ to) (peer : to < length (links_of now)) (finds : found ≡ slice_index_or out.links place none) (after : acked ≡ with_acknowledged found slot) where
-  within : place < length out.links
-  within = omega (arith, at, peer, ap (λ o. length (links_of o)) is, length-map out.links (link_through out.messages))
+module _ (out now : Outbound) (owed : set.FinSet nat_cmp) (place to slot : ℕ) (found none acked : Outward ℕ) (is : out ≡ now) (at : place ≡ to) (peer : to < length (links_of now)) (finds : found ≡ slice_index_or out.links place none) (after : acked.link ≡ with_acknowledged found.link slot) where
+  within : place < length (bare out.links)
+  within = omega (arith, at, peer, ap (λ o. length (links_of o)) is, length-map (bare out.links) (link_through out.messages))
 
-  in_place : acked ≡ with_acknowledged (link_in out.links place) slot
-  in_place = after ∙ ap (λ (l : Link ℕ). with_acknowledged l slot) (link_here out now place to found none is at peer finds ∙ ap (link_in out.links) (sym at))
+  in_place : acked.link ≡ with_acknowledged (link_in (bare out.links) place) slot
+  in_place = after ∙ ap (λ (l : Link ℕ). with_acknowledged l slot) (link_here out now place to found none is at peer finds ∙ ap (link_in (bare out.links)) (sym at))
 
-  pub acknowledged_links : map (link_through out.messages) (slice_set out.links place acked) ≡ slice_set (links_of now) to (with_acknowledged (link_in (links_of now) to) slot)
+  changed : bare (slice_set out.links place acked) ≡ slice_set (bare out.links) place acked.link
+  changed = rows-set (λ (o : Outward ℕ). o.link) out.links place acked
+
+  pub acknowledged_links : map (link_through out.messages) (bare (slice_set out.links place acked)) ≡ slice_set (links_of now) to (with_acknowledged (link_in (links_of now) to) slot)
   acknowledged_links =
-      ap (λ (l : Link ℕ). map (link_through out.messages) (slice_set out.links place l)) in_place
-      ∙ acknowledged_through out.messages out.links place slot
+      ap (map (link_through out.messages)) (changed ∙ ap (slice_set (bare out.links) place) in_place)
+      ∙ acknowledged_through out.messages (bare out.links) place slot
       ∙ (λ i. slice_set (links_of (is i)) (at i) (with_acknowledged (link_in (links_of (is i)) (at i)) slot))
 
-  module _ (kept : IsOutgoing (length out.messages) out.links owed) where
-    keeps : (left : set.FinSet nat_cmp) → AreOwed (slice_set out.links place acked) left → IsOutgoing (length out.messages) (slice_set out.links place acked) left
-    keeps left are = record {
-      below = owes_acked (λ place. place < length out.messages) out.links place acked slot in_place kept.below;
-      peers = subst (λ n. n ≤ 64) (sym (length-set out.links place acked)) kept.peers;
+  module _ (kept : IsOutgoing (length out.messages) (bare out.links) owed) where
+    keeps : (left : set.FinSet nat_cmp) → AreOwed (slice_set (bare out.links) place acked.link) left → IsOutgoing (length out.messages) (bare (slice_set out.links place acked)) left
+    keeps left are = subst (λ ls. IsOutgoing (length out.messages) ls left) (sym changed) record {
+      below = owes_acked (λ place. place < length out.messages) (bare out.links) place acked.link slot in_place kept.below;
+      peers = subst (λ n. n ≤ 64) (sym (length-set (bare out.links) place acked.link)) kept.peers;
       owes = are;
     }
 
-    pub fewer_owed : (left : set.FinSet nat_cmp) → left ≡ set.remove owed to → finite.len acked.owed ≡ 0 → IsOutgoing (length out.messages) (slice_set out.links place acked) left
-    fewer_owed left e none_left = keeps left (subst (AreOwed _) (sym (e ∙ ap (set.remove owed) (sym at))) (owed_no_more out.links owed place slot acked kept.owes within in_place none_left))
+    pub fewer_owed : (left : set.FinSet nat_cmp) → left ≡ set.remove owed to → finite.len acked.link.owed ≡ 0 → IsOutgoing (length out.messages) (bare (slice_set out.links place acked)) left
+    fewer_owed left e none_left = keeps left (subst (AreOwed _) (sym (e ∙ ap (set.remove owed) (sym at))) (owed_no_more (bare out.links) owed place slot acked.link kept.owes within in_place none_left))
 
-    pub as_many_owed : (finite.len acked.owed ≡ 0 → ⊥) → IsOutgoing (length out.messages) (slice_set out.links place acked) owed
-    as_many_owed some = keeps owed (still_owed out.links owed place slot acked kept.owes within in_place some)
+    pub as_many_owed : (finite.len acked.link.owed ≡ 0 → ⊥) → IsOutgoing (length out.messages) (bare (slice_set out.links place acked)) owed
+    as_many_owed some = keeps owed (still_owed (bare out.links) owed place slot acked.link kept.owes within in_place some)

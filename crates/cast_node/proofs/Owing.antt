@@ -6,7 +6,7 @@ use Rattle.std.specs.FinMap as finite
 use Rattle.std.specs.FinMap.{get-insert, get-remove, get-empty}
 use Rattle.std.proofs.Common.{sym, ap, ◌∙◌, subst}
 use Rattle.cast_link.specs.Links.{Link, with_given, with_acknowledged}
-use Rattle.cast_relay.specs.Held.{Held, relays_to}
+use Rattle.cast_relay.specs.Pairs.{goes_on}
 use Rattle.cast_node.specs.Giving.{given_on, link_in, OwesOnly}
 
 module _ {X : Type 0} where
@@ -37,15 +37,15 @@ module _ {X : Type 0} where
       go false f = h slot k f
 
   -- what is so is given
-  pub owes_given : (Is : X → Type 0) (first : ℕ) (relay : Held) (source sender : ℕ) (kept : X) (links : List (Link X)) → Is kept → OwesOnly Is links → OwesOnly Is (given_on first relay source sender kept links)
+  pub owes_given : (Is : X → Type 0) (first : ℕ) (me : ℕ) (source sender : ℕ) (kept : X) (links : List (Link X)) → Is kept → OwesOnly Is links → OwesOnly Is (given_on first me source sender kept links)
   unfolding given_on
-  owes_given Is first relay source sender kept [] w h q slot k e = h q slot k e
-  owes_given Is first relay source sender kept (link ∷ links) w h zero slot k e = go (relays_to relay sender source first) e
+  owes_given Is first me source sender kept [] w h q slot k e = h q slot k e
+  owes_given Is first me source sender kept (link ∷ links) w h zero slot k e = go (goes_on me sender source first) e
     where
       go : (b : Bool) → finite.get (if b then with_given link kept else link).owed slot ≡ Some k → Is k
       go true f = one_more Is link kept w (h zero) slot k f
       go false f = h zero slot k f
-  owes_given Is first relay source sender kept (link ∷ links) w h (suc q) slot k e = owes_given Is (first + 1) relay source sender kept links w (λ q. h (suc q)) q slot k e
+  owes_given Is first me source sender kept (link ∷ links) w h (suc q) slot k e = owes_given Is (first + 1) me source sender kept links w (λ q. h (suc q)) q slot k e
 
   -- a slot is acknowledged
   pub owes_acked : (Is : X → Type 0) (links : List (Link X)) (q : ℕ) (after : Link X) (slot : ℕ) → after ≡ with_acknowledged (link_in links q) slot → OwesOnly Is links → OwesOnly Is (slice_set links q after)

@@ -1,28 +1,21 @@
 -- Lists by sender, and rows in them.
-use Rattle.std.specs.Prelude.{◌≡◌, ℕ, zero, suc, ◌<◌, true, List, [], ◌∷◌, ◌++◌, length, take, map, replicate, slice_set, slice_index_or, Result, Ok, Err, OnErr, refl}
-use Rattle.std.specs.Result.{is_err}
-use Rattle.std.proofs.Common.{sym, ap, ◌∙◌, arith, drop, true≢false}
-use Rattle.cast_fifo.specs.Held.{Held as HeldBack, held_of}
-
-pub err_of : {X E P Q : Type 0} (r : Result X E) → OnErr r P → (P → Q) → OnErr r Q
-err_of (Ok x) p f = p
-err_of (Err e) p f = f p
-
-pub is_err_of : {X E P : Type 0} (r : Result X E) → is_err r ≡ true → OnErr r P → P
-is_err_of (Ok x) e p = absurd (true≢false (sym e))
-is_err_of (Err x) e p = p
+use Rattle.std.specs.Prelude.{◌≡◌, ℕ, zero, suc, ◌<◌, true, List, [], ◌∷◌, ◌++◌, length, take, map, replicate, slice_set, slice_index_or, refl}
+use Rattle.std.specs.FinSet as set
+use Rattle.cast_link.specs.Taken.{Inward}
+use Rattle.cast_node.specs.Sound.{slots_of}
+use Rattle.std.proofs.Common.{sym, ap, ◌∙◌, arith, drop}
 
 module _ {X Y : Type 0} where
   pub rows-length : (f : X → Y) (xs : List X) → length (map f xs) ≡ length xs
   rows-length f [] = refl
   rows-length f (x ∷ xs) = ap suc (rows-length f xs)
 
-  rows-set : (f : X → Y) (xs : List X) (i : ℕ) (x : X) → map f (slice_set xs i x) ≡ slice_set (map f xs) i (f x)
+  pub rows-set : (f : X → Y) (xs : List X) (i : ℕ) (x : X) → map f (slice_set xs i x) ≡ slice_set (map f xs) i (f x)
   rows-set f [] i x = refl
   rows-set f (y ∷ xs) zero x = refl
   rows-set f (y ∷ xs) (suc i) x = ap (λ ys. f y ∷ ys) (rows-set f xs i x)
 
-  rows-at : (f : X → Y) (xs : List X) (i : ℕ) (d : X) (e : Y) → i < length xs → slice_index_or (map f xs) i e ≡ f (slice_index_or xs i d)
+  pub rows-at : (f : X → Y) (xs : List X) (i : ℕ) (d : X) (e : Y) → i < length xs → slice_index_or (map f xs) i e ≡ f (slice_index_or xs i d)
   rows-at f [] i d e l = absurd (omega (arith, l))
   rows-at f (x ∷ xs) zero d e l = refl
   rows-at f (x ∷ xs) (suc i) d e l = rows-at f xs i d e (omega (arith, l))
@@ -40,13 +33,13 @@ changed_rows f g xs place s r x y d at l e same change =
     ∙ ap (slice_set (map f xs) place) (change ∙ ap g (same ∙ ap f e ∙ sym (rows-at f xs place r d l)))
     ∙ ap (λ k. slice_set (map f xs) k (g (slice_index_or (map f xs) k d))) at
 
--- what is true of what is held of each sender
-pub near_set : (P : HeldBack → Type 0) (all : List HeldBack) (k : ℕ) (v : HeldBack) → ((s : ℕ) → P (held_of all s)) → P v → (s : ℕ) → P (held_of (slice_set all k v) s)
-near_set P [] k v h p s = h s
-near_set P (x ∷ all) zero v h p zero = p
-near_set P (x ∷ all) zero v h p (suc s) = h (suc s)
-near_set P (x ∷ all) (suc k) v h p zero = h zero
-near_set P (x ∷ all) (suc k) v h p (suc s) = near_set P all k v (λ s. h (suc s)) p s
+-- the slots taken of peers: where room is made at a link, and where a slot is taken there
+module _ (links : List Inward) (place from : ℕ) (found reserved : Inward) (at : place ≡ from) (within : place < length links) (finds : found ≡ slice_index_or links place found) (same : reserved.slots ≡ found.slots) where
+  pub slots_same : slots_of (slice_set links place reserved) ≡ slots_of links
+  slots_same = same_rows (λ (l : Inward). l.slots) links place found reserved within finds same
+
+  pub slots_taken : (slot : ℕ) (taken : Inward) → taken.slots ≡ set.insert reserved.slots slot → slots_of (slice_set links place taken) ≡ slice_set (slots_of links) from (set.insert (slice_index_or (slots_of links) from set.empty) slot)
+  slots_taken slot taken e = changed_rows (λ (l : Inward). l.slots) (λ s. set.insert s slot) links place from found reserved taken set.empty at within finds same e
 
 pub length-replicate : {Y : Type 0} (n : ℕ) (y : Y) → length (replicate n y) ≡ n
 length-replicate zero y = refl

@@ -21,15 +21,15 @@ use Rattle.cast_node.proofs.HolderSets.{known_by-is}
 use Rattle.cast_node.proofs.Counting.{decision_is}
 
 module _ (config : Config) (me : ℕ) (steps : Steps) (kept : Kept) (st : Stands config me steps kept) where
-  pub shows_delivered : (s : ℕ) → s < config.nodes → slice_index_or kept.delivered s [] ≡ map item_of (own_delivered config me steps s)
+  pub shows_delivered : (s : ℕ) → s < config.nodes → slice_index_or kept.deliveries.delivered s [] ≡ map item_of (own_delivered config me steps s)
   shows_delivered s l = st.delivers s l ∙ ap (map item_of) (own_log-front config me steps st.accepted s)
 
-  pub shows_decision : (j : ℕ) → decision kept.agree j ≡ own_decision config me steps j
+  pub shows_decision : (j : ℕ) → decision kept.deliveries.agree j ≡ own_decision config me steps j
   unfolding own_decision
   shows_decision j = ap (λ counted. decision counted j) st.agrees ∙ decision_is config _ j
 
   pub shows_known_by : (s i : ℕ) → s < config.nodes → set.len (knowers_of kept s i) ≡ own_known_by config me steps s i
-  shows_known_by s i l = known_by-is config me steps kept.knowers st.knows s i l
+  shows_known_by s i l = known_by-is config me steps kept.deliveries.knowers st.knows s i l
 
   pub shows_owed : (q : ℕ) → q < config.nodes → q ≢ me → finite.len (link_to kept q).owed ≡ length (own_owed me steps q)
   shows_owed q l e = (st.out q l e).count

@@ -1,13 +1,13 @@
 -- Each step that is not refused leaves a node that stands for it, and answers what the definitions say.
-use Rattle.std.proofs.Common.{◌≡◌, ◌≢◌, ℕ, zero, suc, ◌+◌, ◌-◌, ◌<◌, refl, sym, ◌∙◌, ap, subst, Bool, true, false, not, ◌&&◌, ◌||◌, cond, List, [], ◌∷◌, ◌++◌, length, map, Option, Some, None, inl, inr, arith, length-append}
-use Rattle.std.specs.Prelude.{◌*◌, ◌==◌, nat_lt, slice_index_or, if◌then◌else◌}
+use Rattle.std.proofs.Common.{◌≡◌, ◌≢◌, ◌⊎◌, ◌≤◌, ℕ, zero, suc, ◌+◌, ◌-◌, ◌<◌, refl, sym, ◌∙◌, ap, subst, Bool, true, false, not, ◌&&◌, ◌||◌, cond, List, [], ◌∷◌, ◌++◌, length, map, Option, Some, None, inl, inr, arith, length-append}
+use Rattle.std.specs.Prelude.{◌*◌, ◌==◌, nat_lt, is_some, slice_index_or, if◌then◌else◌}
 use Rattle.std.specs.List.{filter, list_any, prefix_len, range_with_len}
 use Rattle.std.specs.Ordering.{nat_cmp}
 use Rattle.std.specs.Cmp.{nat_cmp_total}
 use Rattle.std.specs.FinSet as set
 use Rattle.std.specs.FinSet.{contains-insert}
 use Rattle.std.specs.FinMap as finite
-use Rattle.std.proofs.lemmas.Bool.{cases_eq, or_cases, or_right, and_from, and_parts, lt-ltb, eqb-true, ltb-true, not-false, false≢true, false_from_ne_true, eq-eqb, ne_eqb}
+use Rattle.std.proofs.lemmas.Bool.{cases_lt, cases_eq, or_cases, or_right, and_from, and_parts, lt-ltb, eqb-true, ltb-true, not-false, false≢true, false_from_ne_true, eq-eqb, ne_eqb}
 use Rattle.std.proofs.lemmas.Bool.Decides.{nat_tests}
 use Rattle.std.proofs.lemmas.List.{append-nil}
 use Rattle.std.proofs.lemmas.List.Folds.{list_any-append}
@@ -27,19 +27,20 @@ use Rattle.cast_model.specs.Steps.{each, Step, Ordered, Sent, Acknowledged, Arri
 use Rattle.cast_model.specs.OwnSteps.{own_live, own_copies, own_given, own_given_copies, own_taken, own_acked, own_knows, own_is_ready, own_next, own_concerned, own_turns, own_deliveries, own_log, own_outcome, own_decisions_of, message_in, messages_from, nothing, is_ignored, is_possible, is_possible_body, IsOwnAccepted}
 use Rattle.cast_model.proofs.Members.{Member-list_any, list_any-Member}
 use Rattle.cast_model.proofs.OwnGrowth.{brought, held-more, own_copies-more, own_given-more, own_taken-more, own_acked-more}
-use Rattle.cast_model.proofs.OwnFronts.{no_messages}
-use Rattle.cast_relay.specs.Held.{Held as HeldPairs, holds, with_pair, numbers_of}
-use Rattle.cast_fifo.specs.Held.{held_of}
+use Rattle.cast_model.proofs.OwnFronts.{no_messages, own_held_below}
+use Rattle.cast_fifo.specs.HeldBack.{held_of, waiting_at}
+use Rattle.cast_fifo.specs.HoldsBack.{HoldsBack}
 use Rattle.cast_agree.specs.Proposals.{counted_of}
-use Rattle.cast_node.specs.Kept.{Kept, link_to, taken_from}
-use Rattle.cast_node.specs.Turns.{told, ordered, unmoved, with_taken, with_acked, with_knower, own_taken_up, taken_up, carried, acknowledged}
+use Rattle.cast_node.specs.Kept.{Kept, link_to, taken_from, knowers_of, holds}
+use Rattle.cast_node.specs.Delivering.{first_members}
+use Rattle.cast_node.specs.Turns.{told_more, ordered, own_message, spread, unmoved, with_taken, with_acked, taken_up, carried, acknowledged}
 use Rattle.cast_model.specs.Shown.{item_of}
 use Rattle.cast_node.specs.Stands.{item_at, newest_first, StandsOut, Stands}
 use Rattle.cast_node.proofs.Places.{length-slice_set, at_set}
 use Rattle.cast_node.proofs.Links.{out_same, out_acked}
 use Rattle.cast_node.proofs.KnownHolders.{knows_more, told_by, untold, given_held}
 use Rattle.cast_node.proofs.HolderSets.{knows_same, ready_alike, same_pair, pair_more, pair_none}
-use Rattle.cast_node.proofs.Back.{back_same}
+use Rattle.cast_node.proofs.Back.{back_same, item_is, some_waiting}
 use Rattle.cast_node.proofs.StandsAfterDelivery.{ToldRight, told_right}
 use Rattle.cast_node.proofs.StandsBeforeDelivery.{Base, base_of, known_heard, new_heard}
 
@@ -130,17 +131,14 @@ module _ (config : Config) (me : ℕ) (steps : Steps) (kept : Kept) (st : Stands
       live = live_is;
       frames = frames_is;
       stream = st.stream ∙ sym items_same;
-      relay_me = st.relay_me;
-      relay_size = st.relay_size;
-      relay_holds = λ s i l. st.relay_holds s i l ∙ sym (pair_none me step steps nothing_new s i);
       peers_out = st.peers_out;
       out = λ q l e. out_same me steps step q (link_to kept q) (own_given-more me step steps q ∙ ap (λ hs. own_given me steps q ++ filter (λ (x : Held). not (x.message.sender == q) && not (x.source == q)) hs) nothing_new ∙ append-nil (own_given me steps q)) (acked_same q) (st.out q l e);
       peers_in = size;
       taken = taken_is;
       senders_back = st.senders_back;
-      holds_back = λ s l. back_same config me step steps s (held_of kept.hold_back s) (λ k. ap (λ hs. item_at hs s k) held_same) (ready_same s) (st.holds_back s l);
+      holds_back = λ s l. back_same config me step steps s (held_of kept.deliveries.hold_back s) (λ k. ap (λ hs. item_at hs s k) held_same) (ready_same s) (st.holds_back s l);
       senders_known = st.senders_known;
-      knows = knows_same config me step steps kept.knowers st.knows (pair_none me step steps nothing_new) knows;
+      knows = knows_same config me step steps kept.deliveries.knowers st.knows (pair_none me step steps nothing_new) knows;
       senders_delivered = st.senders_delivered;
       delivers = λ s l. st.delivers s l ∙ ap (λ log. map item_of (filter (is_from s) log)) (sym log_same);
       agrees = st.agrees ∙ ap (λ log. counted_of (config.nodes - config.faults) (newest_first [] log)) (sym log_same);
@@ -178,21 +176,6 @@ module _ (config : Config) (me : ℕ) (steps : Steps) (kept : Kept) (st : Stands
   unfolding own_live frame_count each
   stopped_stands accepted = quiet_stands Stopped accepted refl (append-nil (own_items steps)) refl false kept.frames refl (st.frames ∙ (let z : frame_count steps ≡ frame_count steps + 0 = omega arith in z))
 
--- one pair more is held
-relay_more : (relay : HeldPairs) (a b : ℕ) → a < length relay.numbers → (x k : ℕ) → holds (with_pair relay a b) x k ≡ (holds relay x k || same_pair a b x k)
-relay_more relay a b l x k = ap (λ numbers. set.contains numbers k) (at_set relay.numbers a x (set.insert (numbers_of relay.numbers a) b) set.empty l) ∙ elim (cases_eq x a) [
-  | inl e ↦
-      (ap (λ c. set.contains (cond c (set.insert (numbers_of relay.numbers a) b) (numbers_of relay.numbers x)) k) (eq-eqb x a e)
-      ∙ contains-insert nat_cmp_total (numbers_of relay.numbers a) b k
-      ∙ (λ i. cmp_eq k b i || set.contains (numbers_of relay.numbers (sym e i)) k)
-      ∙ or_comm (k == b) (holds relay x k)
-      ∙ ap (λ c. holds relay x k || (c && k == b)) (sym (eq-eqb x a e)))
-  | inr e ↦
-      (ap (λ c. set.contains (cond c (set.insert (numbers_of relay.numbers a) b) (numbers_of relay.numbers x)) k) (ne_eqb x a e)
-      ∙ sym (or_false (holds relay x k))
-      ∙ ap (λ c. holds relay x k || (c && k == b)) (sym (ne_eqb x a e)))
-]
-
 -- a slot that was acknowledged was told of
 told_before : (me : ℕ) (steps : Steps) (from slot : ℕ) → own_acked steps from slot ≡ true → (s i x : ℕ) → (from == x && is_pair (copy_at (own_given_copies me steps x) slot) s i) ≡ true → own_knows me steps s i x ≡ true
 unfolding own_acked own_knows
@@ -211,13 +194,26 @@ took_base : (config : Config) (me : ℕ) (steps : Steps) (kept : Kept) → Stand
 unfolding own_live frame_count each
 took_base config me steps kept st from seq to slot accepted peers =
     let step : Step = Arrived (record { from = from; seq = seq; to = to; body = Took slot }) in
-    base_of config me step steps kept st accepted refl (let z : frame_count steps + 0 ≡ frame_count steps = omega arith in z) kept.stream kept.relay (with_acked kept from slot).outgoing kept.incoming (st.stream ∙ sym (append-nil (own_items steps)))
-    st.relay_me st.relay_size (λ x k l. st.relay_holds x k l ∙ sym (pair_none me step steps refl x k))
+    base_of config me step steps kept st accepted refl (let z : frame_count steps + 0 ≡ frame_count steps = omega arith in z) kept.stream (with_acked kept from slot).outgoing kept.incoming (st.stream ∙ sym (append-nil (own_items steps)))
     peers st.peers_in (λ r k l. st.taken r k l ∙ sym (own_taken-more me step steps r k ∙ ap (λ c. own_taken steps r k || (c || false)) (and_false (from == r)) ∙ or_false (own_taken steps r k)))
 
 module _ (config : Config) (me : ℕ) (steps : Steps) (kept : Kept) (st : Stands config me steps kept) where
-  senders_below : (s : ℕ) → s < config.nodes → s < length kept.relay.numbers
-  senders_below s l = let few = config.nodes_in_range in let size = st.relay_size in omega (arith, l, few, size)
+  -- a pair is held that waits, or had its turn
+  holds_is : (s i : ℕ) → s < config.nodes → holds kept s i ≡ has_pair (own_copies me steps) s i
+  holds_is s i l = by_place (cases_lt i (held_of kept.deliveries.hold_back s).next)
+    where
+      back : HoldsBack (item_at (held me steps) s) (own_is_ready config me steps s) (held_of kept.deliveries.hold_back s)
+      back = st.holds_back s l
+
+      not_below : (k n : ℕ) → n ≤ k → nat_lt k n ≡ false
+      not_below k n l = grind (arith, nat_tests, l)
+
+      by_place : (i < (held_of kept.deliveries.hold_back s).next) ⊎ ((held_of kept.deliveries.hold_back s).next ≤ i) → holds kept s i ≡ has_pair (own_copies me steps) s i
+      by_place (inl below) = ap (λ b. b || is_some (waiting_at (held_of kept.deliveries.hold_back s).waiting i)) (lt-ltb i (held_of kept.deliveries.hold_back s).next below) ∙ sym (own_held_below config me steps s i (back.below i below))
+      by_place (inr past) =
+          (λ k. not_below i (held_of kept.deliveries.hold_back s).next past k || is_some (back.waits i past k))
+          ∙ some_waiting (item_at (held me steps) s i) (own_is_ready config me steps s i)
+          ∙ item_is (held me steps) s i
 
   -- what was known of a pair that wasn't held: nothing but what needs no telling
   unknown : (s i : ℕ) → has_pair (own_copies me steps) s i ≡ false → (x : ℕ) → own_knows me steps s i x ≡ (x == me || x == s)
@@ -238,20 +234,15 @@ module _ (config : Config) (me : ℕ) (steps : Steps) (kept : Kept) (st : Stands
         let l = r.number refl in omega (arith, l))
 
     abbrev own_kept : Kept
-    own_kept = record kept { stream = kept.stream ++ item ∷ []; relay = record (with_pair kept.relay kept.me (length kept.stream)) { own = kept.relay.own + 1 } }
+    own_kept = record kept { stream = kept.stream ++ item ∷ [] }
 
     own_base : Base config me (Ordered item) steps own_kept
     unfolding own_live frame_count each
-    own_base = base_of config me (Ordered item) steps kept st accepted refl (let z : frame_count steps + 0 ≡ frame_count steps = omega arith in z) own_kept.stream own_kept.relay kept.outgoing kept.incoming (ap (λ items. items ++ item ∷ []) st.stream)
-        st.relay_me (length-slice_set kept.relay.numbers kept.me _ ∙ st.relay_size)
-        (λ x k l.
-        relay_more kept.relay kept.me (length kept.stream) (senders_below kept.me (subst (λ y. y < config.nodes) (sym st.same_me) st.place)) x k
-        ∙ ap (λ c. c || same_pair kept.me (length kept.stream) x k) (st.relay_holds x k l)
-        ∙ sym (pair_more me (Ordered item) steps own own_new x k))
+    own_base = base_of config me (Ordered item) steps kept st accepted refl (let z : frame_count steps + 0 ≡ frame_count steps = omega arith in z) own_kept.stream kept.outgoing kept.incoming (ap (λ items. items ++ item ∷ []) st.stream)
         st.peers_out st.peers_in (λ r slot l. st.taken r slot l ∙ sym (no_take config me steps kept st (Ordered item) refl r slot))
 
     pub ordered_right : ToldRight config me (Ordered item) steps (ordered kept item)
-    ordered_right = told_right config me (Ordered item) steps (own_taken_up kept item) kept.me (length kept.stream)
+    ordered_right = told_right config me (Ordered item) steps (spread own_kept (own_message kept item) kept.me) kept.me (length kept.stream) (first_members kept.me kept.me kept.me)
         (new_heard config me (Ordered item) steps own_kept own_base own own_new in_group in_group own_fresh here
         (λ x k e y. no_news config me steps kept st (Ordered item) accepted refl x k y)
         (ap (λ x. Some x) (sym st.same_me))
@@ -310,16 +301,16 @@ module _ (config : Config) (me : ℕ) (steps : Steps) (kept : Kept) (st : Stands
     itself : (message.sender == message.sender && message.number == message.number) ≡ true
     itself = λ k. eq-eqb message.sender message.sender refl k && eq-eqb message.number message.number refl k
 
-    carry_base : (relay : HeldPairs) → relay.me ≡ me → length relay.numbers ≡ 256 → ((x k : ℕ) → x < config.nodes → holds relay x k ≡ has_pair (own_copies me (carry ∷ steps)) x k) → Base config me carry steps (record (with_taken kept from slot) { relay = relay })
+    carry_base : Base config me carry steps (with_taken kept from slot)
     unfolding own_live frame_count each
-    carry_base relay relay_me relay_size relay_holds =
-        base_of config me carry steps kept st accepted refl (let z : frame_count steps + 0 ≡ frame_count steps = omega arith in z) kept.stream relay kept.outgoing (with_taken kept from slot).incoming (st.stream ∙ sym (append-nil (own_items steps)))
-        relay_me relay_size relay_holds st.peers_out (length-slice_set kept.incoming from _ ∙ st.peers_in) carry_taken
+    carry_base =
+        base_of config me carry steps kept st accepted refl (let z : frame_count steps + 0 ≡ frame_count steps = omega arith in z) kept.stream kept.outgoing (with_taken kept from slot).incoming (st.stream ∙ sym (append-nil (own_items steps)))
+        st.peers_out (length-slice_set kept.incoming from _ ∙ st.peers_in) carry_taken
 
     -- of a pair that is held
-    carry_known : has_pair (own_copies me steps) message.sender message.number ≡ true → ToldRight config me carry steps (told (with_knower (with_taken kept from slot) message.sender message.number from) message.sender message.number)
-    carry_known pair = told_right config me carry steps (with_knower (with_taken kept from slot) message.sender message.number from) message.sender message.number
-        (known_heard config me carry steps (with_taken kept from slot) base message.sender message.number from nothing_new sender_in_group from_in pair here carry_other refl
+    carry_known : has_pair (own_copies me steps) message.sender message.number ≡ true → ToldRight config me carry steps (told_more (with_taken kept from slot) message.sender message.number from)
+    carry_known pair = told_right config me carry steps (with_taken kept from slot) message.sender message.number (set.insert (knowers_of kept message.sender message.number) from)
+        (known_heard config me carry steps (with_taken kept from slot) carry_base message.sender message.number from nothing_new sender_in_group from_in pair here carry_other refl
         (λ q l e. out_same me steps carry q (link_to kept q) (own_given-more me carry steps q ∙ ap (λ hs. own_given me steps q ++ filter (λ (x : Held). not (x.message.sender == q) && not (x.source == q)) hs) nothing_new ∙ append-nil (own_given me steps q)) (carry_acks q) (st.out q l e)))
       where
         nothing_new : brought me steps carry ≡ []
@@ -328,13 +319,10 @@ module _ (config : Config) (me : ℕ) (steps : Steps) (kept : Kept) (st : Stands
         here : (x : ℕ) → own_knows me (carry ∷ steps) message.sender message.number x ≡ (own_knows me steps message.sender message.number x || (from == x))
         here x = carry_knows message.sender message.number x ∙ ap (λ c. own_knows me steps message.sender message.number x || c) (ap (λ c. (from == x && c) || false) itself ∙ or_false (from == x && true) ∙ and_true (from == x))
 
-        base : Base config me carry steps (with_taken kept from slot)
-        base = carry_base kept.relay st.relay_me st.relay_size (λ x k l. st.relay_holds x k l ∙ sym (pair_none me carry steps nothing_new x k))
-
     -- of one that isn't
-    carry_new : has_pair (own_copies me steps) message.sender message.number ≡ false → ToldRight config me carry steps (told (taken_up (with_taken kept from slot) message from) message.sender message.number)
-    carry_new fresh = told_right config me carry steps (taken_up (with_taken kept from slot) message from) message.sender message.number
-        (new_heard config me carry steps (record (with_taken kept from slot) { relay = with_pair kept.relay message.sender message.number }) base h new sender_in_group from_in fresh here carry_other refl carry_acks st.out)
+    carry_new : has_pair (own_copies me steps) message.sender message.number ≡ false → ToldRight config me carry steps (taken_up (with_taken kept from slot) message from)
+    carry_new fresh = told_right config me carry steps (spread (with_taken kept from slot) message from) message.sender message.number (first_members kept.me message.sender from)
+        (new_heard config me carry steps (with_taken kept from slot) carry_base h new sender_in_group from_in fresh here carry_other refl carry_acks st.out)
       where
         h : Held
         h = record { message = message; source = from }
@@ -345,14 +333,10 @@ module _ (config : Config) (me : ℕ) (steps : Steps) (kept : Kept) (st : Stands
         here : (x : ℕ) → own_knows me (carry ∷ steps) message.sender message.number x ≡ ((x == me || x == message.sender) || (from == x))
         here x = carry_knows message.sender message.number x ∙ (λ k. unknown message.sender message.number fresh x k || (ap (λ c. (from == x && c) || false) itself ∙ or_false (from == x && true) ∙ and_true (from == x)) k)
 
-        base : Base config me carry steps (record (with_taken kept from slot) { relay = with_pair kept.relay message.sender message.number })
-        base = carry_base (with_pair kept.relay message.sender message.number) st.relay_me (length-slice_set kept.relay.numbers message.sender _ ∙ st.relay_size)
-            (λ x k l. relay_more kept.relay message.sender message.number (senders_below message.sender sender_in_group) x k ∙ ap (λ c. c || same_pair message.sender message.number x k) (st.relay_holds x k l) ∙ sym (pair_more me carry steps h new x k))
-
     pub carried_right : ToldRight config me carry steps (carried (with_taken kept from slot) from message)
-    carried_right = by_test (holds kept.relay message.sender message.number) (sym (st.relay_holds message.sender message.number sender_in_group))
+    carried_right = by_test (holds kept message.sender message.number) (sym (holds_is message.sender message.number sender_in_group))
       where
-        by_test : (b : Bool) → has_pair (own_copies me steps) message.sender message.number ≡ b → ToldRight config me carry steps (if b then told (with_knower (with_taken kept from slot) message.sender message.number from) message.sender message.number else told (taken_up (with_taken kept from slot) message from) message.sender message.number)
+        by_test : (b : Bool) → has_pair (own_copies me steps) message.sender message.number ≡ b → ToldRight config me carry steps (if b then told_more (with_taken kept from slot) message.sender message.number from else taken_up (with_taken kept from slot) message from)
         by_test true e = carry_known e
         by_test false e = carry_new e
 
@@ -423,8 +407,8 @@ module _ (config : Config) (me : ℕ) (steps : Steps) (kept : Kept) (st : Stands
         knows s i x = took_knows s i x ∙ kept_so (own_knows me steps s i x) (from == x && is_pair (copy_at (own_given_copies me steps x) slot) s i) (λ e. told_before me steps from slot before s i x e)
 
     -- it was owed
-    took_first : own_acked steps from slot ≡ false → ToldRight config me took steps (told (with_knower (with_acked kept from slot) message.sender message.number from) message.sender message.number)
-    took_first waiting = told_right config me took steps (with_knower (with_acked kept from slot) message.sender message.number from) message.sender message.number
+    took_first : own_acked steps from slot ≡ false → ToldRight config me took steps (told_more (with_acked kept from slot) message.sender message.number from)
+    took_first waiting = told_right config me took steps (with_acked kept from slot) message.sender message.number (set.insert (knowers_of kept message.sender message.number) from)
         (known_heard config me took steps (with_acked kept from slot) base message.sender message.number from refl sender_in from_in held_pair here other (ap (λ x. Some x) copy_is.0) out)
       where
         here : (x : ℕ) → own_knows me (took ∷ steps) message.sender message.number x ≡ (own_knows me steps message.sender message.number x || (from == x))

@@ -6,14 +6,15 @@ use Rattle.std.specs.FinMap as finite
 use Rattle.std.specs.FinMap.{find, is_sorted, entries_sorted, get-entries, len-entries, get-from_sorted, entries-from_sorted, get-empty, get-insert, get-remove, same_map, nat_cmp-IsAntisymmetric}
 use Rattle.std.specs.FinMap.Entries.{below_all}
 use Rattle.std.proofs.Common.{sym, ap, ◌∙◌, subst, arith, length-append}
-use Rattle.std.proofs.lemmas.List.{get_or_default, length-map}
+use Rattle.std.proofs.lemmas.List.{length-map}
 use Rattle.cast_message.specs.declared.message.Message.{Message}
-use Rattle.cast_link.specs.Links.{Link, with_given, with_acknowledged, IsLeastFrom}
-use Rattle.cast_relay.specs.Held.{Held, relays_to}
-use Rattle.cast_node.specs.Giving.{given_on, taken_back_from, link_in}
-use Rattle.cast_node.specs.Outgoing.{kept_message, owed_through, link_through, links_of, OwesBelow, Outbound, given_to, IsLastGiven}
+use Rattle.cast_link.specs.Links.{Link, Outward, with_given, with_acknowledged, IsLeastFrom}
+use Rattle.cast_relay.specs.Pairs.{goes_on}
+use Rattle.cast_node.specs.Giving.{given_on, link_in, bare}
+use Rattle.cast_node.specs.Outgoing.{kept_message, owed_through, link_through, links_of, OwesBelow, Outbound}
 use Rattle.cast_node.proofs.Owing.{owes_given, owes_more}
-use Rattle.cast_node.proofs.Gifts.{length_given}
+use Rattle.cast_node.proofs.Gifts.{bare_long}
+use Rattle.cast_node.proofs.Parts.{rows-at}
 
 -- ---- entries, with the values that a function gives them
 
@@ -102,10 +103,10 @@ through_more messages message owed h = same_map nat_cmp_total nat_cmp-IsAntisymm
     at q None e = refl
     at q (Some place) e = ap Some (kept_before messages message place (h q place e))
 
-pub given_through : (q : ℕ) (relay : Held) (source : ℕ) (message : Message) (messages : List Message) (links : List (Link ℕ)) → OwesBelow (length messages) links → map (link_through (messages ++ message ∷ [])) (given_on q relay source message.sender (length messages) links) ≡ given_on q relay source message.sender message (map (link_through messages) links)
+pub given_through : (q : ℕ) (me : ℕ) (source : ℕ) (message : Message) (messages : List Message) (links : List (Link ℕ)) → OwesBelow (length messages) links → map (link_through (messages ++ message ∷ [])) (given_on q me source message.sender (length messages) links) ≡ given_on q me source message.sender message (map (link_through messages) links)
 unfolding given_on
-given_through q relay source message messages [] h = refl
-given_through q relay source message messages (link ∷ links) h = λ i. one (relays_to relay message.sender source q) i ∷ given_through (q + 1) relay source message messages links (λ q. h (suc q)) i
+given_through q me source message messages [] h = refl
+given_through q me source message messages (link ∷ links) h = λ i. one (goes_on me message.sender source q) i ∷ given_through (q + 1) me source message messages links (λ q. h (suc q)) i
   where
     same : owed_through (messages ++ message ∷ []) link.owed ≡ owed_through messages link.owed
     same = through_more messages message link.owed (h 0)
@@ -118,37 +119,12 @@ given_through q relay source message messages (link ∷ links) h = λ i. one (re
     one false = λ i. record { given = link.given; owed = same i }
 
 -- each slot keeps the place of a message then
-pub given_below : (messages more : List Message) (message : Message) (links after : List (Link ℕ)) (relay : Held) (source sender : ℕ) → more ≡ messages ++ message ∷ [] → after ≡ given_on 0 relay source sender (length messages) links → OwesBelow (length messages) links → OwesBelow (length more) after
-given_below messages more message links after relay source sender e g h =
+pub given_below : (messages more : List Message) (message : Message) (links after : List (Link ℕ)) (me : ℕ) (source sender : ℕ) → more ≡ messages ++ message ∷ [] → after ≡ given_on 0 me source sender (length messages) links → OwesBelow (length messages) links → OwesBelow (length more) after
+given_below messages more message links after me source sender e g h =
     subst (λ n. OwesBelow n after) (sym (ap length e ∙ length-append messages (message ∷ [])))
     (subst (OwesBelow (length messages + 1)) (sym g)
-    (owes_given (λ place. place < length messages + 1) 0 relay source sender (length messages) links (omega arith)
+    (owes_given (λ place. place < length messages + 1) 0 me source sender (length messages) links (omega arith)
     (owes_more (λ place. place < length messages) (λ place. place < length messages + 1) links (λ place l. omega (arith, l)) h)))
-
--- and taking the message back frees its slots
-pub last_given : (messages more : List Message) (message : Message) (links after : List (Link ℕ)) (relay : Held) (source sender : ℕ) → more ≡ messages ++ message ∷ [] → taken_back_from 0 relay source sender after ≡ links → OwesBelow (length messages) links → IsLastGiven relay source sender (record { messages = more; links = after })
-last_given messages more message links after relay source sender e back h =
-    let long : length more ≡ length messages + 1 = ap length e ∙ length-append messages (message ∷ []) in
-    let less : length messages ≡ length more - 1 = omega (arith, long) in
-    (omega (arith, long), subst (λ n. OwesBelow n (taken_back_from 0 relay source sender after)) less (subst (OwesBelow (length messages)) (sym back) h))
-
-length_take : (n : ℕ) (messages : List Message) → n ≤ length messages → length (take n messages) ≡ n
-length_take zero messages l = refl
-length_take (suc n) [] l = absurd (omega (arith, l))
-length_take (suc n) (m ∷ messages) l = ap suc (length_take n messages (omega (arith, l)))
-
-pub length_front : (messages : List Message) → length (take (length messages - 1) messages) ≡ length messages - 1
-length_front messages = length_take (length messages - 1) messages (omega arith)
-
--- without it
-pub all_but_last : (messages : List Message) (message : Message) → take (length (messages ++ message ∷ []) - 1) (messages ++ message ∷ []) ≡ messages
-all_but_last messages message =
-    let size : length (messages ++ message ∷ []) - 1 ≡ length messages = omega (arith, length-append messages (message ∷ [])) in
-    ap (λ n. take n (messages ++ message ∷ [])) size ∙ front messages
-  where
-    front : (xs : List Message) → take (length xs) (xs ++ message ∷ []) ≡ xs
-    front [] = refl
-    front (x ∷ xs) = ap (λ ys. x ∷ ys) (front xs)
 
 -- ---- links
 
@@ -157,11 +133,16 @@ link_at messages [] q = sym (λ i. record { given = 0; owed = through_empty mess
 link_at messages (link ∷ links) zero = refl
 link_at messages (link ∷ links) (suc q) = link_at messages links q
 
--- the link that is found at a peer's place
-pub link_here : (out now : Outbound) (place to : ℕ) (found none : Link ℕ) → out ≡ now → place ≡ to → to < length (links_of now) → found ≡ slice_index_or out.links place none → found ≡ link_in out.links to
+-- the link that is found at a peer's place, and what is seen of it
+pub link_here : (out now : Outbound) (place to : ℕ) (found none : Outward ℕ) → out ≡ now → place ≡ to → to < length (links_of now) → found ≡ slice_index_or out.links place none → found.link ≡ link_in (bare out.links) to
 link_here out now place to found none is at l e =
-    let within : place < length out.links = omega (arith, at, l, ap (λ o. length (links_of o)) is, length-map out.links (link_through out.messages)) in
-    e ∙ get_or_default out.links place _ _ within ∙ ap (link_in out.links) at
+    let long = length-map (bare out.links) (link_through out.messages) in
+    let within : place < length out.links = omega (arith, at, l, ap (λ o. length (links_of o)) is, long, bare_long out.links) in
+    ap (λ (o : Outward ℕ). o.link) e ∙ sym (rows-at (λ (o : Outward ℕ). o.link) out.links place none _ within) ∙ ap (link_in (bare out.links)) at
+
+pub seen_here : (out now : Outbound) (place to : ℕ) (found none : Outward ℕ) → out ≡ now → place ≡ to → to < length (links_of now) → found ≡ slice_index_or out.links place none → link_through out.messages found.link ≡ link_in (links_of now) to
+seen_here out now place to found none is at l e =
+    ap (link_through out.messages) (link_here out now place to found none is at l e) ∙ sym (link_at out.messages (bare out.links) to) ∙ ap (λ o. link_in (links_of o) to) is
 
 set_through : (messages : List Message) (links : List (Link ℕ)) (q : ℕ) (link : Link ℕ) → map (link_through messages) (slice_set links q link) ≡ slice_set (map (link_through messages) links) q (link_through messages link)
 set_through messages [] q link = refl
@@ -180,11 +161,3 @@ nothing_given_through (suc n) = λ i. record { given = 0; owed = through_empty [
 pub least_through : (messages : List Message) (owed : finite.FinMap nat_cmp ℕ) (from : ℕ) (result : Option ℕ) → IsLeastFrom owed from result → IsLeastFrom (owed_through messages owed) from result
 least_through messages owed from None h = λ other l. get_through messages owed other ∙ ap (option_map (kept_message messages)) (h other l)
 least_through messages owed from (Some slot) h = (h.0, contains_through messages owed slot ∙ h.1, λ other l m. get_through messages owed other ∙ ap (option_map (kept_message messages)) (h.2 other l m))
-
--- so many peers as before
-pub same_peers : (relay : Held) (source : ℕ) (message : Message) (out now : Outbound) → now ≡ given_to relay source message out → length (links_of now) ≡ length (links_of out)
-same_peers relay source message out now e =
-    ap (λ o. length (links_of o)) e
-    ∙ length-map (given_to relay source message out).links (link_through (given_to relay source message out).messages)
-    ∙ length_given 0 relay source message.sender (length out.messages) out.links
-    ∙ sym (length-map out.links (link_through out.messages))

@@ -4,12 +4,14 @@
 --     carry_slot slot s i item     what a frame says that carries the message of these numbers
 --     carried_frame me from ..     the frame to this node that carries the message of these numbers; took_frame: a word that a slot
 --                                  was taken
+--     asked_reply result           the answer to an order that is not refused, for which only memory can be wanting
 --     silent_reply me              the answer to an arrival at which nothing is delivered or decided
 use Rattle.std.specs.Prelude.{ℕ, ◌*◌, ◌==◌, nat_lt, Bool, not, ◌&&◌, Result, Ok, Err}
 use Rattle.cast_message.specs.declared.event.Outcome.{Outcome}
 use Rattle.cast_message.specs.declared.event.Answer.{Answer}
 use Rattle.cast_message.specs.declared.event.Answer.TheVariants.{Ordered, Sent, Arrived, Down}
 use Rattle.cast_message.specs.declared.event.StepFault.{StepFault}
+use Rattle.cast_message.specs.declared.event.StepFault.TheVariants.{Memory}
 use Rattle.cast_message.specs.declared.message.Frame.{Frame}
 use Rattle.cast_message.specs.declared.message.Item.{Item}
 use Rattle.cast_message.specs.declared.message.FrameBody.{FrameBody}
@@ -37,12 +39,16 @@ abbrev pub carried_frame : ℕ → ℕ → ℕ → ℕ → ℕ → ℕ → Item 
 carried_frame me from seq slot sender number item =
     record { from = from; seq = seq; to = me; body = carry_slot slot sender number item }
 
-abbrev pub took_frame : ℕ → ℕ → ℕ → ℕ → Frame
-took_frame me from seq slot = record { from = from; seq = seq; to = me; body = Took slot }
-
 abbrev pub ordered_reply : Result (ℕ × Outcome) StepFault → Result Answer StepFault
 ordered_reply (Ok told) = Ok (Ordered told.0 told.1)
 ordered_reply (Err refusal) = Err refusal
+
+abbrev pub took_frame : ℕ → ℕ → ℕ → ℕ → Frame
+took_frame me from seq slot = record { from = from; seq = seq; to = me; body = Took slot }
+
+abbrev pub asked_reply : {E : Type 0} → Result (ℕ × Outcome) E → Result Answer StepFault
+asked_reply (Ok told) = Ok (Ordered told.0 told.1)
+asked_reply (Err wanting) = Err Memory
 
 abbrev pub sent_reply : Result Frame StepFault → Result Answer StepFault
 sent_reply (Ok frame) = Ok (Sent frame.seq)

@@ -1,20 +1,14 @@
 -- How values of the node's types are told apart, and what they keep.
---     IsSound            the lists have a place for each sender, and what waits is near
-use Rattle.std.specs.Prelude.{◌≡◌, ℕ, ◌<◌, Bool, List, length, refl}
-use Rattle.std.specs.List.{All}
-use Rattle.std.specs.Map.{keys_of}
+--     IsSound            the lists have a place for each sender
+use Rattle.std.specs.Prelude.{◌≡◌, ℕ, Bool, List, length, refl}
 use Rattle.std.specs.Ordering.{nat_cmp}
 use Rattle.std.specs.FinSet as set
 use Rattle.std.specs.Coded.{Coded, code_by, coded×, coded_ℕ, coded_list, coded_bool}
-use Rattle.cast_message.specs.declared.config.Mode.{Mode}
 use Rattle.cast_message.specs.declared.message.Item.{Item}
 use Rattle.cast_fifo.specs.declared.waiting.Waiting.{Waiting}
-use Rattle.cast_fifo.specs.Held.{Held as HeldBack, held_of}
+use Rattle.cast_fifo.specs.HeldBack.{HeldBack}
 use Rattle.cast_agree.specs.Counted.{Counted, counted_code}
 use Rattle.cast_node.specs.Delivering.{Delivering}
-
-abbrev pub sets_code : Coded (List (List (set.FinSet nat_cmp)))
-sets_code = coded_list (coded_list (set.code coded_ℕ))
 
 abbrev pub held_back_code : Coded Waiting → Coded HeldBack
 held_back_code waiting =
@@ -27,23 +21,14 @@ pub record IsSound (knowers : List (List (set.FinSet nat_cmp))) (hold_back : Lis
     (delivered : List (List Item)) : Type 0 where
   pub rows : length knowers ≡ length hold_back
   pub streams : length delivered ≡ length hold_back
-  pub near : (s : ℕ) → All (λ number. number < 4096) (keys_of (held_of hold_back s).waiting)
 
-abbrev pub delivering_code : Coded Mode → Coded Item → Coded Waiting → Coded Delivering
-delivering_code mode item waiting =
+abbrev pub delivering_code : Coded Item → Coded Waiting → Coded Delivering
+delivering_code item waiting =
     code_by
-    (Mode × (ℕ × (List (List (set.FinSet nat_cmp))
-    × (List HeldBack × (List (List Item) × Counted)))))
-    (coded× mode (coded× coded_ℕ (coded× sets_code
+    (List (List (set.FinSet nat_cmp)) × (List HeldBack × (List (List Item) × Counted)))
+    (coded× (coded_list (coded_list (set.code coded_ℕ)))
     (coded× (coded_list (held_back_code waiting))
-    (coded× (coded_list (coded_list item)) counted_code)))))
-    (λ d. (d.mode, (d.faults, (d.knowers, (d.hold_back, (d.delivered, d.agree))))))
-    (λ p. record {
-      mode = p.0;
-      faults = p.1.0;
-      knowers = p.1.1.0;
-      hold_back = p.1.1.1.0;
-      delivered = p.1.1.1.1.0;
-      agree = p.1.1.1.1.1;
-    })
+    (coded× (coded_list (coded_list item)) counted_code)))
+    (λ d. (d.knowers, (d.hold_back, (d.delivered, d.agree))))
+    (λ p. record { knowers = p.0; hold_back = p.1.0; delivered = p.1.1.0; agree = p.1.1.1 })
     (λ _. refl)

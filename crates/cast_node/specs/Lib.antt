@@ -1,11 +1,10 @@
 pub mod Giving
 pub mod Outgoing
+pub mod Delivering
 pub mod Kept
 pub mod Turns
 pub mod Stands
-pub mod Delivering
 pub mod Code
-pub mod Taking
 pub mod Sound
 pub mod Calls
 pub mod Promise

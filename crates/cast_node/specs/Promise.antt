@@ -27,12 +27,12 @@ abbrev pub DeliversAsItsSteps : Type 0
 DeliversAsItsSteps =
     (config : Config) (me : ℕ) (steps : Steps) (kept : Kept) → Stands config me steps kept →
     (s : ℕ) → s < config.nodes →
-    slice_index_or kept.delivered s [] ≡ map item_of (own_delivered config me steps s)
+    slice_index_or kept.deliveries.delivered s [] ≡ map item_of (own_delivered config me steps s)
 
 abbrev pub DecidesAsItsSteps : Type 0
 DecidesAsItsSteps =
     (config : Config) (me : ℕ) (steps : Steps) (kept : Kept) → Stands config me steps kept →
-    (j : ℕ) → decision kept.agree j ≡ own_decision config me steps j
+    (j : ℕ) → decision kept.deliveries.agree j ≡ own_decision config me steps j
 
 abbrev pub OwesAsItsSteps : Type 0
 OwesAsItsSteps =

@@ -21,8 +21,7 @@ use Rattle.cast_model.specs.Replies.{IsRefused}
 use Rattle.cast_model.specs.Steps.{Step, Steps, own_items, frame_count, Held, held}
 use Rattle.cast_model.specs.OwnSteps.{own_live, own_copies, own_given, own_taken, own_acked, own_owed, own_knows, own_is_ready, message_at, message_in, own_log, own_fault, node_reply, node_after, IsOwnAccepted}
 use Rattle.cast_link.specs.Links.{Link}
-use Rattle.cast_relay.specs.Held.{holds}
-use Rattle.cast_fifo.specs.Held.{held_of}
+use Rattle.cast_fifo.specs.HeldBack.{held_of}
 use Rattle.cast_fifo.specs.HoldsBack.{HoldsBack}
 use Rattle.cast_agree.specs.Proposals.{counted_of}
 use Rattle.cast_node.specs.Kept.{Kept, link_to, taken_from, knowers_of}
@@ -63,27 +62,23 @@ pub record Stands (config : Config) (me : ℕ) (steps : Steps) (kept : Kept) : T
   pub live : kept.live ≡ own_live steps
   pub frames : kept.frames ≡ frame_count steps
   pub stream : kept.stream ≡ own_items steps
-  pub relay_me : kept.relay.me ≡ me
-  pub relay_size : length kept.relay.numbers ≡ 256
-  pub relay_holds : (s i : ℕ) → s < config.nodes →
-      holds kept.relay s i ≡ has_pair (own_copies me steps) s i
   pub peers_out : length kept.outgoing ≡ config.nodes
   pub out : (q : ℕ) → q < config.nodes → q ≢ me → StandsOut me steps q (link_to kept q)
   pub peers_in : length kept.incoming ≡ config.nodes
   pub taken : (r slot : ℕ) → r < config.nodes →
       set.contains (taken_from kept r) slot ≡ own_taken steps r slot
-  pub senders_back : length kept.hold_back ≡ config.nodes
+  pub senders_back : length kept.deliveries.hold_back ≡ config.nodes
   pub holds_back : (s : ℕ) → s < config.nodes →
       HoldsBack (item_at (held me steps) s) (own_is_ready config me steps s)
-      (held_of kept.hold_back s)
-  pub senders_known : length kept.knowers ≡ config.nodes
+      (held_of kept.deliveries.hold_back s)
+  pub senders_known : length kept.deliveries.knowers ≡ config.nodes
   pub knows : (s i r : ℕ) → s < config.nodes →
       set.contains (knowers_of kept s i) r ≡ is_known_in config me steps s i r
-  pub senders_delivered : length kept.delivered ≡ config.nodes
+  pub senders_delivered : length kept.deliveries.delivered ≡ config.nodes
   pub delivers : (s : ℕ) → s < config.nodes →
-      slice_index_or kept.delivered s []
+      slice_index_or kept.deliveries.delivered s []
       ≡ map item_of (filter (is_from s) (own_log config me steps))
-  pub agrees : kept.agree
+  pub agrees : kept.deliveries.agree
       ≡ counted_of (config.nodes - config.faults) (newest_first [] (own_log config me steps))
 
 -- how a node that has these steps behind it goes on by one more: as the definitions say, or it wants memory in place of an answer

@@ -1,12 +1,14 @@
 -- What a step changes of what a node keeps, and what is answered.
 --     with_knower kept s i r         r is known to hold the pair
---     taken_up kept message source   the message is held, given on, kept back and known
---     told kept s i                  what is delivered and decided once something was heard of a pair, and what is kept then
+--     taken_up kept message source   the message is given on, kept back and known
+--     told kept s i members          these are known to hold the pair: what is delivered and decided by that, and what is kept then
 --     kept_fault kept step           why a step is refused
 --     kept_answer, kept_after        else the answer, and what is kept then
 --     frame_made kind kept to slot   the frame of this kind that a node makes for a slot
+--     may_arrive kept frame          some node could have made the frame for this one
+--     may_want kept frame            such a frame, of which something may come, for which memory may be wanting
 --     Gives kept step reply new      both: a step answered by this reply leaves this
-use Rattle.std.specs.Prelude.{◌≡◌, ℕ, suc, ◌+◌, ◌-◌, ◌*◌, ◌==◌, nat_lt, Bool, false, not, ◌&&◌, ◌||◌, if◌then◌else◌, List, [], ◌∷◌, ◌++◌, length, replicate, slice_index_or, slice_set, Option, Some, None, unwrap_or, Result, Ok, Err}
+use Rattle.std.specs.Prelude.{◌≡◌, ℕ, ◌+◌, ◌*◌, ◌==◌, nat_lt, Bool, true, false, not, ◌&&◌, if◌then◌else◌, List, [], ◌∷◌, ◌++◌, length, slice_set, Option, Some, None, unwrap_or, Result, Ok, Err}
 use Rattle.std.specs.Ordering.{nat_cmp}
 use Rattle.std.specs.FinSet as set
 use Rattle.std.specs.FinMap as finite
@@ -22,101 +24,57 @@ use Rattle.cast_message.specs.declared.message.FrameBody.{FrameBody}
 use Rattle.cast_message.specs.declared.message.FrameBody.TheVariants.{Carry, Took}
 use Rattle.cast_message.specs.declared.message.FrameKind.{FrameKind}
 use Rattle.cast_message.specs.declared.message.FrameKind.TheVariants as kinds
-use Rattle.cast_model.specs.History.{numbered}
 use Rattle.cast_model.specs.Refusals.{Cause, NodeView, step_causes, first_fault}
 use Rattle.cast_model.specs.Replies.{IsRefused}
 use Rattle.cast_model.specs.Steps.{Step, Ordered, Sent, Acknowledged, Arrived, Stopped}
 use Rattle.cast_model.specs.OwnSteps.{nothing}
 use Rattle.cast_link.specs.Links.{Link, with_acknowledged}
-use Rattle.cast_relay.specs.Held.{Held, holds, with_pair}
-use Rattle.cast_fifo.specs.Held.{held_of, known_items, known_after}
-use Rattle.cast_fifo.specs.Calls.{Hold, held_after}
-use Rattle.cast_agree.specs.Journal.{counted_all, decisions_all}
 use Rattle.cast_node.specs.Giving.{given_on}
-use Rattle.cast_node.specs.Kept.{Kept, link_to, taken_from, knowers_of, is_enough, is_enough_in}
-
--- a row in which the place has these members; places before it that weren't there are empty
-abbrev pub known_row : List (set.FinSet nat_cmp) → ℕ → set.FinSet nat_cmp →
-    List (set.FinSet nat_cmp)
-known_row row i members = slice_set (row ++ replicate (suc i - length row) set.empty) i members
-
-abbrev pub with_knowers : Kept → ℕ → ℕ → set.FinSet nat_cmp → Kept
-with_knowers kept s i members =
-    let row = known_row (slice_index_or kept.knowers s []) i members in
-    record kept { knowers = slice_set kept.knowers s row }
-
-abbrev pub with_knower : Kept → ℕ → ℕ → ℕ → Kept
-with_knower kept s i r = with_knowers kept s i (set.insert (knowers_of kept s i) r)
+use Rattle.cast_node.specs.Kept.{Kept, link_to, taken_from, knowers_of, holds}
+use Rattle.cast_node.specs.Delivering.{first_members, told_in, outcome_in, waiting_in}
 
 -- given to each peer from number q on to which it goes
-abbrev pub given_from : ℕ → Held → ℕ → Message → List (Link Message) → List (Link Message)
-given_from q relay source message links = given_on q relay source message.sender message links
+abbrev pub given_from : ℕ → ℕ → ℕ → Message → List (Link Message) → List (Link Message)
+given_from q me source message links = given_on q me source message.sender message links
 
--- a message that wasn't held is given on, kept back, and known to be held here, by its sender, and where it came from
+-- a message that wasn't held is given on and kept back
 abbrev pub spread : Kept → Message → ℕ → Kept
-spread kept message source =
-    with_knowers
-    (record kept {
-      outgoing = given_from 0 kept.relay source message kept.outgoing;
-      hold_back = held_after kept.hold_back (Hold message);
-    })
-    message.sender message.number
-    (set.insert (set.insert (set.insert set.empty kept.me) message.sender) source)
-
--- another node's message, by the peer that brought it
-abbrev pub taken_up : Kept → Message → ℕ → Kept
-taken_up kept message source =
-    let relay = with_pair kept.relay message.sender message.number in
-    spread (record kept { relay = relay }) message source
-
-abbrev pub own_message : Kept → Item → Message
-own_message kept item = record { sender = kept.me; number = length kept.stream; item = item }
-
--- its own item
-abbrev pub own_taken_up : Kept → Item → Kept
-own_taken_up kept item =
-    spread
-    (record kept {
-      stream = kept.stream ++ item ∷ [];
-      relay =
-          record (with_pair kept.relay kept.me (length kept.stream)) { own = kept.relay.own + 1 };
-    })
-    (own_message kept item) kept.me
+spread kept message source = record kept {
+  outgoing = given_from 0 kept.me source message kept.outgoing;
+  deliveries = waiting_in kept.deliveries message;
+}
 
 -- what is delivered and decided, and what is kept then
 pub record Told : Type 0 where
   pub outcome : Outcome
   pub kept : Kept
 
--- the messages whose turn has come where the pair may be delivered
-abbrev pub news_of : Kept → ℕ → ℕ → List Message
-news_of kept s i =
-    numbered s (held_of kept.hold_back s).next (known_items (held_of kept.hold_back s) i)
-
-abbrev pub released : Kept → ℕ → ℕ → Told
-released kept s i = record {
-  outcome =
-      record {
-        deliveries = news_of kept s i;
-        decisions = decisions_all kept.agree (news_of kept s i);
-      };
-  kept = record kept {
-    hold_back = slice_set kept.hold_back s (known_after (held_of kept.hold_back s) i);
-    delivered = slice_set kept.delivered s
-        (slice_index_or kept.delivered s [] ++ known_items (held_of kept.hold_back s) i);
-    agree = counted_all kept.agree (news_of kept s i);
-  };
-}
-
 abbrev pub unmoved : Kept → Told
 unmoved kept = record { outcome = nothing; kept = kept }
 
--- after something was heard of a pair that is held
-abbrev pub told : Kept → ℕ → ℕ → Told
-told kept s i = if is_enough kept s i then released kept s i else unmoved kept
+-- these nodes are known to hold a pair that is held
+abbrev pub told : Kept → ℕ → ℕ → set.FinSet nat_cmp → Told
+told kept s i members = record {
+  outcome = outcome_in kept.config kept.deliveries s i members;
+  kept = record kept { deliveries = told_in kept.config kept.deliveries s i members };
+}
+
+-- one node more is known to hold it
+abbrev pub told_more : Kept → ℕ → ℕ → ℕ → Told
+told_more kept s i r = told kept s i (set.insert (knowers_of kept s i) r)
+
+-- a message that wasn't held, by the node that brought it
+abbrev pub taken_up : Kept → Message → ℕ → Told
+taken_up kept message source =
+    told (spread kept message source) message.sender message.number
+    (first_members kept.me message.sender source)
+
+abbrev pub own_message : Kept → Item → Message
+own_message kept item = record { sender = kept.me; number = length kept.stream; item = item }
 
 abbrev pub ordered : Kept → Item → Told
-ordered kept item = told (own_taken_up kept item) kept.me (length kept.stream)
+ordered kept item =
+    taken_up (record kept { stream = kept.stream ++ item ∷ [] }) (own_message kept item) kept.me
 
 abbrev pub with_taken : Kept → ℕ → ℕ → Kept
 with_taken kept from slot =
@@ -130,14 +88,13 @@ with_acked kept from slot =
 abbrev pub acknowledged : Kept → ℕ → ℕ → Option Message → Told
 acknowledged kept from slot None = unmoved kept
 acknowledged kept from slot (Some message) =
-    told (with_knower (with_acked kept from slot) message.sender message.number from)
-    message.sender message.number
+    told_more (with_acked kept from slot) message.sender message.number from
 
 abbrev pub carried : Kept → ℕ → Message → Told
 carried kept from message =
-    if holds kept.relay message.sender message.number
-    then told (with_knower kept message.sender message.number from) message.sender message.number
-    else told (taken_up kept message from) message.sender message.number
+    if holds kept message.sender message.number
+    then told_more kept message.sender message.number from
+    else taken_up kept message from
 
 abbrev pub arrived_body : Kept → ℕ → FrameBody → Told
 arrived_body kept from (Carry slot message) = carried (with_taken kept from slot) from message
@@ -152,41 +109,19 @@ may_bring kept from (Carry slot message) =
     && nat_lt slot (kept.config.nodes * kept.config.item_limit)
 may_bring kept from (Took slot) = nat_lt slot (link_to kept from).given
 
--- a pair is held, its peer is known to hold it, and this slot of the peer was taken
-abbrev pub came_so : Kept → ℕ → ℕ → ℕ → ℕ → Bool
-came_so kept from slot s i =
-    holds kept.relay s i && set.contains (taken_from kept from) slot
-    && set.contains (knowers_of kept s i) from
-
--- these are enough, and the pair is the next of its sender
-abbrev pub is_turn_with : Kept → ℕ → ℕ → set.FinSet nat_cmp → Bool
-is_turn_with kept s i members =
-    is_enough_in kept.config.mode kept.config.faults members && i == (held_of kept.hold_back s).next
-
-abbrev pub is_turn : Kept → ℕ → ℕ → Bool
-is_turn kept s i = is_turn_with kept s i (knowers_of kept s i)
-
--- a pair that the node is not known to hold itself, or whose turn it is once this peer is known to hold it
-abbrev pub is_word_awaited : Kept → ℕ → Option Message → Bool
-is_word_awaited kept from None = false
-is_word_awaited kept from (Some message) =
-    not (set.contains (knowers_of kept message.sender message.number) kept.me)
-    || is_turn_with kept message.sender message.number
-    (set.insert (knowers_of kept message.sender message.number) from)
-
--- a message that did not come so before, or whose turn it is, or the acknowledgement of a slot that is owed with such a pair
-abbrev pub is_awaited : Kept → ℕ → FrameBody → Bool
-is_awaited kept from (Carry slot message) =
-    not (came_so kept from slot message.sender message.number)
-    || is_turn kept message.sender message.number
-is_awaited kept from (Took slot) =
-    is_word_awaited kept from (finite.get (link_to kept from).owed slot)
+-- something may come of it: of the acknowledgement of a slot that isn't owed nothing does
+abbrev pub may_tell : Kept → ℕ → FrameBody → Bool
+may_tell kept from (Carry slot message) = true
+may_tell kept from (Took slot) = finite.contains_key (link_to kept from).owed slot
 
 -- some node of a group could have made the frame for this node
 abbrev pub may_arrive : Kept → Frame → Bool
 may_arrive kept frame =
     nat_lt frame.from kept.config.nodes && not (frame.from == kept.me)
     && may_bring kept frame.from frame.body
+
+abbrev pub may_want : Kept → Frame → Bool
+may_want kept frame = may_arrive kept frame && may_tell kept frame.from frame.body
 
 abbrev pub arrived : Kept → Frame → Told
 arrived kept frame =

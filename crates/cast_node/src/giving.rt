@@ -1,64 +1,71 @@
-//! A message goes to the peers of a node, and is taken back from them where a step can't be finished. A slot keeps the place
-//! of its message.
-ghost use Rattle.std.specs.Prelude.{◌≡◌, ◌+◌, ◌≤◌, if◌then◌else◌, length, OnOk, OnErr};
-ghost use Rattle.cast_link.specs.Links.{with_given, without_last};
-ghost use Rattle.cast_node.specs.Giving.{given_on, taken_back_from, AreOwed};
+//! A message goes to the peers of a node: room is made at each link first, then it is given to those to which it goes. A slot
+//! keeps the place of its message.
+ghost use Rattle.std.specs.Prelude.{◌≡◌, ◌+◌, ◌≤◌, if◌then◌else◌, length, OnOk};
+ghost use Rattle.std.specs.List.{All};
+ghost use Rattle.cast_link.specs.Links.{with_given};
+ghost use Rattle.cast_node.specs.Giving.{given_on, AreOwed, HasRoom, bare};
 
 use cast_link::LinkOut;
 use cast_message::{GroupSet, NodeId};
-use cast_relay::Relay;
+use cast_relay::goes_on;
 use std::alloc::AllocError;
 
-/// Gives what stands at this place to each of these peers to which a message of the sender goes that came from the source,
-/// or to none where memory is wanting. The first of them has the number `first`.
-pub fn give_all(
-    links: &mut [LinkOut<u32>],
-    first: u64,
-    relay: &Relay,
-    source: NodeId,
-    sender: NodeId,
-    place: u32,
-) -> Result<(), AllocError>
-    requires { first + length links.old ≤ 256 }
-    ensures ok { OnOk result (links.new ≡ given_on first relay.now source sender place links.old) }
-    ensures back { OnOk result
-        (taken_back_from first relay.now source sender links.new ≡ links.old) }
-    ensures err { OnErr result (links.new ≡ links.old) }
+/// Makes room for one slot more at each of these links.
+pub fn reserve_all(links: &mut [LinkOut<u32>]) -> Result<(), AllocError>
+    ensures same { bare links.new ≡ bare links.old }
+    ensures room { OnOk result (All HasRoom links.new) }
 {
     let Some((link, rest)) = links.split_first_mut() else {
         return Ok(());
     };
-    let goes = relay.relays_to(sender, source, NodeId(first as u8));
-    give(link, goes, place)?;
-    let given = give_all(rest, first + 1, relay, source, sender, place);
-    if given.is_err() {
-        take_back(link, goes);
+    // As many slots as a `u64` counts are never given: a message that is held takes one at most.
+    if link.given() == u64::MAX {
+        return Err(AllocError);
     }
-    given
+    link.reserve()?;
+    reserve_all(rest)
 }
 
-/// Takes back what was given last to each of these peers to which it went.
-pub fn take_back_all(
+/// Gives what stands at this place to each of these peers to which a message of the sender goes that came to the node `me`
+/// from the source. The first of them has the number `first`.
+pub fn give_all(
     links: &mut [LinkOut<u32>],
     first: u64,
-    relay: &Relay,
+    me: NodeId,
     source: NodeId,
     sender: NodeId,
+    place: u32,
 )
-    requires { first + length links.old ≤ 256 }
-    ensures { links.new ≡ taken_back_from first relay.now source sender links.old }
+    requires peers { first + length links.old ≤ 256 }
+    requires room { All HasRoom links.old }
+    ensures { bare links.new ≡ given_on first me source sender place (bare links.old) }
 {
     let Some((link, rest)) = links.split_first_mut() else {
         return;
     };
-    take_back(link, relay.relays_to(sender, source, NodeId(first as u8)));
-    take_back_all(rest, first + 1, relay, source, sender);
+    give(
+        link,
+        goes_on(me, sender, source, NodeId(first as u8)),
+        place,
+    );
+    give_all(rest, first + 1, me, source, sender, place);
+}
+
+// Gives what stands at a place to a peer, where it goes there.
+fn give(link: &mut LinkOut<u32>, goes: bool, place: u32)
+    requires { HasRoom link.old }
+    ensures { link.new.link
+        ≡ (if goes then with_given link.old.link place else link.old.link) }
+{
+    if goes {
+        link.give_reserved(place);
+    }
 }
 
 /// The peers that are owed a slot.
 pub fn owed_peers(links: &[LinkOut<u32>]) -> GroupSet
     requires { length links.now ≤ 64 }
-    ensures { AreOwed links.now result }
+    ensures { AreOwed (bare links.now) result }
 {
     let mut owed = GroupSet::new();
     for peer in 0..links.len() {
@@ -67,31 +74,4 @@ pub fn owed_peers(links: &[LinkOut<u32>]) -> GroupSet
         }
     }
     owed
-}
-
-// Gives what stands at a place to a peer, where it goes there.
-fn give(link: &mut LinkOut<u32>, goes: bool, place: u32) -> Result<(), AllocError>
-    ensures ok { OnOk result (link.new
-        ≡ (if goes then with_given link.old place else link.old)) }
-    ensures back { OnOk result ((if goes then without_last link.new else link.new) ≡ link.old) }
-    ensures err { OnErr result (link.new ≡ link.old) }
-{
-    if !goes {
-        return Ok(());
-    }
-    // As many slots as a `u64` counts are never given: a message that is held takes one at most.
-    if link.given() == u64::MAX {
-        return Err(AllocError);
-    }
-    link.give(place)?;
-    Ok(())
-}
-
-// Takes back what was given last to a peer, where it went there.
-fn take_back(link: &mut LinkOut<u32>, goes: bool)
-    ensures { link.new ≡ (if goes then without_last link.old else link.old) }
-{
-    if goes {
-        link.take_back();
-    }
 }

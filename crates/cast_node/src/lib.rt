@@ -9,8 +9,6 @@ mod giving;
 mod node;
 mod outgoing;
 mod report;
-mod slot;
-mod taking;
 
 pub use cast_log::{Entry, EntryKind, EntryRef, KindRef, Log, OpenLog, Origin};
 pub use deliveries::no_news;

@@ -1,33 +1,31 @@
 //! A node of a broadcast group: what it holds, gives, waits for, delivers and decides.
-ghost use Rattle.std.specs.Prelude.{◌≡◌, ℕ, ◌<◌, ◌+◌, false, true, IsTrue, nat_lt, Some, None, option_map, slice_get, if◌then◌else◌, IfOk, IfErr, OnOk, OnErr, IsFalse, ◌↔◌};
-ghost use Rattle.cast_message.specs.Items.{has_bytes};
+ghost use Rattle.std.specs.Prelude.{◌≡◌, ℕ, ◌<◌, ◌+◌, ◌*◌, false, true, nat_lt, Some, None, option_map, slice_get, if◌then◌else◌, IfOk, IfErr, OnOk, OnErr, ◌↔◌, IsTrue, IsFalse};
 ghost use Rattle.std.specs.FinMap as finite;
 ghost use Rattle.std.specs.FinSet as set;
-ghost use Rattle.cast_model.specs.Steps.{Ordered, Sent, Acknowledged, Arrived, Stopped};
 ghost use Rattle.cast_model.specs.OwnSteps.{nothing};
+ghost use Rattle.cast_model.specs.Steps.{Ordered, Sent, Acknowledged, Arrived, Stopped};
 ghost use Rattle.cast_message.specs.declared.event.StepFault.TheVariants.{NoNode, Memory};
 ghost use Rattle.cast_message.specs.declared.message.FrameBody.TheVariants.{Carry, Took};
 ghost use Rattle.cast_message.specs.declared.message.Item.{Item as Carried};
 ghost use Rattle.cast_agree.specs.Counted.{decision};
 ghost use Rattle.cast_link.specs.Links.{IsLeastFrom};
-ghost use Rattle.cast_relay.specs.Held.{holds};
+ghost use Rattle.cast_link.specs.Taken.{has_room};
 ghost use Rattle.cast_node.specs.Giving.{OwesNoneOf};
-ghost use Rattle.cast_node.specs.Kept.{nothing_kept, link_to, knowers_of};
-ghost use Rattle.cast_node.specs.Turns.{Gives, kept_fault, carry_of, took_of, message_owed, ordered, arrived_body, is_awaited, may_arrive};
-ghost use Rattle.cast_node.specs.Taking.{with_proposal, without_proposal};
-ghost use Rattle.cast_node.specs.Calls.{is_peer, may_carry, carry_slot, carried_frame, took_frame, ordered_reply, sent_reply, number_reply, numbered_reply, arrived_reply, silent_reply, crashed_reply};
+ghost use Rattle.cast_node.specs.Outgoing.{links_of, HasRoomFor};
+ghost use Rattle.cast_node.specs.Delivering.{first_members};
+ghost use Rattle.cast_node.specs.Sound.{with_proposal, without_proposal};
+ghost use Rattle.cast_node.specs.Kept.{nothing_kept, link_to, knowers_of, holds};
+ghost use Rattle.cast_node.specs.Turns.{Gives, kept_fault, carry_of, took_of, message_owed, ordered, arrived_body, may_want};
+ghost use Rattle.cast_node.specs.Calls.{is_peer, may_carry, carry_slot, carried_frame, took_frame, ordered_reply, asked_reply, sent_reply, number_reply, numbered_reply, arrived_reply, silent_reply, crashed_reply};
 
 mod faults;
 
 use crate::deliveries::{Deliveries, no_news};
 use crate::outgoing::Outgoing;
-use crate::slot::NoSlot;
-use crate::taking::{Fresh, first_members, take_up_carried, take_up_own};
 use cast_link::LinkIn;
 use cast_message::{
     Config, Frame, FrameBody, GroupSet, Item, Message, NodeId, NumberSet, Outcome, StepFault,
 };
-use cast_relay::Relay;
 use std::alloc::{AllocError, Global};
 use std::marker::Model;
 
@@ -58,7 +56,6 @@ pub struct Node {
     closed: bool,
     // The instances in which they propose.
     proposed: NumberSet,
-    relay: Relay,
     // What it gives each peer.
     outgoing: Outgoing,
     // What it took of each peer.
@@ -69,7 +66,7 @@ pub struct Node {
 impl Model for Node {
     ghost use Rattle.cast_node.specs.Kept.{Kept};
     ghost use Rattle.cast_node.specs.Outgoing.{links_of};
-    ghost use Rattle.cast_node.specs.Sound.{IsNode, kept_code};
+    ghost use Rattle.cast_node.specs.Sound.{IsNode, kept_code, slots_of};
     ghost use Rattle.cast_message.specs.contracts.config.Config as configs;
     ghost use Rattle.cast_message.specs.contracts.message.Item as items;
     ghost use Rattle.cast_message.specs.contracts.message.Message as messages;
@@ -86,17 +83,13 @@ impl Model for Node {
       live = n.live;
       frames = n.frames;
       stream = n.stream.items;
-      relay = n.relay;
       outgoing = links_of n.outgoing;
-      incoming = n.incoming.items;
-      hold_back = n.deliveries.hold_back;
-      knowers = n.deliveries.knowers;
-      delivered = n.deliveries.delivered;
-      agree = n.deliveries.agree;
+      incoming = slots_of n.incoming.items;
+      deliveries = n.deliveries;
     } };
 
-    ghost invariant = { λ n. IsNode n.config n.me n.stream.items n.closed n.proposed n.relay
-        (links_of n.outgoing) n.incoming.items n.deliveries };
+    ghost invariant = { λ n. IsNode n.config n.me n.stream.items n.closed n.proposed
+        (links_of n.outgoing) (slots_of n.incoming.items) n.deliveries };
 }
 
 impl Node {
@@ -123,6 +116,15 @@ impl Node {
         if let Some(refusal) = self.order_fault(&item) {
             return Err(refusal);
         }
+        let told = self.order_asked(item)?;
+        Ok(told)
+    }
+
+    /// Takes up an item as `order` does, of which `order_fault` says that it is not refused: only memory can be wanting.
+    pub fn order_asked(&mut self, item: Item) -> Result<(u64, Outcome), AllocError>
+        requires { kept_fault self.old (Ordered item) ≡ None }
+        ensures exact { Gives self.old (Ordered item) (asked_reply result) self.new }
+    {
         let number = self.stream.len() as u64;
         let outcome = self.take_own(item)?;
         Ok((number, outcome))
@@ -134,8 +136,6 @@ impl Node {
     pub fn send(&mut self, to: NodeId, slot: u64) -> Result<Frame, StepFault>
         ensures exact { Gives self.old (Sent to slot) (sent_reply result) self.new }
         ensures frame { IfOk result (λ frame. frame ≡ carry_of self.old to slot) }
-        ensures payload { OnErr result (kept_fault self.old (Sent to slot) ≡ None →
-            has_bytes (message_owed self.old to slot).item ≡ true) }
     {
         let message = self.message_to_send(to, slot)?.copy()?;
         Ok(self.make_frame(to, FrameBody::Carry { slot, message }))
@@ -191,19 +191,15 @@ impl Node {
 
     /// Takes a frame that arrives, and answers what is delivered and decided. The frame is for this node. Refused is an arrival
     /// at a crashed node, and else want of memory. A refusal changes nothing, nor does a frame that no node of the group could
-    /// have made for this node, of which nothing comes, not even want of memory. Neither is refused for want of memory an
-    /// acknowledgement of a slot that is not owed, such as a second one, or of one with a pair that the node is known to hold,
-    /// unless the pair's turn comes by it, nor a message that is held, in a slot that was taken, of a maker that is known to hold
-    /// it, unless its turn has come.
+    /// have made for this node, of which nothing comes, not even want of memory; nor does memory want the acknowledgement of a
+    /// slot that is not owed, such as a second one.
     #[tactic(auto, using(std::proofs::lemmas::Bool::Decides::nat_tests), unfolding(cast_model::specs::Refusals::first_fault, crate::specs::Turns::kept_fault))]
     pub fn arrive(&mut self, frame: &Frame) -> Result<Outcome, StepFault>
         requires { frame.now.to ≡ self.old.me }
         ensures exact { Gives self.old (Arrived frame.now)
             (arrived_reply self.old.me result) self.new }
-        ensures possible { OnErr result
-            (self.old.live ≡ true → may_arrive self.old frame.now ≡ true) }
-        ensures awaited { OnErr result (self.old.live ≡ true →
-            is_awaited self.old frame.now.from frame.now.body ≡ true) }
+        ensures wants { OnErr result
+            (self.old.live ≡ true → may_want self.old frame.now ≡ true) }
     {
         if !self.live {
             return Err(StepFault::Crashed);
@@ -228,15 +224,10 @@ impl Node {
         sender: NodeId,
         number: u64,
     ) -> Result<Outcome, StepFault>
-        requires { holds self.old.relay sender number ≡ true }
+        requires { holds self.old sender number ≡ true }
         ensures exact { (seq : ℕ) (item : Carried) → Gives self.old
             (Arrived (carried_frame self.old.me from seq slot sender number item))
             (arrived_reply self.old.me result) self.new }
-        ensures possible { (seq : ℕ) (item : Carried) → OnErr result (self.old.live ≡ true →
-            may_arrive self.old (carried_frame self.old.me from seq slot sender number item)
-            ≡ true) }
-        ensures awaited { (item : Carried) → OnErr result (self.old.live ≡ true →
-            is_awaited self.old from (carry_slot slot sender number item) ≡ true) }
     {
         if !self.live {
             return Err(StepFault::Crashed);
@@ -260,7 +251,7 @@ impl Node {
         sender: NodeId,
         number: u64,
     ) -> bool
-        requires { holds self.old.relay sender number ≡ true }
+        requires { holds self.old sender number ≡ true }
         ensures took { IsTrue result → (seq : ℕ) (item : Carried) → Gives self.old
             (Arrived (carried_frame self.old.me from seq slot sender number item))
             (silent_reply self.old.me) self.new }
@@ -337,14 +328,14 @@ impl Node {
 
     /// The items that it delivered from a sender, in order, where that is a node.
     pub fn delivered(&self, sender: NodeId) -> Option<&[Item]>
-        ensures { option_map (λ items. items.now) result ≡ slice_get self.now.delivered sender }
+        ensures { option_map (λ items. items.now) result ≡ slice_get self.now.deliveries.delivered sender }
     {
         self.deliveries.delivered(sender)
     }
 
     /// The value that it decided in an instance, if it did.
     pub fn decision(&self, instance: u64) -> Option<u64>
-        ensures { result ≡ decision self.now.agree instance }
+        ensures { result ≡ decision self.now.deliveries.agree instance }
     {
         self.deliveries.decision(instance)
     }
@@ -382,9 +373,9 @@ impl Node {
 
     /// Whether it holds a pair. It takes no memory.
     pub fn holds(&self, sender: NodeId, number: u64) -> bool
-        ensures { result ≡ holds self.now.relay sender number }
+        ensures { result ≡ holds self.now sender number }
     {
-        self.relay.holds(sender, number)
+        u64::from(sender.0) < self.config.nodes() && self.deliveries.holds(sender, number)
     }
 
     /// How many nodes it knows to hold a pair: none where it doesn't hold it itself.
@@ -405,33 +396,25 @@ impl Node {
         message: &Message,
     ) -> Result<Outcome, AllocError>
         requires from { from < self.old.config.nodes }
-        requires sender { is_peer self.old message.now.sender ≡ true }
-        requires number { message.now.number < self.old.config.item_limit }
+        requires fits { may_carry self.old slot message.now.sender message.now.number ≡ true }
         ensures outcome { IfOk result (λ outcome.
             outcome ≡ (arrived_body self.old from (Carry slot message.now)).outcome) }
         ensures ok { OnOk result (self.new
             ≡ (arrived_body self.old from (Carry slot message.now)).kept) }
         ensures err { OnErr result (self.new ≡ self.old) }
-        ensures awaited { OnErr result
-            (is_awaited self.old from (Carry slot message.now) ≡ true) }
     {
-        let place = usize::from(from.0);
-        if self.relay.holds(message.sender, message.number) {
+        if self.deliveries.holds(message.sender, message.number) {
             return self.take_again(from, slot, message.sender, message.number);
         }
-        let fresh = Fresh {
-            message: message.copy()?,
-            source: from,
-            members: first_members(self.me, message.sender, from),
-        };
-        take_up_carried(
-            &mut self.relay,
-            &mut self.outgoing,
-            &mut self.deliveries,
-            &mut self.incoming[place],
-            slot,
-            fresh,
-        )
+        let fresh = message.copy()?;
+        let given = message.copy()?;
+        let members = first_members(self.me, fresh.sender, from);
+        let link = &mut self.incoming[usize::from(from.0)];
+        make_room(link, slot, &mut self.outgoing)?;
+        let outcome = self.deliveries.take_up(&self.config, fresh, members)?;
+        self.outgoing.give(self.me, from, given);
+        link.take_reserved(slot);
+        Ok(outcome)
     }
 
     // Takes a slot of a peer with a message that the node holds in it.
@@ -443,21 +426,20 @@ impl Node {
         number: u64,
     ) -> Result<Outcome, AllocError>
         requires from { from < self.old.config.nodes }
-        requires sender { is_peer self.old sender ≡ true }
-        requires number { number < self.old.config.item_limit }
-        requires held { holds self.old.relay sender number ≡ true }
+        requires fits { may_carry self.old slot sender number ≡ true }
+        requires held { holds self.old sender number ≡ true }
         ensures outcome { (item : Carried) → IfOk result (λ outcome. outcome
             ≡ (arrived_body self.old from (carry_slot slot sender number item)).outcome) }
         ensures ok { (item : Carried) → OnOk result (self.new
             ≡ (arrived_body self.old from (carry_slot slot sender number item)).kept) }
         ensures err { OnErr result (self.new ≡ self.old) }
-        ensures awaited { (item : Carried) → OnErr result
-            (is_awaited self.old from (carry_slot slot sender number item) ≡ true) }
     {
-        let place = usize::from(from.0);
-        let knowers = self.deliveries.knowers_with(sender, number, from);
-        self.deliveries
-            .tell(sender, number, knowers, &mut self.incoming[place], slot)
+        let link = &mut self.incoming[usize::from(from.0)];
+        link.reserve(slot)?;
+        let holders = self.deliveries.knowers_with(sender, number, from);
+        let outcome = self.deliveries.tell(&self.config, sender, number, holders)?;
+        link.take_reserved(slot);
+        Ok(outcome)
     }
 
     // Takes a peer's word that it took a slot.
@@ -467,7 +449,8 @@ impl Node {
             outcome ≡ (arrived_body self.old from (Took slot)).outcome) }
         ensures ok { OnOk result (self.new ≡ (arrived_body self.old from (Took slot)).kept) }
         ensures err { OnErr result (self.new ≡ self.old) }
-        ensures awaited { OnErr result (is_awaited self.old from (Took slot) ≡ true) }
+        ensures wants { OnErr result
+            (finite.contains_key (link_to self.old from).owed slot ≡ true) }
     {
         let Some(message) = self.outgoing.message(from, slot) else {
             return Ok(no_news(self.alloc));
@@ -475,9 +458,7 @@ impl Node {
         let sender = message.sender;
         let number = message.number;
         let knowers = self.deliveries.knowers_with(sender, number, from);
-        let outcome = self
-            .deliveries
-            .tell(sender, number, knowers, &mut NoSlot, 0)?;
+        let outcome = self.deliveries.tell(&self.config, sender, number, knowers)?;
         self.outgoing.acknowledge(from, slot);
         Ok(outcome)
     }
@@ -485,25 +466,27 @@ impl Node {
     // Takes a slot of a peer with a message that the node holds in it, where nothing comes of that.
     fn take_again_silently(&mut self, from: NodeId, slot: u64, sender: NodeId, number: u64) -> bool
         requires from { from < self.old.config.nodes }
-        requires sender { is_peer self.old sender ≡ true }
-        requires number { number < self.old.config.item_limit }
-        requires held { holds self.old.relay sender number ≡ true }
+        requires fits { may_carry self.old slot sender number ≡ true }
+        requires held { holds self.old sender number ≡ true }
         ensures outcome { (item : Carried) → IsTrue result →
             (arrived_body self.old from (carry_slot slot sender number item)).outcome ≡ nothing }
         ensures took { (item : Carried) → IsTrue result → self.new
             ≡ (arrived_body self.old from (carry_slot slot sender number item)).kept }
         ensures not { IsFalse result → self.new ≡ self.old }
     {
-        let place = usize::from(from.0);
         let knowers = self.deliveries.knowers_with(sender, number, from);
-        let link = &mut self.incoming[place];
-        let Ok(silent) = self
-            .deliveries
-            .tell_silently(sender, number, &knowers, link, slot)
-        else {
+        let link = &mut self.incoming[usize::from(from.0)];
+        if link.reserve(slot).is_err() {
             return false;
-        };
-        silent
+        }
+        if !self
+            .deliveries
+            .tell_silently(&self.config, sender, number, &knowers)
+        {
+            return false;
+        }
+        link.take_reserved(slot);
+        true
     }
 
     // Takes a peer's word that it took a slot, where nothing comes of that.
@@ -520,13 +503,10 @@ impl Node {
         let sender = message.sender;
         let number = message.number;
         let knowers = self.deliveries.knowers_with(sender, number, from);
-        let Ok(silent) = self
+        if !self
             .deliveries
-            .tell_silently(sender, number, &knowers, &mut NoSlot, 0)
-        else {
-            return false;
-        };
-        if !silent {
+            .tell_silently(&self.config, sender, number, &knowers)
+        {
             return false;
         }
         self.outgoing.acknowledge(from, slot);
@@ -551,7 +531,6 @@ impl Node {
             stream: Vec::new(alloc),
             closed: false,
             proposed: NumberSet::new(alloc),
-            relay: Relay::new(alloc, id, config.nodes())?,
             outgoing: Outgoing::new(alloc, config.nodes())?,
             incoming,
             deliveries: Deliveries::new(alloc, config)?,
@@ -585,24 +564,33 @@ impl Node {
         }
     }
 
-    // Takes up an item of the node's own, which is not refused.
+    // Takes up an item of the node's own, which is not refused. The instance of a proposal may be any number, so that no room for
+    // it can be made ahead: where memory is wanting after it was noted, that is taken back.
     fn take_own(&mut self, item: Item) -> Result<Outcome, AllocError>
         requires { kept_fault self.old (Ordered item) ≡ None }
         ensures outcome { IfOk result (λ outcome. outcome ≡ (ordered self.old item).outcome) }
         ensures ok { OnOk result (self.new ≡ (ordered self.old item).kept) }
         ensures err { OnErr result (self.new ≡ self.old) }
     {
-        self.stream.reserve(1)?;
+        let me = self.me;
+        let number = self.stream.len() as u64;
         let kept = item.copy()?;
+        let given = Message {
+            sender: me,
+            number,
+            item: item.copy()?,
+        };
+        self.stream.reserve(1)?;
+        self.outgoing.reserve()?;
         propose(&mut self.proposed, &kept)?;
-        match take_up_own(
-            &mut self.relay,
-            &mut self.outgoing,
-            &mut self.deliveries,
-            self.me,
+        let message = Message {
+            sender: me,
+            number,
             item,
-        ) {
+        };
+        match self.deliveries.take_up(&self.config, message, first_members(me, me, me)) {
             Ok(outcome) => {
+                self.outgoing.give(me, me, given);
                 self.closed = kept.is_close();
                 self.stream.push_reserved(kept);
                 Ok(outcome)
@@ -613,6 +601,33 @@ impl Node {
             }
         }
     }
+}
+
+// Makes room for a slot of a peer, and for a message that goes on.
+fn make_room(link: &mut LinkIn, slot: u64, outgoing: &mut Outgoing) -> Result<(), AllocError>
+    requires { slot < 262144 }
+    ensures slots { link.new.slots ≡ link.old.slots }
+    ensures links { links_of outgoing.new ≡ links_of outgoing.old }
+    ensures room { OnOk result
+        ((has_room link.new slot ≡ true) × HasRoomFor outgoing.new) }
+{
+    link.reserve(slot)?;
+    outgoing.reserve()
+}
+
+// Those that are known to hold a message once the node `me` does: itself, the sender, and where it came from. They are nodes of
+// one group.
+fn first_members(me: NodeId, sender: NodeId, source: NodeId) -> GroupSet
+    requires me { me < 64 }
+    requires sender { sender < 64 }
+    requires source { source < 64 }
+    ensures { result ≡ first_members me sender source }
+{
+    let mut members = GroupSet::new();
+    members.insert(me);
+    members.insert(sender);
+    members.insert(source);
+    members
 }
 
 // Notes the instance in which an item proposes, if it does.

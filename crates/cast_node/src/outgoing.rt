@@ -6,12 +6,11 @@ ghost use Rattle.std.specs.Option.{option_copied};
 ghost use Rattle.cast_link.specs.Links.{with_acknowledged, IsLeastFrom};
 ghost use Rattle.cast_node.specs.Turns.{given_from};
 ghost use Rattle.cast_node.specs.Giving.{link_in, OwesNoneOf};
-ghost use Rattle.cast_node.specs.Outgoing.{links_of, nothing_given, given_to, taken_back, IsLastGiven};
+ghost use Rattle.cast_node.specs.Outgoing.{links_of, HasRoomFor};
 
-use crate::giving::{give_all, owed_peers, take_back_all};
+use crate::giving::{give_all, owed_peers, reserve_all};
 use cast_link::LinkOut;
 use cast_message::{GroupSet, Message, NodeId};
-use cast_relay::Relay;
 use std::alloc::{AllocError, Global};
 use std::marker::Model;
 
@@ -27,7 +26,8 @@ pub struct Outgoing {
 }
 
 impl Model for Outgoing {
-    ghost use Rattle.std.specs.Prelude.{length};
+    ghost use Rattle.std.specs.Prelude.{length, ◌-◌, vec_len, vec_capacity};
+    ghost use Rattle.cast_node.specs.Giving.{bare};
     ghost use Rattle.cast_node.specs.Outgoing.{Outbound, outbound_code, IsOutgoing};
     ghost use Rattle.cast_message.specs.contracts.message.Message as m;
 
@@ -35,17 +35,20 @@ impl Model for Outgoing {
 
     ghost coded = { outbound_code m.the_row.coded };
 
-    ghost view = { λ o. record { messages = o.messages.items; links = o.links.items } };
+    ghost view = { λ o. record {
+      messages = o.messages.items;
+      spare = vec_capacity o.messages - vec_len o.messages;
+      links = o.links.items;
+    } };
 
-    ghost invariant = { λ o. IsOutgoing (length o.messages.items) o.links.items o.owed };
+    ghost invariant = { λ o. IsOutgoing (length o.messages.items) (bare o.links.items) o.owed };
 }
 
 impl Outgoing {
     /// Nothing was given to any of so many peers.
     pub fn new(alloc: Global, peers: u64) -> Result<Outgoing, AllocError>
         requires { peers ≤ 64 }
-        ensures ok { IfOk result (λ outgoing. outgoing ≡ nothing_given peers) }
-        ensures links { IfOk result (λ outgoing. links_of outgoing
+        ensures { IfOk result (λ outgoing. links_of outgoing
             ≡ replicate peers (record { given = 0; owed = finite.empty })) }
     {
         let mut links = Vec::new(alloc);
@@ -59,51 +62,31 @@ impl Outgoing {
         })
     }
 
-    /// Gives a message to each peer to which it goes, where it came from the source, or to none where memory is wanting.
-    pub fn give(
-        &mut self,
-        relay: &Relay,
-        source: NodeId,
-        message: &Message,
-    ) -> Result<(), AllocError>
-        requires { length (links_of self.old) ≤ 256 }
-        ensures ok { OnOk result (self.new ≡ given_to relay.now source message.now self.old) }
-        ensures links { OnOk result (links_of self.new
-            ≡ given_from 0 relay.now source message.now (links_of self.old)) }
-        ensures last { OnOk result
-            (IsLastGiven relay.now source message.now.sender self.new) }
-        ensures back { OnOk result
-            (taken_back relay.now source message.now.sender self.new ≡ self.old) }
-        ensures err { OnErr result (self.new ≡ self.old) }
+    /// Makes room for one message more, at each link too.
+    pub fn reserve(&mut self) -> Result<(), AllocError>
+        ensures same { links_of self.new ≡ links_of self.old }
+        ensures room { OnOk result (HasRoomFor self.new) }
     {
-        let place = self.messages.len();
         // As many messages as a `u32` counts are never given: a node holds at most 64 times 4,096, and gives each once.
-        if place > u32::MAX as usize {
+        if self.messages.len() > u32::MAX as usize {
             return Err(AllocError);
         }
-        self.messages.push(message.copy()?)?;
-        let links = self.links.as_mut_slice();
-        match give_all(links, 0, relay, source, message.sender, place as u32) {
-            Ok(()) => {
-                self.owed = owed_peers(self.links.as_slice());
-                Ok(())
-            }
-            Err(refused) => {
-                self.messages.pop();
-                Err(refused)
-            }
-        }
+        self.messages.reserve(1)?;
+        reserve_all(self.links.as_mut_slice())
     }
 
-    /// Takes back the message that was given last, of this sender and source.
-    pub fn take_back(&mut self, relay: &Relay, source: NodeId, sender: NodeId)
+    /// Gives a message for which there is room to each peer to which it goes, where it came to the node `me` from the source.
+    /// It takes no memory.
+    pub fn give(&mut self, me: NodeId, source: NodeId, message: Message)
+        requires room { HasRoomFor self.old }
         requires peers { length (links_of self.old) ≤ 256 }
-        requires last { IsLastGiven relay.now source sender self.old }
-        ensures { self.new ≡ taken_back relay.now source sender self.old }
+        ensures { links_of self.new ≡ given_from 0 me source message (links_of self.old) }
     {
-        take_back_all(self.links.as_mut_slice(), 0, relay, source, sender);
+        let place = self.messages.len() as u32;
+        let sender = message.sender;
+        self.messages.push_reserved(message);
+        give_all(self.links.as_mut_slice(), 0, me, source, sender, place);
         self.owed = owed_peers(self.links.as_slice());
-        self.messages.pop();
     }
 
     /// The message in a slot of a peer that is owed.

@@ -1,4 +1,4 @@
-use Rattle.std.proofs.Common.{◌≡◌, ◌≤◌, ℕ, Bool, true, false, not, ◌&&◌, cond, nat_le, refl, true≢false, sym, ap, ◌∙◌, arith}
+use Rattle.std.proofs.Common.{◌≡◌, ◌≤◌, ℕ, Bool, true, false, not, cond, sym, ap, ◌∙◌, arith}
 use Rattle.std.specs.FinSet as set
 use Rattle.std.proofs.lemmas.Bool.Decides.{nat_tests}
 use Rattle.cast_message.specs.Members.{insert-member}
@@ -14,14 +14,10 @@ complete : (quorum sender : ℕ) (tally : Tally) → quorum ≤ set.len tally.pr
 complete quorum sender tally l = grind (arith, nat_tests)
 
 present : (quorum sender : ℕ) (tally : Tally) → set.contains tally.proposers sender ≡ true → counts quorum tally sender ≡ false
-present quorum sender tally e = go (nat_le quorum (set.len tally.proposers)) _ e
-  where
-    go : (a b : Bool) → b ≡ true → (not a && not b) ≡ false
-    go a b e = grind (arith, nat_tests)
+present quorum sender tally e = grind (arith, nat_tests)
 
 known : (r b : Bool) → r ≡ not b → r ≡ false → b ≡ true
-known r true e f = refl
-known r false e f = absurd (true≢false (sym e ∙ f))
+known r b e f = grind (arith, nat_tests)
 
 pub returns-then-counted-quorum-clause-after : goal.returns-then-counted-quorum-clause-after
 returns-then-counted-quorum-clause-after c =

@@ -1,29 +1,30 @@
-use Rattle.std.proofs.Common.{◌≡◌, ◌+◌, ◌-◌, None, ap, ◌∙◌, arith}
-use Rattle.std.proofs.lemmas.List.{get_or_default}
-use Rattle.cast_fifo.specs.Held.{Held}
-use Rattle.cast_fifo.proofs.Entries.{kept_marked_near, seen_marked_near, kept_marked_far, seen_marked_far, within_ring, with_known}
+use Rattle.std.proofs.Common.{append-nil, ◌++◌, length, sym, ap, ◌∙◌, inl, inr, arith}
+use Rattle.std.proofs.lemmas.Bool.Decides.{eqb_tells}
+use Rattle.cast_fifo.specs.HeldBack.{HeldBack, run_from, known_items}
+use Rattle.cast_fifo.proofs.Turns.{marked_past, marked_elsewhere}
 use Rattle.cast_fifo.proofs.queue.Queue.mark.Goals as goal
 
-pub invariant_of-self : goal.invariant_of-self
-invariant_of-self c = kept_marked_far _ _ c.self.inside.far.entries _ c.args.number c.self.invariant c.mark_far.ensures
+pub returns-then-number-self-clause-items : goal.returns-then-number-self-clause-items
+returns-then-number-self-clause-items c =
+    let none = marked_past _ _ _ _ c.args.self.now _ c.args.number c.self.invariant.0 c.self.invariant.1 c.self.view_is c.if-number-self.true in
+    sym (ap (λ xs. c.args.items.now.items ++ xs) none.0 ∙ append-nil c.args.items.now.items)
 
-pub returns-then-place-ge-REACH : goal.returns-then-place-ge-REACH
-returns-then-place-ge-REACH c = seen_marked_far _ _ _ c.self.inside.far.entries _ c.args.self.now c.args.number c.self.invariant c.self.view_is (omega (arith, c.if-place-ge-REACH.true)) c.mark_far.ensures
+pub returns-then-number-self-clause-after : goal.returns-then-number-self-clause-after
+returns-then-number-self-clause-after c = sym (marked_past _ _ _ _ c.args.self.now _ c.args.number c.self.invariant.0 c.self.invariant.1 c.self.view_is c.if-number-self.true).1
 
-pub index_mut-requires : goal.index_mut-requires
-index_mut-requires c =
-    let at = ap (λ (h : Held). h.next) c.self.view_is in
-    omega (arith, within_ring _ _ c.self.inside.ring.items c.self.inside.far.entries c.args.self.now c.args.number (c.args.number - c.self.inside.next) c.self.invariant c.self.view_is (omega (arith, c.requires.past, at)) c.if-place-ge-REACH.false c.requires.waits, c.self.inside.ring.ok)
+pub returns-then-number-self-clause-other : goal.returns-then-number-self-clause-other
+returns-then-number-self-clause-other c other = (marked_past _ _ _ _ c.args.self.now _ c.args.number c.self.invariant.0 c.self.invariant.1 c.self.view_is c.if-number-self.true).0
 
-pub invariant_of-self-2 : goal.invariant_of-self-2
-invariant_of-self-2 c = kept_marked_near _ c.self.inside.ring.items _ (c.args.number - c.self.inside.next) _ c.self.invariant (omega (arith, c.requires.past, ap (λ (h : Held). h.next) c.self.view_is))
+pub advance-requires-clause-room : goal.advance-requires-clause-room
+advance-requires-clause-room c =
+    let now = ap (λ (h : HeldBack). h.next) c.self.view_is in
+    let run = ap length (ap (run_from c.self.inside.next) c.mark_at.ensures.entries ∙ ap (λ h. known_items h c.args.number) c.self.view_is) in
+    elim (eqb_tells c.args.number c.self.inside.next) [
+      | inl e ↦ let room = c.requires (e.1 ∙ now) in omega (arith, room, run)
+      | inr e ↦
+          let none = ap length (marked_elsewhere _ _ _ _ c.args.self.now _ c.args.number c.self.invariant.0 c.self.invariant.1 c.self.view_is e.1).0 in
+          omega (arith, run, none, c.args.items.now.ok)
+    ]
 
-pub returns : goal.returns
-returns c =
-    let at = ap (λ (h : Held). h.next) c.self.view_is in
-    let place = c.args.number - c.self.inside.next in
-    let ring = c.self.inside.ring.items in
-    let number : c.args.number ≡ c.self.inside.next + place = omega (arith, c.requires.past, at) in
-    let within = within_ring _ _ ring c.self.inside.far.entries c.args.self.now c.args.number place c.self.invariant c.self.view_is number c.if-place-ge-REACH.false c.requires.waits in
-    seen_marked_near _ _ ring c.self.inside.far.entries c.args.self.now c.args.number place _ c.self.invariant c.self.view_is number c.if-place-ge-REACH.false c.requires.waits
-    (c.mark_place.ensures ∙ ap with_known (c.index_mut.ensures.value ∙ get_or_default ring place _ None within))
+pub returns-clause-other : goal.returns-clause-other
+returns-clause-other c other = (marked_elsewhere _ _ _ _ c.args.self.now _ c.args.number c.self.invariant.0 c.self.invariant.1 c.self.view_is (λ e. other (e ∙ ap (λ (h : HeldBack). h.next) c.self.view_is))).0

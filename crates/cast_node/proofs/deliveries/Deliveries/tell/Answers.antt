@@ -1,29 +1,33 @@
-use Rattle.std.proofs.Common.{◌∙◌}
+use Rattle.std.proofs.Common.{refl, sym, ap, ◌++◌, ◌∙◌}
+use Rattle.std.specs.Prelude.{None}
 use Rattle.cast_message.proofs.Results.{on_err}
-use Rattle.cast_node.proofs.DeliveryTables.{row_same, both_same, told_is, told_sound}
+use Rattle.cast_fifo.specs.HeldBack.{held_of, heard_items}
+use Rattle.cast_agree.specs.Journal.{counted_all}
+use Rattle.cast_node.specs.Delivering.{Delivering, heard_by, heard_news}
+use Rattle.cast_node.proofs.DeliveryTables.{row_same, both_same, noted_is, told_is, told_not, told_yes}
 use Rattle.cast_node.proofs.deliveries.Deliveries.tell.Goals as goal
 
 pub returns-in_err-make_place-clause-err : goal.returns-in_err-make_place-clause-err
-returns-in_err-make_place-clause-err g c =
-    on_err c.from_residual-in_err-make_place.result (row_same _ _ _ _ _ _ c.args.self.now (c.self.view_is ∙ c.in_ok-tell_silently.ensures.same c.if-branch.false) c.self.invariant c.from-place.result c.args.sender (c.from-place.ensures ∙ c.sender.view_is) c.requires.sender c.index_mut-row.result.now c.make_place.new.row c.index_mut-row.ensures.value c.make_place.ensures.same)
+returns-in_err-make_place-clause-err c =
+    on_err c.from_residual.result (row_same _ _ _ _ c.args.self.now c.self.view_is c.self.invariant c.from-place.result c.args.sender (c.from-place.ensures ∙ c.sender.view_is) c.requires.sender c.index_mut-row.result.now c.make_place.new.row c.index_mut-row.ensures.value c.make_place.ensures.same _ refl)
 
-pub returns-in_err-ready-clause-err : goal.returns-in_err-ready-clause-err
-returns-in_err-ready-clause-err g c =
-    on_err c.from_residual-in_err-ready.result
-    (both_same _ _ _ _ _ _ c.args.self.now (c.self.view_is ∙ c.in_ok-tell_silently.ensures.same c.if-branch.false) c.self.invariant c.from-place.result c.args.sender (c.from-place.ensures ∙ c.sender.view_is) c.requires.sender
-    c.index_mut-row.result.now c.make_place.new.row c.index_mut-items.result.now c.prepare.new.items c.prepare.new.agree c.index_mut-row.ensures.value c.make_place.ensures.same c.index_mut-items.ensures.value c.prepare.ensures.same c.in_err-ready.ensures.err)
+pub returns-then-not-is_enough-clause-ok : goal.returns-then-not-is_enough-clause-ok
+returns-then-not-is_enough-clause-ok c =
+    noted_is _ _ _ _ c.args.self.now c.self.view_is c.self.invariant c.from-place.result c.args.sender (c.from-place.ensures ∙ c.sender.view_is) c.requires.sender c.index_mut-row.result.now c.make_place.new.row c.note.new.row c.args.number c.args.members _ c.args.self.now.hold_back c.index_mut-row.ensures.value c.make_place.ensures.same c.note.ensures (ap (λ (ds : Delivering). ds.hold_back) c.self.view_is)
+    ∙ (told_not c.args.config.now c.args.self.now c.args.sender c.args.number c.args.members (sym c.is_enough.ensures ∙ c.if-not-is_enough.true)).0
 
-pub returns-in-Err-clause-err : goal.returns-in-Err-clause-err
-returns-in-Err-clause-err g c =
-    both_same _ _ _ _ _ _ c.args.self.now (c.self.view_is ∙ c.in_ok-tell_silently.ensures.same c.if-branch.false) c.self.invariant c.from-place.result c.args.sender (c.from-place.ensures ∙ c.sender.view_is) c.requires.sender
-    c.index_mut-row.result.now c.make_place.new.row c.index_mut-items.result.now c.prepare.new.items c.take_back.new.self c.index_mut-row.ensures.value c.make_place.ensures.same c.index_mut-items.ensures.value c.prepare.ensures.same (c.take_back.ensures ∙ c.in_ok-ready.ensures.back)
-
-pub invariant_of-self-2 : goal.invariant_of-self-2
-invariant_of-self-2 g c =
-    told_sound c.self.inside.knowers.items c.self.inside.hold_back c.self.inside.delivered.items c.from-place.result c.args.sender c.args.number c.note.new.row c.release.new.items c.release.new.hold_back c.self.invariant c.release.ensures.hold_back
+pub returns-in_err-outcome-clause-err : goal.returns-in_err-outcome-clause-err
+returns-in_err-outcome-clause-err c =
+    let same = c.in_err-outcome.ensures.err in
+    on_err c.from_residual-in_err-outcome.result (both_same _ _ _ _ c.args.self.now c.self.view_is c.self.invariant c.from-place.result c.args.sender (c.from-place.ensures ∙ c.sender.view_is) c.requires.sender c.index_mut-row.result.now c.make_place.new.row c.index_mut-items.result.now c.deliver.new.items c.deliver.new.hold_back c.deliver.new.agree c.index_mut-row.ensures.value c.make_place.ensures.same c.index_mut-items.ensures.value same.1 same.0 same.2)
 
 pub returns-clause-ok : goal.returns-clause-ok
-returns-clause-ok g c =
-    told_is _ _ _ _ _ _ c.args.self.now (c.self.view_is ∙ c.in_ok-tell_silently.ensures.same c.if-branch.false) c.self.invariant c.from-place.result c.args.sender (c.from-place.ensures ∙ c.sender.view_is) c.requires.sender
-    c.index_mut-row.result.now c.make_place.new.row c.note.new.row c.index_mut-items.result.now c.prepare.new.items c.release.new.items c.args.number c.args.members c.release.new.hold_back c.prepare.new.agree
-    c.index_mut-row.ensures.value c.make_place.ensures.same c.note.ensures c.index_mut-items.ensures.value c.prepare.ensures.same c.release.ensures.items c.release.ensures.hold_back c.in_ok-ready.ensures.agree (c.in_ok-tell_silently.ensures.enough c.if-branch.false)
+returns-clause-ok c =
+    let done = c.in_ok-outcome.ensures in
+    let now = c.self.view_is in
+    told_is _ _ _ _ c.args.self.now c.self.view_is c.self.invariant c.from-place.result c.args.sender (c.from-place.ensures ∙ c.sender.view_is) c.requires.sender c.index_mut-row.result.now c.make_place.new.row c.note-2.new.row c.index_mut-items.result.now c.deliver.new.items c.args.number c.args.members _ (heard_by c.args.self.now.hold_back c.args.sender c.args.number None) (heard_items (held_of c.args.self.now.hold_back c.args.sender) c.args.number None) (heard_news c.args.self.now.hold_back c.args.sender c.args.number None) _
+    c.index_mut-row.ensures.value c.make_place.ensures.same c.note-2.ensures c.index_mut-items.ensures.value
+    (done.items ∙ ap (λ (ds : Delivering). c.index_mut-items.result.now.items ++ heard_items (held_of ds.hold_back c.args.sender) c.args.number None) now)
+    (done.hold_back ∙ ap (λ (ds : Delivering). heard_by ds.hold_back c.args.sender c.args.number None) now)
+    (done.agree ∙ ap (λ (ds : Delivering). counted_all c.self.inside.agree (heard_news ds.hold_back c.args.sender c.args.number None)) now)
+    ∙ (told_yes c.args.config.now c.args.self.now c.args.sender c.args.number c.args.members (sym c.is_enough.ensures ∙ c.if-not-is_enough.false)).0

@@ -1,21 +1,29 @@
-use Rattle.std.proofs.Common.{◌∙◌, refl, ap, sym}
-use Rattle.cast_message.proofs.Results.{on_err}
-use Rattle.cast_node.specs.Turns.{known_row}
-use Rattle.cast_node.proofs.DeliveryTables.{row_same, noted_is, outcome_none}
+use Rattle.std.proofs.Common.{◌≡◌, [], refl, sym, ap, subst, ◌∙◌}
+use Rattle.cast_model.specs.OwnSteps.{nothing}
+use Rattle.cast_fifo.specs.HeldBack.{held_of, known_items, known_after}
+use Rattle.cast_node.specs.Delivering.{Delivering, noted, known_row, told_in, outcome_in}
+use Rattle.cast_node.proofs.DeliveryTables.{row_same, noted_is, told_not, told_had}
+use Rattle.cast_node.proofs.deliveries.Deliveries.tell_silently.Goals.{After-self-2-1, else-not-had_turn-via-then-not-had_turn+else-is_enough, else-not-had_turn-via-else-not-had_turn}
 use Rattle.cast_node.proofs.deliveries.Deliveries.tell_silently.Goals as goal
 
-pub returns-in_err-make_place-clause-err : goal.returns-in_err-make_place-clause-err
-returns-in_err-make_place-clause-err g c =
-    on_err c.from_residual.result (row_same _ _ _ _ _ _ c.args.self.now c.self.view_is c.self.invariant c.from.result c.args.sender (c.from.ensures ∙ c.sender.view_is) c.requires.sender c.index_mut-row.result.now c.make_place.new.row c.index_mut-row.ensures.value c.make_place.ensures.same)
+pub returns-then-is_err-clause-not : goal.returns-then-is_err-clause-not
+returns-then-is_err-clause-not c _ =
+    row_same _ _ _ _ c.args.self.now c.self.view_is c.self.invariant c.from.result c.args.sender (c.from.ensures ∙ c.sender.view_is) c.requires.sender c.index_mut-row.result.now c.make_place.new.row c.index_mut-row.ensures.value c.make_place.ensures.same _ refl
 
-pub returns-in_err-take_slot-clause-err : goal.returns-in_err-take_slot-clause-err
-returns-in_err-take_slot-clause-err g c =
-    on_err c.from_residual-in_err-take_slot.result (row_same _ _ _ _ _ _ c.args.self.now c.self.view_is c.self.invariant c.from.result c.args.sender (c.from.ensures ∙ c.sender.view_is) c.requires.sender c.index_mut-row.result.now c.make_place.new.row c.index_mut-row.ensures.value c.make_place.ensures.same)
+-- nothing has its turn
+silent : (c : After-self-2-1) → (noted c.args.self.now c.args.sender c.args.number c.args.members.now ≡ told_in c.args.config.now c.args.self.now c.args.sender c.args.number c.args.members.now) × (nothing ≡ outcome_in c.args.config.now c.args.self.now c.args.sender c.args.number c.args.members.now)
+silent c = elim c.else-not-had_turn.branch [
+  | else-not-had_turn-via-then-not-had_turn+else-is_enough w ↦ told_not c.args.config.now c.args.self.now c.args.sender c.args.number c.args.members.now (sym w.is_enough.ensures ∙ w.if-is_enough.false)
+  | else-not-had_turn-via-else-not-had_turn w ↦ told_had c.args.config.now c.args.self.now c.args.sender c.args.number c.args.members.now
+      (subst (λ (ds : Delivering). known_items (held_of ds.hold_back c.args.sender) c.args.number ≡ []) c.self.view_is (c.had_turn-had_turn.ensures.nothing w.if-not-had_turn.false))
+      (subst (λ (ds : Delivering). known_after (held_of ds.hold_back c.args.sender) c.args.number ≡ held_of ds.hold_back c.args.sender) c.self.view_is (c.had_turn-had_turn.ensures.same w.if-not-had_turn.false))
+]
 
-pub returns-clause-ok : goal.returns-clause-ok
-returns-clause-ok g c _ =
-    noted_is _ _ _ _ _ _ c.args.self.now c.self.view_is c.self.invariant c.from.result c.args.sender (c.from.ensures ∙ c.sender.view_is) c.requires.sender
-    c.index_mut-row.result.now c.make_place.new.row c.note.new.row c.args.number c.args.members.now c.index_mut-row.ensures.value c.make_place.ensures.same (c.note.ensures ∙ ap (known_row c.make_place.new.row.items c.args.number) c.copy.ensures) (c.if-not-brings_nothing.ensures.nothing refl)
+pub returns-clause-nothing : goal.returns-clause-nothing
+returns-clause-nothing c _ = sym (silent c).1
 
-pub returns-clause-outcome : goal.returns-clause-outcome
-returns-clause-outcome g c _ = sym (outcome_none c.args.self.now c.args.sender c.args.number c.args.members.now (c.if-not-brings_nothing.ensures.nothing refl))
+pub returns-clause-told : goal.returns-clause-told
+returns-clause-told c _ =
+    noted_is _ _ _ _ c.args.self.now c.self.view_is c.self.invariant c.from.result c.args.sender (c.from.ensures ∙ c.sender.view_is) c.requires.sender c.index_mut-row.result.now c.make_place.new.row c.note.new.row c.args.number c.args.members.now _ c.args.self.now.hold_back
+    c.index_mut-row.ensures.value c.make_place.ensures.same (c.note.ensures ∙ ap (known_row c.make_place.new.row.items c.args.number) c.copy.ensures) (ap (λ (ds : Delivering). ds.hold_back) c.self.view_is)
+    ∙ (silent c).0

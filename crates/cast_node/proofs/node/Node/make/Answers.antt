@@ -4,7 +4,6 @@ use Rattle.std.specs.FinSet.{contains-empty}
 use Rattle.std.specs.Ordering.{nat_cmp}
 use Rattle.cast_message.specs.Items.{is_close, proposes_in}
 use Rattle.std.specs.List.{list_any}
-use Rattle.cast_relay.specs.Held.{Held}
 use Rattle.cast_node.specs.Delivering.{Delivering}
 use Rattle.cast_node.specs.Sound.{Owes, IsWithin}
 use Rattle.cast_node.proofs.Owing.{owes_none}
@@ -14,20 +13,15 @@ use Rattle.cast_node.proofs.node.Node.make.Goals as goal
 pub invariant_of-result : goal.invariant_of-result
 invariant_of-result c =
     let none = c.new-2.ensures.items in
-    let relay = c.in_ok-new.ensures in
-    let ds = c.in_ok-new-3.ensures in
-    let out = c.in_ok-new-2.ensures.links in
+    let ds = c.in_ok-new-2.ensures in
+    let out = c.in_ok-new.ensures in
     let peers : c.loop-peer._peer ≡ c.args.config.now.nodes = omega (arith, c.loop-peer-test.false, c.loop-peer.auto._peer-end, c.nodes-peer-end.ensures) in
     record {
       place = c.requires;
-      relay_me = ap (λ (h : Held). h.me) relay;
-      relay_own = ap (λ (h : Held). h.own) relay ∙ sym (ap length none);
       room = λ _. omega (arith, ap length none, c.args.config.now.some_item);
       closes = sym (ap (list_any is_close) none);
       proposals = λ j. ap (λ s. set.contains s j) c.new-3.ensures ∙ contains-empty nat_cmp j ∙ sym (ap (list_any (proposes_in j)) none);
-      mode = ap (λ (d : Delivering). d.mode) ds;
-      faults = ap (λ (d : Delivering). d.faults) ds;
-      peers_out = ap length out ∙ length-replicate _ _ ∙ c.nodes-2.ensures;
+      peers_out = ap length out ∙ length-replicate _ _ ∙ c.nodes.ensures;
       peers_in = ap length c.loop-peer.invariant ∙ length-replicate _ _ ∙ peers;
       senders = ap (λ (d : Delivering). length d.hold_back) ds ∙ length-replicate _ _;
       rows = ap (λ (d : Delivering). length d.knowers) ds ∙ length-replicate _ _;

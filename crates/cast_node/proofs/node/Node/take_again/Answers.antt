@@ -1,44 +1,48 @@
-use Rattle.std.proofs.Common.{◌<◌, ◌∙◌, ap, sym, subst, length, slice_index_or, slice_set, arith}
-use Rattle.std.specs.FinSet as set
-use Rattle.std.proofs.lemmas.List.{get_or_default}
+use Rattle.std.proofs.Common.{◌<◌, ◌≡◌, ◌∙◌, false, refl, ap, sym, subst, length, slice_set, arith}
+use Rattle.std.proofs.Math.ListN.{length-set}
+use Rattle.cast_message.proofs.Results.{on_err}
 use Rattle.cast_message.specs.declared.message.Message.{Message}
-use Rattle.cast_relay.specs.Held.{holds}
-use Rattle.cast_fifo.specs.Held.{held_of}
-use Rattle.cast_node.specs.Delivering.{HasPlace}
-use Rattle.cast_node.specs.Kept.{Kept, taken_from, knowers_of, is_enough_in}
+use Rattle.cast_link.specs.Taken.{Inward}
+use Rattle.cast_node.specs.Kept.{Kept, holds}
 use Rattle.cast_node.specs.Outgoing.{links_of}
-use Rattle.cast_node.proofs.Again.{awaits}
-use Rattle.cast_node.proofs.Parts.{err_of}
-use Rattle.cast_node.proofs.Wholes.{ok_both, if_ok, held_again, held_again_gives, peer_below}
+use Rattle.cast_node.specs.Sound.{slots_of, Owes, IsWithin}
+use Rattle.cast_node.specs.Delivering.{Delivering, waiting_in, told_in}
+use Rattle.cast_node.specs.Turns.{given_from}
+use Rattle.cast_node.proofs.Parts.{rows-length, slots_same, slots_taken}
+use Rattle.cast_node.proofs.DeliveryTables.{told_keeps}
+use Rattle.cast_node.proofs.Keeping.{keeps_all, keeps_rows}
+use Rattle.cast_node.proofs.Owing.{owes_given}
+use Rattle.cast_node.proofs.Wholes.{whole, held_again, fresh, length-given, carry_fine}
 use Rattle.cast_node.proofs.node.Node.take_again.Goals as goal
 
-pub returns-clause-outcome : goal.returns-clause-outcome
-returns-clause-outcome c item =
-    let message : Message = record { sender = c.args.sender; number = c.args.number; item = item } in
-    let sender : message.sender < length c.self.inside.deliveries.knowers = omega (arith, c.self.invariant.rows, peer_below c.args.self.now message.sender c.requires.sender, ap (λ (k : Kept). k.config.nodes) c.self.view_is) in
-    if_ok c.tell.result _ _ c.tell.ensures.outcome
-    (held_again_gives c.self.inside.config c.self.inside.me c.self.inside.live c.self.inside.frames c.self.inside.stream.items c.self.inside.relay (links_of c.self.inside.outgoing) c.self.inside.incoming.items c.self.inside.deliveries c.args.self.now c.self.view_is c.self.invariant.mode c.self.invariant.faults c.args.from c.args.slot message c.knowers_with-knowers.result sender (ap (λ (k : Kept). holds k.relay message.sender message.number) c.self.view_is ∙ c.requires.held) c.knowers_with-knowers.ensures)
+pub returns-in_err-reserve-clause-err : goal.returns-in_err-reserve-clause-err
+returns-in_err-reserve-clause-err c =
+    let at = c.from-2.ensures ∙ c.from.view_is in
+    let links = c.self.inside.incoming.items in
+    let within : c.from-2.result < length links = omega (arith, at, c.requires.from, c.self.invariant.peers_in, rows-length (λ (l : Inward). l.slots) links, ap (λ (k : Kept). k.config.nodes) c.self.view_is) in
+    on_err c.from_residual.result ((λ k. whole c.self.inside.config c.self.inside.me c.self.inside.live c.self.inside.frames c.self.inside.stream.items (links_of c.self.inside.outgoing) (slots_same links c.from-2.result c.args.from c.index_mut-link.result.now c.reserve.new.self at within c.index_mut-link.ensures.value c.reserve.ensures.same k) c.self.inside.deliveries) ∙ c.self.view_is)
+
+pub returns-in_err-outcome-clause-err : goal.returns-in_err-outcome-clause-err
+returns-in_err-outcome-clause-err c =
+    let at = c.from-2.ensures ∙ c.from.view_is in
+    let links = c.self.inside.incoming.items in
+    let within : c.from-2.result < length links = omega (arith, at, c.requires.from, c.self.invariant.peers_in, rows-length (λ (l : Inward). l.slots) links, ap (λ (k : Kept). k.config.nodes) c.self.view_is) in
+    on_err c.from_residual-in_err-outcome.result ((λ k. whole c.self.inside.config c.self.inside.me c.self.inside.live c.self.inside.frames c.self.inside.stream.items (links_of c.self.inside.outgoing) (slots_same links c.from-2.result c.args.from c.index_mut-link.result.now c.reserve.new.self at within c.index_mut-link.ensures.value c.reserve.ensures.same k) (c.in_err-outcome.ensures.err k)) ∙ c.self.view_is)
+
+pub invariant_of-self-2 : goal.invariant_of-self-2
+invariant_of-self-2 c =
+    let at = c.from-2.ensures ∙ c.from.view_is in
+    let links = c.self.inside.incoming.items in
+    let within : c.from-2.result < length links = omega (arith, at, c.requires.from, c.self.invariant.peers_in, rows-length (λ (l : Inward). l.slots) links, ap (λ (k : Kept). k.config.nodes) c.self.view_is) in
+    let done = c.in_ok-outcome.ensures.ok in
+    let told = told_keeps c.self.inside.config c.self.inside.deliveries c.args.sender c.args.number c.knowers_with-holders.result in
+    keeps_rows c.self.inside.config c.self.inside.me c.self.inside.stream.items c.self.inside.closed c.self.inside.proposed (links_of c.self.inside.outgoing) _ (slots_of links) _ c.self.inside.deliveries c.tell.new.self c.self.invariant refl
+    (ap length (slots_taken links c.from-2.result c.args.from c.index_mut-link.result.now c.reserve.new.self at within c.index_mut-link.ensures.value c.reserve.ensures.same c.args.slot c.take_reserved.new.self c.take_reserved.ensures.after) ∙ length-set (slots_of links) c.args.from _)
+    (ap (λ (d : Delivering). length d.hold_back) done ∙ told.0) (ap (λ (d : Delivering). length d.knowers) done ∙ told.1) c.self.invariant.owes
 
 pub returns-clause-ok : goal.returns-clause-ok
 returns-clause-ok c item =
-    let message : Message = record { sender = c.args.sender; number = c.args.number; item = item } in
-    let at = c.from-place.ensures ∙ c.from.view_is in
+    let at = c.from-2.ensures ∙ c.from.view_is in
     let links = c.self.inside.incoming.items in
-    let place : c.from-place.result < length links = omega (arith, at, c.requires.from, c.self.invariant.peers_in, ap (λ (k : Kept). k.config.nodes) c.self.view_is) in
-    let sender : message.sender < length c.self.inside.deliveries.knowers = omega (arith, c.self.invariant.rows, peer_below c.args.self.now message.sender c.requires.sender, ap (λ (k : Kept). k.config.nodes) c.self.view_is) in
-    ok_both c.tell.result c.tell.ensures.ok c.tell.ensures.taken
-    (λ told taken. held_again c.self.inside.config c.self.inside.me c.self.inside.live c.self.inside.frames c.self.inside.stream.items c.self.inside.relay (links_of c.self.inside.outgoing) c.self.inside.incoming.items c.self.inside.deliveries c.args.self.now c.self.view_is c.self.invariant.mode c.self.invariant.faults c.args.from c.args.slot message c.knowers_with-knowers.result
-    (slice_set links c.from-place.result c.tell.new.link) c.tell.new.self sender (ap (λ (k : Kept). holds k.relay message.sender message.number) c.self.view_is ∙ c.requires.held) c.knowers_with-knowers.ensures
-    (ap (slice_set links c.from-place.result) (taken ∙ ap (λ s. set.insert s c.args.slot) (c.index_mut.ensures.value ∙ get_or_default links c.from-place.result _ set.empty place)) ∙ ap (λ p. slice_set links p (set.insert (slice_index_or links p set.empty) c.args.slot)) at) told)
-
-pub returns-clause-awaited : goal.returns-clause-awaited
-returns-clause-awaited c item =
-    let at = c.from-place.ensures ∙ c.from.view_is in
-    let links = c.self.inside.incoming.items in
-    let place : c.from-place.result < length links = omega (arith, at, c.requires.from, c.self.invariant.peers_in, ap (λ (k : Kept). k.config.nodes) c.self.view_is) in
-    let link = c.index_mut.ensures.value ∙ get_or_default links c.from-place.result _ set.empty place ∙ ap (λ p. slice_index_or links p set.empty) at in
-    err_of c.tell.result c.tell.ensures.again
-    (λ again. awaits c.args.self.now c.args.from c.args.slot c.args.sender c.args.number c.knowers_with-knowers.result item
-    (c.knowers_with-knowers.ensures ∙ ap (λ (k : Kept). set.insert (knowers_of k c.args.sender c.args.number) c.args.from) c.self.view_is)
-    (λ taken place. let turn = again (ap (λ s. set.contains s c.args.slot) (link ∙ ap (λ (k : Kept). taken_from k c.args.from) c.self.view_is) ∙ taken) (subst (λ (k : Kept). HasPlace k.knowers c.args.sender c.args.number) (sym c.self.view_is) place) in
-    (sym (ap (λ (k : Kept). is_enough_in k.config.mode k.config.faults c.knowers_with-knowers.result) c.self.view_is) ∙ sym (λ j. is_enough_in (c.self.invariant.mode j) (c.self.invariant.faults j) c.knowers_with-knowers.result) ∙ turn.0, turn.1 ∙ ap (λ (k : Kept). (held_of k.hold_back c.args.sender).next) c.self.view_is)))
+    let within : c.from-2.result < length links = omega (arith, at, c.requires.from, c.self.invariant.peers_in, rows-length (λ (l : Inward). l.slots) links, ap (λ (k : Kept). k.config.nodes) c.self.view_is) in
+    (held_again c.self.inside.config c.self.inside.me c.self.inside.live c.self.inside.frames c.self.inside.stream.items (links_of c.self.inside.outgoing) (slots_of links) c.self.inside.deliveries c.args.self.now c.self.view_is c.args.from c.args.slot (let message : Message = record { sender = c.args.sender; number = c.args.number; item = item } in message) _ (slots_taken links c.from-2.result c.args.from c.index_mut-link.result.now c.reserve.new.self at within c.index_mut-link.ensures.value c.reserve.ensures.same c.args.slot c.take_reserved.new.self c.take_reserved.ensures.after) c.knowers_with-holders.result c.tell.new.self c.requires.held c.knowers_with-holders.ensures c.in_ok-outcome.ensures.ok).0

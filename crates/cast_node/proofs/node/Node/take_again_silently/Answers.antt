@@ -1,28 +1,48 @@
-use Rattle.std.proofs.Common.{◌<◌, ◌∙◌, sym, ap, length, slice_index_or, slice_set, arith}
-use Rattle.std.specs.FinSet as set
-use Rattle.std.proofs.lemmas.List.{get_or_default}
+use Rattle.std.proofs.Common.{◌<◌, ◌≡◌, ◌∙◌, false, refl, ap, sym, subst, length, slice_set, arith}
+use Rattle.std.proofs.Math.ListN.{length-set}
+use Rattle.cast_message.proofs.Results.{on_err}
 use Rattle.cast_message.specs.declared.message.Message.{Message}
-use Rattle.cast_relay.specs.Held.{holds}
-use Rattle.cast_node.specs.Kept.{Kept}
+use Rattle.cast_link.specs.Taken.{Inward}
+use Rattle.cast_node.specs.Kept.{Kept, holds}
 use Rattle.cast_node.specs.Outgoing.{links_of}
-use Rattle.cast_node.proofs.Wholes.{held_again, held_again_gives, peer_below}
+use Rattle.cast_node.specs.Sound.{slots_of, Owes, IsWithin}
+use Rattle.cast_node.specs.Delivering.{Delivering, waiting_in, told_in}
+use Rattle.cast_node.specs.Turns.{given_from}
+use Rattle.cast_node.proofs.Parts.{rows-length, slots_same, slots_taken}
+use Rattle.cast_node.proofs.DeliveryTables.{told_keeps}
+use Rattle.cast_node.proofs.Keeping.{keeps_all, keeps_rows}
+use Rattle.cast_node.proofs.Owing.{owes_given}
+use Rattle.cast_node.proofs.Wholes.{whole, held_again, fresh, length-given, carry_fine}
 use Rattle.cast_node.proofs.node.Node.take_again_silently.Goals as goal
 
-pub returns-clause-outcome : goal.returns-clause-outcome
-returns-clause-outcome c item silent =
-    let message : Message = record { sender = c.args.sender; number = c.args.number; item = item } in
-    let sender : message.sender < length c.self.inside.deliveries.knowers = omega (arith, c.self.invariant.rows, peer_below c.args.self.now message.sender c.requires.sender, ap (λ (k : Kept). k.config.nodes) c.self.view_is) in
-    sym (held_again_gives c.self.inside.config c.self.inside.me c.self.inside.live c.self.inside.frames c.self.inside.stream.items c.self.inside.relay (links_of c.self.inside.outgoing) c.self.inside.incoming.items c.self.inside.deliveries c.args.self.now c.self.view_is c.self.invariant.mode c.self.invariant.faults c.args.from c.args.slot message c.knowers_with-knowers.result sender (ap (λ (k : Kept). holds k.relay message.sender message.number) c.self.view_is ∙ c.requires.held) c.knowers_with-knowers.ensures)
-    ∙ c.in-Ok.ensures.outcome silent
+pub returns-then-is_err-clause-not : goal.returns-then-is_err-clause-not
+returns-then-is_err-clause-not c _ =
+    let at = c.from-2.ensures ∙ c.from.view_is in
+    let links = c.self.inside.incoming.items in
+    let within : c.from-2.result < length links = omega (arith, at, c.requires.from, c.self.invariant.peers_in, rows-length (λ (l : Inward). l.slots) links, ap (λ (k : Kept). k.config.nodes) c.self.view_is) in
+    (λ k. whole c.self.inside.config c.self.inside.me c.self.inside.live c.self.inside.frames c.self.inside.stream.items (links_of c.self.inside.outgoing) (slots_same links c.from-2.result c.args.from c.index_mut-link.result.now c.reserve.new.self at within c.index_mut-link.ensures.value c.reserve.ensures.same k) c.self.inside.deliveries) ∙ c.self.view_is
+
+pub returns-then-not-tell_silently-clause-not : goal.returns-then-not-tell_silently-clause-not
+returns-then-not-tell_silently-clause-not c _ =
+    let at = c.from-2.ensures ∙ c.from.view_is in
+    let links = c.self.inside.incoming.items in
+    let within : c.from-2.result < length links = omega (arith, at, c.requires.from, c.self.invariant.peers_in, rows-length (λ (l : Inward). l.slots) links, ap (λ (k : Kept). k.config.nodes) c.self.view_is) in
+    (λ k. whole c.self.inside.config c.self.inside.me c.self.inside.live c.self.inside.frames c.self.inside.stream.items (links_of c.self.inside.outgoing) (slots_same links c.from-2.result c.args.from c.index_mut-link.result.now c.reserve.new.self at within c.index_mut-link.ensures.value c.reserve.ensures.same k) (c.tell_silently.ensures.not c.if-not-tell_silently.true k)) ∙ c.self.view_is
+
+pub invariant_of-self-2 : goal.invariant_of-self-2
+invariant_of-self-2 c =
+    let at = c.from-2.ensures ∙ c.from.view_is in
+    let links = c.self.inside.incoming.items in
+    let within : c.from-2.result < length links = omega (arith, at, c.requires.from, c.self.invariant.peers_in, rows-length (λ (l : Inward). l.slots) links, ap (λ (k : Kept). k.config.nodes) c.self.view_is) in
+    let done = (c.tell_silently.ensures.told c.if-not-tell_silently.false) in
+    let told = told_keeps c.self.inside.config c.self.inside.deliveries c.args.sender c.args.number c.knowers_with-knowers.result in
+    keeps_rows c.self.inside.config c.self.inside.me c.self.inside.stream.items c.self.inside.closed c.self.inside.proposed (links_of c.self.inside.outgoing) _ (slots_of links) _ c.self.inside.deliveries c.tell_silently.new.self c.self.invariant refl
+    (ap length (slots_taken links c.from-2.result c.args.from c.index_mut-link.result.now c.reserve.new.self at within c.index_mut-link.ensures.value c.reserve.ensures.same c.args.slot c.take_reserved.new.self c.take_reserved.ensures.after) ∙ length-set (slots_of links) c.args.from _)
+    (ap (λ (d : Delivering). length d.hold_back) done ∙ told.0) (ap (λ (d : Delivering). length d.knowers) done ∙ told.1) c.self.invariant.owes
 
 pub returns-clause-took : goal.returns-clause-took
-returns-clause-took c item silent =
-    let message : Message = record { sender = c.args.sender; number = c.args.number; item = item } in
-    let at = c.from-place.ensures ∙ c.from.view_is in
+returns-clause-took c item _ =
+    let at = c.from-2.ensures ∙ c.from.view_is in
     let links = c.self.inside.incoming.items in
-    let place : c.from-place.result < length links = omega (arith, at, c.requires.from, c.self.invariant.peers_in, ap (λ (k : Kept). k.config.nodes) c.self.view_is) in
-    let sender : message.sender < length c.self.inside.deliveries.knowers = omega (arith, c.self.invariant.rows, peer_below c.args.self.now message.sender c.requires.sender, ap (λ (k : Kept). k.config.nodes) c.self.view_is) in
-    held_again c.self.inside.config c.self.inside.me c.self.inside.live c.self.inside.frames c.self.inside.stream.items c.self.inside.relay (links_of c.self.inside.outgoing) c.self.inside.incoming.items c.self.inside.deliveries c.args.self.now c.self.view_is c.self.invariant.mode c.self.invariant.faults c.args.from c.args.slot message c.knowers_with-knowers.result
-    (slice_set links c.from-place.result c.tell_silently.new.link) c.tell_silently.new.self sender (ap (λ (k : Kept). holds k.relay message.sender message.number) c.self.view_is ∙ c.requires.held) c.knowers_with-knowers.ensures
-    (ap (slice_set links c.from-place.result) (c.in-Ok.ensures.taken silent ∙ ap (λ s. set.insert s c.args.slot) (c.index_mut-link.ensures.value ∙ get_or_default links c.from-place.result _ set.empty place)) ∙ ap (λ p. slice_set links p (set.insert (slice_index_or links p set.empty) c.args.slot)) at)
-    (c.in-Ok.ensures.ok silent)
+    let within : c.from-2.result < length links = omega (arith, at, c.requires.from, c.self.invariant.peers_in, rows-length (λ (l : Inward). l.slots) links, ap (λ (k : Kept). k.config.nodes) c.self.view_is) in
+    (held_again c.self.inside.config c.self.inside.me c.self.inside.live c.self.inside.frames c.self.inside.stream.items (links_of c.self.inside.outgoing) (slots_of links) c.self.inside.deliveries c.args.self.now c.self.view_is c.args.from c.args.slot (let message : Message = record { sender = c.args.sender; number = c.args.number; item = item } in message) _ (slots_taken links c.from-2.result c.args.from c.index_mut-link.result.now c.reserve.new.self at within c.index_mut-link.ensures.value c.reserve.ensures.same c.args.slot c.take_reserved.new.self c.take_reserved.ensures.after) c.knowers_with-knowers.result c.tell_silently.new.self c.requires.held c.knowers_with-knowers.ensures (c.tell_silently.ensures.told c.if-not-tell_silently.false)).0

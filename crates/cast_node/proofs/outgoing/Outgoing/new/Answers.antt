@@ -17,8 +17,8 @@ invariant_of-result c = record {
   owes = subst (AreOwed _) (sym c.new-3.ensures) (subst (λ links. AreOwed links set.empty) (sym c.loop-peer.invariant) (none_owed ℕ c.loop-peer._peer));
 }
 
-pub returns-clause-links : goal.returns-clause-links
-returns-clause-links c =
+pub returns : goal.returns
+returns c =
     let all : c.loop-peer._peer ≡ c.args.peers = omega (arith, c.loop-peer-test.false, c.loop-peer.auto._peer-end) in
     (λ i. map (link_through (c.new-2.ensures.items i)) (c.loop-peer.invariant i))
     ∙ nothing_given_through c.loop-peer._peer
