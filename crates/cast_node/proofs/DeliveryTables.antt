@@ -1,5 +1,5 @@
 -- What is told of a pair, at the rows of its sender.
-use Rattle.std.specs.Prelude.{◌≡◌, ℕ, ◌<◌, true, false, if◌then◌else◌, List, [], ◌∷◌, ◌++◌, length, map, slice_set, slice_index_or, Some, None}
+use Rattle.std.specs.Prelude.{◌≡◌, ℕ, ◌<◌, true, false, if◌then◌else◌, List, [], ◌++◌, length, map, slice_set, slice_index_or, Some, None}
 use Rattle.std.specs.Ordering.{nat_cmp}
 use Rattle.std.specs.FinSet as set
 use Rattle.std.proofs.Common.{Bool, Vec, Global, refl, sym, ap, ◌∙◌, append-nil, arith}
@@ -64,7 +64,7 @@ module _ (config : Config) (ds : Delivering) (s i : ℕ) (members : Members) whe
           delivered = (sym (set-get_or ds.delivered s []) ∙ ap (slice_set ds.delivered s) (sym (append-nil (slice_index_or ds.delivered s [])) ∙ ap (λ items. slice_index_or ds.delivered s [] ++ items) (sym none))) k;
           agree = ap (counted_all ds.agree) news k;
         })
-        ∙ (told_yes e).0,
+            ∙ (told_yes e).0,
         ap (news_outcome ds.agree) news ∙ (told_yes e).1,
       )
 

@@ -10,12 +10,11 @@ use Rattle.std.proofs.Common.{inl, inr, sym, ap, ◌∙◌, subst, arith}
 use Rattle.std.proofs.lemmas.Bool.Decides.{eqb_tells, leb_tells, nat_tests}
 use Rattle.std.proofs.lemmas.Grind.{get_or-set_at}
 use Rattle.std.proofs.Math.ListN.{length-set}
-use Rattle.std.proofs.lemmas.List.{get_or_default, get_or-set_other, length-map}
+use Rattle.std.proofs.lemmas.List.{get_or-set_other, length-map}
 use Rattle.cast_message.specs.declared.message.Message.{Message}
 use Rattle.cast_link.specs.Links.{Link, Outward, with_acknowledged}
 use Rattle.cast_node.specs.Giving.{link_in, bare, OwesNoneOf, AreOwed}
 use Rattle.cast_node.specs.Outgoing.{Outbound, owed_through, link_through, links_of, IsOutgoing}
-use Rattle.cast_node.proofs.Gifts.{bare_long}
 use Rattle.cast_node.proofs.Parts.{rows-at, rows-set}
 use Rattle.cast_node.proofs.Owing.{owes_acked}
 use Rattle.cast_node.proofs.Through.{link_at, link_here, len_through, through_empty, acknowledged_through}

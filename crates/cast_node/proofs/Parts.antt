@@ -1,5 +1,5 @@
 -- Lists by sender, and rows in them.
-use Rattle.std.specs.Prelude.{◌≡◌, ℕ, zero, suc, ◌<◌, true, List, [], ◌∷◌, ◌++◌, length, take, map, replicate, slice_set, slice_index_or, refl}
+use Rattle.std.specs.Prelude.{◌≡◌, ℕ, zero, suc, ◌<◌, List, [], ◌∷◌, ◌++◌, length, take, map, replicate, slice_set, slice_index_or, refl}
 use Rattle.std.specs.FinSet as set
 use Rattle.cast_link.specs.Taken.{Inward}
 use Rattle.cast_node.specs.Sound.{slots_of}

@@ -1,9 +1,9 @@
 -- A peer's word that it took a slot, in which a message is owed: what a node keeps that heard it.
-use Rattle.std.specs.Prelude.{◌≡◌, ℕ, ◌<◌, Bool, List, length, slice_set, Some, refl}
+use Rattle.std.specs.Prelude.{◌≡◌, ℕ, Bool, List, length, slice_set, Some, refl}
 use Rattle.std.specs.Ordering.{nat_cmp}
 use Rattle.std.specs.FinSet as set
 use Rattle.std.specs.FinMap as finite
-use Rattle.std.proofs.Common.{◌∙◌, ap, sym, subst, arith}
+use Rattle.std.proofs.Common.{◌∙◌, ap, sym, subst}
 use Rattle.std.proofs.Math.ListN.{length-set}
 use Rattle.cast_message.specs.declared.config.Config.{Config}
 use Rattle.cast_message.specs.declared.message.Item.{Item}

@@ -12,7 +12,7 @@
 --     outcome_in config ds s i members   what is delivered and decided then
 --     waiting_in ds message          a message is kept back
 --     waits_by known message         the call that keeps it, marked or not
-use Rattle.std.specs.Prelude.{ℕ, suc, ◌-◌, ◌++◌, Bool, true, false, List, [], length, replicate, slice_index_or, slice_set, Option, Some, None, if◌then◌else◌}
+use Rattle.std.specs.Prelude.{ℕ, suc, ◌-◌, ◌++◌, Bool, true, false, List, [], length, replicate, slice_index_or, slice_set, Option, None, if◌then◌else◌}
 use Rattle.std.specs.Ordering.{nat_cmp}
 use Rattle.std.specs.FinSet as set
 use Rattle.std.specs.FinMap as map

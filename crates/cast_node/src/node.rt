@@ -588,7 +588,10 @@ impl Node {
             number,
             item,
         };
-        match self.deliveries.take_up(&self.config, message, first_members(me, me, me)) {
+        match self
+            .deliveries
+            .take_up(&self.config, message, first_members(me, me, me))
+        {
             Ok(outcome) => {
                 self.outgoing.give(me, me, given);
                 self.closed = kept.is_close();

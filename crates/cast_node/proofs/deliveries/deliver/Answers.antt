@@ -1,5 +1,4 @@
 use Rattle.std.proofs.Common.{length, ap, ◌∙◌, arith}
-use Rattle.std.specs.Option.{option_copied}
 use Rattle.cast_fifo.specs.HeldBack.{held_of, heard_items}
 use Rattle.cast_model.proofs.Fronts.{length-numbered}
 use Rattle.cast_node.proofs.deliveries.deliver.Goals as goal

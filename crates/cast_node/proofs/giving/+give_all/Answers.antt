@@ -1,7 +1,4 @@
-use Rattle.std.proofs.Common.{suc, subst, ◌<◌, arith}
-use Rattle.std.specs.List.{All}
-use Rattle.cast_node.specs.Giving.{HasRoom}
-use Rattle.cast_node.proofs.Gifts.{given_none, given_next, first_room, other_room}
+use Rattle.cast_node.proofs.Gifts.{given_none, given_next, first_room}
 use Rattle.cast_node.proofs.giving.+give_all.Goals as goal
 
 pub returns-in_default : goal.returns-in_default

@@ -1,4 +1,4 @@
-use Rattle.std.proofs.Common.{refl, sym, ap, subst, ◌++◌, ◌<◌, ◌≡◌, ◌∙◌, true, [], length}
+use Rattle.std.proofs.Common.{refl, sym, ap, subst, ◌++◌, ◌≡◌, ◌∙◌, true, []}
 use Rattle.std.specs.Prelude.{Some}
 use Rattle.cast_message.proofs.Results.{on_err}
 use Rattle.cast_fifo.specs.HeldBack.{held_of, heard_items}

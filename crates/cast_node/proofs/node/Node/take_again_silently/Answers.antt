@@ -1,18 +1,15 @@
-use Rattle.std.proofs.Common.{◌<◌, ◌≡◌, ◌∙◌, false, refl, ap, sym, subst, length, slice_set, arith}
+use Rattle.std.proofs.Common.{◌<◌, ◌∙◌, refl, ap, length, arith}
 use Rattle.std.proofs.Math.ListN.{length-set}
-use Rattle.cast_message.proofs.Results.{on_err}
 use Rattle.cast_message.specs.declared.message.Message.{Message}
 use Rattle.cast_link.specs.Taken.{Inward}
-use Rattle.cast_node.specs.Kept.{Kept, holds}
+use Rattle.cast_node.specs.Kept.{Kept}
 use Rattle.cast_node.specs.Outgoing.{links_of}
-use Rattle.cast_node.specs.Sound.{slots_of, Owes, IsWithin}
-use Rattle.cast_node.specs.Delivering.{Delivering, waiting_in, told_in}
-use Rattle.cast_node.specs.Turns.{given_from}
+use Rattle.cast_node.specs.Sound.{slots_of}
+use Rattle.cast_node.specs.Delivering.{Delivering}
 use Rattle.cast_node.proofs.Parts.{rows-length, slots_same, slots_taken}
 use Rattle.cast_node.proofs.DeliveryTables.{told_keeps}
-use Rattle.cast_node.proofs.Keeping.{keeps_all, keeps_rows}
-use Rattle.cast_node.proofs.Owing.{owes_given}
-use Rattle.cast_node.proofs.Wholes.{whole, held_again, fresh, length-given, carry_fine}
+use Rattle.cast_node.proofs.Keeping.{keeps_rows}
+use Rattle.cast_node.proofs.Wholes.{whole, held_again}
 use Rattle.cast_node.proofs.node.Node.take_again_silently.Goals as goal
 
 pub returns-then-is_err-clause-not : goal.returns-then-is_err-clause-not

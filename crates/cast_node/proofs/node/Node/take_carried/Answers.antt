@@ -1,4 +1,4 @@
-use Rattle.std.proofs.Common.{◌<◌, ◌≡◌, ◌∙◌, false, refl, ap, sym, subst, length, slice_set, arith}
+use Rattle.std.proofs.Common.{◌<◌, ◌≡◌, ◌∙◌, false, refl, ap, sym, subst, length, arith}
 use Rattle.std.proofs.Math.ListN.{length-set}
 use Rattle.cast_message.proofs.Results.{on_err}
 use Rattle.cast_message.specs.declared.message.Message.{Message}
@@ -12,7 +12,7 @@ use Rattle.cast_node.proofs.Parts.{rows-length, slots_same, slots_taken}
 use Rattle.cast_node.proofs.DeliveryTables.{told_keeps}
 use Rattle.cast_node.proofs.Keeping.{keeps_all, keeps_rows}
 use Rattle.cast_node.proofs.Owing.{owes_given}
-use Rattle.cast_node.proofs.Wholes.{whole, held_again, fresh, length-given, carry_fine}
+use Rattle.cast_node.proofs.Wholes.{whole, fresh, length-given, carry_fine}
 use Rattle.cast_node.proofs.node.Node.take_carried.Goals as goal
 
 pub returns-then-holds-clause-outcome : goal.returns-then-holds-clause-outcome

@@ -1,4 +1,4 @@
-use Rattle.std.proofs.Common.{◌≡◌, ◌<◌, ◌∙◌, ◌++◌, ◌∷◌, [], refl, ap, sym, subst, length, arith}
+use Rattle.std.proofs.Common.{◌<◌, ◌∙◌, ◌++◌, ◌∷◌, [], refl, ap, sym, subst, length, arith}
 use Rattle.std.proofs.Math.ListN.{length-set}
 use Rattle.cast_message.specs.Items.{is_close}
 use Rattle.cast_message.specs.declared.message.Message.{Message}

@@ -1,9 +1,8 @@
-use Rattle.std.proofs.Common.{◌≡◌, ◌<◌, ◌∷◌, ◌++◌, ◌≤◌, ◌^◌, [], length, map, drop, sym, ap, ◌∙◌, subst, arith}
+use Rattle.std.proofs.Common.{◌≡◌, ◌<◌, ◌++◌, ◌≤◌, ◌^◌, length, map, drop, sym, ap, ◌∙◌, subst, arith}
 use Rattle.std.specs.Prelude.{take}
-use Rattle.cast_message.specs.declared.message.Message.{Message}
 use Rattle.cast_node.specs.Turns.{given_from}
 use Rattle.cast_node.specs.Giving.{AreOwed, bare, given_on}
-use Rattle.cast_node.specs.Outgoing.{Outbound, link_through, links_of, HasRoomFor}
+use Rattle.cast_node.specs.Outgoing.{link_through, links_of, HasRoomFor}
 use Rattle.cast_node.proofs.Gifts.{length_given, given_whole}
 use Rattle.cast_node.proofs.Through.{given_through, given_below}
 use Rattle.cast_node.proofs.outgoing.Outgoing.give.Goals.{After-self-2-1}
