@@ -179,20 +179,6 @@ module _ (rows : List Row) (hold_back : List HeldBack) (streams : List Stream) (
       })
       ∙ ap (λ (ds : Delivering). record (noted ds s i members) { hold_back = after; delivered = slice_set ds.delivered s (slice_index_or ds.delivered s [] ++ items); agree = counted_all ds.agree news }) is
 
--- the lists are as long as before
-pub sound_after : (rows : List Row) (hold_back after : List HeldBack) (streams : List Stream) (place s : ℕ) (x : Row) (v : HeldBack) → IsSound (known rows) hold_back (streamed streams) → after ≡ slice_set hold_back s v → IsSound (known (slice_set rows place x)) after (streamed streams)
-sound_after rows hold_back after streams place s x v sound back =
-    let long = ap length back ∙ length-set hold_back s v in
-    record {
-      rows = rows-length (λ (row : Row). row.items) (slice_set rows place x) ∙ length-set rows place x ∙ sym (rows-length (λ (row : Row). row.items) rows) ∙ sound.rows ∙ sym long;
-      streams = sound.streams ∙ sym long;
-    }
-
-pub sound_told : (rows : List Row) (hold_back after : List HeldBack) (streams : List Stream) (place s : ℕ) (x : Row) (y : Stream) (v : HeldBack) → IsSound (known rows) hold_back (streamed streams) → after ≡ slice_set hold_back s v → IsSound (known (slice_set rows place x)) after (streamed (slice_set streams place y))
-sound_told rows hold_back after streams place s x y v sound back =
-    let first = sound_after rows hold_back after streams place s x v sound back in
-    record { rows = first.rows; streams = rows-length (λ (items : Stream). items.items) (slice_set streams place y) ∙ length-set streams place y ∙ sym (rows-length (λ (items : Stream). items.items) streams) ∙ first.streams }
-
 -- what is told keeps as many rows
 pub told_keeps : (config : Config) (ds : Delivering) (s i : ℕ) (members : Members) → (length (told_in config ds s i members).hold_back ≡ length ds.hold_back) × (length (told_in config ds s i members).knowers ≡ length ds.knowers)
 told_keeps config ds s i members = go (is_enough config members)

@@ -13,10 +13,6 @@ module _ {X : Type 0} where
   none [] e = refl
   none (x ∷ links) e = absurd (omega (arith, e))
 
-  -- a link that shows the same as before, and others
-  pub same_next : (links rest more : List (Outward X)) (link reserved : Outward X) → links ≡ link ∷ rest → reserved.link ≡ link.link → bare more ≡ bare rest → bare (reserved ∷ more) ≡ bare links
-  same_next links rest more link reserved e s m = (λ i. s i ∷ m i) ∙ sym (ap bare e)
-
   pub given_none : (q me source sender : ℕ) (kept : X) (links : List (Outward X)) → length links ≡ 0 → bare links ≡ given_on q me source sender kept (bare links)
   unfolding given_on
   given_none q me source sender kept links e = ap bare (none links e) ∙ sym (ap (λ ls. given_on q me source sender kept (bare ls)) (none links e))
@@ -30,9 +26,6 @@ module _ {X : Type 0} where
   -- each of some links has room
   pub first_room : (links rest : List (Outward X)) (link : Outward X) → links ≡ link ∷ rest → All HasRoom links → HasRoom link
   first_room links rest link e h = subst (All HasRoom) e h 0 link (omega arith)
-
-  pub other_room : (links rest : List (Outward X)) (link : Outward X) → links ≡ link ∷ rest → All HasRoom links → All HasRoom rest
-  other_room links rest link e h k d l = subst (All HasRoom) e h (suc k) d (omega (arith, l))
 
   pub length_given : (q me source sender : ℕ) (kept : X) (links : List (Link X)) → length (given_on q me source sender kept links) ≡ length links
   unfolding given_on

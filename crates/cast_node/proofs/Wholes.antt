@@ -19,7 +19,7 @@ use Rattle.cast_link.specs.Links.{Link, with_acknowledged}
 use Rattle.cast_node.specs.Giving.{link_in}
 use Rattle.cast_node.proofs.Gifts.{length_given}
 use Rattle.cast_node.specs.Kept.{Kept, link_to, holds}
-use Rattle.cast_node.specs.Turns.{told_more, given_from, taken_up, own_message, carried, with_taken, acknowledged, ordered, kept_causes, kept_fault}
+use Rattle.cast_node.specs.Turns.{Told, told_more, given_from, taken_up, own_message, carried, with_taken, acknowledged, ordered, kept_causes, kept_fault}
 use Rattle.cast_node.specs.Delivering.{Delivering, knowers_in, first_members, told_in, outcome_in, waiting_in}
 use Rattle.cast_node.specs.Calls.{is_peer, may_carry}
 
@@ -76,61 +76,25 @@ whole config me live frames stream outgoing incoming ds = record {
   deliveries = ds;
 }
 
-module _ (config : Config) (me : ℕ) (live : Bool) (frames : ℕ) (stream : List Item) (outgoing : List (Link Message)) (incoming : List (set.FinSet nat_cmp)) (ds : Delivering) (now : Kept) (is : whole config me live frames stream outgoing incoming ds ≡ now) where
-  abbrev node : Kept
-  node = whole config me live frames stream outgoing incoming ds
+-- a message in a slot of a peer: what is kept then
+module _ (config : Config) (me : ℕ) (live : Bool) (frames : ℕ) (stream : List Item) (outgoing : List (Link Message)) (incoming : List (set.FinSet nat_cmp)) (ds : Delivering) (now : Kept) (is : whole config me live frames stream outgoing incoming ds ≡ now)
+    (from slot : ℕ) (message : Message) (incoming' : List (set.FinSet nat_cmp)) (taken : incoming' ≡ slice_set incoming from (set.insert (slice_index_or incoming from set.empty) slot)) (members : set.FinSet nat_cmp) where
+  abbrev carried_by : Bool → Told
+  carried_by held = if held then told_more (with_taken now from slot) message.sender message.number from else taken_up (with_taken now from slot) message from
 
-  -- a message in a slot of a peer: what comes of it, and what is kept
-  module _ (from slot : ℕ) (message : Message) (incoming' : List (set.FinSet nat_cmp)) (taken : incoming' ≡ slice_set incoming from (set.insert (slice_index_or incoming from set.empty) slot)) where
-    -- its pair is held
-    pub held_again : (members : set.FinSet nat_cmp) (ds' : Delivering) → holds now message.sender message.number ≡ true → members ≡ set.insert (knowers_in ds.knowers message.sender message.number) from → ds' ≡ told_in config ds message.sender message.number members →
-        (whole config me live frames stream outgoing incoming' ds' ≡ (carried (with_taken now from slot) from message).kept)
-        × (outcome_in config ds message.sender message.number members ≡ (carried (with_taken now from slot) from message).outcome)
-    held_again members ds' h m d =
-        let s = message.sender in
-        let i = message.number in
-        let there : told_more (with_taken now from slot) s i from ≡ carried (with_taken now from slot) from message = sym (ap (λ b. if b then told_more (with_taken now from slot) s i from else taken_up (with_taken now from slot) message from) h) in (
-          (λ k. whole config me live frames stream outgoing (taken k) ((d ∙ ap (told_in config ds s i) m) k)) ∙ ap (λ kept. (told_more (with_taken kept from slot) s i from).kept) is ∙ ap (λ t. t.kept) there,
-          ap (outcome_in config ds s i) m ∙ ap (λ kept. (told_more (with_taken kept from slot) s i from).outcome) is ∙ ap (λ t. t.outcome) there,
-        )
+  -- its pair is held
+  pub held_again : (ds' : Delivering) → holds now message.sender message.number ≡ true → members ≡ set.insert (knowers_in ds.knowers message.sender message.number) from → ds' ≡ told_in config ds message.sender message.number members →
+      whole config me live frames stream outgoing incoming' ds' ≡ (carried (with_taken now from slot) from message).kept
+  held_again ds' h m d =
+      (λ k. whole config me live frames stream outgoing (taken k) ((d ∙ ap (told_in config ds message.sender message.number) m) k))
+      ∙ ap (λ kept. (told_more (with_taken kept from slot) message.sender message.number from).kept) is
+      ∙ sym (ap (λ b. (carried_by b).kept) h)
 
-    -- its pair is new
-    pub fresh : (members : set.FinSet nat_cmp) (outgoing' : List (Link Message)) (ds' : Delivering) → holds now message.sender message.number ≡ false → members ≡ first_members me message.sender from →
-        outgoing' ≡ given_from 0 me from message outgoing → ds' ≡ told_in config (waiting_in ds message) message.sender message.number members →
-        (whole config me live frames stream outgoing' incoming' ds' ≡ (carried (with_taken now from slot) from message).kept)
-        × (outcome_in config (waiting_in ds message) message.sender message.number members ≡ (carried (with_taken now from slot) from message).outcome)
-    fresh members outgoing' ds' h m o d =
-        let s = message.sender in
-        let i = message.number in
-        let there : taken_up (with_taken now from slot) message from ≡ carried (with_taken now from slot) from message = sym (ap (λ b. if b then told_more (with_taken now from slot) s i from else taken_up (with_taken now from slot) message from) h) in (
-          (λ k. whole config me live frames stream (o k) (taken k) ((d ∙ ap (told_in config (waiting_in ds message) s i) m) k)) ∙ ap (λ kept. (taken_up (with_taken kept from slot) message from).kept) is ∙ ap (λ t. t.kept) there,
-          ap (outcome_in config (waiting_in ds message) s i) m ∙ ap (λ kept. (taken_up (with_taken kept from slot) message from).outcome) is ∙ ap (λ t. t.outcome) there,
-        )
-
-  -- a peer took what it was given
-  pub taken_word : (from slot : ℕ) (message : Message) (members : set.FinSet nat_cmp) (outgoing' : List (Link Message)) (ds' : Delivering) →
-      finite.get (link_in outgoing from).owed slot ≡ Some message → members ≡ set.insert (knowers_in ds.knowers message.sender message.number) from →
-      outgoing' ≡ slice_set outgoing from (with_acknowledged (link_in outgoing from) slot) → ds' ≡ told_in config ds message.sender message.number members →
-      (whole config me live frames stream outgoing' incoming ds' ≡ (acknowledged now from slot (finite.get (link_to now from).owed slot)).kept)
-      × (outcome_in config ds message.sender message.number members ≡ (acknowledged now from slot (finite.get (link_to now from).owed slot)).outcome)
-  taken_word from slot message members outgoing' ds' at m out d =
-      let s = message.sender in
-      let i = message.number in
-      let here : finite.get (link_to now from).owed slot ≡ Some message = sym (ap (λ kept. finite.get (link_to kept from).owed slot) is) ∙ at in (
-        (λ k. whole config me live frames stream (out k) incoming ((d ∙ ap (told_in config ds s i) m) k))
-            ∙ ap (λ kept. (acknowledged kept from slot (Some message)).kept) is
-            ∙ ap (λ o. (acknowledged now from slot o).kept) (sym here),
-        ap (outcome_in config ds s i) m
-            ∙ ap (λ kept. (acknowledged kept from slot (Some message)).outcome) is
-            ∙ ap (λ o. (acknowledged now from slot o).outcome) (sym here),
-      )
-
-  -- an item of its own
-  pub own_item : (item : Item) (outgoing' : List (Link Message)) (ds' : Delivering) (stream' : List Item) (message : Message) (members : set.FinSet nat_cmp) → message ≡ own_message node item → members ≡ first_members me me me →
-      outgoing' ≡ given_from 0 me me (own_message node item) outgoing → ds' ≡ told_in config (waiting_in ds message) message.sender message.number members → stream' ≡ stream ++ item ∷ [] →
-      (whole config me live frames stream' outgoing' incoming ds' ≡ (ordered now item).kept)
-      × (outcome_in config (waiting_in ds message) message.sender message.number members ≡ (ordered now item).outcome)
-  own_item item outgoing' ds' stream' message members e m o d st = (
-    (λ k. whole config me live frames (st k) (o k) incoming ((d ∙ (λ j. told_in config (waiting_in ds (e j)) (e j).sender (e j).number (m j))) k)) ∙ ap (λ kept. (ordered kept item).kept) is,
-    (λ j. outcome_in config (waiting_in ds (e j)) (e j).sender (e j).number (m j)) ∙ ap (λ kept. (ordered kept item).outcome) is,
-  )
+  -- its pair is new
+  pub fresh : (outgoing' : List (Link Message)) (ds' : Delivering) → holds now message.sender message.number ≡ false → members ≡ first_members me message.sender from →
+      outgoing' ≡ given_from 0 me from message outgoing → ds' ≡ told_in config (waiting_in ds message) message.sender message.number members →
+      whole config me live frames stream outgoing' incoming' ds' ≡ (carried (with_taken now from slot) from message).kept
+  fresh outgoing' ds' h m o d =
+      (λ k. whole config me live frames stream (o k) (taken k) ((d ∙ ap (told_in config (waiting_in ds message) message.sender message.number) m) k))
+      ∙ ap (λ kept. (taken_up (with_taken kept from slot) message from).kept) is
+      ∙ sym (ap (λ b. (carried_by b).kept) h)

@@ -15,19 +15,11 @@ use Rattle.cast_node.specs.Turns.{acknowledged}
 use Rattle.cast_node.specs.Delivering.{Delivering, knowers_in, told_in, outcome_in}
 use Rattle.cast_node.specs.Sound.{IsNode, IsWithin, Owes}
 use Rattle.cast_node.proofs.DeliveryTables.{told_keeps}
-use Rattle.cast_node.proofs.Wholes.{whole, taken_word}
 use Rattle.cast_node.proofs.Owing.{owes_acked}
 use Rattle.cast_node.proofs.Keeping.{keeps_rows}
 
 module _ {config : Config} {me : ℕ} {stream : List Item} {closed : Bool} {proposed : set.FinSet nat_cmp} {outgoing : List (Link Message)} {incoming : List (set.FinSet nat_cmp)} {ds : Delivering}
     (node : IsNode config me stream closed proposed outgoing incoming ds) (from slot : ℕ) (message : Message) (outgoing' : List (Link Message)) (acked : outgoing' ≡ slice_set outgoing from (with_acknowledged (link_in outgoing from) slot)) where
-  pub word_told : (live : Bool) (frames : ℕ) (now : Kept) (members : set.FinSet nat_cmp) (ds' : Delivering) → whole config me live frames stream outgoing incoming ds ≡ now → finite.get (link_in outgoing from).owed slot ≡ Some message →
-      members ≡ set.insert (knowers_in ds.knowers message.sender message.number) from → ds' ≡ told_in config ds message.sender message.number members →
-      (whole config me live frames stream outgoing' incoming ds' ≡ (acknowledged now from slot (finite.get (link_to now from).owed slot)).kept)
-      × (outcome_in config ds message.sender message.number members ≡ (acknowledged now from slot (finite.get (link_to now from).owed slot)).outcome)
-  word_told live frames now members ds' is found m done =
-      taken_word config me live frames stream outgoing incoming ds now is from slot message members outgoing' ds' found m acked done
-
   pub word_keeps : (members : set.FinSet nat_cmp) (ds' : Delivering) → ds' ≡ told_in config ds message.sender message.number members →
       IsNode config me stream closed proposed outgoing' incoming ds'
   word_keeps members ds' done =

@@ -42,4 +42,4 @@ returns-clause-took c item _ =
     let at = c.from-2.ensures ∙ c.from.view_is in
     let links = c.self.inside.incoming.items in
     let within : c.from-2.result < length links = omega (arith, at, c.requires.from, c.self.invariant.peers_in, rows-length (λ (l : Inward). l.slots) links, ap (λ (k : Kept). k.config.nodes) c.self.view_is) in
-    (held_again c.self.inside.config c.self.inside.me c.self.inside.live c.self.inside.frames c.self.inside.stream.items (links_of c.self.inside.outgoing) (slots_of links) c.self.inside.deliveries c.args.self.now c.self.view_is c.args.from c.args.slot (let message : Message = record { sender = c.args.sender; number = c.args.number; item = item } in message) _ (slots_taken links c.from-2.result c.args.from c.index_mut-link.result.now c.reserve.new.self at within c.index_mut-link.ensures.value c.reserve.ensures.same c.args.slot c.take_reserved.new.self c.take_reserved.ensures.after) c.knowers_with-knowers.result c.tell_silently.new.self c.requires.held c.knowers_with-knowers.ensures (c.tell_silently.ensures.told c.if-not-tell_silently.false)).0
+    held_again c.self.inside.config c.self.inside.me c.self.inside.live c.self.inside.frames c.self.inside.stream.items (links_of c.self.inside.outgoing) (slots_of links) c.self.inside.deliveries c.args.self.now c.self.view_is c.args.from c.args.slot (let message : Message = record { sender = c.args.sender; number = c.args.number; item = item } in message) _ (slots_taken links c.from-2.result c.args.from c.index_mut-link.result.now c.reserve.new.self at within c.index_mut-link.ensures.value c.reserve.ensures.same c.args.slot c.take_reserved.new.self c.take_reserved.ensures.after) c.knowers_with-knowers.result c.tell_silently.new.self c.requires.held c.knowers_with-knowers.ensures (c.tell_silently.ensures.told c.if-not-tell_silently.false)

@@ -80,7 +80,7 @@ returns-clause-ok c =
     let message = c.args.message.now in
     let new : holds c.args.self.now message.sender message.number ≡ false = sym (ap (λ k. holds k message.sender message.number) c.self.view_is) ∙ sym c.holds.ensures ∙ c.if-holds.false in
     let brought = c.in_ok-fresh.ensures.ok in
-    (fresh c.self.inside.config c.self.inside.me c.self.inside.live c.self.inside.frames c.self.inside.stream.items (links_of c.self.inside.outgoing) (slots_of links) c.self.inside.deliveries c.args.self.now c.self.view_is c.args.from c.args.slot message _ (slots_taken links c.from-2.result c.args.from c.index_mut-link.result.now c.make_room.new.link at within c.index_mut-link.ensures.value c.make_room.ensures.slots c.args.slot c.take_reserved.new.self c.take_reserved.ensures.after) c.first_members-members.result _ c.take_up.new.self new
+    fresh c.self.inside.config c.self.inside.me c.self.inside.live c.self.inside.frames c.self.inside.stream.items (links_of c.self.inside.outgoing) (slots_of links) c.self.inside.deliveries c.args.self.now c.self.view_is c.args.from c.args.slot message _ (slots_taken links c.from-2.result c.args.from c.index_mut-link.result.now c.make_room.new.link at within c.index_mut-link.ensures.value c.make_room.ensures.slots c.args.slot c.take_reserved.new.self c.take_reserved.ensures.after) c.first_members-members.result _ c.take_up.new.self new
     (c.first_members-members.ensures ∙ ap (λ (m : Message). Rattle.cast_node.specs.Delivering.first_members c.self.inside.me m.sender c.args.from) brought)
     (c.give.ensures ∙ (λ k. given_from 0 c.self.inside.me c.args.from (c.in_ok-given.ensures.ok k) (c.make_room.ensures.links k)))
-    (c.in_ok-outcome.ensures.ok ∙ (λ k. told_in c.self.inside.config (waiting_in c.self.inside.deliveries (brought k)) (brought k).sender (brought k).number c.first_members-members.result))).0
+    (c.in_ok-outcome.ensures.ok ∙ (λ k. told_in c.self.inside.config (waiting_in c.self.inside.deliveries (brought k)) (brought k).sender (brought k).number c.first_members-members.result))
