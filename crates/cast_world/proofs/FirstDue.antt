@@ -127,7 +127,7 @@ module _ (config : Config) (past : History) where
       fault-Send config past d.from d.to d.slot ok.from_in ok.to_in ok.apart ok.from_live ok.slot_in ok.open_slot
 
   module _ (world : State) (st : Stands config past world) where
-    stops : (p : ℕ) → IsFirstGiver config past (Some p) → (refusal : StepFault) → ((from to slot : ℕ) (rest : List Event) → fault config past (Send from to slot) ≡ full past p → StopsFor config past world (Send from to slot ∷ rest) refusal) → StopsRound config past refusal world
+    stops : (p : ℕ) → IsFirstGiver config past (Some p) → (refusal : StepFault) → ((from to slot : ℕ) (rest : List Event) → fault config past (Send from to slot) ≡ full past p → StopsFor config past (Send from to slot ∷ rest) refusal) → StopsRound config past refusal world
     unfolding AreAccepted history_from
     stops p first refusal cause =
         let d = first_due p first in
@@ -137,7 +137,7 @@ module _ (config : Config) (past : History) where
           rest = plan config past;
           split = refl;
           accepted = tt;
-          cause = subst (λ events. StopsFor config past world events refusal) (sym event.1) (cause d.0.from d.0.to d.0.slot event.0 (first_fault_is d.0 d.1 d.2 ∙ ap (full past) d.3));
+          cause = subst (λ events. StopsFor config past events refusal) (sym event.1) (cause d.0.from d.0.to d.0.slot event.0 (first_fault_is d.0 d.1 d.2 ∙ ap (full past) d.3));
           stands = st;
         }
 
@@ -154,7 +154,7 @@ module _ (config : Config) (past : History) where
     pub stops_wanting : (p : ℕ) → IsFirstGiver config past (Some p) → length (marks_at world p) < frame_limit → StopsRound config past Memory world
     stops_wanting p first l =
         let e : nat_le frame_limit (length (marks_at world p)) ≡ false = grind (arith, nat_tests) in
-        stops p first Memory (λ from to slot rest is. (is ∙ full_by p false e, (λ takes. takes), tt))
+        stops p first Memory (λ from to slot rest is. is ∙ full_by p false e)
 
     pub nothing_due : Rest config past → EndsRound config past 0 world
     nothing_due rest =

@@ -2,7 +2,6 @@ pub mod Stepping
 pub mod Sounding
 pub mod Showing
 pub mod Running
-pub mod Again
 pub mod Beginning
 pub mod Owing
 pub mod Planning

@@ -1,12 +1,12 @@
 -- What may happen next is listed as the definitions say.
 use Rattle.std.proofs.Common.{◌≡◌, ◌≢◌, ◌⊎◌, ℕ, ◌+◌, ◌<◌, ◌≤◌, refl, sym, ◌∙◌, ap, subst, Bool, true, false, not, ◌&&◌, cond, List, [], ◌∷◌, ◌++◌, length, Option, Some, None, inl, inr, arith, append_assoc}
 use Rattle.std.specs.Prelude.{◌==◌, nat_le, is_some, slice_get, option_map}
-use Rattle.std.specs.List.{All, filter, flat_map, range_with_len}
+use Rattle.std.specs.List.{filter, flat_map, range_with_len}
 use Rattle.std.proofs.lemmas.Bool.{ne_eqb, lt-ltb, false≢true}
 use Rattle.std.proofs.lemmas.Bool.Decides.{nat_tests}
 use Rattle.std.proofs.lemmas.List.{append-nil}
 use Rattle.std.proofs.lemmas.List.Concat.{flat_map-append}
-use Rattle.std.proofs.lemmas.List.Elements.{filter-append, filter_passes, All-same, All-weaker}
+use Rattle.std.proofs.lemmas.List.Elements.{filter-append}
 use Rattle.cast_message.specs.Limits.{frame_limit}
 use Rattle.cast_message.specs.declared.config.Config.{Config}
 use Rattle.cast_message.specs.declared.event.Event.{Event}
@@ -34,7 +34,7 @@ use Rattle.cast_node.specs.Kept.{Kept}
 use Rattle.cast_node.specs.Turns.{kept_fault}
 use Rattle.cast_world.specs.declared.frames.Mark.{Mark}
 use Rattle.cast_world.specs.Group.{State, node_at, marks_at, mark_by, mark_of, Stands}
-use Rattle.cast_world.specs.Offers.{is_possible, makings, is_untaken, is_owed, is_open, brings_news, arrivals_new, offers, enabled, HasFullNode}
+use Rattle.cast_world.specs.Offers.{is_possible, makings, is_untaken, is_owed, is_open, brings_news, arrivals_new, enabled, HasFullNode}
 use Rattle.cast_world.proofs.Faults.{by_step, marked, marked_frame}
 use Rattle.cast_world.proofs.Planning.{range_more}
 
@@ -78,15 +78,6 @@ module _ (config : Config) (past : History) where
       so_far
       ∙ ap (λ k. filter (is_possible config past) (flat_map makings (due config past)) ++ filter (is_possible config past) (flat_map (arrivals_new past) (range_with_len 0 k))) all
       ∙ sym (filter-append (is_possible config past) (flat_map makings (due config past)) (flat_map (arrivals_new past) (nodes_of config)))
-
-  none_of : (found : Option StepFault) → not (is_some found) ≡ true → found ≡ None
-  none_of None e = refl
-  none_of (Some refusal) e = absurd (false≢true e)
-
-  pub all_possible : (events : List Event) → events ≡ enabled config past → All (λ event. fault config past event ≡ None) events
-  all_possible events is =
-      All-same (λ event. fault config past event ≡ None) events (enabled config past) is
-      (All-weaker (λ event. is_possible config past event ≡ true) (λ event. fault config past event ≡ None) (λ event e. none_of (fault config past event) e) (enabled config past) (filter_passes (is_possible config past) (offers config past)))
 
   is_full : (p : ℕ) → not (is_some (full past p)) ≡ false → frame_limit ≤ length (frames past p)
   unfolding first_fault

@@ -1,5 +1,5 @@
 -- A round comes together slot by slot: its events are those of the plan.
-use Rattle.std.proofs.Common.{◌≡◌, ℕ, ◌+◌, ◌*◌, ◌<◌, refl, sym, ◌∙◌, ap, subst, List, [], ◌∷◌, ◌++◌, length, drop, get_or, Some, None, Result, Ok, Err, IfOk, inl, inr, ◌⊎◌, append_assoc, append-nil, Option}
+use Rattle.std.proofs.Common.{◌≡◌, ℕ, ◌+◌, ◌*◌, ◌<◌, refl, sym, ◌∙◌, ap, subst, List, [], ◌∷◌, ◌++◌, length, drop, get_or, Some, None, Result, Ok, Err, IfOk, inl, inr, ◌⊎◌, append_assoc, append-nil}
 use Rattle.cast_message.proofs.Lists.{drop-next}
 use Rattle.cast_message.specs.declared.config.Config.{Config}
 use Rattle.cast_message.specs.declared.event.Event.{Event}
@@ -8,29 +8,15 @@ use Rattle.cast_message.specs.declared.event.Answer.{Answer}
 use Rattle.cast_message.specs.declared.event.StepFault.{StepFault}
 use Rattle.cast_message.specs.declared.event.StepFault.TheVariants.{FramesFull}
 use Rattle.cast_model.specs.History.{History}
-use Rattle.cast_model.specs.Replies.{IsAccepted, IsRefused, fault, answer, reply, reply_by, history_from}
+use Rattle.cast_model.specs.Replies.{IsAccepted, IsRefused, fault, answer, history_from}
 use Rattle.cast_model.specs.Rounds.{Due, AreAccepted, due, events_for, plan_from, plan, after_round}
 use Rattle.cast_model.proofs.Round.{with_all, with_all-append, Counted}
 use Rattle.cast_model.proofs.RoundFaults.{Going, Going-next, Going-start, plan_fault, accepted_all, all_accepted, history_from-with_all}
 use Rattle.cast_model.proofs.TwoRounds.{round_frames, holds_all, holds_no_more}
-use Rattle.cast_world.specs.Group.{State, Stands, Continues, TakesNoMemory}
-use Rattle.cast_world.specs.Moves.{Awaits}
+use Rattle.cast_world.specs.Group.{State, Stands, Continues}
 use Rattle.cast_world.specs.Plans.{events_from}
 use Rattle.cast_world.specs.Rounds.{Stops, TakesAll, StopsFor, StopsRound, EndsRound, TakesRound, Spreads}
 use Rattle.cast_world.proofs.Stepping.{made_count}
-
--- the rest of a list begins with the element whose turn it is
--- a refusal that is the reply is the cause
-caused : (config : Config) (past : History) (event : Event) (refusal : StepFault) → Err refusal ≡ reply config past event → fault config past event ≡ Some refusal
-unfolding reply
-caused config past event refusal = by_cause (fault config past event)
-  where
-    by_cause : (o : Option StepFault) → ◌≡◌ {A = Result Answer StepFault} (Err refusal) (reply_by o (answer config past event)) → o ≡ Some refusal
-    by_cause None e = absurd (cc)
-    by_cause (Some cause) e = let same : refusal ≡ cause = cc in ap Some (sym same)
-
-uncaused : (refusal : StepFault) → None ≡ Some refusal → ⊥
-uncaused refusal e = absurd (cc)
 
 module _ (config : Config) (past : History) where
   -- the events in front were taken, and these are left
@@ -50,8 +36,8 @@ module _ (config : Config) (past : History) where
       stands = subst (λ h. Stands config h new) (sym (with_all-append past past taking.front (event ∷ []))) on.1;
     }
 
-    pub taking_stops : (refusal : StepFault) → Continues config (with_all past taking.front) event (Err refusal) new → (TakesNoMemory config (with_all past taking.front) event → Err refusal ≡ reply config (with_all past taking.front) event) → new ≡ world → Awaits world event → Stops config past events refusal new
-    taking_stops refusal on sure same awaits =
+    pub taking_stops : (refusal : StepFault) → Continues config (with_all past taking.front) event (Err refusal) new → Stops config past events refusal new
+    taking_stops refusal on =
         let now_is = sym (history_from-with_all config past taking.front taking.stands.accepted) in
         record {
           front = taking.front;
@@ -60,8 +46,6 @@ module _ (config : Config) (past : History) where
           split = taking.split;
           accepted = all_accepted config past taking.front taking.stands.accepted;
           refused = subst (λ h. IsRefused (fault config h event) refusal) now_is on.0;
-          sure = subst (λ h. TakesNoMemory config h event → fault config h event ≡ Some refusal) now_is (λ none. caused config (with_all past taking.front) event refusal (sure none));
-          awaits = subst (λ w. Awaits w event) (sym same) awaits;
           stands = subst (λ h. Stands config h new) now_is on.1;
         }
 
@@ -148,14 +132,13 @@ module _ (config : Config) (past : History) where
             accepted = all_accepted config past whole whole_accepted;
             cause = stops_for (history_from config past whole) stop.event later refusal
                 (subst (λ h. (fault config h stop.event ≡ None) ⊎ (fault config h stop.event ≡ Some FramesFull)) (sym (history_from-with_all config past whole whole_accepted)) (plan_fault config past whole stop.event later split whole_accepted))
-                (subst (λ h. IsRefused (fault config h stop.event) refusal) now_is stop.refused)
-                (subst (λ h. TakesNoMemory config h stop.event → fault config h stop.event ≡ Some refusal) now_is stop.sure) stop.awaits;
+                (subst (λ h. IsRefused (fault config h stop.event) refusal) now_is stop.refused);
             stands = subst (λ h. Stands config h new) now_is stop.stands;
           }
         where
-          stops_for : (h : History) (event : Event) (later : List Event) (refusal : StepFault) → (fault config h event ≡ None) ⊎ (fault config h event ≡ Some FramesFull) → IsRefused (fault config h event) refusal → (TakesNoMemory config h event → fault config h event ≡ Some refusal) → Awaits new event → StopsFor config h new (event ∷ later) refusal
-          stops_for h event later refusal (inl none) refused sure awaits = subst (StopsFor config h new (event ∷ later)) (sym (subst (λ o. IsRefused o refusal) none refused)) (none, (λ takes. uncaused refusal (sym none ∙ sure takes)), awaits)
-          stops_for h event later refusal (inr full) refused sure awaits = subst (StopsFor config h new (event ∷ later)) (sym (subst (λ o. IsRefused o refusal) full refused)) full
+          stops_for : (h : History) (event : Event) (later : List Event) (refusal : StepFault) → (fault config h event ≡ None) ⊎ (fault config h event ≡ Some FramesFull) → IsRefused (fault config h event) refusal → StopsFor config h (event ∷ later) refusal
+          stops_for h event later refusal (inl none) refused = subst (StopsFor config h (event ∷ later)) (sym (subst (λ o. IsRefused o refusal) none refused)) none
+          stops_for h event later refusal (inr full) refused = subst (StopsFor config h (event ∷ later)) (sym (subst (λ o. IsRefused o refusal) full refused)) full
 
   -- no slot is left
   pub round_ends : (ds before left : List Due) (world : State) (made : ℕ) → ds ≡ due config past → made ≡ 2 * length ds → left ≡ [] → IsUnderWay before left world → EndsRound config past made world

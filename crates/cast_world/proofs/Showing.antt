@@ -33,20 +33,20 @@ module _ (config : Config) (past : History) (world : State) (st : Stands config 
   pub live_shown : (p : ℕ) → p < config.nodes → (node_at world p).live ≡ is_live past p
   live_shown p l = (st.nodes p l).live ∙ own_live-steps_of past p
 
-  pub decision_shown : (p j : ℕ) → p < config.nodes → decision_counted (node_at world p).agree j ≡ decision config past p j
+  pub decision_shown : (p j : ℕ) → p < config.nodes → decision_counted (node_at world p).deliveries.agree j ≡ decision config past p j
   decision_shown p j l = shows_decision config p (steps_of past p) (node_at world p) (st.nodes p l) j ∙ own_decision-steps_of config past st.accepted p j
 
   pub owed_shown : (p q : ℕ) → p < config.nodes → q < config.nodes → q ≢ p → finite.len (link_to (node_at world p) q).owed ≡ length (owed past p q)
   owed_shown p q l m e = shows_owed config p (steps_of past p) (node_at world p) (st.nodes p l) q m e ∙ ap length (own_owed-steps_of past p q)
 
-  pub delivered_shown : (q s : ℕ) → q < config.nodes → s < config.nodes → slice_index_or (node_at world q).delivered s [] ≡ map item_of (delivered config past q s)
+  pub delivered_shown : (q s : ℕ) → q < config.nodes → s < config.nodes → slice_index_or (node_at world q).deliveries.delivered s [] ≡ map item_of (delivered config past q s)
   delivered_shown q s l m = shows_delivered config q (steps_of past q) (node_at world q) (st.nodes q l) s m ∙ ap (map item_of) (own_delivered-steps_of config past st.accepted q s)
 
   -- a reader that asks a node of the group
-  pub shown_delivered : (q s : ℕ) → q < length world.nodes → ShowsDelivered config past q s (slice_get (node_at world q).delivered s)
+  pub shown_delivered : (q s : ℕ) → q < length world.nodes → ShowsDelivered config past q s (slice_get (node_at world q).deliveries.delivered s)
   shown_delivered q s within = elim (cases_lt s config.nodes) [
-    | inl l ↦ subst (ShowsDelivered config past q s) (sym (get_some (node_at world q).delivered s (subst (λ n. s < n) (sym node.senders_delivered) l))) (omega (arith, q_in, l), delivered_shown q s q_in l)
-    | inr l ↦ subst (ShowsDelivered config past q s) (sym (get_none (node_at world q).delivered s (subst (λ n. n ≤ s) (sym node.senders_delivered) l))) (omega (arith, l))
+    | inl l ↦ subst (ShowsDelivered config past q s) (sym (get_some (node_at world q).deliveries.delivered s (subst (λ n. s < n) (sym node.senders_delivered) l))) (omega (arith, q_in, l), delivered_shown q s q_in l)
+    | inr l ↦ subst (ShowsDelivered config past q s) (sym (get_none (node_at world q).deliveries.delivered s (subst (λ n. n ≤ s) (sym node.senders_delivered) l))) (omega (arith, l))
   ]
     where
       q_in : q < config.nodes

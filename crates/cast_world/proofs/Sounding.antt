@@ -18,44 +18,33 @@ use Rattle.cast_model.specs.Refusals.{Cause, no_node, first_fault}
 use Rattle.cast_model.specs.Steps.{Step, Ordered, Sent, Acknowledged, Arrived, Stopped, making}
 use Rattle.cast_model.proofs.OwnTurns.{length-map}
 use Rattle.std.specs.FinMap as finite
-use Rattle.cast_relay.specs.Held.{holds}
-use Rattle.cast_node.specs.Kept.{Kept, nothing_kept, link_to, is_enough}
+use Rattle.cast_node.specs.Kept.{Kept, nothing_kept, link_to, holds}
 use Rattle.cast_node.specs.Calls.{number_reply}
-use Rattle.cast_node.specs.Turns.{told, released, unmoved, own_taken_up, acknowledged, arrived_body, may_arrive, taken_up, with_taken, with_acked, with_knower, kept_fault, kept_after, frame_made, is_awaited, Gives}
+use Rattle.cast_node.specs.Turns.{told_more, unmoved, acknowledged, arrived_body, may_arrive, taken_up, with_taken, kept_fault, kept_after, frame_made, Gives}
 use Rattle.cast_node.proofs.Places.{length-slice_set, at_set}
 use Rattle.cast_world.specs.declared.frames.Mark.{Mark}
-use Rattle.cast_world.specs.Group.{State, node_at, marks_at, body_in, frame_by, mark_of}
-use Rattle.cast_world.specs.Moves.{marks_after, Takes, TakesStep, ArrivesBy, IsAwaited, IsSound}
+use Rattle.cast_world.specs.Group.{State, node_at, marks_at, frame_by, mark_of}
+use Rattle.cast_world.specs.Moves.{marks_after, Takes, TakesStep, ArrivesBy, IsSound}
 
 -- a step leaves a node's number and its configuration
 record SamePlace (kept new : Kept) : Type 0 where
   me : new.me ≡ kept.me
   config : new.config ≡ kept.config
 
-told_place : (kept : Kept) (s i : ℕ) → SamePlace kept (told kept s i).kept
-told_place kept s i = by_test (is_enough kept s i)
+body_place : (kept : Kept) (from : ℕ) (body : FrameBody) → SamePlace kept (arrived_body kept from body).kept
+body_place kept from (Carry slot message) = by_test (holds kept message.sender message.number)
   where
-    by_test : (b : Bool) → SamePlace kept (cond b (released kept s i) (unmoved kept)).kept
+    by_test : (b : Bool) → SamePlace kept (cond b (told_more (with_taken kept from slot) message.sender message.number from) (taken_up (with_taken kept from slot) message from)).kept
     by_test true = record { me = refl; config = refl }
     by_test false = record { me = refl; config = refl }
-
-told_as : (kept base : Kept) (s i : ℕ) → SamePlace base kept → SamePlace base (told kept s i).kept
-told_as kept base s i h = let t = told_place kept s i in record { me = t.me ∙ h.me; config = t.config ∙ h.config }
-
-body_place : (kept : Kept) (from : ℕ) (body : FrameBody) → SamePlace kept (arrived_body kept from body).kept
-body_place kept from (Carry slot message) = by_test (holds kept.relay message.sender message.number)
-  where
-    by_test : (b : Bool) → SamePlace kept (cond b (told (with_knower (with_taken kept from slot) message.sender message.number from) message.sender message.number) (told (taken_up (with_taken kept from slot) message from) message.sender message.number)).kept
-    by_test true = told_as (with_knower (with_taken kept from slot) message.sender message.number from) kept message.sender message.number (record { me = refl; config = refl })
-    by_test false = told_as (taken_up (with_taken kept from slot) message from) kept message.sender message.number (record { me = refl; config = refl })
 body_place kept from (Took slot) = by_owed (finite.get (link_to kept from).owed slot)
   where
     by_owed : (o : Option Message) → SamePlace kept (acknowledged kept from slot o).kept
     by_owed None = record { me = refl; config = refl }
-    by_owed (Some message) = told_as (with_knower (with_acked kept from slot) message.sender message.number from) kept message.sender message.number (record { me = refl; config = refl })
+    by_owed (Some message) = record { me = refl; config = refl }
 
 after_place : (kept : Kept) (step : Step) → SamePlace kept (kept_after kept step)
-after_place kept (Ordered item) = told_as (own_taken_up kept item) kept kept.me (length kept.stream) (record { me = refl; config = refl })
+after_place kept (Ordered item) = record { me = refl; config = refl }
 after_place kept (Sent to slot) = record { me = refl; config = refl }
 after_place kept (Acknowledged to slot) = record { me = refl; config = refl }
 after_place kept (Arrived frame) = by_test (may_arrive kept frame)
@@ -221,14 +210,6 @@ module _ (world : State) (sound : IsSound world) (from seq : ℕ) (mark : Mark) 
 
   pub arrived_me : kept.me ≡ mark.to
   arrived_me = ap (λ k. k.me) (found_at world p kept target_in found) ∙ sound.places p (subst (λ n. p < n) sound.size target_in) ∙ target
-
-  -- what the target awaits, where it lives
-  pub awaited_at : (shown : State) → shown ≡ world → (kept.live ≡ true → is_awaited kept from (body_in world.config world.nodes mark) ≡ true) → IsAwaited shown from seq
-  awaited_at shown is awaits =
-      subst (λ w. IsAwaited w from seq) (sym is)
-      (λ other there. let same : mark ≡ other = cc in
-      subst (λ m. (node_at world m.to).live ≡ true → is_awaited (node_at world m.to) from (body_in world.config world.nodes m) ≡ true) same
-      (subst (λ k. k.live ≡ true → is_awaited k from (body_in world.config world.nodes mark) ≡ true) (found_at world p kept target_in found ∙ ap (node_at world) target) awaits))
 
   module _ (frame : Frame) (frame_is : frame ≡ frame_by world from seq mark) (new : Kept) (reply : Result Answer StepFault) (gives : Gives kept (Arrived frame) reply new) where
     pub sound_arrived : IsSound (record { config = world.config; nodes = slice_set world.nodes p new; marks = world.marks })

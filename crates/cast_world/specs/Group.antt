@@ -9,14 +9,11 @@
 --     Continues config past event reply world     what a world stands for after a step from there
 --     IsFar event                 its slot is greater than a mark can have
 --     IsRefusedForCause config past event reply   the reply is the cause of refusal that the definitions say
---     BringsNoNews config past from to body   nothing comes of a frame with this body, whatever the nodes keep
---     TakesNoMemory config past event     it crashes a node, or is an arrival that happened before, or of a frame that brings no news
-use Rattle.std.specs.Prelude.{◌≡◌, ◌⊎◌, ℕ, ◌<◌, ◌≤◌, ◌^◌, true, slice_get, Option, Some, None, List, [], ◌∷◌, length, map, ◌==◌, if◌then◌else◌, slice_index_or, Result, Ok, Err}
-use Rattle.std.specs.List.{Contains}
+--     IsCrash event               it crashes a node
+use Rattle.std.specs.Prelude.{◌≡◌, ℕ, ◌<◌, ◌≤◌, ◌^◌, Option, Some, None, List, [], ◌∷◌, length, map, ◌==◌, if◌then◌else◌, slice_index_or, Result, Ok, Err}
 use Rattle.cast_message.specs.declared.config.Config.{Config}
-use Rattle.cast_message.specs.declared.config.Mode.TheVariants.{Basic}
 use Rattle.cast_message.specs.declared.event.Event.{Event}
-use Rattle.cast_message.specs.declared.event.Event.TheVariants.{Send, Ack, Arrive, Crash}
+use Rattle.cast_message.specs.declared.event.Event.TheVariants.{Send, Ack, Crash}
 use Rattle.cast_message.specs.declared.event.Answer.{Answer}
 use Rattle.cast_message.specs.declared.event.StepFault.{StepFault}
 use Rattle.cast_message.specs.declared.message.Item.{Item}
@@ -24,7 +21,7 @@ use Rattle.cast_message.specs.declared.message.Item.TheVariants.{Close}
 use Rattle.cast_message.specs.declared.message.Frame.{Frame}
 use Rattle.cast_message.specs.declared.message.FrameBody.{FrameBody}
 use Rattle.cast_message.specs.declared.message.FrameBody.TheVariants.{Carry, Took}
-use Rattle.cast_model.specs.History.{History, frames, taken, acked}
+use Rattle.cast_model.specs.History.{History, frames}
 use Rattle.cast_model.specs.Replies.{IsAccepted, IsRefused, fault, reply}
 use Rattle.cast_model.specs.Steps.{Steps, steps_of}
 use Rattle.cast_node.specs.Kept.{Kept, nothing_kept}
@@ -122,17 +119,6 @@ abbrev pub IsRefusedForCause : Config → History → Event → Result Answer St
 IsRefusedForCause config past event (Ok answer) = ⊥
 IsRefusedForCause config past event (Err refusal) = fault config past event ≡ Some refusal
 
--- of a frame from one node to another: its slot was taken, or acknowledged, before, or it is an acknowledgement in basic mode,
--- where no message waits for one
-abbrev pub BringsNoNews : Config → History → ℕ → ℕ → FrameBody → Type 0
-BringsNoNews config past from to (Carry slot message) = taken past from to slot ≡ true
-BringsNoNews config past from to (Took slot) =
-    (acked past to from slot ≡ true) ⊎ (config.mode ≡ Basic)
-
-abbrev pub TakesNoMemory : Config → History → Event → Type 0
-TakesNoMemory config past (Crash node) = Unit {0}
-TakesNoMemory config past (Arrive from seq) =
-    Contains past (Arrive from seq)
-    ⊎ ((frame : Frame) × (slice_get (frames past from) seq ≡ Some frame)
-    × BringsNoNews config past from frame.to frame.body)
-TakesNoMemory config past _ = ⊥
+abbrev pub IsCrash : Event → Type 0
+IsCrash (Crash node) = Unit {0}
+IsCrash _ = ⊥

@@ -1,13 +1,11 @@
 -- What a step changes of a world: one node takes a step, and may make a frame.
 --     TakesStep world p step made reply new     node p is asked for the step, and makes frames with these marks where it takes it
 --     MakesFrame world kind from to slot reply new   a node makes a frame of this kind for a slot, whose mark is kept
---     IsAwaited world from seq                  the target of this frame awaits it, where it lives
---     Awaits world event                        where the event is an arrival, its frame is awaited so
 --     StepsTo world event reply new             the world answers the event so, and is this then
 --     IsSilent reply                            a send, an acknowledgement, or an arrival that delivers and decides nothing was accepted
 --     actor_of event                            the node that the event names first: it takes the step, or made the frame
 --     IsSound world                             the nodes are those of the group, and frames go to them
-use Rattle.std.specs.Prelude.{◌≡◌, ◌⊎◌, ℕ, ◌<◌, ◌≤◌, nat_lt, true, if◌then◌else◌, List, [], ◌∷◌, ◌++◌, length, slice_get, slice_index_or, slice_set, Option, Some, None, Result, Ok, Err}
+use Rattle.std.specs.Prelude.{◌≡◌, ◌⊎◌, ℕ, ◌<◌, ◌≤◌, nat_lt, if◌then◌else◌, List, [], ◌∷◌, ◌++◌, length, slice_get, slice_index_or, slice_set, Option, Some, None, Result, Ok, Err}
 use Rattle.cast_message.specs.declared.event.Event.{Event}
 use Rattle.cast_message.specs.declared.event.Event.TheVariants.{Order, Send, Ack, Arrive, Crash}
 use Rattle.cast_message.specs.declared.event.Answer.{Answer}
@@ -20,9 +18,9 @@ use Rattle.cast_message.specs.declared.message.FrameKind.{FrameKind}
 use Rattle.cast_message.specs.declared.message.FrameKind.TheVariants.{Carry, Took}
 use Rattle.cast_model.specs.Steps.{Step, Ordered, Arrived, Stopped, making}
 use Rattle.cast_node.specs.Kept.{Kept}
-use Rattle.cast_node.specs.Turns.{kept_fault, frame_made, is_awaited, Gives}
+use Rattle.cast_node.specs.Turns.{kept_fault, frame_made, Gives}
 use Rattle.cast_world.specs.declared.frames.Mark.{Mark}
-use Rattle.cast_world.specs.Group.{State, node_at, marks_at, mark_of, body_in, frame_by}
+use Rattle.cast_world.specs.Group.{State, node_at, marks_at, mark_of, frame_by}
 
 -- the marks of node p
 abbrev pub row_at : List (List Mark) → ℕ → List Mark
@@ -70,16 +68,6 @@ ArrivesBy world from seq (Some mark) reply new =
 ArrivesBy world from seq None (Ok answer) new = ⊥
 ArrivesBy world from seq None (Err refusal) new =
     (new ≡ world) × (refusal ≡ missing (length world.nodes) from)
-
-abbrev pub IsAwaited : State → ℕ → ℕ → Type 0
-IsAwaited world from seq =
-    (mark : Mark) → slice_get (marks_at world from) seq ≡ Some mark →
-    (node_at world mark.to).live ≡ true →
-    is_awaited (node_at world mark.to) from (body_in world.config world.nodes mark) ≡ true
-
-abbrev pub Awaits : State → Event → Type 0
-Awaits world (Arrive from seq) = IsAwaited world from seq
-Awaits world _ = Unit {0}
 
 abbrev pub MakesFrame : State → FrameKind → ℕ → ℕ → ℕ → Result Answer StepFault → State → Type 0
 MakesFrame world kind from to slot reply new =

@@ -17,12 +17,10 @@ use Rattle.cast_model.specs.Delivery.{delivered, decision}
 use Rattle.cast_model.specs.Headline.{IsPrefixOf}
 use Rattle.cast_model.specs.Replies.{IsRefused, fault, history_from}
 use Rattle.cast_model.specs.Rounds.{owed, Rest, Due, Live, AreAccepted, makes_frame, plan, after_round, proposers}
-use Rattle.cast_world.specs.Group.{State, Stands, TakesNoMemory, marks_at}
-use Rattle.cast_world.specs.Moves.{Awaits}
+use Rattle.cast_world.specs.Group.{State, Stands, marks_at}
 use Rattle.cast_world.specs.Plans.{events_of}
 
--- these were taken, and the next one was refused: for its cause, where it takes no memory; where it is an arrival, its frame is
--- awaited
+-- these were taken, and the next one was refused
 pub record Stops (config : Config) (past : History) (events : List Event)
     (refusal : StepFault) (world : State) : Type 0 where
   pub front : List Event
@@ -31,9 +29,6 @@ pub record Stops (config : Config) (past : History) (events : List Event)
   pub split : events ≡ front ++ event ∷ rest
   pub accepted : AreAccepted config past front
   pub refused : IsRefused (fault config (history_from config past front) event) refusal
-  pub sure : TakesNoMemory config (history_from config past front) event →
-      fault config (history_from config past front) event ≡ Some refusal
-  pub awaits : Awaits world event
   pub stands : Stands config (history_from config past front) world
 
 abbrev pub TakesAll : Config → History → List Event → Result (Unit {0}) StepFault → State → Type 0
@@ -42,12 +37,11 @@ TakesAll config past events (Ok done) world =
 TakesAll config past events (Err refusal) world = Stops config past events refusal world
 
 -- why a round stops after some events, with these left: the frames of the next one's node are full; or it has no fault, and
--- memory was wanted, which it takes, where it is an arrival for a frame that is awaited
-abbrev pub StopsFor : Config → History → State → List Event → StepFault → Type 0
-StopsFor config now world (event ∷ rest) FramesFull = fault config now event ≡ Some FramesFull
-StopsFor config now world (event ∷ rest) Memory =
-    (fault config now event ≡ None) × (TakesNoMemory config now event → ⊥) × Awaits world event
-StopsFor config now world rest refusal = ⊥
+-- memory was wanted
+abbrev pub StopsFor : Config → History → List Event → StepFault → Type 0
+StopsFor config now (event ∷ rest) FramesFull = fault config now event ≡ Some FramesFull
+StopsFor config now (event ∷ rest) Memory = fault config now event ≡ None
+StopsFor config now rest refusal = ⊥
 
 pub record StopsRound (config : Config) (past : History) (refusal : StepFault) (world : State)
     : Type 0 where
@@ -55,7 +49,7 @@ pub record StopsRound (config : Config) (past : History) (refusal : StepFault) (
   pub rest : List Event
   pub split : plan config past ≡ front ++ rest
   pub accepted : AreAccepted config past front
-  pub cause : StopsFor config (history_from config past front) world rest refusal
+  pub cause : StopsFor config (history_from config past front) rest refusal
   pub stands : Stands config (history_from config past front) world
 
 -- all events of the plan were taken, and that many of them made a frame

@@ -1,6 +1,6 @@
 //! What may happen next: why the group would refuse an event, and the events that bring something new.
-ghost use Rattle.std.specs.Prelude.{◌≡◌, ◌⊎◌, ◌<◌, ◌++◌, ◌∷◌, [], None, IfOk, OnOk, length, slice_get};
-ghost use Rattle.std.specs.List.{All, filter, flat_map};
+ghost use Rattle.std.specs.Prelude.{◌≡◌, ◌⊎◌, ◌<◌, ◌++◌, ◌∷◌, [], IfOk, OnOk, length, slice_get};
+ghost use Rattle.std.specs.List.{filter, flat_map};
 ghost use Rattle.cast_model.specs.History.{frames};
 ghost use Rattle.cast_model.specs.Replies.{fault};
 ghost use Rattle.cast_model.specs.Rounds.{Rest, due};
@@ -52,8 +52,6 @@ impl World {
     pub fn events_enabled(&self) -> Result<Vec<Event>, AllocError>
         ensures exact { StandingFor self.now (λ config past.
             IfOk result (λ events. events.items ≡ enabled config past)) }
-        ensures enabled { StandingFor self.now (λ config past. IfOk result (λ events.
-            All (λ event. fault config past event ≡ None) events.items)) }
         ensures rest { StandingFor self.now (λ config past. IfOk result (λ events.
             events.items ≡ [] → Rest config past ⊎ HasFullNode config past)) }
     {

@@ -4,10 +4,9 @@ ghost use Rattle.std.specs.Prelude.{◌≡◌, ℕ, ◌==◌, true, false, not, 
 ghost use Rattle.cast_message.specs.declared.config.Config.{Config as Settings};
 ghost use Rattle.cast_model.specs.Steps.{Arrived, making};
 ghost use Rattle.cast_model.specs.Replies.{IsRefused};
-ghost use Rattle.cast_node.specs.Kept.{Kept};
-ghost use Rattle.cast_relay.specs.Held.{holds};
+ghost use Rattle.cast_node.specs.Kept.{Kept, holds};
 ghost use Rattle.cast_node.specs.Calls.{number_reply, silent_reply};
-ghost use Rattle.cast_node.specs.Turns.{Gives, frame_made, is_awaited};
+ghost use Rattle.cast_node.specs.Turns.{Gives, frame_made};
 ghost use Rattle.cast_world.specs.Group.{item_in, body_in, frame_in, mark_of};
 ghost use Rattle.cast_world.specs.Moves.{FindsMark};
 
@@ -77,11 +76,10 @@ pub fn find(marks: &Vec<Vec<Mark>>, from: NodeId, seq: u64) -> Result<Mark, Step
     Ok(*mark)
 }
 
-/// The frame of a mark, from its maker and its number. An acknowledgement takes no memory.
+/// The frame of a mark, from its maker and its number.
 pub fn rebuild(nodes: &Vec<Node>, from: NodeId, seq: u64, mark: Mark) -> Result<Frame, AllocError>
-    ensures frame { (config : Settings) →
+    ensures { (config : Settings) →
         IfOk result (λ frame. frame ≡ frame_in config nodes.now.items from seq mark) }
-    ensures err { OnErr result ((mark.sender == 255) ≡ false) }
 {
     let to = mark.to;
     let body = body_of(nodes, mark)?;
@@ -95,9 +93,8 @@ pub fn rebuild(nodes: &Vec<Node>, from: NodeId, seq: u64, mark: Mark) -> Result<
 
 // What a marked frame says, with the item from the stream of its message's sender.
 fn body_of(nodes: &Vec<Node>, mark: Mark) -> Result<FrameBody, AllocError>
-    ensures body { (config : Settings) →
+    ensures { (config : Settings) →
         IfOk result (λ body. body ≡ body_in config nodes.now.items mark) }
-    ensures err { OnErr result ((mark.sender == 255) ≡ false) }
 {
     let slot = u64::from(mark.slot);
     if mark.sender.0 == NOBODY {
@@ -168,7 +165,7 @@ fn arrive_acknowledgement(node: &mut Node, from: NodeId, mark: &Mark) -> bool
 
 // Whether a node holds the message of a mark, so that its item is nothing to the node.
 fn is_held(node: &Node, mark: &Mark) -> bool
-    ensures { result ≡ holds node.now.relay mark.now.sender mark.now.number }
+    ensures { result ≡ holds node.now mark.now.sender mark.now.number }
 {
     node.holds(mark.sender, u64::from(mark.number))
 }
@@ -176,7 +173,7 @@ fn is_held(node: &Node, mark: &Mark) -> bool
 // A message arrives that the node holds.
 fn arrive_again(node: &mut Node, from: NodeId, mark: &Mark) -> bool
     requires carries { (mark.now.sender == 255) ≡ false }
-    requires held { holds node.old.relay mark.now.sender mark.now.number ≡ true }
+    requires held { holds node.old mark.now.sender mark.now.number ≡ true }
     requires target { mark.now.to ≡ node.old.me }
     ensures took { (config : Settings) (nodes : List Kept) (seq : ℕ) → IsTrue result →
         Gives node.old (Arrived (frame_in config nodes from seq mark.now))
@@ -194,9 +191,7 @@ fn arrive_again(node: &mut Node, from: NodeId, mark: &Mark) -> bool
 /// A frame arrives at its target.
 pub fn arrive(node: &mut Node, frame: &Frame) -> Reply
     requires { frame.now.to ≡ node.old.me }
-    ensures gives { Gives node.old (Arrived frame.now) result node.new }
-    ensures awaited { OnErr result (node.old.live ≡ true →
-        is_awaited node.old frame.now.from frame.now.body ≡ true) }
+    ensures { Gives node.old (Arrived frame.now) result node.new }
 {
     let outcome = node.arrive(frame)?;
     Ok(Answer::Arrived {
@@ -208,7 +203,7 @@ pub fn arrive(node: &mut Node, frame: &Frame) -> Reply
 /// Whether the frame of a mark carries a message that a node holds.
 pub fn carries_held(node: &Node, mark: &Mark) -> bool
     ensures { result ≡ (not (mark.now.sender == 255)
-        && holds node.now.relay mark.now.sender mark.now.number) }
+        && holds node.now mark.now.sender mark.now.number) }
 {
     !is_acknowledgement(mark) && is_held(node, mark)
 }
@@ -216,13 +211,10 @@ pub fn carries_held(node: &Node, mark: &Mark) -> bool
 /// The frame of a mark arrives at its target, which holds its message: so its item is not sought in its sender's stream.
 pub fn arrive_held(node: &mut Node, from: NodeId, mark: &Mark) -> Reply
     requires carries { (mark.now.sender == 255) ≡ false }
-    requires held { holds node.old.relay mark.now.sender mark.now.number ≡ true }
+    requires held { holds node.old mark.now.sender mark.now.number ≡ true }
     requires target { mark.now.to ≡ node.old.me }
-    ensures gives { (config : Settings) (nodes : List Kept) (seq : ℕ) → Gives node.old
+    ensures { (config : Settings) (nodes : List Kept) (seq : ℕ) → Gives node.old
         (Arrived (frame_in config nodes from seq mark.now)) result node.new }
-    ensures awaited { (config : Settings) (nodes : List Kept) →
-        OnErr result (node.old.live ≡ true →
-        is_awaited node.old from (body_in config nodes mark.now) ≡ true) }
 {
     let outcome = node.arrive_again(
         from,

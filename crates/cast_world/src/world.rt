@@ -5,9 +5,9 @@ ghost use Rattle.cast_model.specs.History.{is_live};
 ghost use Rattle.cast_model.specs.Replies.{reply};
 ghost use Rattle.cast_model.specs.Delivery.{decision};
 ghost use Rattle.cast_model.specs.Shown.{ShowsDelivered, ShowsStream, ShowsOwed};
-ghost use Rattle.cast_world.specs.Group.{Stands, StandingFor, Continues, FindsNode, IsFar, TakesNoMemory, IsRefusedForCause, node_at, marks_at};
+ghost use Rattle.cast_world.specs.Group.{Stands, StandingFor, Continues, FindsNode, IsFar, IsCrash, IsRefusedForCause, node_at, marks_at};
 ghost use Rattle.cast_node.specs.Calls.{number_reply, silent_reply};
-ghost use Rattle.cast_world.specs.Moves.{Awaits, FindsMark, IsAwaited, IsSilent, MakesFrame, StepsTo};
+ghost use Rattle.cast_world.specs.Moves.{FindsMark, IsSilent, MakesFrame, StepsTo};
 
 use crate::frames::{self, Mark};
 use cast_message::FrameKind::{Carry, Took};
@@ -78,14 +78,9 @@ impl World {
         ensures far { StandingFor self.old (λ config past.
             IsFar event.now → IsRefusedForCause config past event.now result) }
 
-        // Neither a crash takes memory nor the arrival of a frame that arrived before, of one whose slot was taken, or
-        // acknowledged, before, or, in basic mode, of an acknowledgement.
+        // A crash never wants memory.
         ensures sure { StandingFor self.old (λ config past.
-            TakesNoMemory config past event.now → result ≡ reply config past event.now) }
-
-        // An arrival wants memory only where its target awaits the frame: for a message that did not come so before, or one whose
-        // turn comes by it.
-        ensures awaited { OnErr result (Awaits self.old event.now) }
+            IsCrash event.now → result ≡ reply config past event.now) }
     {
         match event {
             Event::Order { node, item } => self.order(*node, item),
@@ -125,7 +120,7 @@ impl World {
             return Err(fault);
         }
         let item = item.copy()?;
-        let (number, outcome) = self.nodes[place].order(item)?;
+        let (number, outcome) = self.nodes[place].order_asked(item)?;
         Ok(Answer::Ordered { number, outcome })
     }
 
@@ -153,8 +148,7 @@ impl World {
     }
 
     fn arrive(&mut self, from: NodeId, seq: u64) -> Reply
-        ensures steps { StepsTo self.old (Event.Arrive from seq) result self.new }
-        ensures awaited { OnErr result (IsAwaited self.old from seq) }
+        ensures { StepsTo self.old (Event.Arrive from seq) result self.new }
     {
         let mark = frames::find(&self.marks, from, seq)?;
         let place = usize::from(mark.to.0);

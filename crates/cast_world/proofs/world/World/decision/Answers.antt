@@ -8,5 +8,5 @@ returns-in_err-node c config past st = c.from_residual.ensures ∙ decision_nowh
 
 pub returns : goal.returns
 returns c config past st =
-    c.decision.ensures ∙ ap (λ node. decision node.agree c.args.instance) c.in_ok-node.ensures.1
+    c.decision.ensures ∙ ap (λ node. decision node.deliveries.agree c.args.instance) c.in_ok-node.ensures.1
     ∙ decision_shown config past c.args.self.now st c.args.node c.args.instance (subst (λ n. c.args.node < n) st.size c.in_ok-node.ensures.0)

@@ -2,7 +2,7 @@ use Rattle.std.proofs.Common.{◌∙◌, arith, sym}
 use Rattle.std.specs.List.{filter, flat_map}
 use Rattle.cast_model.specs.Rounds.{due}
 use Rattle.cast_world.specs.Offers.{is_possible, makings, arrivals_new}
-use Rattle.cast_world.proofs.Offering.{grown_to, listed, all_possible, rest_or_full}
+use Rattle.cast_world.proofs.Offering.{grown_to, listed, rest_or_full}
 use Rattle.cast_world.proofs.world.World.events_enabled.Goals as goal
 
 pub loop-from-preserved : goal.loop-from-preserved
@@ -14,9 +14,6 @@ pub returns-clause-exact : goal.returns-clause-exact
 returns-clause-exact c config past st =
     let size = st.size in
     listed config past c.loop-from.from c.loop-from.events.items (omega (arith, c.loop-from.auto.from-end, c.loop-from-test.false, c.node_count-from-end.ensures.value, size)) (c.loop-from.invariant config past st)
-
-pub returns-clause-enabled : goal.returns-clause-enabled
-returns-clause-enabled c config past st = all_possible config past c.loop-from.events.items (returns-clause-exact c config past st)
 
 pub returns-clause-rest : goal.returns-clause-rest
 returns-clause-rest c config past st none = rest_or_full config past st.accepted (sym (returns-clause-exact c config past st) ∙ none)

@@ -2,8 +2,7 @@ use Rattle.std.proofs.Common.{sym, subst}
 use Rattle.cast_message.specs.declared.event.Event.TheVariants.{Order, Send, Ack, Arrive, Crash}
 use Rattle.cast_world.specs.Moves.{StepsTo}
 use Rattle.cast_world.proofs.Stepping.{continues_to, is_answered}
-use Rattle.cast_world.specs.Group.{TakesNoMemory}
-use Rattle.cast_world.proofs.Again.{answered_again}
+use Rattle.cast_world.specs.Group.{IsCrash}
 use Rattle.cast_world.proofs.Far.{refused_far}
 use Rattle.cast_world.proofs.world.World.step.Goals as goal
 
@@ -17,7 +16,7 @@ pub returns-in-Ack-clause-stands : goal.returns-in-Ack-clause-stands
 returns-in-Ack-clause-stands c config past st = rw c.in-Ack.is (continues_to config past c.args.self.now st (Ack c.in-Ack.from c.in-Ack.to c.in-Ack.slot) c.sent-in-Ack.result c.make-in-Ack.new.self (subst (λ r. StepsTo c.args.self.now (Ack c.in-Ack.from c.in-Ack.to c.in-Ack.slot) r c.make-in-Ack.new.self) (sym c.sent-in-Ack.ensures) c.make-in-Ack.ensures))
 
 pub returns-in-Arrive-clause-stands : goal.returns-in-Arrive-clause-stands
-returns-in-Arrive-clause-stands c config past st = rw c.in-Arrive.is (continues_to config past c.args.self.now st (Arrive c.in-Arrive.from c.in-Arrive.seq) c.arrive.result c.arrive.new.self c.arrive.ensures.steps)
+returns-in-Arrive-clause-stands c config past st = rw c.in-Arrive.is (continues_to config past c.args.self.now st (Arrive c.in-Arrive.from c.in-Arrive.seq) c.arrive.result c.arrive.new.self c.arrive.ensures)
 
 pub returns-in-Crash-clause-stands : goal.returns-in-Crash-clause-stands
 returns-in-Crash-clause-stands c config past st = rw c.in-Crash.is (continues_to config past c.args.self.now st (Crash c.in-Crash.node) c.crash.result c.crash.new.self c.crash.ensures.steps)
@@ -38,18 +37,16 @@ pub returns-in-Crash-clause-far : goal.returns-in-Crash-clause-far
 returns-in-Crash-clause-far c config past st far = refused_far config past st.accepted c.args.event.now c.crash.result c.crash.new.self far (returns-in-Crash-clause-stands c config past st)
 
 pub returns-in-Order-clause-sure : goal.returns-in-Order-clause-sure
-returns-in-Order-clause-sure c config past st none = absurd (subst (TakesNoMemory config past) c.in-Order.is none)
+returns-in-Order-clause-sure c config past st none = absurd (subst IsCrash c.in-Order.is none)
 
 pub returns-in-Send-clause-sure : goal.returns-in-Send-clause-sure
-returns-in-Send-clause-sure c config past st none = absurd (subst (TakesNoMemory config past) c.in-Send.is none)
+returns-in-Send-clause-sure c config past st none = absurd (subst IsCrash c.in-Send.is none)
 
 pub returns-in-Ack-clause-sure : goal.returns-in-Ack-clause-sure
-returns-in-Ack-clause-sure c config past st none = absurd (subst (TakesNoMemory config past) c.in-Ack.is none)
+returns-in-Ack-clause-sure c config past st none = absurd (subst IsCrash c.in-Ack.is none)
 
 pub returns-in-Arrive-clause-sure : goal.returns-in-Arrive-clause-sure
-returns-in-Arrive-clause-sure c config past st =
-    rw c.in-Arrive.is
-    (λ before. answered_again config past c.args.self.now st c.in-Arrive.from c.in-Arrive.seq before c.arrive.result c.arrive.new.self c.arrive.ensures.awaited (continues_to config past c.args.self.now st (Arrive c.in-Arrive.from c.in-Arrive.seq) c.arrive.result c.arrive.new.self c.arrive.ensures.steps))
+returns-in-Arrive-clause-sure c config past st none = absurd (subst IsCrash c.in-Arrive.is none)
 
 pub returns-in-Crash-clause-sure : goal.returns-in-Crash-clause-sure
 returns-in-Crash-clause-sure c config past st _ = is_answered config past c.args.event.now c.crash.result c.crash.new.self c.crash.ensures.sure (returns-in-Crash-clause-stands c config past st)
