@@ -108,7 +108,7 @@ HadNoOrder None = ⊤
 HadNoOrder (Some desk) = HasTakenOfEnded desk.orders.ended desk.orders.taken
 
 -- why a parcel is dropped: it is for another node, or some node could have made its frame for this one, and something may come of
--- it, which takes memory
+-- it, for which memory may be wanting
 abbrev pub IsDropped : JournalState → Parcel → Type 0
 IsDropped j x =
     (x.frame.to ≢ j.node.me) ⊎ MayCome j.node x.frame
