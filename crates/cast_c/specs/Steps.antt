@@ -24,8 +24,7 @@ use Rattle.cast_model.specs.History.{History}
 use Rattle.cast_model.specs.Replies.{IsAccepted, reply}
 use Rattle.cast_model.specs.Rounds.{Rest, AreAccepted, HoldTheSame, after_round, plan}
 use Rattle.cast_model.specs.Shown.{item_of}
-use Rattle.cast_world.specs.Group.{State, Stands, StandingFor, Continues, IsFar, IsRefusedForCause, TakesNoMemory}
-use Rattle.cast_world.specs.Moves.{Awaits}
+use Rattle.cast_world.specs.Group.{State, Stands, StandingFor, Continues, IsFar, IsCrash, IsRefusedForCause}
 use Rattle.cast_world.specs.Rounds.{TakesRound, Spreads}
 use Rattle.cast_c.specs.Numbers.{event_in, orders_bytes}
 use Rattle.cast_c.specs.declared.numbers.EventNumbers.{EventNumbers}
@@ -86,8 +85,7 @@ pub record IsStep (old : State) (event : Event) (status : ℕ) (told : ReplyNumb
   pub far : StandingFor old (λ config past.
       IsFar event → IsRefusedForCause config past event made)
   pub sure : StandingFor old (λ config past.
-      TakesNoMemory config past event → made ≡ reply config past event)
-  pub awaited : OnErr made (Awaits old event)
+      IsCrash event → made ≡ reply config past event)
 
 -- the same of an event that is given as numbers and bytes: these are of no event; or no memory was there to copy bytes that it orders
 abbrev pub IsStepOf : State → Option Event → ℕ → ReplyNumbers → State → Type 0

@@ -13,11 +13,10 @@ use Rattle.cast_message.specs.declared.message.Message.{Message}
 use Rattle.cast_model.specs.Steps.{Step, Ordered, Sent, Acknowledged, Arrived, Stopped, making}
 use Rattle.cast_model.specs.OwnSteps.{is_stop}
 use Rattle.std.specs.Prelude.{Ok}
-use Rattle.cast_relay.specs.Held.{holds}
 use Rattle.cast_log.specs.declared.entry.Entry.{Entry}
 use Rattle.cast_log.specs.declared.entry.EntryKind.{EntryKind}
-use Rattle.cast_node.specs.Kept.{Kept, link_to, is_enough}
-use Rattle.cast_node.specs.Turns.{Told, told, released, unmoved, kept_after, arrived_body, carried, acknowledged, may_arrive, with_taken, with_knower, taken_up, Gives}
+use Rattle.cast_node.specs.Kept.{Kept, link_to, holds}
+use Rattle.cast_node.specs.Turns.{Told, unmoved, kept_after, arrived_body, carried, acknowledged, may_arrive, with_taken, told_more, taken_up, Gives}
 use Rattle.cast_node.specs.declared.report.EngineEnd.{EngineEnd}
 use Rattle.cast_node.specs.declared.report.EngineEnd.TheVariants.{Crashed, LogFull, ClockFull, Stopped as AllStopped, TurnLimit}
 use Rattle.cast_node.specs.Linked.{event_of}
@@ -68,24 +67,19 @@ either_live : (b : Bool) (x y : Told) (live : Bool) → x.kept.live ≡ live →
 either_live true x y live p q = p
 either_live false x y live p q = q
 
-told_live : (kept : Kept) (s i : ℕ) → (told kept s i).kept.live ≡ kept.live
-told_live kept s i = either_live (is_enough kept s i) (released kept s i) (unmoved kept) kept.live refl refl
-
 carried_live : (kept : Kept) (from : ℕ) (m : Message) → (carried kept from m).kept.live ≡ kept.live
-carried_live kept from m =
-    either_live (holds kept.relay m.sender m.number) (told (with_knower kept m.sender m.number from) m.sender m.number) (told (taken_up kept m from) m.sender m.number) kept.live
-    (told_live (with_knower kept m.sender m.number from) m.sender m.number) (told_live (taken_up kept m from) m.sender m.number)
+carried_live kept from m = either_live (holds kept m.sender m.number) (told_more kept m.sender m.number from) (taken_up kept m from) kept.live refl refl
 
 acknowledged_live : (kept : Kept) (from slot : ℕ) (o : Option Message) → (acknowledged kept from slot o).kept.live ≡ kept.live
 acknowledged_live kept from slot None = refl
-acknowledged_live kept from slot (Some m) = told_live _ m.sender m.number
+acknowledged_live kept from slot (Some m) = refl
 
 body_live : (kept : Kept) (from : ℕ) (body : FrameBody) → (arrived_body kept from body).kept.live ≡ kept.live
 body_live kept from (Carry slot m) = carried_live (with_taken kept from slot) from m
 body_live kept from (Took slot) = acknowledged_live kept from slot (finite.get (link_to kept from).owed slot)
 
 pub live_after : (kept : Kept) (step : Step) → is_stop step ≡ false → (kept_after kept step).live ≡ kept.live
-live_after kept (Ordered item) h = told_live _ kept.me _
+live_after kept (Ordered item) h = refl
 live_after kept (Sent to slot) h = refl
 live_after kept (Acknowledged to slot) h = refl
 live_after kept (Arrived frame) h = either_live (may_arrive kept frame) (arrived_body kept frame.from frame.body) (unmoved kept) kept.live (body_live kept frame.from frame.body) refl

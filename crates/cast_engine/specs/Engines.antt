@@ -1,5 +1,5 @@
 -- An engine, as contracts see it, and what it keeps.
-use Rattle.std.specs.Prelude.{◌≡◌, ◌≢◌, ℕ, ◌+◌, ◌<◌, ◌≤◌, ◌^◌, true, length, List, [], ◌∷◌, ◌++◌, map, slice_get, Option, Some, None, ◌⊎◌, ⊤}
+use Rattle.std.specs.Prelude.{◌≡◌, ◌≢◌, ℕ, ◌+◌, ◌<◌, ◌≤◌, ◌^◌, length, List, [], ◌∷◌, ◌++◌, map, slice_get, Option, Some, None, ◌⊎◌, ⊤}
 use Rattle.cast_message.specs.declared.config.Config.{Config}
 use Rattle.cast_message.specs.declared.message.Frame.{Frame}
 use Rattle.cast_box.specs.Ends.{PutterEnd, TakerEnd, IsSamePutter, IsSameTaker, AreSamePutters}
@@ -108,7 +108,7 @@ HadNoOrder None = ⊤
 HadNoOrder (Some desk) = HasTakenOfEnded desk.orders.ended desk.orders.taken
 
 -- why a parcel is dropped: it is for another node, or some node could have made its frame for this one, and something may come of
--- it, which takes memory
+-- it, for which memory may be wanting
 abbrev pub IsDropped : JournalState → Parcel → Type 0
 IsDropped j x =
     (x.frame.to ≢ j.node.me) ⊎ MayCome j.node x.frame

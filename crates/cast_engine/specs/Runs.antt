@@ -25,7 +25,7 @@ use Rattle.cast_log.specs.declared.entry.Entry.{Entry}
 use Rattle.cast_log.specs.declared.entry.EntryKind.TheVariants.{Step as StepEntry, Refused}
 use Rattle.cast_node.specs.Kept.{Kept}
 use Rattle.cast_node.specs.Stands.{Stands}
-use Rattle.cast_node.specs.Turns.{is_awaited, may_arrive}
+use Rattle.cast_node.specs.Turns.{may_want}
 use Rattle.cast_box.specs.Lists.{EndsWith}
 use Rattle.cast_desk.specs.declared.desk.OrderIn.{OrderIn}
 use Rattle.cast_carrier.specs.declared.parcel.Parcel.{Parcel}
@@ -147,9 +147,9 @@ abbrev pub HasTakenEach : List (ℕ × Parcel) → Trail → Type 0
 HasTakenEach taken trail =
     (test : Frame → Bool) → count_by test (arrivals_in trail) ≤ count_by (λ m. test m.1.frame) taken
 
--- some node could have made the frame for this one, and something may come of it, which takes memory
+-- some node could have made the frame for this one, and something may come of it
 abbrev pub MayCome : Kept → Frame → Type 0
-MayCome kept frame = (may_arrive kept frame ≡ true) × (is_awaited kept frame.from frame.body ≡ true)
+MayCome kept frame = may_want kept frame ≡ true
 
 -- why a parcel may be dropped: it is for another node, it has the last stamp, by which the clock is full, or something might have come
 -- of it when it was taken, for which memory may have been wanting

@@ -1,12 +1,11 @@
 //! The node of an engine, with its log and its clock.
 ghost use Rattle.std.specs.Prelude.{◌≡◌, ◌+◌, ◌-◌, ◌<◌, ◌^◌, ◌⊎◌, [], length, true, Some, None, Err, IfOk, IfErr, OnOk, OnErr, IsTrue, IsFalse, IsSome, is_some};
-ghost use Rattle.cast_message.specs.Items.{has_bytes};
-ghost use Rattle.cast_message.specs.declared.message.FrameKind.TheVariants.{Carry, Took};
-ghost use Rattle.cast_model.specs.Steps.{Sent, Acknowledged, Arrived, Stopped, making};
+ghost use Rattle.cast_message.specs.declared.message.FrameKind.TheVariants.{Took};
+ghost use Rattle.cast_model.specs.Steps.{Acknowledged, Arrived, Stopped, making};
 ghost use Rattle.cast_node.specs.Linked.{event_of};
 ghost use Rattle.cast_node.specs.Calls.{sent_reply};
 ghost use Rattle.cast_node.specs.Kept.{nothing_kept};
-ghost use Rattle.cast_node.specs.Turns.{Gives, kept_fault, frame_made, message_owed, is_awaited, may_arrive};
+ghost use Rattle.cast_node.specs.Turns.{Gives, kept_fault, frame_made, may_want};
 ghost use Rattle.cast_node.specs.declared.report.EngineEnd.TheVariants.{Crashed, TurnLimit, ClockFull};
 ghost use Rattle.cast_engine.specs.Journals.{MayLog, LogsStep, LogsOrder, Halts, HaltsBy, Rises, EndsAs, AsksOrder, MayEnd};
 
@@ -157,9 +156,7 @@ impl Journal {
             (LogsStep self.old self.new (Arrived parcel.now.frame) None parcel.now.stamp) }
         ensures ended { self.new.ended ≡ self.old.ended }
         ensures err { OnErr result (self.new ≡ self.old) }
-        ensures possible { OnErr result (may_arrive self.old.node parcel.now.frame ≡ true) }
-        ensures awaited { OnErr result (is_awaited self.old.node parcel.now.frame.from
-            parcel.now.frame.body ≡ true) }
+        ensures wants { OnErr result (may_want self.old.node parcel.now.frame ≡ true) }
     {
         let outcome = self.node.arrive(&parcel.frame)?;
         let stamp = self.clock.max(parcel.stamp) + 1;
@@ -180,7 +177,7 @@ impl Journal {
     }
 
     /// Makes a frame of this kind for a slot, and logs it, or answers why the node makes none: want of memory only for one that
-    /// carries a message with bytes. A refusal changes nothing.
+    /// carries a message. A refusal changes nothing.
     pub fn make(&mut self, kind: FrameKind, to: NodeId, slot: u64) -> Result<Parcel, StepFault>
         requires { MayLog self.old }
         ensures ok { OnOk result
@@ -194,9 +191,6 @@ impl Journal {
             Gives self.old.node (making kind to slot) (Err fault) self.old.node) }
         ensures sure { kind ≡ Took → IfErr result (λ fault.
             kept_fault self.old.node (Acknowledged to slot) ≡ Some fault) }
-        ensures payload { kind ≡ Carry →
-            OnErr result (kept_fault self.old.node (Sent to slot) ≡ None →
-            has_bytes (message_owed self.old.node to slot).item ≡ true) }
     {
         let from = self.node.id();
         let frame = frame_by(&mut self.node, kind, to, slot)?;
@@ -346,8 +340,6 @@ fn frame_by(node: &mut Node, kind: FrameKind, to: NodeId, slot: u64) -> Result<F
     ensures made { IfOk result (λ frame. frame ≡ frame_made kind node.old to slot) }
     ensures sure { kind ≡ Took →
         IfErr result (λ fault. kept_fault node.old (Acknowledged to slot) ≡ Some fault) }
-    ensures payload { kind ≡ Carry → OnErr result (kept_fault node.old (Sent to slot) ≡ None →
-        has_bytes (message_owed node.old to slot).item ≡ true) }
 {
     match kind {
         FrameKind::Carry => node.send(to, slot),
@@ -365,7 +357,7 @@ fn event_by(kind: FrameKind, from: NodeId, to: NodeId, slot: u64) -> Event
     }
 }
 
-// Asks the node to take up an item, of which a copy is kept for the log.
+// Asks the node to take up an item, of which a copy is kept for the log. Why it refuses is asked once.
 fn ask(node: &mut Node, item: Item) -> Result<(Item, Outcome), StepFault>
     ensures gives { AsksOrder node.old node.new item result }
     ensures copy { IfOk result (λ told. told.0 ≡ item) }
@@ -374,6 +366,6 @@ fn ask(node: &mut Node, item: Item) -> Result<(Item, Outcome), StepFault>
         return Err(fault);
     }
     let copy = item.copy()?;
-    let (_number, outcome) = node.order(item)?;
+    let (_number, outcome) = node.order_asked(item)?;
     Ok((copy, outcome))
 }
