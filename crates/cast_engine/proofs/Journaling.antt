@@ -16,7 +16,7 @@ use Rattle.std.specs.Prelude.{Ok}
 use Rattle.cast_log.specs.declared.entry.Entry.{Entry}
 use Rattle.cast_log.specs.declared.entry.EntryKind.{EntryKind}
 use Rattle.cast_node.specs.Kept.{Kept, link_to, holds}
-use Rattle.cast_node.specs.Turns.{Told, unmoved, kept_after, arrived_body, carried, acknowledged, may_arrive, with_taken, told_more, taken_up, Gives}
+use Rattle.cast_node.specs.Turns.{Told, unmoved, kept_after, arrived_body, acknowledged, may_arrive, with_taken, told_more, taken_up, Gives}
 use Rattle.cast_node.specs.declared.report.EngineEnd.{EngineEnd}
 use Rattle.cast_node.specs.declared.report.EngineEnd.TheVariants.{Crashed, LogFull, ClockFull, Stopped as AllStopped, TurnLimit}
 use Rattle.cast_node.specs.Linked.{event_of}
@@ -67,15 +67,14 @@ either_live : (b : Bool) (x y : Told) (live : Bool) → x.kept.live ≡ live →
 either_live true x y live p q = p
 either_live false x y live p q = q
 
-carried_live : (kept : Kept) (from : ℕ) (m : Message) → (carried kept from m).kept.live ≡ kept.live
-carried_live kept from m = either_live (holds kept m.sender m.number) (told_more kept m.sender m.number from) (taken_up kept m from) kept.live refl refl
-
 acknowledged_live : (kept : Kept) (from slot : ℕ) (o : Option Message) → (acknowledged kept from slot o).kept.live ≡ kept.live
 acknowledged_live kept from slot None = refl
 acknowledged_live kept from slot (Some m) = refl
 
 body_live : (kept : Kept) (from : ℕ) (body : FrameBody) → (arrived_body kept from body).kept.live ≡ kept.live
-body_live kept from (Carry slot m) = carried_live (with_taken kept from slot) from m
+body_live kept from (Carry slot m) =
+    let k = with_taken kept from slot in
+    either_live (holds k m.sender m.number) (told_more k m.sender m.number from) (taken_up k m from) kept.live refl refl
 body_live kept from (Took slot) = acknowledged_live kept from slot (finite.get (link_to kept from).owed slot)
 
 pub live_after : (kept : Kept) (step : Step) → is_stop step ≡ false → (kept_after kept step).live ≡ kept.live

@@ -3,7 +3,7 @@
 //!
 //! `meet SCRIPT`: the engine of node 0 waits at its first turn until the jobs of all other nodes have their replies, and the
 //! others until that of node 0 has come to its gate. One thread for all of them could not pass.
-//! `calls SCRIPT`: each engine waits until the jobs were called as often as the script has turns.
+//! `calls CALLS SCRIPT`: a job is called so often at most, and each engine waits until the jobs were called so often.
 //! `open GATES SCRIPT`: so many gates, which stand open.
 //! `keep SCRIPT`: a job keeps each notice that it gets.
 //! `silent SCRIPT`: a job takes no notice.
@@ -19,7 +19,7 @@ use crate::words::Words;
 use anyhow::{Context, Result, bail};
 use cast_message::{Item, List, NodeId};
 use cast_node::{EntryKind, KindRef, Log};
-use cast_run::{ClientReport, LiveFault, LiveRun, OpenGate, run_live};
+use cast_run::{ClientReport, Limits, LiveFault, LiveRun, OpenGate, run_live};
 use cast_script::{Script, read_script};
 pub use jobs::Signal;
 use jobs::{Keeper, Silent};
@@ -47,18 +47,16 @@ fn run_line<R: Print + Threads + Wait + Copy + Send + 'static>(
     mut words: Words<'_>,
 ) -> Result<()> {
     let asked = words.word();
-    let gates = if asked == "open" {
-        Some(words.number()?)
-    } else {
-        None
+    let count = match asked {
+        "open" | "calls" => words.number()?,
+        _ => 0,
     };
     let script = read_script(alloc, words.rest.as_bytes())?;
-    let gates = gates.unwrap_or(script.config.nodes());
-    let calls = script.turns;
+    let nodes = script.config.nodes();
     match asked {
-        "meet" => meet(rt, alloc, script, gates, Wanted::OneAnother),
-        "calls" => meet(rt, alloc, script, gates, Wanted::Calls(calls)),
-        "open" => meet(rt, alloc, script, gates, Wanted::Nothing),
+        "meet" => meet(rt, alloc, script, nodes, Wanted::OneAnother),
+        "calls" => meet(rt, alloc, script, nodes, Wanted::Calls(count)),
+        "open" => meet(rt, alloc, script, count, Wanted::Nothing),
         "keep" => print_kept(rt, alloc, script),
         "silent" => print_silent(rt, alloc, script),
         other => bail!("{other:?} is no call"),
@@ -75,15 +73,14 @@ fn meet<R: Print + Threads + Wait + Copy + Send + 'static>(
     wanted: Wanted,
 ) -> Result<()> {
     let meeting = Arc::new(alloc, Meeting::new(wanted))?;
-    let fault = run_signals(rt, alloc, script, gates, &meeting).err();
+    let clients = run_signals(rt, alloc, script, gates, &meeting).map(|run| run.clients);
     if Arc::strong_count(&meeting) > 1 {
         println!(&rt; "a thread is left")?;
     }
-    match fault {
-        Some(fault) => println!(&rt; "fault {}", fault.code())?,
-        None => print_meeting(&rt, &meeting)?,
+    match clients {
+        Err(fault) => Ok(println!(&rt; "fault {}", fault.code())?),
+        Ok(clients) => print_meeting(&rt, &meeting, clients.as_slice()),
     }
-    Ok(())
 }
 
 /// Runs the group of the script with jobs that tell the meeting of what they do, and so many gates.
@@ -103,7 +100,19 @@ pub fn run_signals<R: Threads + Wait + Copy + Send + 'static>(
     } = script;
     let jobs = signals(alloc, jobs, meeting)?;
     let gates = meeting_gates(alloc, gates, meeting)?;
-    run_live(rt, alloc, config, &plan, jobs, gates, turns)
+    let calls = match meeting.wanted {
+        Wanted::Calls(calls) => calls,
+        _ => turns,
+    };
+    run_live(
+        rt,
+        alloc,
+        config,
+        &plan,
+        jobs,
+        gates,
+        Limits { turns, calls },
+    )
 }
 
 /// A job for each of these, in their order, that tells the meeting of what it does.
@@ -120,7 +129,7 @@ pub fn signals(
     Ok(signals)
 }
 
-fn print_meeting(rt: &impl Print, meeting: &Meeting) -> Result<()> {
+fn print_meeting(rt: &impl Print, meeting: &Meeting, clients: &[ClientReport]) -> Result<()> {
     let gave_up = meeting.gave_up.load(Ordering::SeqCst);
     let host = meeting.host_done.load(Ordering::SeqCst);
     let guests = meeting.guests_done.load(Ordering::SeqCst);
@@ -133,6 +142,7 @@ fn print_meeting(rt: &impl Print, meeting: &Meeting) -> Result<()> {
         Wanted::Calls(_) => {
             let calls = meeting.calls.load(Ordering::SeqCst);
             println!(rt; "calls {calls}, gave up {gave_up}")?;
+            print_clients(rt, clients)?;
         }
     }
     Ok(())
@@ -211,7 +221,7 @@ fn run_silent<R: Threads + Wait + Copy + Send + 'static>(
     ensures { IfOk result (λ run. KeptSilent run.jobs.items run.clients.items) }
 {
     let gates = OpenGate::for_nodes(alloc, script.config.nodes())?;
-    match run_live(
+    let run = run_live(
         rt,
         alloc,
         script.config,
@@ -219,10 +229,8 @@ fn run_silent<R: Threads + Wait + Copy + Send + 'static>(
         jobs,
         gates,
         script.turns,
-    ) {
-        Ok(run) => Ok(run),
-        Err(fault) => Err(fault),
-    }
+    )?;
+    Ok(run)
 }
 
 fn print_silent<R: Print + Threads + Wait + Copy + Send + 'static>(

@@ -39,6 +39,8 @@ fn take(rt: &impl Print, alloc: Global, world: &mut World, line: Words<'_>) -> R
             let plan = world.round_plan()?;
             tell_round(rt, take_plan(world, plan.as_slice(), 0))
         }
+        "enabled" => print_events(rt, world.events_enabled()?.as_slice()),
+        "fault" => tell_fault(rt, world.fault(&event(alloc, words)?)),
         "show" => show(rt, world),
         "rest" | "owed" | "known-by" => ask(rt, world, line),
         _ => step(rt, world, &event(alloc, line)?),
@@ -111,14 +113,30 @@ fn print_plan(rt: &impl Print, world: &World) -> Result<()> {
             world.round_plan()?
         }
     };
-    println!(rt; "{}", plan.as_slice().len())?;
-    for event in plan.as_slice() {
+    print_events(rt, plan.as_slice())
+}
+
+// Events that take no items, one a line, behind their number.
+fn print_events(rt: &impl Print, events: &[Event]) -> Result<()> {
+    println!(rt; "{}", events.len())?;
+    for event in events {
         match event {
             Event::Send { from, to, slot } => println!(rt; " send {} {} {slot}", from.0, to.0)?,
             Event::Ack { from, to, slot } => println!(rt; " ack {} {} {slot}", from.0, to.0)?,
             Event::Arrive { from, seq } => println!(rt; " arrive {} {seq}", from.0)?,
             Event::Order { .. } | Event::Crash { .. } => bail!("no event of a round"),
         }
+    }
+    Ok(())
+}
+
+// Why an event would be refused, if it would.
+fn tell_fault(rt: &impl Print, fault: Option<StepFault>) -> Result<()> {
+    match fault {
+        Some(fault) => {
+            refuse(rt, fault)?;
+        }
+        None => println!(rt; "none")?,
     }
     Ok(())
 }
