@@ -1,7 +1,7 @@
 -- Why an event is refused is read off the nodes that it names.
 use Rattle.std.proofs.Common.{◌≡◌, ℕ, ◌<◌, ◌≤◌, refl, sym, ◌∙◌, ap, subst, true, not, [], length, Option, Some, None}
 use Rattle.std.specs.Prelude.{nat_lt, slice_get, option_map, if◌then◌else◌}
-use Rattle.std.proofs.lemmas.Bool.{lt-ltb}
+use Rattle.std.proofs.lemmas.Option.{slice_get-map}
 use Rattle.cast_message.specs.declared.config.Config.{Config}
 use Rattle.cast_message.specs.declared.event.Event.{Event}
 use Rattle.cast_message.specs.declared.event.Event.TheVariants.{Order, Send, Ack, Arrive, Crash}
@@ -24,7 +24,7 @@ use Rattle.cast_node.proofs.Refusals.{faults_are}
 use Rattle.cast_world.specs.declared.frames.Mark.{Mark}
 use Rattle.cast_world.specs.Group.{State, node_at, marks_at, mark_by, mark_of, Stands}
 use Rattle.cast_world.specs.Moves.{actor_of, missing}
-use Rattle.cast_world.proofs.Stepping.{made_all, mark_at, out_of_group, first_holds}
+use Rattle.cast_world.proofs.Stepping.{made_all, out_of_group, first_holds, no_frame}
 
 module _ (config : Config) (past : History) (world : State) (st : Stands config past world) where
   -- an event that names no node
@@ -62,7 +62,7 @@ module _ (config : Config) (past : History) (world : State) (st : Stands config 
 
   -- a mark stands where its frame does
   pub marked : (from seq : ℕ) → slice_get (marks_at world from) seq ≡ option_map mark_of (slice_get (frames past from) seq)
-  marked from seq = ap (λ row. slice_get row seq) (made_all config past world st from) ∙ mark_at config past world st (frames past from) seq
+  marked from seq = ap (λ row. slice_get row seq) (made_all config past world st from) ∙ slice_get-map mark_of (frames past from) seq
 
   pub marked_frame : (from seq : ℕ) (mark : Mark) → slice_get (marks_at world from) seq ≡ Some mark → (frame : Frame) × (slice_get (frames past from) seq ≡ Some frame) × (mark ≡ mark_of frame)
   marked_frame from seq mark there = by_frame (slice_get (frames past from) seq) refl (sym there ∙ marked from seq)
@@ -89,20 +89,11 @@ module _ (config : Config) (past : History) (world : State) (st : Stands config 
       to_again to (Took slot) = refl
 
   -- one that isn't
-  pub by_none : (from seq : ℕ) (refusal : StepFault) → from < length world.nodes → slice_get (marks_at world from) seq ≡ None → refusal ≡ missing (length world.marks) from → Some refusal ≡ fault config past (Arrive from seq)
-  unfolding fault causes
-  by_none from seq refusal inside none is = by_frame (slice_get (frames past from) seq) refl
+  pub by_none : (from seq : ℕ) (refusal : StepFault) → slice_get (marks_at world from) seq ≡ None → refusal ≡ missing (length world.marks) from → Some refusal ≡ fault config past (Arrive from seq)
+  by_none from seq refusal none is = by_frame (slice_get (frames past from) seq) refl
     where
-      in_group : nat_lt from config.nodes ≡ true
-      in_group = lt-ltb from config.nodes (subst (λ n. from < n) st.size inside)
-
-      no_frame : refusal ≡ NoFrame
-      no_frame = is ∙ ap (λ n. if nat_lt from n then NoFrame else NoNode) st.rows ∙ ap (λ b. if b then NoFrame else NoNode) in_group
-
       by_frame : (o : Option Frame) → slice_get (frames past from) seq ≡ o → Some refusal ≡ fault config past (Arrive from seq)
-      by_frame None at =
-          ap Some no_frame
-          ∙ sym (quiet (no_node config from) (causes_of_arrival config past (slice_get (frames past from) seq)) (ap not in_group) ∙ ap (λ o. first_fault (causes_of_arrival config past o)) at ∙ first_holds config past world st (record { holds = true; refusal = NoFrame }) [] refl)
+      by_frame None at = no_frame config past world st from seq refusal at (is ∙ ap (λ n. missing n from) st.rows)
       by_frame (Some frame) at =
           let e = sym none ∙ marked from seq ∙ ap (option_map mark_of) at in
           absurd cc

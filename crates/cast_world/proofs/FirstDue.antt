@@ -23,7 +23,7 @@ use Rattle.cast_model.proofs.RoundFaults.{full, fault-Send}
 use Rattle.cast_world.specs.Group.{State, Stands, marks_at}
 use Rattle.cast_world.specs.Plans.{due_of}
 use Rattle.cast_world.specs.Rounds.{IsSettledWithAll, IsFirstGiver, StopsFor, StopsRound, EndsRound}
-use Rattle.cast_world.proofs.Rounding.{under_way, round_ends}
+use Rattle.cast_world.proofs.Rounding.{left_first, round_ends}
 use Rattle.cast_world.proofs.Stepping.{made_count}
 
 -- what is found first, for numbers in turn
@@ -159,4 +159,4 @@ module _ (config : Config) (past : History) where
     pub nothing_due : Rest config past → EndsRound config past 0 world
     nothing_due rest =
         let none = sym (none_due-from_Rest config past rest) in
-        round_ends config past [] [] [] world 0 none refl refl (under_way config past [] world none st)
+        round_ends config past [] [] world 0 none refl refl (left_first config past [] world none st)

@@ -3,14 +3,16 @@ use Rattle.std.proofs.Common.{◌≡◌, ℕ, zero, suc, ◌+◌, ◌<◌, ◌�
 use Rattle.std.specs.Prelude.{◌==◌, ◌||◌, ◌^◌, slice_index_or}
 use Rattle.std.proofs.lemmas.Bool.{cases_lt}
 use Rattle.std.proofs.lemmas.List.Sums.{count_by-le-length}
+use Rattle.std.proofs.Math.ListN.{get_or-eq_default}
 use Rattle.cast_message.specs.declared.config.Config.{Config}
 use Rattle.cast_message.specs.declared.event.Event.{Event}
 use Rattle.cast_message.specs.declared.event.Event.TheVariants.{Send, Ack, Arrive}
 use Rattle.cast_model.specs.History.{History}
-use Rattle.cast_model.specs.Rounds.{Due, Rest, due, frames_for, events_for, plan_from, plan}
+use Rattle.cast_model.specs.Rounds.{Due, due, frames_for, events_for, plan_from, plan}
 use Rattle.cast_model.proofs.Members.{Member, here, Member-append_right}
-use Rattle.cast_model.proofs.Dues.{due_ok, none_due-from_Rest}
+use Rattle.cast_model.proofs.Dues.{due_ok}
 use Rattle.cast_model.proofs.Round.{frames_for-push}
+use Rattle.cast_node.proofs.Places.{at_replicate}
 use Rattle.cast_world.specs.Group.{State, Stands}
 use Rattle.cast_world.specs.Rounds.{events_after}
 use Rattle.cast_world.proofs.Stepping.{made_count}
@@ -20,24 +22,9 @@ pub record AreCounted (ds : List Due) (made : List ℕ) : Type 0 where
   pub size : length made ≡ 256
   pub counted : (p : ℕ) → p < 256 → slice_index_or made p 0 ≡ frames_for ds p
 
-none_past : (xs : List ℕ) (p : ℕ) → length xs ≤ p → slice_index_or xs p 0 ≡ 0
-none_past [] p l = refl
-none_past (x ∷ xs) zero l = absurd (omega (arith, l))
-none_past (x ∷ xs) (suc p) l = none_past xs p (omega (arith, l))
-
-zero_at : (n p : ℕ) → slice_index_or (replicate {A = ℕ} n 0) p 0 ≡ 0
-zero_at zero p = refl
-zero_at (suc n) zero = refl
-zero_at (suc n) (suc p) = zero_at n p
-
 pub counted_none : (made : List ℕ) → made ≡ replicate 256 0 → AreCounted [] made
 unfolding frames_for
-counted_none made is = subst (AreCounted []) (sym is) (record { size = refl; counted = λ p l. zero_at 256 p })
-
--- at rest there are no events
-pub plan_rest : (config : Config) (past : History) → Rest config past → plan config past ≡ plan_from past [] []
-unfolding plan
-plan_rest config past rest = ap (plan_from past []) (none_due-from_Rest config past rest)
+counted_none made is = subst (AreCounted []) (sym is) (record { size = refl; counted = λ p l. at_replicate 256 p 0 })
 
 -- no slot, no event
 pub plan_none : (past : History) (events : List Event) → events ≡ [] → events ≡ plan_from past [] []
@@ -49,7 +36,7 @@ pub counted_few : (ds : List Due) (made : List ℕ) → length ds < 2 ^ 63 → A
 unfolding frames_for
 counted_few ds made few count p = elim (cases_lt p 256) [
   | inl l ↦ (let h = count.counted p l in let k = count_by-le-length (λ d. d.from == p || d.to == p) ds in omega (arith, h, k, few))
-  | inr l ↦ (let h = none_past made p (let size = count.size in omega (arith, l, size)) in omega (arith, h))
+  | inr l ↦ (let h = get_or-eq_default made 0 {n = p} (let size = count.size in omega (arith, l, size)) in omega (arith, h))
 ]
 
 pub counted_more : (ds : List Due) (d : Due) (made new : List ℕ) → AreCounted ds made → length new ≡ 256 → ((p : ℕ) → p < 256 → slice_index_or new p 0 ≡ slice_index_or made p 0 + cond (d.from == p || d.to == p) 1 0) → AreCounted (ds ++ d ∷ []) new

@@ -58,29 +58,25 @@ module _ (config : Config) (past : History) where
       )
 
   -- the slots before were settled, and these are left
-  pub record IsUnderWay (before left : List Due) (world : State) : Type 0 where
+  pub record IsLeft (left : List Due) (world : State) : Type 0 where
+    pub before : List Due
     pub front : List Event
     pub split : plan config past ≡ front ++ plan_from past before left
     pub stands : Stands config (with_all past front) world
     pub going : Going config past (with_all past front) before left
 
-  pub under_way : (ds : List Due) (world : State) → ds ≡ due config past → Stands config past world → IsUnderWay [] ds world
-  unfolding plan
-  under_way ds world is st = subst (λ all. IsUnderWay [] all world) (sym is) (record { front = []; split = refl; stands = st; going = Going-start config past })
-
-  -- these slots are left, where others were settled before
-  pub record IsLeft (left : List Due) (world : State) : Type 0 where
-    pub before : List Due
-    pub round : IsUnderWay before left world
-
   pub left_first : (ds : List Due) (world : State) → ds ≡ due config past → Stands config past world → IsLeft ds world
-  left_first ds world is st = record { before = []; round = under_way ds world is st }
+  unfolding plan
+  left_first ds world is st = subst (λ all. IsLeft all world) (sym is) (record { before = []; front = []; split = refl; stands = st; going = Going-start config past })
 
   plan_next : (before ds : List Due) (d : Due) → plan_from past before (d ∷ ds) ≡ events_for past before d ++ plan_from past (before ++ d ∷ []) ds
   unfolding plan_from
   plan_next before ds d = refl
 
-  module _ (before ds : List Due) (d : Due) (world : State) (round : IsUnderWay before (d ∷ ds) world) where
+  module _ (ds : List Due) (d : Due) (world : State) (round : IsLeft (d ∷ ds) world) where
+    abbrev before : List Due
+    before = round.before
+
     abbrev now : History
     now = with_all past round.front
 
@@ -98,13 +94,14 @@ module _ (config : Config) (past : History) where
     split_next = round.split ∙ ap (λ events. round.front ++ events) (plan_next before ds d)
 
     module _ (events : List Event) (is : events ≡ events_from world d) (new : State) where
-      pub slot_settled : TakesAll config now events (Ok tt) new → IsUnderWay (before ++ d ∷ []) ds new
+      pub slot_settled : TakesAll config now events (Ok tt) new → IsLeft ds new
       slot_settled takes =
           let all = subst (λ es. TakesAll config now es (Ok tt) new) (is ∙ slot_events) takes in
           let accepted = accepted_all config now (events_for past before d) round.stands.accepted all.0 in
           let after = history_from-with_all config now (events_for past before d) accepted in
           let joined = with_all-append past past round.front (events_for past before d) in
           record {
+            before = before ++ d ∷ [];
             front = round.front ++ events_for past before d;
             split = split_next ∙ sym (append_assoc round.front (events_for past before d) (plan_from past (before ++ d ∷ []) ds));
             stands = subst (λ h. Stands config h new) (after ∙ sym joined) all.1;
@@ -141,10 +138,10 @@ module _ (config : Config) (past : History) where
           stops_for h event later refusal (inr full) refused = subst (StopsFor config h (event ∷ later)) (sym (subst (λ o. IsRefused o refusal) full refused)) full
 
   -- no slot is left
-  pub round_ends : (ds before left : List Due) (world : State) (made : ℕ) → ds ≡ due config past → made ≡ 2 * length ds → left ≡ [] → IsUnderWay before left world → EndsRound config past made world
+  pub round_ends : (ds left : List Due) (world : State) (made : ℕ) → ds ≡ due config past → made ≡ 2 * length ds → left ≡ [] → IsLeft left world → EndsRound config past made world
   unfolding plan_from after_round
-  round_ends ds before left world made is count none round =
-      let whole : plan config past ≡ round.front = round.split ∙ ap (λ rest. round.front ++ plan_from past before rest) none ∙ append-nil round.front in
+  round_ends ds left world made is count none round =
+      let whole : plan config past ≡ round.front = round.split ∙ ap (λ rest. round.front ++ plan_from past round.before rest) none ∙ append-nil round.front in
       let stands : Stands config (with_all past (plan config past)) world = subst (λ all. Stands config (with_all past all) world) (sym whole) round.stands in
       record {
         accepted = all_accepted config past (plan config past) stands.accepted;

@@ -2,6 +2,7 @@
 use Rattle.std.proofs.Common.{◌≡◌, ◌≢◌, ◌⊎◌, ℕ, zero, suc, ◌<◌, ◌≤◌, refl, sym, ◌∙◌, ap, subst, Bool, true, false, cond, List, [], ◌∷◌, length, map, Some, None, inl, inr, arith}
 use Rattle.std.specs.Prelude.{◌==◌, not, if◌then◌else◌, ◌&&◌, ◌-◌, max, take, nat_lt, slice_get, slice_index_or}
 use Rattle.std.proofs.lemmas.Bool.{cases_lt, cases_eq, lt-ltb, ltb-true, lt-leb, and_parts, eq-eqb, ne_eqb, false≢true}
+use Rattle.std.proofs.lemmas.Option.{slice_get-get_or, slice_get_past}
 use Rattle.std.specs.FinMap as finite
 use Rattle.cast_message.specs.declared.config.Config.{Config}
 use Rattle.cast_message.specs.declared.event.Event.{Event}
@@ -45,8 +46,8 @@ module _ (config : Config) (past : History) (world : State) (st : Stands config 
   -- a reader that asks a node of the group
   pub shown_delivered : (q s : ℕ) → q < length world.nodes → ShowsDelivered config past q s (slice_get (node_at world q).deliveries.delivered s)
   shown_delivered q s within = elim (cases_lt s config.nodes) [
-    | inl l ↦ subst (ShowsDelivered config past q s) (sym (get_some (node_at world q).deliveries.delivered s (subst (λ n. s < n) (sym node.senders_delivered) l))) (omega (arith, q_in, l), delivered_shown q s q_in l)
-    | inr l ↦ subst (ShowsDelivered config past q s) (sym (get_none (node_at world q).deliveries.delivered s (subst (λ n. n ≤ s) (sym node.senders_delivered) l))) (omega (arith, l))
+    | inl l ↦ subst (ShowsDelivered config past q s) (sym (slice_get-get_or (node_at world q).deliveries.delivered s [] (subst (λ n. s < n) (sym node.senders_delivered) l))) (omega (arith, q_in, l), delivered_shown q s q_in l)
+    | inr l ↦ subst (ShowsDelivered config past q s) (sym (slice_get_past (node_at world q).deliveries.delivered s (subst (λ n. n ≤ s) (sym node.senders_delivered) l))) (omega (arith, l))
   ]
     where
       q_in : q < config.nodes
@@ -54,16 +55,6 @@ module _ (config : Config) (past : History) (world : State) (st : Stands config 
 
       node : NodeStands config q (steps_of past q) (node_at world q)
       node = st.nodes q q_in
-
-      get_some : (xs : List (List Item)) (i : ℕ) → i < length xs → slice_get xs i ≡ Some (slice_index_or xs i [])
-      get_some [] i l = absurd (omega (arith, l))
-      get_some (x ∷ xs) zero l = refl
-      get_some (x ∷ xs) (suc i) l = get_some xs i (omega (arith, l))
-
-      get_none : (xs : List (List Item)) (i : ℕ) → length xs ≤ i → slice_get xs i ≡ None
-      get_none [] i l = refl
-      get_none (x ∷ xs) zero l = absurd (omega (arith, l))
-      get_none (x ∷ xs) (suc i) l = get_none xs i (omega (arith, l))
 
   pub shown_live : (p : ℕ) → p < length world.nodes → (node_at world p).live ≡ (nat_lt p config.nodes && is_live past p)
   shown_live p within = let l = subst (λ n. p < n) st.size within in live_shown p l ∙ sym (ap (λ b. b && is_live past p) (lt-ltb p config.nodes l))

@@ -4,6 +4,8 @@ use Rattle.std.specs.Prelude.{◌==◌, nat_lt, slice_get, slice_index_or, optio
 use Rattle.std.proofs.lemmas.Bool.{cases_eq, cases_lt, ne_eqb, false≢true, eq-eqb}
 use Rattle.std.proofs.lemmas.Bool.Decides.{nat_tests}
 use Rattle.std.proofs.lemmas.List.{append-nil, map-append}
+use Rattle.std.proofs.lemmas.Option.{slice_get-map}
+use Rattle.std.proofs.Math.ListN.{get_or-eq_default}
 use Rattle.cast_message.specs.declared.config.Config.{Config}
 use Rattle.cast_message.specs.declared.event.Event.{Event}
 use Rattle.cast_message.specs.declared.event.Event.TheVariants.{Order, Send, Ack, Arrive, Crash}
@@ -38,7 +40,7 @@ use Rattle.cast_node.proofs.Continuing.{continues}
 use Rattle.cast_node.proofs.Showing.{carries, tells_taken}
 use Rattle.cast_world.specs.declared.frames.Mark.{Mark}
 use Rattle.cast_world.specs.Group.{State, node_at, marks_at, kept_by, mark_by, mark_of, body_in, frame_by, Stands, Continues}
-use Rattle.cast_world.specs.Moves.{marks_after, Takes, Refuses, TakesStep, ArrivesBy, StepsTo}
+use Rattle.cast_world.specs.Moves.{marks_after, Takes, Refuses, TakesStep, ArrivesBy, StepsTo, missing}
 
 -- an event is no step of another node
 pub other_steps : (past : History) (p : ℕ) (event : Event) (step : Step) → IsStep past p event step → (q : ℕ) → q ≢ p → steps_of (event ∷ past) q ≡ steps_of past q
@@ -149,18 +151,13 @@ module _ (config : Config) (past : History) (world : State) (st : Stands config 
     steps (Ok answered) new outside t = took answered new t
     steps (Err refusal) new outside t = refused refusal new outside t
 
-  past_end : (xs : List (List Mark)) (i : ℕ) → length xs ≤ i → slice_index_or xs i [] ≡ []
-  past_end [] i l = refl
-  past_end (x ∷ xs) zero l = absurd (omega (arith, l))
-  past_end (x ∷ xs) (suc i) l = past_end xs i (omega (arith, l))
-
   -- a number that is no node's made none
   pub made_all : (p : ℕ) → marks_at world p ≡ map mark_of (frames past p)
   made_all p = elim (cases_lt p config.nodes) [
     | inl l ↦ st.made p l
     | inr l ↦
         (let rows = st.rows in
-        past_end world.marks p (omega (arith, l, rows))
+        get_or-eq_default world.marks [] (omega (arith, l, rows))
         ∙ ap (map mark_of) (sym (none_from_absent (frames past p) (λ frame m. let inside = (frame_ends config past st.accepted p frame m).maker_in in omega (arith, l, inside)))))
   ]
 
@@ -175,12 +172,6 @@ module _ (config : Config) (past : History) (world : State) (st : Stands config 
   unfolding first_fault
   first_holds cause more e = ap (λ b. cond b (Some cause.refusal) (first_fault more)) e
 
-  -- the mark of a frame in its place
-  pub mark_at : (all : List Frame) (seq : ℕ) → slice_get (map mark_of all) seq ≡ option_map mark_of (slice_get all seq)
-  mark_at [] seq = refl
-  mark_at (frame ∷ all) zero = refl
-  mark_at (frame ∷ all) (suc seq) = mark_at all seq
-
   -- a frame's body is that of its mark
   pub body_again : (from to : ℕ) (body : FrameBody) → BodyOk past from to body → body_in world.config world.nodes (mark_by to body) ≡ body
   body_again from to (Took slot) ok = refl
@@ -193,22 +184,22 @@ module _ (config : Config) (past : History) (world : State) (st : Stands config 
       ap (λ b. cond b (Took slot) (Carry slot (record { sender = message.sender; number = message.number; item = slice_index_or (node_at world message.sender).stream message.number Close }))) (ne_eqb message.sender 255 (λ e. omega (arith, e, inside, range)))
       ∙ (λ k. Carry slot (record { sender = message.sender; number = message.number; item = (ap (λ items. slice_index_or items message.number Close) stream_is ∙ sym ok.item_is) k }))
 
+  -- why a frame that isn't there does not arrive
+  pub no_frame : (from seq : ℕ) (refusal : StepFault) → slice_get (frames past from) seq ≡ None → refusal ≡ missing config.nodes from → Some refusal ≡ fault config past (Arrive from seq)
+  unfolding fault causes
+  no_frame from seq refusal at is = by_place (nat_lt from config.nodes) refl
+    where
+      by_place : (b : Bool) → nat_lt from config.nodes ≡ b → Some refusal ≡ fault config past (Arrive from seq)
+      by_place true e =
+          ap Some (is ∙ ap (λ c. if c then NoFrame else NoNode) e)
+          ∙ sym (quiet (no_node config from) (causes_of_arrival config past (slice_get (frames past from) seq)) (ap not e) ∙ ap (λ o. first_fault (causes_of_arrival config past o)) at ∙ first_holds (record { holds = true; refusal = NoFrame }) [] refl)
+      by_place false e = ap Some (is ∙ ap (λ c. if c then NoFrame else NoNode) e) ∙ sym (first_holds (no_node config from) (causes_of_arrival config past (slice_get (frames past from) seq)) (ap not e))
+
   -- a frame that isn't there, and one that is
   missed : (from seq : ℕ) (o : Option Frame) → slice_get (frames past from) seq ≡ o → (replied : Result Answer StepFault) (new : State) → ArrivesBy world from seq (option_map mark_of o) replied new → Continues config past (Arrive from seq) replied new
-  unfolding fault causes own_made kept_fault
+  unfolding own_made kept_fault
   missed from seq None at (Ok answered) new t = absurd t
-  missed from seq None at (Err refusal) new t = (by_place (cases_lt from config.nodes), subst (Stands config past) (sym t.0) st)
-    where
-      is_missed : (b : Bool) → nat_lt from config.nodes ≡ b → refusal ≡ (if b then NoFrame else NoNode)
-      is_missed b e = t.1 ∙ ap (λ n. if nat_lt from n then NoFrame else NoNode) st.size ∙ ap (λ c. if c then NoFrame else NoNode) e
-
-      by_place : (from < config.nodes) ⊎ (config.nodes ≤ from) → IsRefused (fault config past (Arrive from seq)) refusal
-      by_place (inl l) =
-          let e : nat_lt from config.nodes ≡ true = grind (arith, nat_tests) in
-          subst (λ o. IsRefused o refusal) (sym (quiet (no_node config from) (causes_of_arrival config past (slice_get (frames past from) seq)) (ap not e) ∙ ap (λ o. first_fault (causes_of_arrival config past o)) at ∙ first_holds (record { holds = true; refusal = NoFrame }) [] refl)) (is_missed true e)
-      by_place (inr l) =
-          let e : nat_lt from config.nodes ≡ false = grind (arith, nat_tests) in
-          subst (λ o. IsRefused o refusal) (sym (first_holds (no_node config from) (causes_of_arrival config past (slice_get (frames past from) seq)) (ap not e))) (is_missed false e)
+  missed from seq None at (Err refusal) new t = (subst (λ o. IsRefused o refusal) (no_frame from seq refusal at (t.1 ∙ ap (λ n. missing n from) st.size)) refl, subst (Stands config past) (sym t.0) st)
   missed from seq (Some frame) at replied new t =
       let member = Member-slice_get (frames past from) seq frame at in
       let ends = frame_ends config past st.accepted from frame member in
@@ -231,7 +222,7 @@ module _ (config : Config) (past : History) (world : State) (st : Stands config 
   continues_to (Order node item) replied new t = steps node (Order node item) (Ordered item) (orders item) [] (λ l none. refl) replied new (λ l. first_holds (no_node config node) _ (out_of_group node l)) t
   continues_to (Send from to slot) replied new t = steps from (Send from to slot) (Sent to slot) (sends to slot) _ (λ l none. ap (map mark_of) (carries config from (steps_of past from) (node_at world from) (st.nodes from l) to slot none)) replied new (λ l. first_holds (no_node config from) _ (out_of_group from l)) t
   continues_to (Ack from to slot) replied new t = steps from (Ack from to slot) (Acknowledged to slot) (acknowledges to slot) _ (λ l none. ap (map mark_of) (tells_taken config from (steps_of past from) (node_at world from) (st.nodes from l) to slot)) replied new (λ l. first_holds (no_node config from) _ (out_of_group from l)) t
-  continues_to (Arrive from seq) replied new t = missed from seq (slice_get (frames past from) seq) refl replied new (subst (λ o. ArrivesBy world from seq o replied new) (ap (λ row. slice_get row seq) (made_all from) ∙ mark_at (frames past from) seq) t)
+  continues_to (Arrive from seq) replied new t = missed from seq (slice_get (frames past from) seq) refl replied new (subst (λ o. ArrivesBy world from seq o replied new) (ap (λ row. slice_get row seq) (made_all from) ∙ slice_get-map mark_of (frames past from) seq) t)
   continues_to (Crash node) replied new t = steps node (Crash node) Stopped stops [] (λ l none. refl) replied new (λ l. first_holds (no_node config node) _ (out_of_group node l)) t
 
 -- a reply that is no want of memory is that of the definitions
@@ -243,12 +234,3 @@ is_answered config past event (Err refusal) new sure goes_on = by_cause (fault c
     by_cause : (o : Option StepFault) → IsRefused o refusal → ◌≡◌ {A = Result Answer StepFault} (Err refusal) (reply_by o (answer config past event))
     by_cause None refused = absurd (sure (ap Err refused))
     by_cause (Some cause) refused = ap Err refused
-
--- a node that does not live refuses to crash because it has crashed
-pub crash_refused : (kept : Kept) (refusal : StepFault) → kept.live ≡ false → IsRefused (kept_fault kept Stopped) refusal → refusal ≡ Crashed
-unfolding kept_fault first_fault
-crash_refused kept refusal down refused = by_life kept.live down refused
-  where
-    by_life : (b : Bool) → b ≡ false → IsRefused (cond (not b) (Some Crashed) None) refusal → refusal ≡ Crashed
-    by_life false e refused = refused
-    by_life true e refused = absurd (false≢true (sym e))

@@ -1,9 +1,9 @@
 //! What is due in a round: the slots that live nodes owe live nodes, and the events that settle them.
-ghost use Rattle.std.specs.Prelude.{◌≡◌, ℕ, true, ◌<◌, ◌^◌, ◌++◌, OnOk, OnErr, IfOk, length, map};
+ghost use Rattle.std.specs.Prelude.{◌≡◌, ℕ, true, ◌<◌, ◌^◌, ◌++◌, OnOk, IfOk, length, map};
 ghost use Rattle.std.specs.List.{flat_map};
 ghost use Rattle.cast_node.specs.Kept.{link_to};
 ghost use Rattle.cast_node.specs.Calls.{is_peer};
-ghost use Rattle.cast_model.specs.Rounds.{Rest, due};
+ghost use Rattle.cast_model.specs.Rounds.{due};
 ghost use Rattle.cast_world.specs.Group.{StandingFor};
 ghost use Rattle.cast_world.specs.Plans.{AreLive, live_at, due_of, due_between_at, due_at, owed_below, OwesNoneFrom, events_from, IsBounded};
 
@@ -15,15 +15,11 @@ use std::alloc::{AllocError, Global};
 
 impl World {
     /// The slots that live nodes owe live nodes, by the giver, then the taker, ascending: what a round settles. Or want of
-    /// memory, which nothing takes at rest.
+    /// memory.
     pub fn due(&self) -> Result<DueSlots, AllocError>
         ensures found { StandingFor self.now (λ config past.
             IfOk result (λ found. found ≡ due config past)) }
-        ensures err { StandingFor self.now (λ config past. OnErr result (¬ Rest config past)) }
     {
-        if self.at_rest() {
-            return Ok(DueSlots::new(self.allocator()));
-        }
         find_due(self.allocator(), self)
     }
 

@@ -34,7 +34,7 @@ impl World {
     // Why the arrival of a frame of a node would be refused.
     fn arrival_fault(&self, from: NodeId, seq: u64) -> Option<StepFault>
         ensures { StandingFor self.now (λ config past.
-            from < length self.now.nodes → result ≡ fault config past (Event.Arrive from seq)) }
+            result ≡ fault config past (Event.Arrive from seq)) }
     {
         match self.mark(from, seq) {
             Ok(mark) => self.node_of(mark.to).arrive_fault(),

@@ -1,6 +1,6 @@
 //! Rounds: every slot that a live node owes another is sent, taken and acknowledged. Two of them in which no event is refused bring
 //! rest; what live nodes have delivered and decided there, `at_rest` says.
-ghost use Rattle.std.specs.Prelude.{◌≡◌, ℕ, ◌<◌, ◌+◌, ◌^◌, ◌++◌, ◌==◌, ◌||◌, cond, IfOk, OnOk, OnErr, length, slice_index_or};
+ghost use Rattle.std.specs.Prelude.{◌≡◌, ℕ, ◌<◌, ◌+◌, ◌^◌, ◌++◌, ◌==◌, ◌||◌, cond, IfOk, OnOk, length, slice_index_or};
 ghost use Rattle.cast_message.specs.declared.config.Config.{Config as Settings};
 ghost use Rattle.cast_model.specs.History.{History};
 ghost use Rattle.cast_model.specs.Replies.{IsAccepted};
@@ -18,17 +18,13 @@ const NODE_IDS: usize = 256;
 
 impl World {
     /// The events of one round from here: for each slot that a live node owes another, by the giver, then the taker,
-    /// ascending, the slot sent, the frame's arrival, the acknowledgement, and the arrival of that; or want of memory, which
-    /// nothing takes at rest. The frames are numbered on as if no node's could be full.
+    /// ascending, the slot sent, the frame's arrival, the acknowledgement, and the arrival of that; or want of memory. The
+    /// frames are numbered on as if no node's could be full.
     pub fn round_plan(&self) -> Result<List<Event>, AllocError>
         ensures exact { StandingFor self.now (λ config past.
             IfOk result (λ events. events ≡ plan config past)) }
-        ensures err { StandingFor self.now (λ config past. OnErr result (¬ Rest config past)) }
     {
         let alloc = self.allocator();
-        if self.at_rest() {
-            return Ok(List::new(alloc));
-        }
         let mut due = self.due()?;
         // By the node, how many frames the events so far make.
         let mut made = [0; NODE_IDS];

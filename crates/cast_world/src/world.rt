@@ -82,6 +82,15 @@ impl World {
         ensures sure { StandingFor self.old (λ config past.
             IsCrash event.now → result ≡ reply config past event.now) }
     {
+        self.take(event)
+    }
+
+    // Takes one event: the node that it names takes a step.
+    fn take(&mut self, event: &Event) -> Reply
+        ensures steps { StepsTo self.old event.now result self.new }
+        ensures err { OnErr result (self.new ≡ self.old) }
+        ensures sure { IsCrash event.now → result ≢ Err Memory }
+    {
         match event {
             Event::Order { node, item } => self.order(*node, item),
             Event::Send { from, to, slot } => sent(self.make(Carry, *from, *to, *slot)),
@@ -178,6 +187,7 @@ impl World {
         Some(mark.to)
     }
 
+    #[tactic(auto, using(std::proofs::lemmas::Bool::Decides::nat_tests), unfolding(cast_model::specs::Refusals::first_fault, cast_node::specs::Turns::kept_fault))]
     fn crash(&mut self, node: NodeId) -> Reply
         ensures steps { StepsTo self.old (Event.Crash node) result self.new }
         ensures sure { result ≢ Err Memory }
@@ -186,8 +196,10 @@ impl World {
         if place >= self.nodes.len() {
             return Err(StepFault::NoNode);
         }
-        self.nodes[place].crash()?;
-        Ok(Answer::Down)
+        match self.nodes[place].crash() {
+            Ok(()) => Ok(Answer::Down),
+            Err(_) => Err(StepFault::Crashed),
+        }
     }
 
     /// The items that node `node` delivered from `sender`, in order, where both are nodes. It takes no memory.

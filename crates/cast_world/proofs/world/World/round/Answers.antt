@@ -14,20 +14,16 @@ pub returns-in_err-take_all-clause-takes : goal.returns-in_err-take_all-clause-t
 returns-in_err-take_all-clause-takes c config past st =
     let p = err_from_is_err_and c.from_residual.result c.from_residual.ensures.1 in
     let left = subst (λ slots. IsLeft config past slots c.slots.self) c.in-Some.ensures.some (c.slots.invariant config past st) in
-    rw (p.1, p.2) (slot_stops config past _ _ c.in-Some.slot c.slots.self left.round _ c.events_for-events.ensures c.take_all.new.self c.in_err-take_all.field-0.0 (c.in_err-take_all.ensures config (with_all past left.round.front) left.round.stands))
+    rw (p.1, p.2) (slot_stops config past _ c.in-Some.slot c.slots.self left _ c.events_for-events.ensures c.take_all.new.self c.in_err-take_all.field-0.0 (c.in_err-take_all.ensures config (with_all past left.front) left.stands))
 
 pub slots-preserved : goal.slots-preserved
 slots-preserved c config past st =
     let left = subst (λ slots. IsLeft config past slots c.slots.self) c.in-Some.ensures.some (c.slots.invariant config past st) in
-    record {
-      before = left.before ++ c.in-Some.slot ∷ [];
-      round = slot_settled config past _ _ c.in-Some.slot c.slots.self left.round _ c.events_for-events.ensures c.take_all.new.self (c.in_ok-take_all.ensures config (with_all past left.round.front) left.round.stands);
-    }
+    slot_settled config past _ c.in-Some.slot c.slots.self left _ c.events_for-events.ensures c.take_all.new.self (c.in_ok-take_all.ensures config (with_all past left.front) left.stands)
 
 pub returns-clause-takes : goal.returns-clause-takes
 returns-clause-takes c config past st =
-    let left = c.slots.invariant config past st in
-    round_ends config past _ left.before _ c.slots.self _ (c.in-Ok.ensures.found config past st) (ap (λ n. 2 * n) c.len-frames.ensures.len) c.in_default-pop_front.ensures.none left.round
+    round_ends config past _ _ c.slots.self _ (c.in-Ok.ensures.found config past st) (ap (λ n. 2 * n) c.len-frames.ensures.len) c.in_default-pop_front.ensures.none (c.slots.invariant config past st)
 
 pub returns-clause-spreads : goal.returns-clause-spreads
 returns-clause-spreads c config past st = round_spreads config past st.accepted (returns-clause-takes c config past st).accepted

@@ -1,5 +1,5 @@
 use Rattle.std.proofs.Common.{◌∙◌, ◌∷◌, ◌++◌, [], refl, ap, sym, length, length-append, append_assoc, arith}
-use Rattle.cast_world.proofs.Numbering.{plan_rest, counted_none, plan_none, counted_few, counted_more, plan_more, plan_made}
+use Rattle.cast_world.proofs.Numbering.{counted_none, plan_none, counted_few, counted_more, plan_more, plan_made}
 use Rattle.cast_world.proofs.world.World.round_plan.Goals as goal
 
 pub slots-init : goal.slots-init
@@ -41,12 +41,9 @@ slots-preserved c =
           );
     }
 
-pub returns-then-at_rest-clause-exact : goal.returns-then-at_rest-clause-exact
-returns-then-at_rest-clause-exact c config past st =
-    let rest = (c.at_rest.ensures.rest config past st).0 c.if-at_rest.true in
-    plan_none past c.new.result c.new.ensures ∙ sym (plan_rest config past rest)
-
-pub returns-clause-exact : goal.returns-clause-exact
-returns-clause-exact c config past st =
-    let all = c.slots.invariant.plan config past st in
-    c.from_vec.ensures ∙ plan_made config past c.args.self.now st c.slots.invariant.before _ c.slots.events.items all.0 c.in_default.ensures.none all.1
+pub returns : goal.returns
+returns c = record {
+  exact = λ config past st.
+      let all = c.slots.invariant.plan config past st in
+      c.from_vec.ensures ∙ plan_made config past c.args.self.now st c.slots.invariant.before _ c.slots.events.items all.0 c.in_default.ensures.none all.1;
+}
