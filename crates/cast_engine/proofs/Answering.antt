@@ -17,7 +17,7 @@ use Rattle.cast_log.specs.declared.entry.EntryKind.{EntryKind}
 use Rattle.cast_log.specs.declared.entry.EntryKind.TheVariants.{Step as StepEntry, Refused}
 use Rattle.cast_desk.specs.declared.desk.OrderIn.{OrderIn}
 use Rattle.cast_box.specs.Lists.{of}
-use Rattle.cast_node.specs.Linked.{Mark, Trail, steps_in, event_of, outcome_in}
+use Rattle.cast_node.specs.Linked.{StampedStep, Trail, steps_in, event_of, outcome_in}
 use Rattle.cast_carrier.specs.Lists.{Has}
 use Rattle.cast_engine.specs.Runs.{Read, Moved, Served, Denied, Run, mark, trail_of, log_of, orders_of, order_by, entry_by, IsRead, IsRun, is_order, origin_of}
 use Rattle.cast_engine.specs.Journals.{Rises, IsStampedAfter}
@@ -67,7 +67,7 @@ rises_last [] first clock e x r h = absurd (has_none x h)
 rises_last (y ∷ ys) first clock e x r (zero, is) = let same : y ≡ x = cc in let P : Entry → Type 0 = λ z. z.stamp < e.stamp in subst P same (rises_over ys y.stamp clock e r.1)
 rises_last (y ∷ ys) first clock e x r (suc i, is) = rises_last ys y.stamp clock e x r.1 (i, is)
 
-before_more : (stamp : ℕ) (m : Mark) (trail : Trail) → stamp < m.stamp → before stamp (m ∷ trail) ≡ before stamp trail
+before_more : (stamp : ℕ) (m : StampedStep) (trail : Trail) → stamp < m.stamp → before stamp (m ∷ trail) ≡ before stamp trail
 unfolding before
 before_more stamp m trail lt = by_test (nat_lt m.stamp stamp) refl
   where
@@ -75,7 +75,7 @@ before_more stamp m trail lt = by_test (nat_lt m.stamp stamp) refl
     by_test true e = absurd (let l = ltb-true m.stamp stamp e in omega arith)
     by_test false e = refl
 
-all_of : (stamp : ℕ) (m : Mark) (trail : Trail) → m.stamp < stamp → before stamp (m ∷ trail) ≡ m ∷ trail
+all_of : (stamp : ℕ) (m : StampedStep) (trail : Trail) → m.stamp < stamp → before stamp (m ∷ trail) ≡ m ∷ trail
 unfolding before
 all_of stamp m trail lt = by_test (nat_lt m.stamp stamp) (grind (arith, nat_tests))
   where
@@ -95,7 +95,7 @@ module _ (config : Config) (p : ℕ) (c : ℕ) where
   Fits run = Matches (IsAnswered config p (trail_of run)) (entries_of c (log_of config p run)) (orders_by c (orders_of run))
 
   -- an answer stays one where a later step is taken
-  answered_still : (trail : Trail) (m : Mark) (x : Entry) (o : OrderIn) → x.stamp < m.stamp → IsAnswered config p trail x o → IsAnswered config p (m ∷ trail) x o
+  answered_still : (trail : Trail) (m : StampedStep) (x : Entry) (o : OrderIn) → x.stamp < m.stamp → IsAnswered config p trail x o → IsAnswered config p (m ∷ trail) x o
   answered_still trail m x o lt h = subst (λ t. IsAnsweredBy config p (steps_in config p t) x.kind o) (sym (before_more x.stamp m trail lt)) h
 
   -- both lists gain one, or neither does

@@ -21,7 +21,7 @@ use Rattle.cast_node.proofs.Showing.{carries, tells_taken}
 use Rattle.cast_desk.specs.declared.desk.OrderIn.{OrderIn}
 use Rattle.cast_carrier.specs.declared.parcel.Parcel.{Parcel}
 use Rattle.cast_carrier.specs.Lists.{Has}
-use Rattle.cast_node.specs.Linked.{Mark, Trail, event_of, outcome_in, steps_in, made_in, kept_in, stamped, IsFor}
+use Rattle.cast_node.specs.Linked.{StampedStep, Trail, event_of, outcome_in, steps_in, made_in, kept_in, stamped, IsFor}
 use Rattle.cast_engine.specs.Runs.{Read, Moved, Served, Denied, Run, mark, trail_of, log_of, orders_of, IsRun, clock_after, AreReceived, IsReceived, IsReceivedBy, HasTakenEach, MayDrop, AreTakenIn, arrived_by, arrivals_in, made_of, parcel, is_order, origin_of, EngineKeeps}
 use Rattle.cast_engine.specs.Journals.{JournalState, LogsStep, LogsRefusal, LogsOrder, OnlyEnds, Halts}
 use Rattle.cast_message.specs.declared.message.FrameKind.{FrameKind}
@@ -67,7 +67,7 @@ one_taken_in config p trail taken m all last n h =
     ⊎_elim (λ t. all n t) (λ e. subst P e last) (has_snoc taken m n h)
 
 -- a step more
-later_taken_in : (config : Config) (p : ℕ) (trail : Trail) (mark : Mark) (taken : List (ℕ × Parcel)) → AreTakenIn config p trail taken → AreTakenIn config p (mark ∷ trail) taken
+later_taken_in : (config : Config) (p : ℕ) (trail : Trail) (mark : StampedStep) (taken : List (ℕ × Parcel)) → AreTakenIn config p trail taken → AreTakenIn config p (mark ∷ trail) taken
 unfolding arrivals_in
 later_taken_in config p trail mark taken all n h = elim (all n h) [
   | inl arrived ↦ inl (has_right (arrived_by mark.step) (arrivals_in trail) n.1.frame arrived)

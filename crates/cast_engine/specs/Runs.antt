@@ -30,7 +30,7 @@ use Rattle.cast_box.specs.Lists.{EndsWith}
 use Rattle.cast_desk.specs.declared.desk.OrderIn.{OrderIn}
 use Rattle.cast_carrier.specs.declared.parcel.Parcel.{Parcel}
 use Rattle.cast_carrier.specs.Lists.{Has}
-use Rattle.cast_node.specs.Linked.{Mark, Made, Trail, event_of, outcome_in, steps_in, made_in, kept_in, stamped, IsFor}
+use Rattle.cast_node.specs.Linked.{StampedStep, Made, Trail, event_of, outcome_in, steps_in, made_in, kept_in, stamped, IsFor}
 
 -- An entry, and what it came of.
 pub data Read : Type 0 where
@@ -42,7 +42,7 @@ pub data Read : Type 0 where
 abbrev pub Run : Type 0
 Run = List Read
 
-abbrev pub mark : ℕ → Step → Mark
+abbrev pub mark : ℕ → Step → StampedStep
 mark stamp step = record { stamp = stamp; step = step }
 
 abbrev pub with_mark : Read → Trail → Trail

@@ -20,10 +20,10 @@ use Rattle.cast_node.specs.Turns.{Gives, kept_after}
 use Rattle.cast_node.proofs.Beginning.{stands_for_nothing}
 use Rattle.cast_node.proofs.Continuing.{continues}
 use Rattle.cast_node.proofs.Refusals.{faults_are}
-use Rattle.cast_node.specs.Linked.{Mark, Trail, Made, event_of, outcome_in, outcome_in_answer, steps_in, kept_in, taken_by, taken_in, stamped, made_in, IsFor, AreTaken, taken_of, taken, IsBefore, IsLogOf, OnArrival, EachArrival}
+use Rattle.cast_node.specs.Linked.{StampedStep, Trail, Made, event_of, outcome_in, outcome_in_answer, steps_in, kept_in, taken_by, taken_in, stamped, made_in, IsFor, AreTaken, taken_of, taken, IsBefore, IsLogOf, OnArrival, EachArrival}
 use Rattle.cast_node.proofs.Made.{frame_in, made_frames}
 
-abbrev pub marked : ℕ → Step → Mark
+abbrev pub marked : ℕ → Step → StampedStep
 marked stamp step = record { stamp = stamp; step = step }
 
 -- the entry of a step that was answered so
@@ -135,7 +135,7 @@ get_left (y ∷ xs) ys zero x e = e
 get_left (y ∷ xs) ys (suc k) x e = get_left xs ys k x e
 
 -- what was made stays
-pub still_made : (config : Config) (p : ℕ) (mark : Mark) (trail : Trail) (k : ℕ) (m : Made) → slice_get (made_in config p trail) k ≡ Some m → slice_get (made_in config p (mark ∷ trail)) k ≡ Some m
+pub still_made : (config : Config) (p : ℕ) (mark : StampedStep) (trail : Trail) (k : ℕ) (m : Made) → slice_get (made_in config p trail) k ≡ Some m → slice_get (made_in config p (mark ∷ trail)) k ≡ Some m
 unfolding made_in
 still_made config p mark trail k m e = get_left (made_in config p trail) _ k m e
 

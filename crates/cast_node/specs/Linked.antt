@@ -1,5 +1,5 @@
 -- When the logs of a group are linked.
---     Mark, Trail                          a step of a node with its stamp; all of them, the newest first
+--     StampedStep, Trail                   a step of a node with its stamp; all of them, the newest first
 --     event_of p step                      a step of node p as an event: a frame that arrived by its maker and number
 --     steps_in config p trail              the node's steps by these: a frame that no node could have made is none
 --     taken_in config p trail              what the log has of them, the newest first
@@ -32,16 +32,16 @@ use Rattle.cast_node.specs.Stands.{Stands}
 use Rattle.cast_node.specs.declared.report.NodeReport.{NodeReport}
 
 -- A step of a node, with the stamp under which the node logged it.
-pub record Mark : Type 0 where
+pub record StampedStep : Type 0 where
   pub stamp : ℕ
   pub step : Step
 
 -- the steps of a node with their stamps, the newest first
 abbrev pub Trail : Type 0
-Trail = List Mark
+Trail = List StampedStep
 
 -- A step as a log tells it.
-pub record Taken : Type 0 where
+pub record LoggedStep : Type 0 where
   pub stamp : ℕ
   pub event : Event
   pub outcome : Outcome
@@ -75,7 +75,7 @@ unfoldable pub steps_in : Config → ℕ → Trail → Steps
 steps_in config p [] = []
 steps_in config p (mark ∷ trail) = node_after config p (steps_in config p trail) mark.step
 
-abbrev pub taken_by : Config → ℕ → Steps → Mark → Taken
+abbrev pub taken_by : Config → ℕ → Steps → StampedStep → LoggedStep
 taken_by config p steps mark = record {
   stamp = mark.stamp;
   event = event_of p mark.step;
@@ -83,7 +83,7 @@ taken_by config p steps mark = record {
 }
 
 -- what the log has of them, the newest first
-unfoldable pub taken_in : Config → ℕ → Trail → List Taken
+unfoldable pub taken_in : Config → ℕ → Trail → List LoggedStep
 taken_in config p [] = []
 taken_in config p (mark ∷ trail) =
     taken_by config p (steps_in config p trail) mark ∷ taken_in config p trail
@@ -116,13 +116,13 @@ AreTaken config p (mark ∷ trail) =
     × IsFor p mark.step
 
 -- the steps that an entry tells: an order that was refused is none
-abbrev pub taken_of : ℕ → EntryKind → List Taken
+abbrev pub taken_of : ℕ → EntryKind → List LoggedStep
 taken_of stamp (StepEntry event origin outcome) =
     record { stamp = stamp; event = event; outcome = outcome } ∷ []
 taken_of stamp (Refused origin fault) = []
 
 -- the steps in a log, in order
-unfoldable pub taken : List Entry → List Taken
+unfoldable pub taken : List Entry → List LoggedStep
 taken [] = []
 taken (entry ∷ log) = taken_of entry.stamp entry.kind ++ taken log
 
