@@ -22,7 +22,7 @@ use Rattle.cast_node.specs.Kept.{Kept}
 use Rattle.cast_desk.specs.declared.notice.Notice.{Notice}
 use Rattle.cast_desk.specs.declared.notice.Notice.TheVariants.{Reply}
 use Rattle.cast_desk.specs.Feed.{feed, feed_from, told_by, reply_of, news_of, orders_in}
-use Rattle.cast_node.specs.Linked.{Trail, LoggedStep, taken, taken_of, taken_in, taken_by, steps_in, AreTaken, IsLogOf, outcome_in, outcome_in_answer}
+use Rattle.cast_node.specs.Linked.{Trail, TakenStep, taken, taken_of, taken_in, taken_by, steps_in, AreTaken, IsLogOf, outcome_in, outcome_in_answer}
 use Rattle.std.specs.Prelude.{map}
 use mathlib.Core.List.{reverse_aux}
 use Rattle.cast_model.specs.OwnSteps.{own_log}
@@ -37,11 +37,11 @@ use Rattle.cast_merge.proofs.Merging.{log_of, ended, merges}
 use Rattle.cast_merge.proofs.Told.{told_news, log_begins, log_grows}
 
 -- that part of what these steps brought, in order
-unfoldable news : {X : Type 0} → (Outcome → List X) → List LoggedStep → List X
+unfoldable news : {X : Type 0} → (Outcome → List X) → List TakenStep → List X
 news part [] = []
 news part (t ∷ ts) = part t.outcome ++ news part ts
 
-news-append : {X : Type 0} (part : Outcome → List X) (xs ys : List LoggedStep) → news part (xs ++ ys) ≡ news part xs ++ news part ys
+news-append : {X : Type 0} (part : Outcome → List X) (xs ys : List TakenStep) → news part (xs ++ ys) ≡ news part xs ++ news part ys
 unfolding news
 news-append part [] ys = refl
 news-append part (x ∷ xs) ys = ap (λ rest. part x.outcome ++ rest) (news-append part xs ys) ∙ sym (append_assoc (part x.outcome) (news part xs) (news part ys))

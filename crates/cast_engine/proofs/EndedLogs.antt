@@ -15,7 +15,7 @@ use Rattle.cast_desk.specs.Feed.{told_by, feed_from, feed, orders_in, orders_of 
 use Rattle.cast_carrier.specs.declared.parcel.Parcel.{Parcel}
 use Rattle.cast_node.specs.declared.report.EngineEnd.{EngineEnd}
 use Rattle.cast_engine.specs.declared.feeding.Place.{Place}
-use Rattle.cast_node.specs.Linked.{LoggedStep, steps_in, taken_in, taken_by, taken, taken_of, AreTaken, IsRising, EachArrival, OnArrival, made_in}
+use Rattle.cast_node.specs.Linked.{TakenStep, steps_in, taken_in, taken_by, taken, taken_of, AreTaken, IsRising, EachArrival, OnArrival, made_in}
 use Rattle.cast_carrier.specs.Lists.{Has}
 use Rattle.cast_engine.specs.Runs.{Moved, Served, Denied, Run, mark, made_of, trail_of, log_of, orders_of, entry_by, IsRun, clock_after, AreReceived, IsReceivedBy}
 use Rattle.cast_engine.specs.Journals.{Rises}
@@ -45,7 +45,7 @@ rises_pairs (x ∷ xs) first clock r zero (suc j) d lt h = rises_each xs x.stamp
 rises_pairs (x ∷ xs) first clock r (suc i) (suc j) d lt h = rises_pairs xs x.stamp clock r.1 i j d (omega arith) (omega arith)
 
 -- one more entry, and what is told of it
-tells_more : (log : List Entry) (e : Entry) (told : List LoggedStep) (x : LoggedStep) → taken_of e.stamp e.kind ≡ x ∷ [] → taken log ≡ reverse told → taken (log ++ e ∷ []) ≡ reverse (x ∷ told)
+tells_more : (log : List Entry) (e : Entry) (told : List TakenStep) (x : TakenStep) → taken_of e.stamp e.kind ≡ x ∷ [] → taken log ≡ reverse told → taken (log ++ e ∷ []) ≡ reverse (x ∷ told)
 tells_more log e told x is before = one_more log e ∙ (λ i. before i ++ is i) ∙ sym (reverse-append (x ∷ []) told)
 
 -- the log tells of the steps

@@ -21,7 +21,7 @@ use Rattle.cast_log.specs.declared.entry.Origin.{Origin}
 use Rattle.cast_node.specs.Stands.{Stands as NodeStands}
 use Rattle.cast_desk.specs.declared.notice.Notice.TheVariants.{Reply, Delivered, Decided}
 use Rattle.cast_desk.specs.Feed.{feed_from, told_by, reply_of, news_of, orders_in}
-use Rattle.cast_node.specs.Linked.{Trail, LoggedStep, event_of, taken, taken_of, taken_in, taken_by, steps_in, AreTaken}
+use Rattle.cast_node.specs.Linked.{Trail, TakenStep, event_of, taken, taken_of, taken_in, taken_by, steps_in, AreTaken}
 use Rattle.cast_node.proofs.Logging.{get_left}
 use Rattle.cast_merge.specs.Told.{HasOrdered, TellsNumbers}
 
@@ -31,11 +31,11 @@ abbrev item_in : Event → List Item
 item_in (Order node item) = item ∷ []
 item_in _ = []
 
-unfoldable pub items_in : List LoggedStep → List Item
+unfoldable pub items_in : List TakenStep → List Item
 items_in [] = []
 items_in (t ∷ ts) = item_in t.event ++ items_in ts
 
-pub items_in-append : (xs ys : List LoggedStep) → items_in (xs ++ ys) ≡ items_in xs ++ items_in ys
+pub items_in-append : (xs ys : List TakenStep) → items_in (xs ++ ys) ≡ items_in xs ++ items_in ys
 unfolding items_in
 items_in-append [] ys = refl
 items_in-append (x ∷ xs) ys = ap (λ rest. item_in x.event ++ rest) (items_in-append xs ys) ∙ sym (append_assoc (item_in x.event) (items_in xs) (items_in ys))

@@ -8,7 +8,7 @@ use Rattle.std.specs.Prelude.{ℕ, nat_lt, if◌then◌else◌, List, [], ◌∷
 use Rattle.cast_message.specs.declared.event.Event.{Event}
 use Rattle.cast_log.specs.declared.entry.Entry.{Entry}
 use Rattle.cast_node.specs.declared.report.NodeReport.{NodeReport}
-use Rattle.cast_node.specs.Linked.{LoggedStep, taken}
+use Rattle.cast_node.specs.Linked.{TakenStep, taken}
 
 -- a step of a log, without its outcome
 pub record LoggedStep : Type 0 where
@@ -34,7 +34,7 @@ stamp_of step = step.stamp
 abbrev pub event_at : LoggedStep → Event
 event_at step = step.event
 
-abbrev pub without_outcome : LoggedStep → LoggedStep
+abbrev pub without_outcome : TakenStep → LoggedStep
 without_outcome t = record { stamp = t.stamp; event = t.event }
 
 abbrev pub logged_steps : List Entry → List LoggedStep

@@ -41,7 +41,7 @@ abbrev pub Trail : Type 0
 Trail = List StampedStep
 
 -- A step as a log tells it.
-pub record LoggedStep : Type 0 where
+pub record TakenStep : Type 0 where
   pub stamp : ℕ
   pub event : Event
   pub outcome : Outcome
@@ -75,7 +75,7 @@ unfoldable pub steps_in : Config → ℕ → Trail → Steps
 steps_in config p [] = []
 steps_in config p (mark ∷ trail) = node_after config p (steps_in config p trail) mark.step
 
-abbrev pub taken_by : Config → ℕ → Steps → StampedStep → LoggedStep
+abbrev pub taken_by : Config → ℕ → Steps → StampedStep → TakenStep
 taken_by config p steps mark = record {
   stamp = mark.stamp;
   event = event_of p mark.step;
@@ -83,7 +83,7 @@ taken_by config p steps mark = record {
 }
 
 -- what the log has of them, the newest first
-unfoldable pub taken_in : Config → ℕ → Trail → List LoggedStep
+unfoldable pub taken_in : Config → ℕ → Trail → List TakenStep
 taken_in config p [] = []
 taken_in config p (mark ∷ trail) =
     taken_by config p (steps_in config p trail) mark ∷ taken_in config p trail
@@ -116,13 +116,13 @@ AreTaken config p (mark ∷ trail) =
     × IsFor p mark.step
 
 -- the steps that an entry tells: an order that was refused is none
-abbrev pub taken_of : ℕ → EntryKind → List LoggedStep
+abbrev pub taken_of : ℕ → EntryKind → List TakenStep
 taken_of stamp (StepEntry event origin outcome) =
     record { stamp = stamp; event = event; outcome = outcome } ∷ []
 taken_of stamp (Refused origin fault) = []
 
 -- the steps in a log, in order
-unfoldable pub taken : List Entry → List LoggedStep
+unfoldable pub taken : List Entry → List TakenStep
 taken [] = []
 taken (entry ∷ log) = taken_of entry.stamp entry.kind ++ taken log
 
