@@ -81,14 +81,10 @@ module _ (config : Config) (past : History) where
 
   is_full : (p : ℕ) → not (is_some (full past p)) ≡ false → frame_limit ≤ length (frames past p)
   unfolding first_fault
-  is_full p e = by_test (nat_le frame_limit (length (frames past p))) refl e
+  is_full p e = most frame_limit (length (frames past p)) e
     where
-      at_most : (n k : ℕ) → nat_le n k ≡ true → n ≤ k
-      at_most n k e = grind (arith, nat_tests)
-
-      by_test : (b : Bool) → nat_le frame_limit (length (frames past p)) ≡ b → not (is_some (cond b (Some FramesFull) None)) ≡ false → frame_limit ≤ length (frames past p)
-      by_test true is e = at_most frame_limit (length (frames past p)) is
-      by_test false is e = absurd (false≢true (sym e))
+      most : (n k : ℕ) → not (is_some (cond (nat_le n k) (Some FramesFull) None)) ≡ false → n ≤ k
+      most n k e = grind (arith, nat_tests)
 
   -- nothing is possible where nothing is due, or the first that owes can make no frame
   pub rest_or_full : IsAccepted config past → enabled config past ≡ [] → Rest config past ⊎ HasFullNode config past

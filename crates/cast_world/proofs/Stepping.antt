@@ -40,7 +40,7 @@ use Rattle.cast_node.proofs.Continuing.{continues}
 use Rattle.cast_node.proofs.Showing.{carries, tells_taken}
 use Rattle.cast_world.specs.declared.frames.Mark.{Mark}
 use Rattle.cast_world.specs.Group.{State, node_at, marks_at, kept_by, mark_by, mark_of, body_in, frame_by, Stands, Continues}
-use Rattle.cast_world.specs.Moves.{marks_after, Takes, Refuses, TakesStep, ArrivesBy, StepsTo, missing}
+use Rattle.cast_world.specs.Moves.{marks_after, Takes, Refuses, TakesStep, ArrivesBy, StepsTo, actor_of, missing}
 
 -- an event is no step of another node
 pub other_steps : (past : History) (p : ℕ) (event : Event) (step : Step) → IsStep past p event step → (q : ℕ) → q ≢ p → steps_of (event ∷ past) q ≡ steps_of past q
@@ -165,12 +165,21 @@ module _ (config : Config) (past : History) (world : State) (st : Stands config 
   pub made_count : (p : ℕ) → length (marks_at world p) ≡ length (frames past p)
   made_count p = ap length (made_all p) ∙ length-map mark_of (frames past p)
 
-  pub out_of_group : (p : ℕ) → config.nodes ≤ p → (no_node config p).holds ≡ true
+  out_of_group : (p : ℕ) → config.nodes ≤ p → (no_node config p).holds ≡ true
   out_of_group p l = grind (arith, nat_tests)
 
-  pub first_holds : (cause : Cause) (more : List Cause) → cause.holds ≡ true → first_fault (cause ∷ more) ≡ Some cause.refusal
+  first_holds : (cause : Cause) (more : List Cause) → cause.holds ≡ true → first_fault (cause ∷ more) ≡ Some cause.refusal
   unfolding first_fault
   first_holds cause more e = ap (λ b. cond b (Some cause.refusal) (first_fault more)) e
+
+  -- an event that names no node
+  pub outside : (event : Event) → config.nodes ≤ actor_of event → fault config past event ≡ Some NoNode
+  unfolding fault causes
+  outside (Order node item) l = first_holds (no_node config node) _ (out_of_group node l)
+  outside (Send from to slot) l = first_holds (no_node config from) _ (out_of_group from l)
+  outside (Ack from to slot) l = first_holds (no_node config from) _ (out_of_group from l)
+  outside (Arrive from seq) l = first_holds (no_node config from) _ (out_of_group from l)
+  outside (Crash node) l = first_holds (no_node config node) _ (out_of_group node l)
 
   -- a frame's body is that of its mark
   pub body_again : (from to : ℕ) (body : FrameBody) → BodyOk past from to body → body_in world.config world.nodes (mark_by to body) ≡ body
@@ -218,12 +227,12 @@ module _ (config : Config) (past : History) (world : State) (st : Stands config 
       numbered_so (Err refusal) t = t
 
   pub continues_to : (event : Event) (replied : Result Answer StepFault) (new : State) → StepsTo world event replied new → Continues config past event replied new
-  unfolding fault causes own_made
-  continues_to (Order node item) replied new t = steps node (Order node item) (Ordered item) (orders item) [] (λ l none. refl) replied new (λ l. first_holds (no_node config node) _ (out_of_group node l)) t
-  continues_to (Send from to slot) replied new t = steps from (Send from to slot) (Sent to slot) (sends to slot) _ (λ l none. ap (map mark_of) (carries config from (steps_of past from) (node_at world from) (st.nodes from l) to slot none)) replied new (λ l. first_holds (no_node config from) _ (out_of_group from l)) t
-  continues_to (Ack from to slot) replied new t = steps from (Ack from to slot) (Acknowledged to slot) (acknowledges to slot) _ (λ l none. ap (map mark_of) (tells_taken config from (steps_of past from) (node_at world from) (st.nodes from l) to slot)) replied new (λ l. first_holds (no_node config from) _ (out_of_group from l)) t
+  unfolding own_made
+  continues_to (Order node item) replied new t = steps node (Order node item) (Ordered item) (orders item) [] (λ l none. refl) replied new (outside (Order node item)) t
+  continues_to (Send from to slot) replied new t = steps from (Send from to slot) (Sent to slot) (sends to slot) _ (λ l none. ap (map mark_of) (carries config from (steps_of past from) (node_at world from) (st.nodes from l) to slot none)) replied new (outside (Send from to slot)) t
+  continues_to (Ack from to slot) replied new t = steps from (Ack from to slot) (Acknowledged to slot) (acknowledges to slot) _ (λ l none. ap (map mark_of) (tells_taken config from (steps_of past from) (node_at world from) (st.nodes from l) to slot)) replied new (outside (Ack from to slot)) t
   continues_to (Arrive from seq) replied new t = missed from seq (slice_get (frames past from) seq) refl replied new (subst (λ o. ArrivesBy world from seq o replied new) (ap (λ row. slice_get row seq) (made_all from) ∙ slice_get-map mark_of (frames past from) seq) t)
-  continues_to (Crash node) replied new t = steps node (Crash node) Stopped stops [] (λ l none. refl) replied new (λ l. first_holds (no_node config node) _ (out_of_group node l)) t
+  continues_to (Crash node) replied new t = steps node (Crash node) Stopped stops [] (λ l none. refl) replied new (outside (Crash node)) t
 
 -- a reply that is no want of memory is that of the definitions
 pub is_answered : (config : Config) (past : History) (event : Event) (given : Result Answer StepFault) (new : State) → given ≢ Err Memory → Continues config past event given new → given ≡ reply config past event

@@ -135,11 +135,12 @@ pub fn arrive_silently(node: &mut Node, from: NodeId, mark: &Mark) -> bool
         (silent_reply mark.now.to) node.new }
     ensures not { IsFalse result → node.new ≡ node.old }
 {
+    let slot = u64::from(mark.slot);
     if is_acknowledgement(mark) {
-        return arrive_acknowledgement(node, from, mark);
+        return node.arrive_took_silently(from, slot);
     }
     if is_held(node, mark) {
-        return arrive_again(node, from, mark);
+        return node.arrive_again_silently(from, slot, mark.sender, u64::from(mark.number));
     }
     false
 }
@@ -151,41 +152,11 @@ pub fn is_acknowledgement(mark: &Mark) -> bool
     mark.sender.0 == NOBODY
 }
 
-// An acknowledgement arrives.
-fn arrive_acknowledgement(node: &mut Node, from: NodeId, mark: &Mark) -> bool
-    requires word { (mark.now.sender == 255) ≡ true }
-    requires target { mark.now.to ≡ node.old.me }
-    ensures took { (config : Settings) (nodes : List Kept) (seq : ℕ) → IsTrue result →
-        Gives node.old (Arrived (frame_in config nodes from seq mark.now))
-        (silent_reply mark.now.to) node.new }
-    ensures not { IsFalse result → node.new ≡ node.old }
-{
-    node.arrive_took_silently(from, u64::from(mark.slot))
-}
-
 // Whether a node holds the message of a mark, so that its item is nothing to the node.
 fn is_held(node: &Node, mark: &Mark) -> bool
     ensures { result ≡ holds node.now mark.now.sender mark.now.number }
 {
     node.holds(mark.sender, u64::from(mark.number))
-}
-
-// A message arrives that the node holds.
-fn arrive_again(node: &mut Node, from: NodeId, mark: &Mark) -> bool
-    requires carries { (mark.now.sender == 255) ≡ false }
-    requires held { holds node.old mark.now.sender mark.now.number ≡ true }
-    requires target { mark.now.to ≡ node.old.me }
-    ensures took { (config : Settings) (nodes : List Kept) (seq : ℕ) → IsTrue result →
-        Gives node.old (Arrived (frame_in config nodes from seq mark.now))
-        (silent_reply mark.now.to) node.new }
-    ensures not { IsFalse result → node.new ≡ node.old }
-{
-    node.arrive_again_silently(
-        from,
-        u64::from(mark.slot),
-        mark.sender,
-        u64::from(mark.number),
-    )
 }
 
 /// A frame arrives at its target.
