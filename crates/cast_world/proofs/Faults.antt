@@ -24,7 +24,7 @@ use Rattle.cast_node.proofs.Refusals.{faults_are}
 use Rattle.cast_world.specs.declared.frames.Mark.{Mark}
 use Rattle.cast_world.specs.Group.{State, node_at, marks_at, mark_by, mark_of, Stands}
 use Rattle.cast_world.specs.Moves.{actor_of, missing}
-use Rattle.cast_world.proofs.Stepping.{made_all, outside, no_frame}
+use Rattle.cast_world.proofs.Stepping.{made_all, outside, no_frame, to_again}
 
 module _ (config : Config) (past : History) (world : State) (st : Stands config past world) where
   -- an event that names no node
@@ -72,10 +72,6 @@ module _ (config : Config) (past : History) (world : State) (st : Stands config 
       let to_is : mark.to ≡ frame.to = ap (λ (m : Mark). m.to) m.2 ∙ to_again frame.to frame.body in
       let ends = frame_ends config past st.accepted from frame (Member-slice_get (frames past from) seq frame m.1) in
       by_step (Arrive from seq) (Arrived frame) frame.to kept found (subst (λ n. frame.to < n) (sym st.size) ends.target_in) (same ∙ ap (node_at world) to_is) (asked frame) (takes from seq frame m.1 refl)
-    where
-      to_again : (to : ℕ) (body : FrameBody) → (mark_by to body).to ≡ to
-      to_again to (Carry slot message) = refl
-      to_again to (Took slot) = refl
 
   -- one that isn't
   pub by_none : (from seq : ℕ) (refusal : StepFault) → slice_get (marks_at world from) seq ≡ None → refusal ≡ missing (length world.marks) from → Some refusal ≡ fault config past (Arrive from seq)

@@ -3,7 +3,7 @@ use Rattle.std.proofs.Common.{◌≡◌, ◌≢◌, ℕ, zero, suc, ◌+◌, ◌
 use Rattle.std.specs.Prelude.{◌==◌, ◌^◌, nat_lt, is_some, not, ◌&&◌, if◌then◌else◌}
 use Rattle.std.specs.List.{filter, flat_map, range_with_len}
 use Rattle.std.specs.FinMap as finite
-use Rattle.std.proofs.lemmas.Bool.{cases_lt, cases_eq, eq-eqb, false≢true}
+use Rattle.std.proofs.lemmas.Bool.{cases_lt, cases_eq, eq-eqb, lt-ltb, le-ltb, false≢true}
 use Rattle.std.proofs.lemmas.Bool.Decides.{nat_tests}
 use Rattle.std.proofs.Math.Nat.{mul-le-mul_left, mul-le-mul_right}
 use Rattle.std.proofs.lemmas.List.{append-nil, append_assoc, map-append}
@@ -99,10 +99,7 @@ module _ (config : Config) (past : History) (world : State) (st : Stands config 
   not_given p q slot l m e h =
       ap is_some ((out p q l m e).owed slot)
       ∙ ap (λ b. is_some (if b && not (own_acked (steps_of past p) q slot) then Some (message_in (own_given p (steps_of past p) q) slot) else None))
-      (let given = (out p q l m e).given in past_all (length (own_given p (steps_of past p) q)) slot (omega (arith, h, given)))
-    where
-      past_all : (n k : ℕ) → n ≤ k → nat_lt k n ≡ false
-      past_all n k l = grind (arith, nat_tests)
+      (let given = (out p q l m e).given in le-ltb slot (length (own_given p (steps_of past p) q)) (omega (arith, h, given)))
 
   few_given : (p q : ℕ) → p < config.nodes → q < config.nodes → q ≢ p → (link_to (node_at world p) q).given < 2 ^ 64
   few_given p q l m e =
@@ -123,12 +120,9 @@ module _ (config : Config) (past : History) (world : State) (st : Stands config 
       ap (λ n. filter (finite.contains_key (link_to (node_at world p) q).owed) (range_with_len 0 n)) (out p q l m e).given
       ∙ filter_alike (finite.contains_key (link_to (node_at world p) q).owed) (λ slot. not (own_acked (steps_of past p) q slot)) (range_with_len 0 (length (own_given p (steps_of past p) q))) (λ slot n.
       let inside = (range_bounds (length (own_given p (steps_of past p) q)) 0 slot n).1 in
-      ap is_some ((out p q l m e).owed slot) ∙ here_only (nat_lt slot (length (own_given p (steps_of past p) q))) (within slot (length (own_given p (steps_of past p) q)) (omega (arith, inside))) (own_acked (steps_of past p) q slot) (message_in (own_given p (steps_of past p) q) slot))
+      ap is_some ((out p q l m e).owed slot) ∙ here_only (nat_lt slot (length (own_given p (steps_of past p) q))) (lt-ltb slot (length (own_given p (steps_of past p) q)) (omega (arith, inside))) (own_acked (steps_of past p) q slot) (message_in (own_given p (steps_of past p) q) slot))
       ∙ own_owed-steps_of past p q
     where
-      within : (k n : ℕ) → k < n → nat_lt k n ≡ true
-      within k n l = grind (arith, nat_tests)
-
       here_only : (b : Bool) → b ≡ true → (c : Bool) (x : Message) → is_some (if b && not c then Some x else None) ≡ not c
       here_only true t true x = refl
       here_only true t false x = refl

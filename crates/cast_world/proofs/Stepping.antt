@@ -57,6 +57,11 @@ other_steps past p event step is q e = ap (λ more. more ++ steps_of past q) (no
     none event step (takes from seq frame at to) = ap (λ o. step_by o q) at ∙ skip (Arrived frame) (frame.to == q) (ne_eqb frame.to q (λ z. e (sym z ∙ to)))
     none event step stops = skip Stopped (p == q) (ne_eqb p q (λ z. e (sym z)))
 
+-- a mark's target is that of its frame
+pub to_again : (to : ℕ) (body : FrameBody) → (mark_by to body).to ≡ to
+to_again to (Carry slot message) = refl
+to_again to (Took slot) = refl
+
 pub no_fault : (o : Option StepFault) (a b : Answer) → reply_by o a ≡ Ok b → o ≡ None
 no_fault None a b e = refl
 no_fault (Some refusal) a b e = absurd (cc)
@@ -213,14 +218,10 @@ module _ (config : Config) (past : History) (world : State) (st : Stands config 
       let member = Member-slice_get (frames past from) seq frame at in
       let ends = frame_ends config past st.accepted from frame member in
       let ok = (sound config past st.accepted).frames_ok from frame member in
-      let again : frame_by world from seq (mark_of frame) ≡ record { from = frame.from; seq = seq; to = frame.to; body = frame.body } = λ k. record { from = sym ok.from_is k; seq = seq; to = to_again frame.body k; body = body_again from frame.to frame.body ok.body_ok k } in
+      let again : frame_by world from seq (mark_of frame) ≡ record { from = frame.from; seq = seq; to = frame.to; body = frame.body } = λ k. record { from = sym ok.from_is k; seq = seq; to = to_again frame.to frame.body k; body = body_again from frame.to frame.body ok.body_ok k } in
       steps frame.to (Arrive from seq) (Arrived frame) (takes from seq frame at refl) [] (λ l none. refl) replied new (λ l. let inside = ends.target_in in absurd (omega (arith, l, inside)))
-      (numbered_so replied (subst (λ f. TakesStep world frame.to (Arrived f) [] replied new) again (subst (λ q. TakesStep world q (Arrived (frame_by world from seq (mark_of frame))) [] replied new) (to_again frame.body) t)))
+      (numbered_so replied (subst (λ f. TakesStep world frame.to (Arrived f) [] replied new) again (subst (λ q. TakesStep world q (Arrived (frame_by world from seq (mark_of frame))) [] replied new) (to_again frame.to frame.body) t)))
     where
-      to_again : (body : FrameBody) → (mark_by frame.to body).to ≡ frame.to
-      to_again (Carry slot message) = refl
-      to_again (Took slot) = refl
-
       -- a frame's number is nothing to its target
       numbered_so : (replied : Result Answer StepFault) → TakesStep world frame.to (Arrived (record { from = frame.from; seq = seq; to = frame.to; body = frame.body })) [] replied new → TakesStep world frame.to (Arrived frame) [] replied new
       numbered_so (Ok answered) t = record { within = t.within; gives = t.gives; moves = t.moves }

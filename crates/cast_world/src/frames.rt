@@ -139,7 +139,7 @@ pub fn arrive_silently(node: &mut Node, from: NodeId, mark: &Mark) -> bool
     if is_acknowledgement(mark) {
         return node.arrive_took_silently(from, slot);
     }
-    if is_held(node, mark) {
+    if carries_held(node, mark) {
         return node.arrive_again_silently(from, slot, mark.sender, u64::from(mark.number));
     }
     false
@@ -150,13 +150,6 @@ pub fn is_acknowledgement(mark: &Mark) -> bool
     ensures { result ≡ (mark.now.sender == 255) }
 {
     mark.sender.0 == NOBODY
-}
-
-// Whether a node holds the message of a mark, so that its item is nothing to the node.
-fn is_held(node: &Node, mark: &Mark) -> bool
-    ensures { result ≡ holds node.now mark.now.sender mark.now.number }
-{
-    node.holds(mark.sender, u64::from(mark.number))
 }
 
 /// A frame arrives at its target.
@@ -176,7 +169,7 @@ pub fn carries_held(node: &Node, mark: &Mark) -> bool
     ensures { result ≡ (not (mark.now.sender == 255)
         && holds node.now mark.now.sender mark.now.number) }
 {
-    !is_acknowledgement(mark) && is_held(node, mark)
+    !is_acknowledgement(mark) && node.holds(mark.sender, u64::from(mark.number))
 }
 
 /// The frame of a mark arrives at its target, which holds its message: so its item is not sought in its sender's stream.
