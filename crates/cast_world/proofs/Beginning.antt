@@ -2,7 +2,7 @@
 use Rattle.std.proofs.Common.{◌≡◌, ℕ, zero, suc, ◌+◌, ◌<◌, refl, sym, ◌∙◌, ap, subst, List, [], ◌∷◌, ◌++◌, map, replicate, Some, arith}
 use Rattle.std.specs.Prelude.{slice_get}
 use Rattle.std.specs.List.{range_with_len}
-use Rattle.std.proofs.lemmas.List.{map-append}
+use Rattle.std.proofs.lemmas.List.{map-append, replicate-append-replicate}
 use Rattle.std.proofs.lemmas.List.FromFn.{length-map-range_with_len, get_or-map-range_with_len, map-range_with_len_more}
 use Rattle.cast_message.specs.declared.config.Config.{Config}
 use Rattle.cast_model.specs.History.{frames}
@@ -47,14 +47,6 @@ module _ (config : Config) where
     made = λ p l. none_made p;
   }
 
--- one node more
-pub nodes_more : (config : Config) (i : ℕ) → map (nothing_kept config) (range_with_len 0 (i + 1)) ≡ map (nothing_kept config) (range_with_len 0 i) ++ nothing_kept config i ∷ []
-nodes_more config i = map-range_with_len_more (nothing_kept config) 0 i i (let z : 0 + i ≡ i = omega arith in z)
-
-pub rows_more : (i : ℕ) → replicate (i + 1) [] ≡ ◌++◌ {A = List Mark} (replicate i []) ([] ∷ [])
-rows_more zero = refl
-rows_more (suc i) = ap (λ n. replicate n []) (let z : suc i + 1 ≡ suc (i + 1) = omega arith in z) ∙ ap (λ rows. [] ∷ rows) (rows_more i)
-
 module _ (config : Config) (nodes : List Kept) (rows : List (List Mark)) (n : ℕ) (all : n ≡ config.nodes) (nodes_are : nodes ≡ map (nothing_kept config) (range_with_len 0 n)) (rows_are : rows ≡ replicate n []) where
   is_new : new_world config ≡ record { config = config; nodes = nodes; marks = rows }
   is_new = λ k. record { config = config; nodes = (ap (λ m. map (nothing_kept config) (range_with_len 0 m)) (sym all) ∙ sym nodes_are) k; marks = (ap (λ m. replicate m []) (sym all) ∙ sym rows_are) k }
@@ -66,8 +58,7 @@ module _ (config : Config) (nodes : List Kept) (rows : List (List Mark)) (n : �
   begun_stands = subst (Stands config []) is_new (new_stands config)
 
 pub nodes_next : (config : Config) (before after : List Kept) (i : ℕ) (node : Kept) → after ≡ before ++ node ∷ [] → before ≡ map (nothing_kept config) (range_with_len 0 i) → node ≡ nothing_kept config i → after ≡ map (nothing_kept config) (range_with_len 0 (i + 1))
-nodes_next config before after i node one so_far new = one ∙ (λ k. so_far k ++ new k ∷ []) ∙ sym (nodes_more config i)
+nodes_next config before after i node one so_far new = one ∙ (λ k. so_far k ++ new k ∷ []) ∙ sym (map-range_with_len_more (nothing_kept config) 0 i i (let z : 0 + i ≡ i = omega arith in z))
 
 pub rows_next : {A : Type 0} (items : A → List Mark) (before after : List A) (i : ℕ) (row : A) → after ≡ before ++ row ∷ [] → map items before ≡ replicate i [] → items row ≡ [] → map items after ≡ replicate (i + 1) []
-rows_next items before after i row one so_far none =
-    ap (map items) one ∙ map-append items before (row ∷ []) ∙ (λ k. so_far k ++ none k ∷ []) ∙ sym (rows_more i)
+rows_next items before after i row one so_far none = ap (map items) one ∙ map-append items before (row ∷ []) ∙ (λ k. so_far k ++ none k ∷ []) ∙ replicate-append-replicate i 1 []

@@ -24,23 +24,12 @@ use Rattle.cast_node.proofs.Refusals.{faults_are}
 use Rattle.cast_world.specs.declared.frames.Mark.{Mark}
 use Rattle.cast_world.specs.Group.{State, node_at, marks_at, mark_by, mark_of, Stands}
 use Rattle.cast_world.specs.Moves.{actor_of, missing}
-use Rattle.cast_world.proofs.Stepping.{made_all, out_of_group, first_holds, no_frame}
+use Rattle.cast_world.proofs.Stepping.{made_all, outside, no_frame, to_again}
 
 module _ (config : Config) (past : History) (world : State) (st : Stands config past world) where
   -- an event that names no node
   pub by_nobody : (event : Event) (p : ℕ) → p ≡ actor_of event → length world.nodes ≤ p → ◌≡◌ {A = Option StepFault} (Some NoNode) (fault config past event)
-  unfolding fault causes
-  by_nobody event p e l = by_event event (subst (λ q. config.nodes ≤ q) e (subst (λ n. n ≤ p) st.size l))
-    where
-      outside : (p : ℕ) → config.nodes ≤ p → (no_node config p).holds ≡ true
-      outside p l = out_of_group config past world st p l
-
-      by_event : (event : Event) → config.nodes ≤ actor_of event → ◌≡◌ {A = Option StepFault} (Some NoNode) (fault config past event)
-      by_event (Order node item) l = sym (first_holds config past world st (no_node config node) _ (outside node l))
-      by_event (Send from to slot) l = sym (first_holds config past world st (no_node config from) _ (outside from l))
-      by_event (Ack from to slot) l = sym (first_holds config past world st (no_node config from) _ (outside from l))
-      by_event (Arrive from seq) l = sym (first_holds config past world st (no_node config from) _ (outside from l))
-      by_event (Crash node) l = sym (first_holds config past world st (no_node config node) _ (outside node l))
+  by_nobody event p e l = sym (outside config past world st event (subst (λ q. config.nodes ≤ q) e (subst (λ n. n ≤ p) st.size l)))
 
   -- one that is a node's step, where the node was asked
   pub by_step : (event : Event) (step : Step) (p : ℕ) (kept : Kept) (found : Option StepFault) → p < length world.nodes → kept ≡ node_at world p → found ≡ kept_fault kept step → IsStep past p event step → found ≡ fault config past event
@@ -83,10 +72,6 @@ module _ (config : Config) (past : History) (world : State) (st : Stands config 
       let to_is : mark.to ≡ frame.to = ap (λ (m : Mark). m.to) m.2 ∙ to_again frame.to frame.body in
       let ends = frame_ends config past st.accepted from frame (Member-slice_get (frames past from) seq frame m.1) in
       by_step (Arrive from seq) (Arrived frame) frame.to kept found (subst (λ n. frame.to < n) (sym st.size) ends.target_in) (same ∙ ap (node_at world) to_is) (asked frame) (takes from seq frame m.1 refl)
-    where
-      to_again : (to : ℕ) (body : FrameBody) → (mark_by to body).to ≡ to
-      to_again to (Carry slot message) = refl
-      to_again to (Took slot) = refl
 
   -- one that isn't
   pub by_none : (from seq : ℕ) (refusal : StepFault) → slice_get (marks_at world from) seq ≡ None → refusal ≡ missing (length world.marks) from → Some refusal ≡ fault config past (Arrive from seq)

@@ -23,6 +23,8 @@ use Rattle.cast_model.proofs.RoundFaults.{full, fault-Send}
 use Rattle.cast_world.specs.Group.{State, Stands, marks_at}
 use Rattle.cast_world.specs.Plans.{due_of}
 use Rattle.cast_world.specs.Rounds.{IsSettledWithAll, IsFirstGiver, StopsFor, StopsRound, EndsRound}
+use Rattle.cast_world.proofs.Owing.{live_in}
+use Rattle.cast_world.proofs.Planning.{none_flat}
 use Rattle.cast_world.proofs.Rounding.{left_first, round_ends}
 use Rattle.cast_world.proofs.Stepping.{made_count}
 
@@ -44,10 +46,6 @@ first_found f t (suc n) a p d ds l m none passes found = elim (cases_eq a p) [
     skip true e before = ap (λ xs. xs ++ flat_map f more) (none a (omega arith) before e)
     skip false e before = refl
 
-none_flat : (f : ℕ → List Due) (xs : List ℕ) → ((x : ℕ) → Member x xs → f x ≡ []) → flat_map f xs ≡ []
-none_flat f [] none = refl
-none_flat f (x ∷ xs) none = λ i. none x here i ++ none_flat f xs (λ y m. none y (there m)) i
-
 both_none : (xs ys : List Due) → xs ++ ys ≡ [] → (xs ≡ []) × (ys ≡ [])
 both_none [] ys e = (refl, e)
 both_none (x ∷ xs) ys e = absurd (cc)
@@ -63,13 +61,6 @@ module _ (config : Config) (past : History) where
   abbrev due_from : ℕ → List Due
   due_from p = flat_map (λ q. due_between past p q) (live_nodes config past)
 
-  live_in : (q : ℕ) → Member q (live_nodes config past) → (q < config.nodes) × (is_live past q ≡ true)
-  unfolding live_nodes
-  live_in q m =
-      let r = Member-filter (is_live past) q (nodes_of config) m in
-      let h = range_bounds config.nodes 0 q r.0 in
-      (omega (arith, h.1), r.1)
-
   in_live : (q : ℕ) → q < config.nodes → is_live past q ≡ true → Member q (live_nodes config past)
   unfolding live_nodes
   in_live q l live = filter-Member (is_live past) q (nodes_of config) (Member-range_with_len config.nodes 0 q (omega arith) (omega (arith, l))) live
@@ -78,7 +69,7 @@ module _ (config : Config) (past : History) where
   unfolding due_between live_nodes
   settled_none p live settled = none_flat (λ q. due_between past p q) (live_nodes config past) (λ q m. elim (cases_eq p q) [
     | inl e ↦ ap (λ b. cond b [] (map (due_of p q) (owed past p q))) (eq-eqb p q e)
-    | inr e ↦ ap (λ b. cond b [] (map (due_of p q) (owed past p q))) (ne_eqb p q e) ∙ ap (map (due_of p q)) (settled q (live_in q m).0 live (live_in q m).1 e)
+    | inr e ↦ ap (λ b. cond b [] (map (due_of p q) (owed past p q))) (ne_eqb p q e) ∙ ap (map (due_of p q)) (settled q (live_in config past q m).0 live (live_in config past q m).1 e)
   ])
 
   none_settled : (p : ℕ) → due_from p ≡ [] → IsSettledWithAll config past p

@@ -11,7 +11,6 @@ mod FirstDue
 mod DueRuns
 pub mod Numbering
 mod Marks
-pub mod Far
-mod Silent
+pub mod Steps
 mod Faults
 mod Offering

@@ -2,7 +2,7 @@
 use Rattle.std.proofs.Common.{◌≡◌, ◌≢◌, ◌⊎◌, ℕ, ◌+◌, ◌<◌, ◌≤◌, refl, sym, ◌∙◌, ap, subst, Bool, true, false, not, ◌&&◌, cond, List, [], ◌∷◌, ◌++◌, length, Option, Some, None, inl, inr, arith, append_assoc}
 use Rattle.std.specs.Prelude.{◌==◌, nat_le, is_some, slice_get, option_map}
 use Rattle.std.specs.List.{filter, flat_map, range_with_len}
-use Rattle.std.proofs.lemmas.Bool.{ne_eqb, lt-ltb, false≢true}
+use Rattle.std.proofs.lemmas.Bool.{ne_eqb, lt-ltb, lt-leb, false≢true}
 use Rattle.std.proofs.lemmas.Bool.Decides.{nat_tests}
 use Rattle.std.proofs.lemmas.List.{append-nil}
 use Rattle.std.proofs.lemmas.List.Concat.{flat_map-append}
@@ -81,14 +81,10 @@ module _ (config : Config) (past : History) where
 
   is_full : (p : ℕ) → not (is_some (full past p)) ≡ false → frame_limit ≤ length (frames past p)
   unfolding first_fault
-  is_full p e = by_test (nat_le frame_limit (length (frames past p))) refl e
+  is_full p e = most frame_limit (length (frames past p)) e
     where
-      at_most : (n k : ℕ) → nat_le n k ≡ true → n ≤ k
-      at_most n k e = grind (arith, nat_tests)
-
-      by_test : (b : Bool) → nat_le frame_limit (length (frames past p)) ≡ b → not (is_some (cond b (Some FramesFull) None)) ≡ false → frame_limit ≤ length (frames past p)
-      by_test true is e = at_most frame_limit (length (frames past p)) is
-      by_test false is e = absurd (false≢true (sym e))
+      most : (n k : ℕ) → not (is_some (cond (nat_le n k) (Some FramesFull) None)) ≡ false → n ≤ k
+      most n k e = grind (arith, nat_tests)
 
   -- nothing is possible where nothing is due, or the first that owes can make no frame
   pub rest_or_full : IsAccepted config past → enabled config past ≡ [] → Rest config past ⊎ HasFullNode config past
@@ -131,11 +127,8 @@ module _ (config : Config) (past : History) (p q : ℕ) (p_in : p < config.nodes
 
   owed_by : (slot : ℕ) → slot < length (given past q p) → is_owed (fault config past (Send q p slot)) ≡ (is_live past q && not (acked past q p slot))
   unfolding fault causes first_fault
-  owed_by slot inside = ap is_owed (for_peer (crashed (view_of past q) ∷ record { holds = nat_le (length (given past q p)) slot; refusal = NoSlot } ∷ record { holds = acked past q p slot; refusal = Acked } ∷ frames_full (view_of past q) ∷ [])) ∙ by_test (is_live past q) (nat_le (length (given past q p)) slot) (beyond (length (given past q p)) slot inside) (acked past q p slot) (nat_le frame_limit (length (frames past q)))
+  owed_by slot inside = ap is_owed (for_peer (crashed (view_of past q) ∷ record { holds = nat_le (length (given past q p)) slot; refusal = NoSlot } ∷ record { holds = acked past q p slot; refusal = Acked } ∷ frames_full (view_of past q) ∷ [])) ∙ by_test (is_live past q) (nat_le (length (given past q p)) slot) (lt-leb (length (given past q p)) slot inside) (acked past q p slot) (nat_le frame_limit (length (frames past q)))
     where
-      beyond : (n k : ℕ) → k < n → nat_le n k ≡ false
-      beyond n k l = grind (arith, nat_tests)
-
       by_test : (live out : Bool) → out ≡ false → (done many : Bool) → is_owed (cond (not live) (Some Crashed) (cond out (Some NoSlot) (cond done (Some Acked) (cond many (Some FramesFull) None)))) ≡ (live && not done)
       by_test live true e done many = absurd (false≢true (sym e))
       by_test false false e done many = refl

@@ -3,11 +3,10 @@ use Rattle.std.proofs.Common.{◌≡◌, ◌≢◌, ℕ, zero, suc, ◌+◌, ◌
 use Rattle.std.specs.Prelude.{◌==◌, ◌^◌, nat_lt, is_some, not, ◌&&◌, if◌then◌else◌}
 use Rattle.std.specs.List.{filter, flat_map, range_with_len}
 use Rattle.std.specs.FinMap as finite
-use Rattle.std.proofs.lemmas.Bool.{cases_lt, cases_eq, eq-eqb, false≢true}
+use Rattle.std.proofs.lemmas.Bool.{cases_lt, cases_eq, eq-eqb, lt-ltb, le-ltb, false≢true}
 use Rattle.std.proofs.lemmas.Bool.Decides.{nat_tests}
 use Rattle.std.proofs.Math.Nat.{mul-le-mul_left, mul-le-mul_right}
 use Rattle.std.proofs.lemmas.List.{append-nil, append_assoc, map-append}
-use Rattle.std.proofs.lemmas.List.Elements.{filter-append}
 use Rattle.cast_message.proofs.Lists.{length-filter_le}
 use Rattle.cast_message.specs.declared.config.Config.{Config}
 use Rattle.cast_message.specs.declared.message.Message.{Message}
@@ -26,17 +25,9 @@ use Rattle.cast_model.proofs.Possible.{held_bounded}
 use Rattle.cast_node.specs.Kept.{link_to}
 use Rattle.cast_node.specs.Stands.{StandsOut}
 use Rattle.cast_link.specs.Links.{Link}
-use Rattle.cast_node.proofs.Links.{range-more}
+use Rattle.cast_world.proofs.Planning.{filter_more}
 use Rattle.cast_world.specs.Group.{State, node_at, Stands}
 use Rattle.cast_world.specs.Plans.{due_of, owed_below, owed_slots, live_at, due_between_at, due_at, IsBounded}
-
--- one number more
-filter_more : (p : ℕ → Bool) (n : ℕ) (b : Bool) → p n ≡ b → filter p (range_with_len 0 (n + 1)) ≡ filter p (range_with_len 0 n) ++ cond b (n ∷ []) []
-filter_more p n b e =
-    ap (filter p) (range-more n 0)
-    ∙ filter-append p (range_with_len 0 n) ((0 + n) ∷ [])
-    ∙ (let z : 0 + n ≡ n = omega arith in ap (λ k. filter p (range_with_len 0 n) ++ filter p (k ∷ [])) z)
-    ∙ ap (λ c. filter p (range_with_len 0 n) ++ cond c (n ∷ []) []) e
 
 filter_gap : (p : ℕ → Bool) (n k : ℕ) → ((i : ℕ) → n ≤ i → i < n + k → p i ≡ false) → filter p (range_with_len 0 (n + k)) ≡ filter p (range_with_len 0 n)
 filter_gap p n zero none = ap (λ m. filter p (range_with_len 0 m)) (let z : n + 0 ≡ n = omega arith in z)
@@ -93,10 +84,14 @@ gives_few config past accepted p q =
     let items = mul-le-mul_left 64 config.items_in_range in
     omega (arith, within, bound, nodes, items)
 
-module _ (config : Config) (past : History) (world : State) (st : Stands config past world) where
-  node_in : (p : ℕ) → Member p (nodes_of config) → p < config.nodes
-  node_in p m = let l = (range_bounds config.nodes 0 p m).1 in omega (arith, l)
+node_in : (config : Config) (p : ℕ) → Member p (nodes_of config) → p < config.nodes
+node_in config p m = let l = (range_bounds config.nodes 0 p m).1 in omega (arith, l)
 
+pub live_in : (config : Config) (past : History) (q : ℕ) → Member q (live_nodes config past) → (q < config.nodes) × (is_live past q ≡ true)
+unfolding live_nodes
+live_in config past q m = let r = Member-filter (is_live past) q (nodes_of config) m in (node_in config q r.0, r.1)
+
+module _ (config : Config) (past : History) (world : State) (st : Stands config past world) where
   out : (p q : ℕ) → p < config.nodes → q < config.nodes → q ≢ p → StandsOut p (steps_of past p) q (link_to (node_at world p) q)
   out p q l m e = (st.nodes p l).out q m e
 
@@ -104,10 +99,7 @@ module _ (config : Config) (past : History) (world : State) (st : Stands config 
   not_given p q slot l m e h =
       ap is_some ((out p q l m e).owed slot)
       ∙ ap (λ b. is_some (if b && not (own_acked (steps_of past p) q slot) then Some (message_in (own_given p (steps_of past p) q) slot) else None))
-      (let given = (out p q l m e).given in past_all (length (own_given p (steps_of past p) q)) slot (omega (arith, h, given)))
-    where
-      past_all : (n k : ℕ) → n ≤ k → nat_lt k n ≡ false
-      past_all n k l = grind (arith, nat_tests)
+      (let given = (out p q l m e).given in le-ltb slot (length (own_given p (steps_of past p) q)) (omega (arith, h, given)))
 
   few_given : (p q : ℕ) → p < config.nodes → q < config.nodes → q ≢ p → (link_to (node_at world p) q).given < 2 ^ 64
   few_given p q l m e =
@@ -128,12 +120,9 @@ module _ (config : Config) (past : History) (world : State) (st : Stands config 
       ap (λ n. filter (finite.contains_key (link_to (node_at world p) q).owed) (range_with_len 0 n)) (out p q l m e).given
       ∙ filter_alike (finite.contains_key (link_to (node_at world p) q).owed) (λ slot. not (own_acked (steps_of past p) q slot)) (range_with_len 0 (length (own_given p (steps_of past p) q))) (λ slot n.
       let inside = (range_bounds (length (own_given p (steps_of past p) q)) 0 slot n).1 in
-      ap is_some ((out p q l m e).owed slot) ∙ here_only (nat_lt slot (length (own_given p (steps_of past p) q))) (within slot (length (own_given p (steps_of past p) q)) (omega (arith, inside))) (own_acked (steps_of past p) q slot) (message_in (own_given p (steps_of past p) q) slot))
+      ap is_some ((out p q l m e).owed slot) ∙ here_only (nat_lt slot (length (own_given p (steps_of past p) q))) (lt-ltb slot (length (own_given p (steps_of past p) q)) (omega (arith, inside))) (own_acked (steps_of past p) q slot) (message_in (own_given p (steps_of past p) q) slot))
       ∙ own_owed-steps_of past p q
     where
-      within : (k n : ℕ) → k < n → nat_lt k n ≡ true
-      within k n l = grind (arith, nat_tests)
-
       here_only : (b : Bool) → b ≡ true → (c : Bool) (x : Message) → is_some (if b && not c then Some x else None) ≡ not c
       here_only true t true x = refl
       here_only true t false x = refl
@@ -150,14 +139,10 @@ module _ (config : Config) (past : History) (world : State) (st : Stands config 
   unfolding live_nodes
   live_are =
       ap (λ c. filter (λ p. (node_at world p).live) (nodes_of c)) st.same_config
-      ∙ filter_alike (λ p. (node_at world p).live) (is_live past) (nodes_of config) (λ p m. (st.nodes p (node_in p m)).live ∙ own_live-steps_of past p)
-
-  live_in : (p : ℕ) → Member p (live_nodes config past) → p < config.nodes
-  unfolding live_nodes
-  live_in p m = node_in p (Member-filter (is_live past) p (nodes_of config) m).0
+      ∙ filter_alike (λ p. (node_at world p).live) (is_live past) (nodes_of config) (λ p m. (st.nodes p (node_in config p m)).live ∙ own_live-steps_of past p)
 
   pub due_is : due_at world ≡ due config past
   unfolding due
   due_is =
       ap (λ live. flat_map (λ p. flat_map (due_between_at world p) live) live) live_are
-      ∙ flat_alike _ _ (live_nodes config past) (λ p m. flat_alike (due_between_at world p) (due_between past p) (live_nodes config past) (λ q n. between_are p q (live_in p m) (live_in q n)))
+      ∙ flat_alike _ _ (live_nodes config past) (λ p m. flat_alike (due_between_at world p) (due_between past p) (live_nodes config past) (λ q n. between_are p q (live_in config past p m).0 (live_in config past q n).0))

@@ -4,6 +4,7 @@ use Rattle.std.specs.Prelude.{OnOk, OnErr, ◌==◌, nat_lt, not, slice_get, sli
 use Rattle.std.proofs.lemmas.Bool.{cases_eq, ltb-true, eq-eqb, ne_eqb}
 use Rattle.std.proofs.lemmas.List.{set-get_or, get_or-set_same, map-set, get_or-map}
 use Rattle.std.proofs.Math.Seq.{map-set_same}
+use Rattle.cast_message.proofs.Results.{on_err, ok_of}
 use Rattle.cast_message.specs.declared.config.Config.{Config}
 use Rattle.cast_message.specs.declared.event.Answer.{Answer}
 use Rattle.cast_message.specs.declared.event.StepFault.{StepFault}
@@ -111,23 +112,18 @@ module _ (world : State) (sound : IsSound world) (p : ℕ) (within : p < length 
       ]
       by_place q seq found (inr e) f = sound.targets q seq found (sym (ap (λ b. slice_get (cond b (marks_at world p ++ frame ∷ []) (marks_at world q)) seq) (ne_eqb q p e)) ∙ f)
 
--- the code's lists, where the node took the step
-pub takes_by : (world : State) (p : ℕ) (step : Step) (made : List Mark) (answer : Answer) (kept : Kept) (marks : List (List Mark)) → p < length world.nodes → marks ≡ marks_after world.marks p made → Gives (node_at world p) step (Ok answer) kept →
-    Takes world (record { config = world.config; nodes = slice_set world.nodes p kept; marks = marks }) p step made answer
-takes_by world p step made answer kept frames within rows gives = record {
-  within = within;
-  gives = subst (λ k. Gives (node_at world p) step (Ok answer) k) (sym itself) gives;
-  moves = λ i. record { config = world.config; nodes = slice_set world.nodes p (sym itself i); marks = rows i };
-}
-  where
-    itself : slice_index_or (slice_set world.nodes p kept) p (nothing_kept world.config 0) ≡ kept
-    itself = get_or-set_same world.nodes p kept (nothing_kept world.config 0) within
-
--- and where it refused it
-pub refuses_by : (world : State) (p : ℕ) (step : Step) (made : List Mark) (refusal : StepFault) (kept : Kept) (marks : List (List Mark)) → p < length world.nodes → marks ≡ world.marks → Gives (node_at world p) step (Err refusal) kept →
-    TakesStep world p step made (Err refusal) (record { config = world.config; nodes = slice_set world.nodes p kept; marks = marks })
-refuses_by world p step made refusal kept frames within rows gives = (
-  (λ i. record { config = world.config; nodes = (ap (slice_set world.nodes p) gives.1 ∙ set-get_or world.nodes p (nothing_kept world.config 0)) i; marks = rows i }),
+-- the code's lists, where the node was asked for the step
+stepped : (world : State) (p : ℕ) (step : Step) (made : List Mark) (reply : Result Answer StepFault) (kept : Kept) (marks : List (List Mark)) → p < length world.nodes → OnOk reply (marks ≡ marks_after world.marks p made) → OnErr reply (marks ≡ world.marks) → Gives (node_at world p) step reply kept →
+    TakesStep world p step made reply (record { config = world.config; nodes = slice_set world.nodes p kept; marks = marks })
+stepped world p step made (Ok answer) kept marks within more same gives =
+    let itself = sym (get_or-set_same world.nodes p kept (nothing_kept world.config 0) within) in
+    record {
+      within = within;
+      gives = subst (λ k. Gives (node_at world p) step (Ok answer) k) itself gives;
+      moves = λ i. record { config = world.config; nodes = slice_set world.nodes p (itself i); marks = more i };
+    }
+stepped world p step made (Err refusal) kept marks within more same gives = (
+  (λ i. record { config = world.config; nodes = (ap (slice_set world.nodes p) gives.1 ∙ set-get_or world.nodes p (nothing_kept world.config 0)) i; marks = same i }),
   inl (within, gives.0),
 )
 
@@ -166,6 +162,14 @@ pub kept_so : (P : Type 0) (r : Result ℕ StepFault) → OnErr r P → OnErr (n
 kept_so P (Ok seq) h = h
 kept_so P (Err refusal) h = h
 
+on_ok : {P : Type 0} (r : Result Answer StepFault) → P → OnOk r P
+on_ok (Ok x) p = p
+on_ok (Err e) p = tt
+
+err_of : {P Q : Type 0} (r : Result Answer StepFault) → OnErr r P → (P → Q) → OnErr r Q
+err_of (Ok x) p f = tt
+err_of (Err e) p f = f p
+
 -- rows of frames as the code keeps them
 module _ {A : Type 0} (items : A → List Mark) (config : Config) (nodes : List Kept) (rows : List A) where
   module _ (p : ℕ) (before : A) (found : before ≡ get_or rows p before) (v : A) where
@@ -195,13 +199,11 @@ module _ {A : Type 0} (items : A → List Mark) (config : Config) (nodes : List 
 
     pub sent_rows : (world : State) → world ≡ record { config = config; nodes = nodes; marks = map items rows } → (reply : Result Answer StepFault) → Gives kept step reply new → OnOk reply (items v ≡ items before ++ frame kept ∷ []) → OnErr reply (items v ≡ items before) →
         TakesStep world p step (frame (node_at world p) ∷ []) reply (record { config = config; nodes = slice_set nodes p new; marks = map items (slice_set rows p v) })
-    sent_rows world is (Ok answer) gives more same =
-        subst (λ w. Takes w (record { config = config; nodes = slice_set nodes p new; marks = map items (slice_set rows p v) }) p step (frame (node_at w p) ∷ []) answer) (sym is)
-        (subst (λ k. Takes (record { config = config; nodes = nodes; marks = map items rows }) (record { config = config; nodes = slice_set nodes p new; marks = map items (slice_set rows p v) }) p step (frame k ∷ []) answer) at
-        (takes_by (record { config = config; nodes = nodes; marks = map items rows }) p step (frame kept ∷ []) answer new (map items (slice_set rows p v)) within (rows_more p before row_found v (frame kept) in_rows more) (subst (λ k. Gives k step (Ok answer) new) at gives)))
-    sent_rows world is (Err refusal) gives more same =
-        subst (λ w. TakesStep w p step (frame (node_at w p) ∷ []) (Err refusal) (record { config = config; nodes = slice_set nodes p new; marks = map items (slice_set rows p v) })) (sym is)
-        (refuses_by (record { config = config; nodes = nodes; marks = map items rows }) p step [] refusal new (map items (slice_set rows p v)) within (rows_same p before row_found v same) (subst (λ k. Gives k step (Err refusal) new) at gives))
+    sent_rows world is reply gives more same =
+        subst (λ w. TakesStep w p step (frame (node_at w p) ∷ []) reply (record { config = config; nodes = slice_set nodes p new; marks = map items (slice_set rows p v) })) (sym is)
+        (subst (λ k. TakesStep (record { config = config; nodes = nodes; marks = map items rows }) p step (frame k ∷ []) reply (record { config = config; nodes = slice_set nodes p new; marks = map items (slice_set rows p v) })) at
+        (stepped (record { config = config; nodes = nodes; marks = map items rows }) p step (frame kept ∷ []) reply new (map items (slice_set rows p v)) within
+        (ok_of reply more (rows_more p before row_found v (frame kept) in_rows)) (err_of reply same (rows_same p before row_found v)) (subst (λ k. Gives k step reply new) at gives)))
 
 -- a frame arrives
 module _ (world : State) (sound : IsSound world) (from seq : ℕ) (mark : Mark) (found_mark : slice_get (marks_at world from) seq ≡ Some mark) (p : ℕ) (target : p ≡ mark.to) (kept : Kept) (found : kept ≡ get_or world.nodes p kept) where
@@ -220,8 +222,4 @@ module _ (world : State) (sound : IsSound world) (from seq : ℕ) (mark : Mark) 
         subst (λ w. ArrivesBy w from seq (slice_get (marks_at w from) seq) reply (record { config = world.config; nodes = slice_set world.nodes p new; marks = world.marks })) (sym is)
         (subst (λ o. ArrivesBy world from seq o reply (record { config = world.config; nodes = slice_set world.nodes p new; marks = world.marks })) (sym found_mark)
         (subst (λ q. TakesStep world q (Arrived (frame_by world from seq mark)) [] reply (record { config = world.config; nodes = slice_set world.nodes p new; marks = world.marks })) target
-        (by_reply reply (subst (λ f. Gives (node_at world p) (Arrived f) reply new) frame_is (subst (λ k. Gives k (Arrived frame) reply new) (found_at world p kept target_in found) gives)))))
-      where
-        by_reply : (reply : Result Answer StepFault) → Gives (node_at world p) (Arrived (frame_by world from seq mark)) reply new → TakesStep world p (Arrived (frame_by world from seq mark)) [] reply (record { config = world.config; nodes = slice_set world.nodes p new; marks = world.marks })
-        by_reply (Ok answer) g = takes_by world p (Arrived (frame_by world from seq mark)) [] answer new world.marks target_in refl g
-        by_reply (Err refusal) g = refuses_by world p (Arrived (frame_by world from seq mark)) [] refusal new world.marks target_in refl g
+        (stepped world p (Arrived (frame_by world from seq mark)) [] reply new world.marks target_in (on_ok reply refl) (on_err reply refl) (subst (λ f. Gives (node_at world p) (Arrived f) reply new) frame_is (subst (λ k. Gives k (Arrived frame) reply new) (found_at world p kept target_in found) gives)))))

@@ -40,7 +40,7 @@ use Rattle.cast_node.proofs.Continuing.{continues}
 use Rattle.cast_node.proofs.Showing.{carries, tells_taken}
 use Rattle.cast_world.specs.declared.frames.Mark.{Mark}
 use Rattle.cast_world.specs.Group.{State, node_at, marks_at, kept_by, mark_by, mark_of, body_in, frame_by, Stands, Continues}
-use Rattle.cast_world.specs.Moves.{marks_after, Takes, Refuses, TakesStep, ArrivesBy, StepsTo, missing}
+use Rattle.cast_world.specs.Moves.{marks_after, Takes, Refuses, TakesStep, ArrivesBy, StepsTo, actor_of, missing}
 
 -- an event is no step of another node
 pub other_steps : (past : History) (p : ℕ) (event : Event) (step : Step) → IsStep past p event step → (q : ℕ) → q ≢ p → steps_of (event ∷ past) q ≡ steps_of past q
@@ -56,6 +56,11 @@ other_steps past p event step is q e = ap (λ more. more ++ steps_of past q) (no
     none event step (acknowledges to slot) = skip (Acknowledged to slot) (p == q) (ne_eqb p q (λ z. e (sym z)))
     none event step (takes from seq frame at to) = ap (λ o. step_by o q) at ∙ skip (Arrived frame) (frame.to == q) (ne_eqb frame.to q (λ z. e (sym z ∙ to)))
     none event step stops = skip Stopped (p == q) (ne_eqb p q (λ z. e (sym z)))
+
+-- a mark's target is that of its frame
+pub to_again : (to : ℕ) (body : FrameBody) → (mark_by to body).to ≡ to
+to_again to (Carry slot message) = refl
+to_again to (Took slot) = refl
 
 pub no_fault : (o : Option StepFault) (a b : Answer) → reply_by o a ≡ Ok b → o ≡ None
 no_fault None a b e = refl
@@ -165,12 +170,21 @@ module _ (config : Config) (past : History) (world : State) (st : Stands config 
   pub made_count : (p : ℕ) → length (marks_at world p) ≡ length (frames past p)
   made_count p = ap length (made_all p) ∙ length-map mark_of (frames past p)
 
-  pub out_of_group : (p : ℕ) → config.nodes ≤ p → (no_node config p).holds ≡ true
+  out_of_group : (p : ℕ) → config.nodes ≤ p → (no_node config p).holds ≡ true
   out_of_group p l = grind (arith, nat_tests)
 
-  pub first_holds : (cause : Cause) (more : List Cause) → cause.holds ≡ true → first_fault (cause ∷ more) ≡ Some cause.refusal
+  first_holds : (cause : Cause) (more : List Cause) → cause.holds ≡ true → first_fault (cause ∷ more) ≡ Some cause.refusal
   unfolding first_fault
   first_holds cause more e = ap (λ b. cond b (Some cause.refusal) (first_fault more)) e
+
+  -- an event that names no node
+  pub outside : (event : Event) → config.nodes ≤ actor_of event → fault config past event ≡ Some NoNode
+  unfolding fault causes
+  outside (Order node item) l = first_holds (no_node config node) _ (out_of_group node l)
+  outside (Send from to slot) l = first_holds (no_node config from) _ (out_of_group from l)
+  outside (Ack from to slot) l = first_holds (no_node config from) _ (out_of_group from l)
+  outside (Arrive from seq) l = first_holds (no_node config from) _ (out_of_group from l)
+  outside (Crash node) l = first_holds (no_node config node) _ (out_of_group node l)
 
   -- a frame's body is that of its mark
   pub body_again : (from to : ℕ) (body : FrameBody) → BodyOk past from to body → body_in world.config world.nodes (mark_by to body) ≡ body
@@ -204,26 +218,22 @@ module _ (config : Config) (past : History) (world : State) (st : Stands config 
       let member = Member-slice_get (frames past from) seq frame at in
       let ends = frame_ends config past st.accepted from frame member in
       let ok = (sound config past st.accepted).frames_ok from frame member in
-      let again : frame_by world from seq (mark_of frame) ≡ record { from = frame.from; seq = seq; to = frame.to; body = frame.body } = λ k. record { from = sym ok.from_is k; seq = seq; to = to_again frame.body k; body = body_again from frame.to frame.body ok.body_ok k } in
+      let again : frame_by world from seq (mark_of frame) ≡ record { from = frame.from; seq = seq; to = frame.to; body = frame.body } = λ k. record { from = sym ok.from_is k; seq = seq; to = to_again frame.to frame.body k; body = body_again from frame.to frame.body ok.body_ok k } in
       steps frame.to (Arrive from seq) (Arrived frame) (takes from seq frame at refl) [] (λ l none. refl) replied new (λ l. let inside = ends.target_in in absurd (omega (arith, l, inside)))
-      (numbered_so replied (subst (λ f. TakesStep world frame.to (Arrived f) [] replied new) again (subst (λ q. TakesStep world q (Arrived (frame_by world from seq (mark_of frame))) [] replied new) (to_again frame.body) t)))
+      (numbered_so replied (subst (λ f. TakesStep world frame.to (Arrived f) [] replied new) again (subst (λ q. TakesStep world q (Arrived (frame_by world from seq (mark_of frame))) [] replied new) (to_again frame.to frame.body) t)))
     where
-      to_again : (body : FrameBody) → (mark_by frame.to body).to ≡ frame.to
-      to_again (Carry slot message) = refl
-      to_again (Took slot) = refl
-
       -- a frame's number is nothing to its target
       numbered_so : (replied : Result Answer StepFault) → TakesStep world frame.to (Arrived (record { from = frame.from; seq = seq; to = frame.to; body = frame.body })) [] replied new → TakesStep world frame.to (Arrived frame) [] replied new
       numbered_so (Ok answered) t = record { within = t.within; gives = t.gives; moves = t.moves }
       numbered_so (Err refusal) t = t
 
   pub continues_to : (event : Event) (replied : Result Answer StepFault) (new : State) → StepsTo world event replied new → Continues config past event replied new
-  unfolding fault causes own_made
-  continues_to (Order node item) replied new t = steps node (Order node item) (Ordered item) (orders item) [] (λ l none. refl) replied new (λ l. first_holds (no_node config node) _ (out_of_group node l)) t
-  continues_to (Send from to slot) replied new t = steps from (Send from to slot) (Sent to slot) (sends to slot) _ (λ l none. ap (map mark_of) (carries config from (steps_of past from) (node_at world from) (st.nodes from l) to slot none)) replied new (λ l. first_holds (no_node config from) _ (out_of_group from l)) t
-  continues_to (Ack from to slot) replied new t = steps from (Ack from to slot) (Acknowledged to slot) (acknowledges to slot) _ (λ l none. ap (map mark_of) (tells_taken config from (steps_of past from) (node_at world from) (st.nodes from l) to slot)) replied new (λ l. first_holds (no_node config from) _ (out_of_group from l)) t
+  unfolding own_made
+  continues_to (Order node item) replied new t = steps node (Order node item) (Ordered item) (orders item) [] (λ l none. refl) replied new (outside (Order node item)) t
+  continues_to (Send from to slot) replied new t = steps from (Send from to slot) (Sent to slot) (sends to slot) _ (λ l none. ap (map mark_of) (carries config from (steps_of past from) (node_at world from) (st.nodes from l) to slot none)) replied new (outside (Send from to slot)) t
+  continues_to (Ack from to slot) replied new t = steps from (Ack from to slot) (Acknowledged to slot) (acknowledges to slot) _ (λ l none. ap (map mark_of) (tells_taken config from (steps_of past from) (node_at world from) (st.nodes from l) to slot)) replied new (outside (Ack from to slot)) t
   continues_to (Arrive from seq) replied new t = missed from seq (slice_get (frames past from) seq) refl replied new (subst (λ o. ArrivesBy world from seq o replied new) (ap (λ row. slice_get row seq) (made_all from) ∙ slice_get-map mark_of (frames past from) seq) t)
-  continues_to (Crash node) replied new t = steps node (Crash node) Stopped stops [] (λ l none. refl) replied new (λ l. first_holds (no_node config node) _ (out_of_group node l)) t
+  continues_to (Crash node) replied new t = steps node (Crash node) Stopped stops [] (λ l none. refl) replied new (outside (Crash node)) t
 
 -- a reply that is no want of memory is that of the definitions
 pub is_answered : (config : Config) (past : History) (event : Event) (given : Result Answer StepFault) (new : State) → given ≢ Err Memory → Continues config past event given new → given ≡ reply config past event

@@ -135,11 +135,12 @@ pub fn arrive_silently(node: &mut Node, from: NodeId, mark: &Mark) -> bool
         (silent_reply mark.now.to) node.new }
     ensures not { IsFalse result → node.new ≡ node.old }
 {
+    let slot = u64::from(mark.slot);
     if is_acknowledgement(mark) {
-        return arrive_acknowledgement(node, from, mark);
+        return node.arrive_took_silently(from, slot);
     }
-    if is_held(node, mark) {
-        return arrive_again(node, from, mark);
+    if carries_held(node, mark) {
+        return node.arrive_again_silently(from, slot, mark.sender, u64::from(mark.number));
     }
     false
 }
@@ -149,43 +150,6 @@ pub fn is_acknowledgement(mark: &Mark) -> bool
     ensures { result ≡ (mark.now.sender == 255) }
 {
     mark.sender.0 == NOBODY
-}
-
-// An acknowledgement arrives.
-fn arrive_acknowledgement(node: &mut Node, from: NodeId, mark: &Mark) -> bool
-    requires word { (mark.now.sender == 255) ≡ true }
-    requires target { mark.now.to ≡ node.old.me }
-    ensures took { (config : Settings) (nodes : List Kept) (seq : ℕ) → IsTrue result →
-        Gives node.old (Arrived (frame_in config nodes from seq mark.now))
-        (silent_reply mark.now.to) node.new }
-    ensures not { IsFalse result → node.new ≡ node.old }
-{
-    node.arrive_took_silently(from, u64::from(mark.slot))
-}
-
-// Whether a node holds the message of a mark, so that its item is nothing to the node.
-fn is_held(node: &Node, mark: &Mark) -> bool
-    ensures { result ≡ holds node.now mark.now.sender mark.now.number }
-{
-    node.holds(mark.sender, u64::from(mark.number))
-}
-
-// A message arrives that the node holds.
-fn arrive_again(node: &mut Node, from: NodeId, mark: &Mark) -> bool
-    requires carries { (mark.now.sender == 255) ≡ false }
-    requires held { holds node.old mark.now.sender mark.now.number ≡ true }
-    requires target { mark.now.to ≡ node.old.me }
-    ensures took { (config : Settings) (nodes : List Kept) (seq : ℕ) → IsTrue result →
-        Gives node.old (Arrived (frame_in config nodes from seq mark.now))
-        (silent_reply mark.now.to) node.new }
-    ensures not { IsFalse result → node.new ≡ node.old }
-{
-    node.arrive_again_silently(
-        from,
-        u64::from(mark.slot),
-        mark.sender,
-        u64::from(mark.number),
-    )
 }
 
 /// A frame arrives at its target.
@@ -205,7 +169,7 @@ pub fn carries_held(node: &Node, mark: &Mark) -> bool
     ensures { result ≡ (not (mark.now.sender == 255)
         && holds node.now mark.now.sender mark.now.number) }
 {
-    !is_acknowledgement(mark) && is_held(node, mark)
+    !is_acknowledgement(mark) && node.holds(mark.sender, u64::from(mark.number))
 }
 
 /// The frame of a mark arrives at its target, which holds its message: so its item is not sought in its sender's stream.

@@ -1,5 +1,5 @@
 use Rattle.cast_world.proofs.Stepping.{continues_to, is_answered}
-use Rattle.cast_world.proofs.Far.{refused_far}
+use Rattle.cast_world.proofs.Steps.{refused_far}
 use Rattle.cast_world.proofs.world.World.step.Goals as goal
 
 pub returns-clause-stands : goal.returns-clause-stands

@@ -1,6 +1,6 @@
 use Rattle.std.proofs.Common.{◌∙◌, sym}
 use Rattle.cast_message.specs.declared.event.Event.TheVariants.{Send, Ack, Arrive}
-use Rattle.cast_world.proofs.Silent.{made_silently, arrived_silently}
+use Rattle.cast_world.proofs.Steps.{made_silently, arrived_silently}
 use Rattle.cast_world.proofs.world.World.step_if_silent.Goals as goal
 
 pub returns-in-Send-clause-took : goal.returns-in-Send-clause-took
