@@ -133,8 +133,6 @@ module _ (config : Config) where
   -- the decision that one delivery completes
   decision_on_is : (log : List Message) (m : Message) (item : Item) → m.item ≡ item → option_to_list (decision_counted_by (counted_of (config.nodes - config.faults) (newest_first [] log)) m.sender item) ≡ own_decision_on config log m item
   unfolding quorum votes
-  decision_on_is log m (Data bytes) e = refl
-  decision_on_is log m Close e = refl
   decision_on_is log m (Propose j v) e =
       let h = counts_votes j log in
       ap option_to_list ((decides_least (config.nodes - config.faults) some_quorum (newest_first [] log) j).1 m.sender v)
@@ -152,6 +150,7 @@ module _ (config : Config) where
           ∙ ap (decision_by config j) (sym (first_votes-last j [] log m
           ∙ ap (λ b. first_votes j [] log ++ (if b then votes j (m ∷ []) else [])) is
           ∙ ap (λ o. first_votes j [] log ++ cons_option o []) (ap (value_in j) e ∙ ap (λ b. if b then Some v else None) (let z : (j == j) ≡ true = grind (arith, nat_tests) in z))))
+  decision_on_is log m item e = refl
 
   pub decisions_are : (log news : List Message) → decisions_all (counted_of (config.nodes - config.faults) (newest_first [] log)) news ≡ own_decisions_of config log news
   unfolding decisions_all own_decisions_of newest_first

@@ -2,17 +2,17 @@
 use Rattle.std.proofs.Common.{◌≡◌, ◌≢◌, ◌⊎◌, ◌-◌, ℕ, zero, suc, ◌+◌, ◌<◌, refl, sym, ◌∙◌, ap, Bool, true, false, ◌&&◌, ◌||◌, cond, List, [], ◌∷◌, ◌++◌, length, map, inl, inr, arith, length-append}
 use Rattle.std.specs.Prelude.{◌==◌, nat_lt, slice_set, slice_index_or, replicate}
 use Rattle.std.specs.List.{count_by, filter, range_with_len}
-use Rattle.std.specs.Ordering.{nat_cmp, eq_by_cmp}
+use Rattle.std.specs.Ordering.{nat_cmp}
 use Rattle.std.specs.Cmp.{nat_cmp_total}
 use Rattle.std.specs.FinSet as set
-use Rattle.std.specs.FinSet.{contains-insert, contains-empty, len-empty, same_set, nat_cmp-IsAntisymmetric}
-use Rattle.std.proofs.lemmas.Bool.Decides.{nat_tests, eqb_tells}
+use Rattle.std.specs.FinSet.{contains-empty, len-empty, same_set, nat_cmp-IsAntisymmetric}
+use Rattle.std.proofs.lemmas.Bool.Decides.{nat_tests}
 use Rattle.std.proofs.lemmas.Bool.{and_parts, cases_eq, eqb-true, eq-eqb, ne_eqb}
 use Rattle.std.proofs.lemmas.List.Sums.{length-filter}
 use Rattle.std.proofs.lemmas.List.Elements.{filter-append}
 use Rattle.std.proofs.lemmas.List.Folds.{list_any-append}
 use Rattle.cast_message.proofs.Booleans.{or_false}
-use Rattle.cast_message.specs.Members.{members_below, contains-members_below, len-new_member}
+use Rattle.cast_message.specs.Members.{members_below, contains-members_below, members_below-more}
 use Rattle.cast_message.specs.declared.config.Config.{Config}
 use Rattle.cast_message.specs.declared.config.Mode.{Mode}
 use Rattle.cast_message.specs.declared.config.Mode.TheVariants.{Basic, Uniform}
@@ -53,7 +53,7 @@ knowers_in-set all s i members h x k = ap (λ row. slice_index_or row k set.empt
 len-members : (f : ℕ → Bool) (n : ℕ) → set.len (members_below n f) ≡ count_by f (range_with_len 0 n)
 unfolding members_below
 len-members f zero = len-empty nat_cmp
-len-members f (suc n) = by_test (len-members f n) (f n) refl
+len-members f (suc n) = members_below-more n f ∙ by_test (f n) _ _ (len-members f n) ∙ sym last
   where
     last : count_by f (range_with_len 0 (suc n)) ≡ count_by f (range_with_len 0 n) + cond (f n) 1 0
     last =
@@ -70,31 +70,9 @@ len-members f (suc n) = by_test (len-members f n) (f n) refl
         one true = refl
         one false = refl
 
-    absent : set.contains (members_below n f) n ≡ false
-    absent = contains-members_below n f n ∙ ap (λ b. b && f n) (let z : nat_lt n n ≡ false = grind (arith, nat_tests) in z)
-
-    with_last : (q : ℕ) → f n ≡ true → (nat_lt q (suc n) && f q) ≡ (eq_by_cmp nat_cmp q n || (nat_lt q n && f q))
-    with_last q e = elim (eqb_tells q n) [
-      | inl here ↦ (let same : f q ≡ true = ap f here.1 ∙ e in grind (arith, nat_tests))
-      | inr apart ↦ grind (arith, nat_tests)
-    ]
-
-    without_last : (q : ℕ) → f n ≡ false → (nat_lt q (suc n) && f q) ≡ (nat_lt q n && f q)
-    without_last q e = elim (eqb_tells q n) [
-      | inl here ↦ (let same : f q ≡ false = ap f here.1 ∙ e in grind (arith, nat_tests))
-      | inr apart ↦ grind (arith, nat_tests)
-    ]
-
-    by_test : set.len (members_below n f) ≡ count_by f (range_with_len 0 n) → (b : Bool) → f n ≡ b → set.len (members_below (suc n) f) ≡ count_by f (range_with_len 0 (suc n))
-    by_test ih true e =
-        ap set.len (same_set nat_cmp_total nat_cmp-IsAntisymmetric (members_below (suc n) f) (set.insert (members_below n f) n) (λ q. contains-members_below (suc n) f q ∙ with_last q e ∙ sym (contains-insert nat_cmp_total (members_below n f) n q ∙ ap (λ b. eq_by_cmp nat_cmp q n || b) (contains-members_below n f q))))
-        ∙ len-new_member (members_below n f) n absent
-        ∙ ap (λ k. k + 1) ih
-        ∙ sym (last ∙ ap (λ b. count_by f (range_with_len 0 n) + cond b 1 0) e)
-    by_test ih false e =
-        ap set.len (same_set nat_cmp_total nat_cmp-IsAntisymmetric (members_below (suc n) f) (members_below n f) (λ q. contains-members_below (suc n) f q ∙ without_last q e ∙ sym (contains-members_below n f q)))
-        ∙ ih
-        ∙ sym (last ∙ ap (λ b. count_by f (range_with_len 0 n) + cond b 1 0) e ∙ (let z : count_by f (range_with_len 0 n) + 0 ≡ count_by f (range_with_len 0 n) = omega arith in z))
+    by_test : (b : Bool) (l m : ℕ) → l ≡ m → cond b (l + 1) l ≡ m + cond b 1 0
+    by_test true l m e = omega (arith, e)
+    by_test false l m e = omega (arith, e)
 
 pub len_by_test : (members : set.FinSet nat_cmp) (n : ℕ) (f : ℕ → Bool) → ((q : ℕ) → set.contains members q ≡ (nat_lt q n && f q)) → set.len members ≡ count_by f (range_with_len 0 n)
 len_by_test members n f h = ap set.len (same_set nat_cmp_total nat_cmp-IsAntisymmetric members (members_below n f) (λ q. h q ∙ sym (contains-members_below n f q))) ∙ len-members f n

@@ -28,11 +28,6 @@ use Rattle.cast_relay.specs.Pairs.{goes_on}
 use Rattle.cast_node.specs.Turns.{given_from}
 use Rattle.cast_node.specs.Stands.{owed_in, StandsOut}
 
-pub length-given_from : (q : ℕ) (me : ℕ) (source : ℕ) (message : Message) (links : List (Link Message)) → length (given_from q me source message links) ≡ length links
-unfolding given_on
-length-given_from q me source message [] = refl
-length-given_from q me source message (link ∷ links) = ap suc (length-given_from (q + 1) me source message links)
-
 abbrev pub goes : ℕ → ℕ → Message → ℕ → Link Message → Link Message
 goes me source message q link = cond (goes_on me message.sender source q) (with_given link message) link
 

@@ -89,9 +89,7 @@ module _ (config : Config) (me : ℕ) (place : me < config.nodes) where
           let at : length (own_items steps) ≡ i = eqb-true (length (own_items steps)) i p.1 in
           record { sender = subst (λ y. y < config.nodes) same place; number = λ z. (let n = length-append (own_items steps) (item ∷ []) in omega (arith, n, at)) }
       by_step (Arrived f) fine t = by_body (Arrived f) f.from f.body (and_parts (nat_lt f.from config.nodes && not (f.from == me)) _ (not-false _ fine)).1 t
-      by_step (Sent to slot) fine t = absurd (false≢true t)
-      by_step (Acknowledged to slot) fine t = absurd (false≢true t)
-      by_step Stopped fine t = absurd (false≢true t)
+      by_step x fine t = absurd (false≢true t)
 
 module _ (config : Config) (me : ℕ) (steps : Steps) (kept : Kept) (st : Stands config me steps kept) where
   -- a step that brings nothing new
