@@ -70,11 +70,7 @@ module _ (all : List HeldBack) (message : Message) (within : message.sender < le
   kept_here = get_or-set_same all message.sender _ nothing_held within
 
   next_same : (held_of waiting message.sender).next ≡ (held_of all message.sender).next
-  next_same = ap (λ (h : HeldBack). h.next) kept_here ∙ by_test (came (held_of all message.sender) message.number)
-    where
-      by_test : (b : Bool) → (if b then held_of all message.sender else record (held_of all message.sender) { waiting = (Rattle.cast_fifo.specs.HeldBack.with_waiting (held_of all message.sender) message.number (record { item = message.item; known = false })).waiting }).next ≡ (held_of all message.sender).next
-      by_test true = refl
-      by_test false = refl
+  next_same = ap (λ (h : HeldBack). h.next) kept_here ∙ elim (came (held_of all message.sender) message.number) as (λ b. (if b then held_of all message.sender else record (held_of all message.sender) { waiting = (Rattle.cast_fifo.specs.HeldBack.with_waiting (held_of all message.sender) message.number (record { item = message.item; known = false })).waiting }).next ≡ (held_of all message.sender).next) [ true ↦ refl | false ↦ refl ]
 
   pub items_offered : heard_items (held_of waiting message.sender) message.number None ≡ heard_items (held_of all message.sender) message.number (Some message.item)
   items_offered = ap (λ h. known_items h message.number) kept_here

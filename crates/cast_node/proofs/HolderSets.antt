@@ -22,7 +22,7 @@ use Rattle.cast_model.specs.Steps.{Step, Steps, Held, copy_of}
 use Rattle.cast_model.specs.OwnSteps.{own_copies, own_knows, own_known_by, own_known_enough, own_is_ready}
 use Rattle.cast_model.proofs.OwnGrowth.{brought, own_copies-more}
 use Rattle.cast_node.specs.Delivering.{knowers_in, is_enough, known_row}
-use Rattle.cast_node.proofs.Links.{range-more}
+use Rattle.cast_node.proofs.Links.{place_more}
 use Rattle.cast_node.proofs.Places.{at_set, at_padded, length-replicated}
 
 -- the members known of one pair are others
@@ -59,16 +59,8 @@ len-members f (suc n) = members_below-more n f ∙ by_test (f n) _ _ (len-member
     last =
         sym (length-filter f (range_with_len 0 (suc n)))
         ∙ ap (λ k. length (filter f (range_with_len 0 k))) (let z : suc n ≡ n + 1 = omega arith in z)
-        ∙ ap (λ xs. length (filter f xs)) (range-more n 0)
-        ∙ ap length (filter-append f (range_with_len 0 n) ((0 + n) ∷ []))
-        ∙ length-append (filter f (range_with_len 0 n)) (filter f ((0 + n) ∷ []))
-        ∙ ap (λ k. k + length (filter f ((0 + n) ∷ []))) (length-filter f (range_with_len 0 n))
-        ∙ (let z : 0 + n ≡ n = omega arith in ap (λ k. count_by f (range_with_len 0 n) + length (filter f (k ∷ []))) z)
-        ∙ ap (λ k. count_by f (range_with_len 0 n) + k) (one (f n))
-      where
-        one : (b : Bool) → length (cond b (n ∷ []) []) ≡ cond b 1 0
-        one true = refl
-        one false = refl
+        ∙ place_more f n
+        ∙ ap (λ k. k + cond (f n) 1 0) (length-filter f (range_with_len 0 n))
 
     by_test : (b : Bool) (l m : ℕ) → l ≡ m → cond b (l + 1) l ≡ m + cond b 1 0
     by_test true l m e = omega (arith, e)
@@ -91,11 +83,7 @@ known_by-is config me steps all h s i l = by_test (has_pair (own_copies me steps
 
 pub enough-is : (config : Config) (me : ℕ) (steps : Steps) (all : List (List (set.FinSet nat_cmp))) → KnowsAll config me steps all → (s i : ℕ) → s < config.nodes → is_enough config (knowers_in all s i) ≡ own_known_enough config.mode config me steps s i
 unfolding own_known_enough
-enough-is config me steps all h s i l = by_mode config.mode
-  where
-    by_mode : (mode : Mode) → are_enough mode config.faults (set.len (knowers_in all s i)) ≡ own_known_enough mode config me steps s i
-    by_mode Basic = refl
-    by_mode Uniform = ap (nat_lt config.faults) (known_by-is config me steps all h s i l)
+enough-is config me steps all h s i l = elim config.mode as (λ mode. are_enough mode config.faults (set.len (knowers_in all s i)) ≡ own_known_enough mode config me steps s i) [ Basic ↦ refl | Uniform ↦ ap (nat_lt config.faults) (known_by-is config me steps all h s i l) ]
 
 -- a pair of which nothing new is known is as ready as it was
 pub ready_alike : (config : Config) (me : ℕ) (step : Step) (steps : Steps) (s i : ℕ) → has_pair (own_copies me (step ∷ steps)) s i ≡ has_pair (own_copies me steps) s i → ((r : ℕ) → own_knows me (step ∷ steps) s i r ≡ own_knows me steps s i r) → own_is_ready config me (step ∷ steps) s i ≡ own_is_ready config me steps s i

@@ -53,12 +53,8 @@ len_through messages owed =
     ∙ length-map (finite.entries owed) (λ e. (e.0, kept_message messages e.1))
     ∙ sym (len-entries owed)
 
-still_some : (f : ℕ → Message) (o : Option ℕ) → is_some (option_map f o) ≡ is_some o
-still_some f None = refl
-still_some f (Some place) = refl
-
 contains_through : (messages : List Message) (owed : finite.FinMap nat_cmp ℕ) (q : ℕ) → finite.contains_key (owed_through messages owed) q ≡ finite.contains_key owed q
-contains_through messages owed q = ap is_some (get_through messages owed q) ∙ still_some (kept_message messages) (finite.get owed q)
+contains_through messages owed q = ap is_some (get_through messages owed q) ∙ elim (finite.get owed q) as (λ o. is_some (option_map (kept_message messages) o) ≡ is_some o) [ None ↦ refl | Some place ↦ refl ]
 
 pub through_empty : (messages : List Message) → owed_through messages finite.empty ≡ finite.empty
 through_empty messages = same_map nat_cmp_total nat_cmp-IsAntisymmetric _ _ (λ q. get_through messages finite.empty q ∙ ap (option_map (kept_message messages)) (get-empty nat_cmp q) ∙ sym (get-empty nat_cmp q))
