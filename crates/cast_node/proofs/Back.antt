@@ -26,17 +26,8 @@ use Rattle.cast_node.specs.Stands.{item_at}
 -- the message of a pair once one more is held
 message_at-more : (hs : List Held) (h : Held) (s i : ℕ) → item_at (hs ++ h ∷ []) s i ≡ first_of (item_at hs s i) (if is_pair (copy_of h) s i then Some h.message.item else None)
 unfolding message_at
-message_at-more [] h s i = by_test (is_pair (copy_of h) s i)
-  where
-    by_test : (b : Bool) → option_map item_of (cond b (Some h.message) None) ≡ cond b (Some h.message.item) None
-    by_test true = refl
-    by_test false = refl
-message_at-more (x ∷ hs) h s i = by_test (is_pair (copy_of x) s i) (message_at-more hs h s i)
-  where
-    by_test : (b : Bool) → item_at (hs ++ h ∷ []) s i ≡ first_of (item_at hs s i) (if is_pair (copy_of h) s i then Some h.message.item else None) →
-        option_map item_of (cond b (Some x.message) (message_at (hs ++ h ∷ []) s i)) ≡ first_of (option_map item_of (cond b (Some x.message) (message_at hs s i))) (if is_pair (copy_of h) s i then Some h.message.item else None)
-    by_test true ih = refl
-    by_test false ih = ih
+message_at-more [] h s i = elim (is_pair (copy_of h) s i) as (λ b. option_map item_of (cond b (Some h.message) None) ≡ cond b (Some h.message.item) None) [ true ↦ refl | false ↦ refl ]
+message_at-more (x ∷ hs) h s i = elim (is_pair (copy_of x) s i) as (λ b. option_map item_of (cond b (Some x.message) (message_at (hs ++ h ∷ []) s i)) ≡ first_of (option_map item_of (cond b (Some x.message) (message_at hs s i))) (if is_pair (copy_of h) s i then Some h.message.item else None)) [ true ↦ refl | false ↦ message_at-more hs h s i ]
 
 -- a held pair has a message, of that sender and number
 record Found (hs : List Held) (s i : ℕ) : Type 0 where
@@ -62,11 +53,7 @@ item_there hs s i e = ap (λ o. is_some (option_map item_of o)) (found hs s i e)
 pub item_is : (hs : List Held) (s i : ℕ) → is_some (item_at hs s i) ≡ has_pair (map copy_of hs) s i
 unfolding message_at has_pair
 item_is [] s i = refl
-item_is (h ∷ hs) s i = by_test (is_pair (copy_of h) s i) (item_is hs s i)
-  where
-    by_test : (b : Bool) → is_some (item_at hs s i) ≡ has_pair (map copy_of hs) s i → is_some (option_map item_of (cond b (Some h.message) (message_at hs s i))) ≡ (b || has_pair (map copy_of hs) s i)
-    by_test true ih = refl
-    by_test false ih = ih
+item_is (h ∷ hs) s i = elim (is_pair (copy_of h) s i) as (λ b. is_some (option_map item_of (cond b (Some h.message) (message_at hs s i))) ≡ (b || has_pair (map copy_of hs) s i)) [ true ↦ refl | false ↦ item_is hs s i ]
 
 pub some_waiting : (o : Option Item) (ready : Bool) → is_some (waiting_of o ready) ≡ is_some o
 some_waiting None ready = refl
@@ -164,8 +151,4 @@ pub item_other : (hs : List Held) (h : Held) (s k : ℕ) → s ≢ h.message.sen
 item_other hs h s k e =
     message_at-more hs h s k
     ∙ ap (λ b. first_of (item_at hs s k) (if b && h.message.number == k then Some h.message.item else None)) (ne_eqb h.message.sender s (λ z. e (sym z)))
-    ∙ first_none (item_at hs s k)
-  where
-    first_none : (o : Option Item) → first_of o None ≡ o
-    first_none None = refl
-    first_none (Some x) = refl
+    ∙ elim (item_at hs s k) as (λ o. first_of o None ≡ o) [ None ↦ refl | Some x ↦ refl ]

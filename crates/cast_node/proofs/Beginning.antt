@@ -6,7 +6,7 @@ use Rattle.std.specs.FinSet as set
 use Rattle.std.specs.FinSet.{contains-empty}
 use Rattle.std.specs.FinMap as finite
 use Rattle.std.specs.FinMap.{get-empty, len-empty}
-use Rattle.std.proofs.lemmas.Bool.Decides.{nat_tests}
+use Rattle.std.proofs.lemmas.Bool.{le-ltb}
 use Rattle.cast_message.specs.declared.config.Config.{Config}
 use Rattle.cast_message.specs.declared.message.Message.{Message}
 use Rattle.cast_model.specs.History.{has_pair}
@@ -22,12 +22,9 @@ nothing_out : (me q : ℕ) → StandsOut me [] q (record { given = 0; owed = fin
 unfolding own_given held own_owed
 nothing_out me q = record {
   given = refl;
-  owed = λ slot. get-empty nat_cmp slot ∙ sym (ap (λ b. if b && not (own_acked [] q slot) then Some (message_in [] slot) else None) (before_all slot));
+  owed = λ slot. get-empty nat_cmp slot ∙ sym (ap (λ b. if b && not (own_acked [] q slot) then Some (message_in [] slot) else None) (le-ltb slot 0 (omega arith)));
   count = len-empty nat_cmp Message;
 }
-  where
-    before_all : (slot : ℕ) → nat_lt slot 0 ≡ false
-    before_all slot = grind (arith, nat_tests)
 
 nothing_back : (config : Config) (me s : ℕ) → HoldsBack (item_at (held me []) s) (own_is_ready config me [] s) nothing_held
 unfolding held message_at own_is_ready has_pair

@@ -1,7 +1,8 @@
 -- A node that gives what its parts give goes on as the definitions say, and shows what they say.
 use Rattle.std.proofs.Common.{◌≡◌, ◌≢◌, ℕ, ◌<◌, refl, sym, ◌∙◌, ap, subst, Bool, true, false, not, ◌&&◌, ◌||◌, ◌∷◌, length, None}
 use Rattle.std.specs.Prelude.{◌*◌, ◌==◌, nat_lt, is_some, if◌then◌else◌, Result, Ok, Err}
-use Rattle.std.proofs.lemmas.Bool.{and_parts, ltb-true, eq-eqb, false≢true}
+use Rattle.std.proofs.lemmas.Bool.{and_parts, not-false, ltb-true, eq-eqb, false≢true}
+use Rattle.cast_message.proofs.Booleans.{and_alike}
 use Rattle.cast_message.specs.declared.config.Config.{Config}
 use Rattle.cast_message.specs.declared.event.Answer.{Answer}
 use Rattle.cast_message.specs.declared.event.Answer.TheVariants.{Ordered as AnswerOrdered, Sent as AnswerSent, Arrived as AnswerArrived}
@@ -36,10 +37,6 @@ module _ (config : Config) (me : ℕ) (steps : Steps) (kept : Kept) (st : Stands
       ∙ and_alike (nat_lt frame.from config.nodes && not (frame.from == me)) _ _ (λ e.
       let p = and_parts (nat_lt frame.from config.nodes) (not (frame.from == me)) e in
       may_bring-is frame.from frame.body (ltb-true frame.from config.nodes p.0) (λ z. false≢true (sym (not-true (frame.from == me) p.1) ∙ eq-eqb frame.from me z)))
-    where
-      and_alike : (b c d : Bool) → (b ≡ true → c ≡ d) → (b && c) ≡ (b && d)
-      and_alike true c d h = h refl
-      and_alike false c d h = refl
 
   -- what a frame that could have been made brings
   body_right : (from seq to : ℕ) (body : FrameBody) → IsOwnAccepted config me (Arrived (record { from = from; seq = seq; to = to; body = body }) ∷ steps) → from < config.nodes → from ≢ me → is_possible_body config me steps from body ≡ true →
@@ -64,7 +61,7 @@ module _ (config : Config) (me : ℕ) (steps : Steps) (kept : Kept) (st : Stands
   right (Sent to slot) seen accepted = record { answer = λ k. AnswerSent (st.frames k); stands = sent_stands config me steps kept st to slot accepted }
   right (Acknowledged to slot) seen accepted = record { answer = λ k. AnswerSent (st.frames k); stands = acknowledged_stands config me steps kept st to slot accepted }
   right (Arrived frame) seen accepted =
-      let possible = not-false-is (is_possible config me steps frame) seen in
+      let possible = not-false (is_possible config me steps frame) seen in
       let p = and_parts (nat_lt frame.from config.nodes && not (frame.from == me)) _ possible in
       let q = and_parts (nat_lt frame.from config.nodes) (not (frame.from == me)) p.0 in
       let t = body_right frame.from frame.seq frame.to frame.body accepted (ltb-true frame.from config.nodes q.0) (λ z. false≢true (sym (not-true (frame.from == me) q.1) ∙ eq-eqb frame.from me z)) p.1 in
@@ -73,10 +70,6 @@ module _ (config : Config) (me : ℕ) (steps : Steps) (kept : Kept) (st : Stands
         answer = λ k. AnswerArrived (st.same_me k) ((ap (λ t. t.outcome) all ∙ t.outcome) k);
         stands = subst (λ t. Stands config me (Arrived frame ∷ steps) t.kept) (sym all) t.stands;
       }
-    where
-      not-false-is : (b : Bool) → not b ≡ false → b ≡ true
-      not-false-is true h = refl
-      not-false-is false h = sym h
   right Stopped seen accepted = record { answer = refl; stands = stopped_stands config me steps kept st accepted }
 
   -- a frame that no node could have made
@@ -88,10 +81,7 @@ module _ (config : Config) (me : ℕ) (steps : Steps) (kept : Kept) (st : Stands
   ignored (Arrived frame) e =
       let all : arrived kept frame ≡ unmoved kept = ap (λ b. if b then arrived_body kept frame.from frame.body else unmoved kept) (may_arrive-is frame ∙ not-true (is_possible config me steps frame) e) in
       record { answer = λ k. AnswerArrived (st.same_me k) (all k).outcome; same = ap (λ t. t.kept) all }
-  ignored (Ordered item) e = absurd (false≢true e)
-  ignored (Sent to slot) e = absurd (false≢true e)
-  ignored (Acknowledged to slot) e = absurd (false≢true e)
-  ignored Stopped e = absurd (false≢true e)
+  ignored step e = absurd (false≢true e)
 
   pub continues : (step : Step) (reply : Result Answer StepFault) (new : Kept) → Gives kept step reply new → Continues config me steps step reply new
   unfolding node_reply node_after IsOwnAccepted

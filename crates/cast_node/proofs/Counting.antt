@@ -5,6 +5,7 @@ use Rattle.std.specs.List.{list_any, cons_option}
 use Rattle.std.proofs.lemmas.Bool.Decides.{nat_tests, eqb_tells}
 use Rattle.std.proofs.lemmas.List.{append-nil, map-append, length-map}
 use Rattle.std.proofs.lemmas.List.Folds.{list_any-append}
+use Rattle.cast_message.proofs.Tests.{turned_about}
 use Rattle.cast_message.proofs.Booleans.{and_false, and_true, or_comm, or_false}
 use Rattle.cast_message.specs.declared.config.Config.{Config}
 use Rattle.cast_message.specs.declared.message.Item.{Item}
@@ -62,12 +63,8 @@ module _ (j : ℕ) where
         votes_are =
             ap values (ap (with_item j ps m.sender) e ∙ same)
             ∙ h.votes_are
-            ∙ sym (first_votes-last j [] seen m ∙ ap (λ xs. first_votes j [] seen ++ xs) (ap (λ o. if is_first_vote j seen m.sender then cons_option o [] else []) (ap (value_in j) e ∙ none) ∙ either (is_first_vote j seen m.sender)) ∙ append-nil (first_votes j [] seen));
+            ∙ sym (first_votes-last j [] seen m ∙ ap (λ xs. first_votes j [] seen ++ xs) (ap (λ o. if is_first_vote j seen m.sender then cons_option o [] else []) (ap (value_in j) e ∙ none) ∙ elim (is_first_vote j seen m.sender) as (λ b. ◌≡◌ {A = List ℕ} (if b then [] else []) []) [ true ↦ refl | false ↦ refl ]) ∙ append-nil (first_votes j [] seen));
       }
-        where
-          either : (b : Bool) → ◌≡◌ {A = List ℕ} (if b then [] else []) []
-          either true = refl
-          either false = refl
 
       proposing : (v : ℕ) → value_in j m.item ≡ Some v → (b : Bool) → has_proposed ps m.sender ≡ b → with_item j ps m.sender m.item ≡ (if not b then ps ++ (m.sender, v) ∷ [] else ps) → CountsVotes ((m.sender, m.item) ∷ before) (seen ++ m ∷ [])
       proposing v e true old is = record {
@@ -81,14 +78,11 @@ module _ (j : ℕ) where
             | inr apart ↦ ap (λ b. voted seen s || ((b && true) || false)) apart.0 ∙ or_false (voted seen s)
           ]
       proposing v e false new is = record {
-        proposed = λ s. ap (λ qs. has_proposed qs s) is ∙ proposed-push ps m.sender v s ∙ ap (λ b. (s == m.sender) || b) (h.proposed s) ∙ or_comm (s == m.sender) (voted seen s) ∙ ap (λ b. voted seen s || b) (sym (or_false _ ∙ and_true (s == m.sender))) ∙ ap (λ b. voted seen s || ((b && true) || false)) (flip s m.sender)
+        proposed = λ s. ap (λ qs. has_proposed qs s) is ∙ proposed-push ps m.sender v s ∙ ap (λ b. (s == m.sender) || b) (h.proposed s) ∙ or_comm (s == m.sender) (voted seen s) ∙ ap (λ b. voted seen s || b) (sym (or_false _ ∙ and_true (s == m.sender))) ∙ ap (λ b. voted seen s || ((b && true) || false)) (turned_about s m.sender)
             ∙ sym (list_any-append _ seen (m ∷ []) ∙ ap (λ o. voted seen s || ((m.sender == s && is_some o) || false)) e);
         votes_are = ap values is ∙ map-append (λ (p : ℕ × ℕ). p.1) ps ((m.sender, v) ∷ []) ∙ ap (λ xs. xs ++ v ∷ []) h.votes_are
             ∙ sym (first_votes-last j [] seen m ∙ ap (λ b. first_votes j [] seen ++ (if not b then votes j (m ∷ []) else [])) (sym (h.proposed m.sender) ∙ new) ∙ ap (λ o. first_votes j [] seen ++ cons_option o []) e);
       }
-        where
-          flip : (a b : ℕ) → (a == b) ≡ (b == a)
-          flip a b = grind (arith, nat_tests)
 
       by_instance : (i v : ℕ) → m.item ≡ Propose i v → (b : Bool) → (i == j) ≡ b → CountsVotes ((m.sender, m.item) ∷ before) (seen ++ m ∷ [])
       by_instance i v e true same = proposing v (ap (value_in j) e ∙ ap (λ b. if b then Some v else None) same) (has_proposed ps m.sender) refl (ap (with_item j ps m.sender) e ∙ ap (λ b. if b && not (has_proposed ps m.sender) then ps ++ (m.sender, v) ∷ [] else ps) same)
@@ -133,8 +127,6 @@ module _ (config : Config) where
   -- the decision that one delivery completes
   decision_on_is : (log : List Message) (m : Message) (item : Item) → m.item ≡ item → option_to_list (decision_counted_by (counted_of (config.nodes - config.faults) (newest_first [] log)) m.sender item) ≡ own_decision_on config log m item
   unfolding quorum votes
-  decision_on_is log m (Data bytes) e = refl
-  decision_on_is log m Close e = refl
   decision_on_is log m (Propose j v) e =
       let h = counts_votes j log in
       ap option_to_list ((decides_least (config.nodes - config.faults) some_quorum (newest_first [] log) j).1 m.sender v)
@@ -152,6 +144,7 @@ module _ (config : Config) where
           ∙ ap (decision_by config j) (sym (first_votes-last j [] log m
           ∙ ap (λ b. first_votes j [] log ++ (if b then votes j (m ∷ []) else [])) is
           ∙ ap (λ o. first_votes j [] log ++ cons_option o []) (ap (value_in j) e ∙ ap (λ b. if b then Some v else None) (let z : (j == j) ≡ true = grind (arith, nat_tests) in z))))
+  decision_on_is log m item e = refl
 
   pub decisions_are : (log news : List Message) → decisions_all (counted_of (config.nodes - config.faults) (newest_first [] log)) news ≡ own_decisions_of config log news
   unfolding decisions_all own_decisions_of newest_first

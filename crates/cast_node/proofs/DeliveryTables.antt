@@ -4,7 +4,7 @@ use Rattle.std.specs.Ordering.{nat_cmp}
 use Rattle.std.specs.FinSet as set
 use Rattle.std.proofs.Common.{Bool, Vec, Global, refl, sym, ap, ◌∙◌, append-nil, arith}
 use Rattle.std.proofs.Math.ListN.{length-set}
-use Rattle.std.proofs.lemmas.List.{set-get_or, set-set, get_or-set_same, nil_from_length}
+use Rattle.std.proofs.lemmas.List.{set-get_or, set-set, get_or-set_same, nil_from_length, length-map}
 use Rattle.cast_message.specs.declared.config.Config.{Config}
 use Rattle.cast_message.specs.declared.message.Item.{Item}
 use Rattle.cast_message.specs.declared.message.Message.{Message}
@@ -17,7 +17,7 @@ use Rattle.cast_agree.specs.Counted.{Counted}
 use Rattle.cast_agree.specs.Journal.{counted_all, decisions_all}
 use Rattle.cast_node.specs.Code.{IsSound}
 use Rattle.cast_node.specs.Delivering.{Delivering, is_enough, known_row, heard_news, heard_by, news_in, news_outcome, noted, let_go, told_in, outcome_in, waiting_in, waits_by}
-use Rattle.cast_node.proofs.Parts.{rows-length, same_rows, changed_rows}
+use Rattle.cast_node.proofs.Parts.{same_rows, changed_rows}
 
 abbrev Members : Type 0
 Members = set.FinSet nat_cmp
@@ -40,16 +40,9 @@ seen rows hold_back streams agree = record { knowers = known rows; hold_back = h
 
 -- what is kept of a pair of s that these nodes hold, and the outcome
 module _ (config : Config) (ds : Delivering) (s i : ℕ) (members : Members) where
-  -- too few
-  pub told_not : is_enough config members ≡ false → (noted ds s i members ≡ told_in config ds s i members) × (nothing ≡ outcome_in config ds s i members)
-  told_not e = (
-    sym (ap (λ b. if b then let_go (noted ds s i members) s i else noted ds s i members) e),
-    sym (ap (λ b. if b then news_outcome ds.agree (news_in ds s i) else nothing) e),
-  )
-
-  -- enough
-  pub told_yes : is_enough config members ≡ true → (let_go (noted ds s i members) s i ≡ told_in config ds s i members) × (news_outcome ds.agree (news_in ds s i) ≡ outcome_in config ds s i members)
-  told_yes e = (
+  pub told_when : (b : Bool) → is_enough config members ≡ b →
+      ((if b then let_go (noted ds s i members) s i else noted ds s i members) ≡ told_in config ds s i members) × ((if b then news_outcome ds.agree (news_in ds s i) else nothing) ≡ outcome_in config ds s i members)
+  told_when b e = (
     sym (ap (λ b. if b then let_go (noted ds s i members) s i else noted ds s i members) e),
     sym (ap (λ b. if b then news_outcome ds.agree (news_in ds s i) else nothing) e),
   )
@@ -64,8 +57,8 @@ module _ (config : Config) (ds : Delivering) (s i : ℕ) (members : Members) whe
           delivered = (sym (set-get_or ds.delivered s []) ∙ ap (slice_set ds.delivered s) (sym (append-nil (slice_index_or ds.delivered s [])) ∙ ap (λ items. slice_index_or ds.delivered s [] ++ items) (sym none))) k;
           agree = ap (counted_all ds.agree) news k;
         })
-            ∙ (told_yes e).0,
-        ap (news_outcome ds.agree) news ∙ (told_yes e).1,
+            ∙ (told_when true e).0,
+        ap (news_outcome ds.agree) news ∙ (told_when true e).1,
       )
 
 -- a message that is kept back and marked is one that is offered
@@ -77,11 +70,7 @@ module _ (all : List HeldBack) (message : Message) (within : message.sender < le
   kept_here = get_or-set_same all message.sender _ nothing_held within
 
   next_same : (held_of waiting message.sender).next ≡ (held_of all message.sender).next
-  next_same = ap (λ (h : HeldBack). h.next) kept_here ∙ by_test (came (held_of all message.sender) message.number)
-    where
-      by_test : (b : Bool) → (if b then held_of all message.sender else record (held_of all message.sender) { waiting = (Rattle.cast_fifo.specs.HeldBack.with_waiting (held_of all message.sender) message.number (record { item = message.item; known = false })).waiting }).next ≡ (held_of all message.sender).next
-      by_test true = refl
-      by_test false = refl
+  next_same = ap (λ (h : HeldBack). h.next) kept_here ∙ elim (came (held_of all message.sender) message.number) as (λ b. (if b then held_of all message.sender else record (held_of all message.sender) { waiting = (Rattle.cast_fifo.specs.HeldBack.with_waiting (held_of all message.sender) message.number (record { item = message.item; known = false })).waiting }).next ≡ (held_of all message.sender).next) [ true ↦ refl | false ↦ refl ]
 
   pub items_offered : heard_items (held_of waiting message.sender) message.number None ≡ heard_items (held_of all message.sender) message.number (Some message.item)
   items_offered = ap (λ h. known_items h message.number) kept_here
@@ -103,7 +92,7 @@ module _ (config : Config) (ds : Delivering) (message : Message) (members : Memb
   pub waited : (known : Bool) → known ≡ is_enough config members → (known ≡ true → answer ds.hold_back (Offer message) ≡ []) →
       (record (noted ds message.sender message.number members) { hold_back = held_after ds.hold_back (waits_by known message) } ≡ told_in config (waiting_in ds message) message.sender message.number members)
       × (nothing ≡ outcome_in config (waiting_in ds message) message.sender message.number members)
-  waited false e none = told_not config (waiting_in ds message) message.sender message.number members (sym e)
+  waited false e none = told_when config (waiting_in ds message) message.sender message.number members false (sym e)
   waited true e none =
       let told = told_none config (waiting_in ds message) message.sender message.number members (sym e) (none_offered ds.hold_back message within (none refl)) in
       ((λ k. record (noted ds message.sender message.number members) { hold_back = sym (after_offered ds.hold_back message within) k }) ∙ told.0, told.1)
@@ -122,7 +111,7 @@ module _ (config : Config) (ds : Delivering) (message : Message) (members : Memb
         delivered = slice_set ds.delivered message.sender (slice_index_or ds.delivered message.sender [] ++ sym (items_offered ds.hold_back message within) k);
         agree = counted_all ds.agree (sym (news_offered ds.hold_back message within) k);
       })
-      ∙ (told_yes config (waiting_in ds message) message.sender message.number members e).0
+      ∙ (told_when config (waiting_in ds message) message.sender message.number members true e).0
 
 -- a pair that had its turn
 pub heard_none : (all : List HeldBack) (s i : ℕ) → known_after (held_of all s) i ≡ held_of all s → heard_by all s i None ≡ all
@@ -132,25 +121,25 @@ pub told_had : (config : Config) (ds : Delivering) (s i : ℕ) (members : Member
 told_had config ds s i members none same = by_test (is_enough config members) refl
   where
     by_test : (b : Bool) → is_enough config members ≡ b → (noted ds s i members ≡ told_in config ds s i members) × (nothing ≡ outcome_in config ds s i members)
-    by_test false e = told_not config ds s i members e
+    by_test false e = told_when config ds s i members false e
     by_test true e = let told = told_none config ds s i members e none in ((λ k. record (noted ds s i members) { hold_back = sym (heard_none ds.hold_back s i same) k }) ∙ told.0, told.1)
 
 module _ (rows : List Row) (hold_back : List HeldBack) (streams : List Stream) (agree : Counted) (now : Delivering) (is : seen rows hold_back streams agree ≡ now) (sound : IsSound (known rows) hold_back (streamed streams)) (place s : ℕ) (at : place ≡ s) (within : s < length now.hold_back) where
   in_rows : place < length rows
-  in_rows = omega (arith, at, within, ap (λ (ds : Delivering). length ds.hold_back) is, sound.rows, rows-length (λ (row : Row). row.items) rows)
+  in_rows = omega (arith, at, within, ap (λ (ds : Delivering). length ds.hold_back) is, sound.rows, length-map rows (λ (row : Row). row.items))
 
   in_streams : place < length streams
-  in_streams = omega (arith, at, within, ap (λ (ds : Delivering). length ds.hold_back) is, sound.streams, rows-length (λ (items : Stream). items.items) streams)
+  in_streams = omega (arith, at, within, ap (λ (ds : Delivering). length ds.hold_back) is, sound.streams, length-map streams (λ (items : Stream). items.items))
 
   pub row_same : (r x : Row) → r ≡ slice_index_or rows place r → x.items ≡ r.items → (back : List HeldBack) → back ≡ hold_back → seen (slice_set rows place x) back streams agree ≡ now
-  row_same r x e same back b = (λ k. record { knowers = same_rows (λ (row : Row). row.items) rows place r x in_rows e same k; hold_back = b k; delivered = streamed streams; agree = agree }) ∙ is
+  row_same r x e same back b = (λ k. record { knowers = same_rows (λ (row : Row). row.items) rows place r x e same k; hold_back = b k; delivered = streamed streams; agree = agree }) ∙ is
 
   pub both_same : (r x : Row) (t y : Stream) (back : List HeldBack) (other : Counted) → r ≡ slice_index_or rows place r → x.items ≡ r.items → t ≡ slice_index_or streams place t → y.items ≡ t.items → back ≡ hold_back → other ≡ agree → seen (slice_set rows place x) back (slice_set streams place y) other ≡ now
   both_same r x t y back other e same e2 same2 b a =
       (λ k. record {
-        knowers = same_rows (λ (row : Row). row.items) rows place r x in_rows e same k;
+        knowers = same_rows (λ (row : Row). row.items) rows place r x e same k;
         hold_back = b k;
-        delivered = same_rows (λ (items : Stream). items.items) streams place t y in_streams e2 same2 k;
+        delivered = same_rows (λ (items : Stream). items.items) streams place t y e2 same2 k;
         agree = a k;
       })
       ∙ is

@@ -2,17 +2,17 @@
 use Rattle.std.proofs.Common.{◌≡◌, ◌≢◌, ◌⊎◌, ◌-◌, ℕ, zero, suc, ◌+◌, ◌<◌, refl, sym, ◌∙◌, ap, Bool, true, false, ◌&&◌, ◌||◌, cond, List, [], ◌∷◌, ◌++◌, length, map, inl, inr, arith, length-append}
 use Rattle.std.specs.Prelude.{◌==◌, nat_lt, slice_set, slice_index_or, replicate}
 use Rattle.std.specs.List.{count_by, filter, range_with_len}
-use Rattle.std.specs.Ordering.{nat_cmp, eq_by_cmp}
+use Rattle.std.specs.Ordering.{nat_cmp}
 use Rattle.std.specs.Cmp.{nat_cmp_total}
 use Rattle.std.specs.FinSet as set
-use Rattle.std.specs.FinSet.{contains-insert, contains-empty, len-empty, same_set, nat_cmp-IsAntisymmetric}
-use Rattle.std.proofs.lemmas.Bool.Decides.{nat_tests, eqb_tells}
+use Rattle.std.specs.FinSet.{contains-empty, len-empty, same_set, nat_cmp-IsAntisymmetric}
+use Rattle.std.proofs.lemmas.Bool.Decides.{nat_tests}
 use Rattle.std.proofs.lemmas.Bool.{and_parts, cases_eq, eqb-true, eq-eqb, ne_eqb}
 use Rattle.std.proofs.lemmas.List.Sums.{length-filter}
 use Rattle.std.proofs.lemmas.List.Elements.{filter-append}
 use Rattle.std.proofs.lemmas.List.Folds.{list_any-append}
 use Rattle.cast_message.proofs.Booleans.{or_false}
-use Rattle.cast_message.specs.Members.{members_below, contains-members_below, len-new_member}
+use Rattle.cast_message.specs.Members.{members_below, contains-members_below, members_below-more}
 use Rattle.cast_message.specs.declared.config.Config.{Config}
 use Rattle.cast_message.specs.declared.config.Mode.{Mode}
 use Rattle.cast_message.specs.declared.config.Mode.TheVariants.{Basic, Uniform}
@@ -22,7 +22,7 @@ use Rattle.cast_model.specs.Steps.{Step, Steps, Held, copy_of}
 use Rattle.cast_model.specs.OwnSteps.{own_copies, own_knows, own_known_by, own_known_enough, own_is_ready}
 use Rattle.cast_model.proofs.OwnGrowth.{brought, own_copies-more}
 use Rattle.cast_node.specs.Delivering.{knowers_in, is_enough, known_row}
-use Rattle.cast_node.proofs.Links.{range-more}
+use Rattle.cast_node.proofs.Links.{place_more}
 use Rattle.cast_node.proofs.Places.{at_set, at_padded, length-replicated}
 
 -- the members known of one pair are others
@@ -53,48 +53,18 @@ knowers_in-set all s i members h x k = ap (λ row. slice_index_or row k set.empt
 len-members : (f : ℕ → Bool) (n : ℕ) → set.len (members_below n f) ≡ count_by f (range_with_len 0 n)
 unfolding members_below
 len-members f zero = len-empty nat_cmp
-len-members f (suc n) = by_test (len-members f n) (f n) refl
+len-members f (suc n) = members_below-more n f ∙ by_test (f n) _ _ (len-members f n) ∙ sym last
   where
     last : count_by f (range_with_len 0 (suc n)) ≡ count_by f (range_with_len 0 n) + cond (f n) 1 0
     last =
         sym (length-filter f (range_with_len 0 (suc n)))
         ∙ ap (λ k. length (filter f (range_with_len 0 k))) (let z : suc n ≡ n + 1 = omega arith in z)
-        ∙ ap (λ xs. length (filter f xs)) (range-more n 0)
-        ∙ ap length (filter-append f (range_with_len 0 n) ((0 + n) ∷ []))
-        ∙ length-append (filter f (range_with_len 0 n)) (filter f ((0 + n) ∷ []))
-        ∙ ap (λ k. k + length (filter f ((0 + n) ∷ []))) (length-filter f (range_with_len 0 n))
-        ∙ (let z : 0 + n ≡ n = omega arith in ap (λ k. count_by f (range_with_len 0 n) + length (filter f (k ∷ []))) z)
-        ∙ ap (λ k. count_by f (range_with_len 0 n) + k) (one (f n))
-      where
-        one : (b : Bool) → length (cond b (n ∷ []) []) ≡ cond b 1 0
-        one true = refl
-        one false = refl
+        ∙ place_more f n
+        ∙ ap (λ k. k + cond (f n) 1 0) (length-filter f (range_with_len 0 n))
 
-    absent : set.contains (members_below n f) n ≡ false
-    absent = contains-members_below n f n ∙ ap (λ b. b && f n) (let z : nat_lt n n ≡ false = grind (arith, nat_tests) in z)
-
-    with_last : (q : ℕ) → f n ≡ true → (nat_lt q (suc n) && f q) ≡ (eq_by_cmp nat_cmp q n || (nat_lt q n && f q))
-    with_last q e = elim (eqb_tells q n) [
-      | inl here ↦ (let same : f q ≡ true = ap f here.1 ∙ e in grind (arith, nat_tests))
-      | inr apart ↦ grind (arith, nat_tests)
-    ]
-
-    without_last : (q : ℕ) → f n ≡ false → (nat_lt q (suc n) && f q) ≡ (nat_lt q n && f q)
-    without_last q e = elim (eqb_tells q n) [
-      | inl here ↦ (let same : f q ≡ false = ap f here.1 ∙ e in grind (arith, nat_tests))
-      | inr apart ↦ grind (arith, nat_tests)
-    ]
-
-    by_test : set.len (members_below n f) ≡ count_by f (range_with_len 0 n) → (b : Bool) → f n ≡ b → set.len (members_below (suc n) f) ≡ count_by f (range_with_len 0 (suc n))
-    by_test ih true e =
-        ap set.len (same_set nat_cmp_total nat_cmp-IsAntisymmetric (members_below (suc n) f) (set.insert (members_below n f) n) (λ q. contains-members_below (suc n) f q ∙ with_last q e ∙ sym (contains-insert nat_cmp_total (members_below n f) n q ∙ ap (λ b. eq_by_cmp nat_cmp q n || b) (contains-members_below n f q))))
-        ∙ len-new_member (members_below n f) n absent
-        ∙ ap (λ k. k + 1) ih
-        ∙ sym (last ∙ ap (λ b. count_by f (range_with_len 0 n) + cond b 1 0) e)
-    by_test ih false e =
-        ap set.len (same_set nat_cmp_total nat_cmp-IsAntisymmetric (members_below (suc n) f) (members_below n f) (λ q. contains-members_below (suc n) f q ∙ without_last q e ∙ sym (contains-members_below n f q)))
-        ∙ ih
-        ∙ sym (last ∙ ap (λ b. count_by f (range_with_len 0 n) + cond b 1 0) e ∙ (let z : count_by f (range_with_len 0 n) + 0 ≡ count_by f (range_with_len 0 n) = omega arith in z))
+    by_test : (b : Bool) (l m : ℕ) → l ≡ m → cond b (l + 1) l ≡ m + cond b 1 0
+    by_test true l m e = omega (arith, e)
+    by_test false l m e = omega (arith, e)
 
 pub len_by_test : (members : set.FinSet nat_cmp) (n : ℕ) (f : ℕ → Bool) → ((q : ℕ) → set.contains members q ≡ (nat_lt q n && f q)) → set.len members ≡ count_by f (range_with_len 0 n)
 len_by_test members n f h = ap set.len (same_set nat_cmp_total nat_cmp-IsAntisymmetric members (members_below n f) (λ q. h q ∙ sym (contains-members_below n f q))) ∙ len-members f n
@@ -113,11 +83,7 @@ known_by-is config me steps all h s i l = by_test (has_pair (own_copies me steps
 
 pub enough-is : (config : Config) (me : ℕ) (steps : Steps) (all : List (List (set.FinSet nat_cmp))) → KnowsAll config me steps all → (s i : ℕ) → s < config.nodes → is_enough config (knowers_in all s i) ≡ own_known_enough config.mode config me steps s i
 unfolding own_known_enough
-enough-is config me steps all h s i l = by_mode config.mode
-  where
-    by_mode : (mode : Mode) → are_enough mode config.faults (set.len (knowers_in all s i)) ≡ own_known_enough mode config me steps s i
-    by_mode Basic = refl
-    by_mode Uniform = ap (nat_lt config.faults) (known_by-is config me steps all h s i l)
+enough-is config me steps all h s i l = elim config.mode as (λ mode. are_enough mode config.faults (set.len (knowers_in all s i)) ≡ own_known_enough mode config me steps s i) [ Basic ↦ refl | Uniform ↦ ap (nat_lt config.faults) (known_by-is config me steps all h s i l) ]
 
 -- a pair of which nothing new is known is as ready as it was
 pub ready_alike : (config : Config) (me : ℕ) (step : Step) (steps : Steps) (s i : ℕ) → has_pair (own_copies me (step ∷ steps)) s i ≡ has_pair (own_copies me steps) s i → ((r : ℕ) → own_knows me (step ∷ steps) s i r ≡ own_knows me steps s i r) → own_is_ready config me (step ∷ steps) s i ≡ own_is_ready config me steps s i

@@ -7,7 +7,9 @@ use Rattle.std.specs.FinSet as set
 use Rattle.std.specs.FinSet.{contains-insert}
 use Rattle.std.proofs.Common.{sym, ap, ◌∙◌, subst, arith, length-append}
 use Rattle.std.proofs.lemmas.Bool.Decides.{nat_tests}
-use Rattle.cast_message.proofs.Booleans.{or_assoc, or_comm, or_false}
+use Rattle.cast_message.proofs.Booleans.{or_comm, or_false}
+use Rattle.cast_message.proofs.Tests.{cmp_eq, turned_about}
+use Rattle.std.proofs.lemmas.List.Folds.{list_any-append}
 use Rattle.cast_message.specs.declared.config.Config.{Config}
 use Rattle.cast_message.specs.declared.message.Item.{Item}
 use Rattle.cast_message.specs.declared.message.Item.TheVariants.{Data, Propose, Close}
@@ -20,20 +22,16 @@ use Rattle.cast_node.specs.Delivering.{Delivering}
 use Rattle.cast_node.specs.Sound.{IsNode, Owes, with_proposal, without_proposal}
 
 any_end : (f : Item → Bool) (items : List Item) (item : Item) → list_any f (items ++ item ∷ []) ≡ (list_any f items || f item)
-any_end f [] item = or_false (f item)
-any_end f (x ∷ items) item = ap (λ b. f x || b) (any_end f items item) ∙ or_assoc (f x) (list_any f items) (f item)
+any_end f items item = list_any-append f items (item ∷ []) ∙ ap (λ b. list_any f items || b) (or_false (f item))
 
 proposed_more : (proposed : set.FinSet nat_cmp) (items : List Item) (item : Item) (j : ℕ) → set.contains proposed j ≡ list_any (proposes_in j) items → set.contains (with_proposal proposed item) j ≡ list_any (proposes_in j) (items ++ item ∷ [])
 proposed_more proposed items (Data payload) j h = h ∙ sym (or_false (list_any (proposes_in j) items)) ∙ sym (any_end (proposes_in j) items (Data payload))
 proposed_more proposed items Close j h = h ∙ sym (or_false (list_any (proposes_in j) items)) ∙ sym (any_end (proposes_in j) items Close)
 proposed_more proposed items (Propose k value) j h =
     contains-insert nat_cmp_total proposed k j
-    ∙ (λ i. tie i || h i)
+    ∙ (λ i. (cmp_eq j k ∙ turned_about j k) i || h i)
     ∙ or_comm (k == j) (list_any (proposes_in j) items)
     ∙ sym (any_end (proposes_in j) items (Propose k value))
-  where
-    tie : eq_by_cmp nat_cmp j k ≡ (k == j)
-    tie = grind (arith, nat_tests)
 
 -- a proposal that is noted and withdrawn
 pub withdrawn : (proposed : set.FinSet nat_cmp) (items : List Item) (item : Item) → ((j : ℕ) → set.contains proposed j ≡ list_any (proposes_in j) items) → is_second_proposal items item ≡ false → without_proposal (with_proposal proposed item) item ≡ proposed

@@ -12,7 +12,7 @@ use Rattle.cast_message.specs.declared.message.FrameBody.{FrameBody}
 use Rattle.cast_message.specs.declared.message.FrameBody.TheVariants.{Carry, Took}
 use Rattle.cast_model.specs.History.{has_pair, copy_at}
 use Rattle.cast_model.specs.Delivery.{tells_of}
-use Rattle.cast_model.specs.Steps.{each, Step, Ordered, Sent, Acknowledged, Arrived, Stopped, Steps, copy_of, held_by_body, held, frames_in, frame_of}
+use Rattle.cast_model.specs.Steps.{each, Step, Arrived, Steps, copy_of, held_by_body, held, frames_in, frame_of}
 use Rattle.cast_model.specs.OwnSteps.{own_copies, own_given, own_given_copies, own_knows, is_ignored, IsOwnAccepted}
 use Rattle.cast_model.proofs.Members.{Member, Member-append, Member-one, Member-list_any, Member-filter, Member-get_or, here, there}
 use Rattle.cast_model.proofs.Sound.{has_pair-Member}
@@ -41,10 +41,7 @@ knows_more config me step steps accepted s i r =
 
     by_step : (x : Step) → is_ignored config me steps x ≡ false → (frame : Frame) → Member frame (frame_of x) → frame.from ≡ r → GivenTo me steps r frame.body
     by_step (Arrived f) fine frame n from = let e = Member-one frame f n in subst (λ z. GivenTo me steps r z.body) (sym e) (subst (λ z. GivenTo me steps z f.body) (sym (ap (λ g. g.from) e) ∙ from) (possible_given config me steps f fine))
-    by_step (Ordered item) fine frame n from = elim n [ ]
-    by_step (Sent to slot) fine frame n from = elim n [ ]
-    by_step (Acknowledged to slot) fine frame n from = elim n [ ]
-    by_step Stopped fine frame n from = elim n [ ]
+    by_step x fine frame n from = elim n [ ]
 
     all : told_by me (step ∷ steps) s i r (frames_in (step ∷ steps)) ≡ (told_by me steps s i r (frames_in steps) || told_by me steps s i r (frame_of step))
     all =
@@ -72,10 +69,7 @@ module _ (config : Config) (me : ℕ) where
           ap (λ copies. has_pair copies message.sender message.number) (own_copies-more me (Arrived f) steps)
           ∙ ap (λ body. has_pair (own_copies me steps ++ map copy_of (held_by_body (held me steps) f.from body)) message.sender message.number) (ap (λ g. g.body) (sym (Member-one frame f n)) ∙ e)
           ∙ by_pair (has_pair (map copy_of (held me steps)) message.sender message.number) f.from refl
-      by_step (Ordered item) n = elim n [ ]
-      by_step (Sent to slot) n = elim n [ ]
-      by_step (Acknowledged to slot) n = elim n [ ]
-      by_step Stopped n = elim n [ ]
+      by_step x n = elim n [ ]
 
   pub given_held : (steps : Steps) (r slot : ℕ) → slot < length (own_given me steps r) → has_pair (own_copies me steps) (copy_at (own_given_copies me steps r) slot).sender (copy_at (own_given_copies me steps r) slot).number ≡ true
   unfolding own_given copy_at

@@ -1,5 +1,5 @@
 -- Nodes of which each tells its own, with frames that were put before they arrived, are linked.
-use Rattle.std.proofs.Common.{◌≡◌, ℕ, ◌<◌, sym, ◌∙◌, subst, List, length, Some}
+use Rattle.std.proofs.Common.{◌≡◌, ℕ, ◌<◌, sym, ◌∙◌, subst, List, length, Option, Some}
 use Rattle.std.specs.Prelude.{slice_get}
 use Rattle.std.proofs.lemmas.Option.{slice_get_within}
 use Rattle.cast_message.specs.declared.config.Config.{Config}
@@ -26,14 +26,11 @@ module _ (config : Config) (reports : List NodeReport) (size : length reports �
         logs = λ p report at.
             let l : p < config.nodes = subst (λ n. p < n) size (slice_get_within reports p report at) in
             let t = tells p l in
-            let same : t.0 ≡ report = (let e = sym t.1 ∙ at in some_is t.0 report e) in
+            let same : t.0 ≡ report = (let e : ◌≡◌ {A = Option NodeReport} (Some t.0) (Some report) = sym t.1 ∙ at in cc) in
             subst (λ r. IsLogOf config p (trails p) r.log r.node) same t.2.log;
         arrivals = λ p l. each_arrival (WasPutBefore config Put) (IsMadeBefore config trails) (λ stamp frame w. made_by trails tells stamp frame w) (trails p) (tells p l).2.came;
       }
     where
-      some_is : (a b : NodeReport) → ◌≡◌ {A = _} (Some a) (Some b) → a ≡ b
-      some_is a b e = cc
-
       made_by : (trails : ℕ → Trail) → ((p : ℕ) → p < config.nodes → Tells p (trails p)) → (stamp : ℕ) (frame : Frame) → WasPutBefore config Put stamp frame → IsMadeBefore config trails stamp frame
       made_by trails tells stamp frame w =
           let r = w.1 in

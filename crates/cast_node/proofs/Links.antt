@@ -7,7 +7,8 @@ use Rattle.std.specs.Cmp.{nat_cmp_total}
 use Rattle.std.specs.FinMap as finite
 use Rattle.std.specs.FinMap.{get-insert, get-remove, len-insert, len-remove}
 use Rattle.std.proofs.lemmas.Bool.Decides.{nat_tests}
-use Rattle.std.proofs.lemmas.Bool.{cases_eq, cases_lt, false_from_ne_true, eq-eqb, ne_eqb}
+use Rattle.std.proofs.lemmas.Bool.{lt-ltb, le-ltb, cases_eq, cases_lt, false_from_ne_true, eq-eqb, ne_eqb}
+use Rattle.std.proofs.Math.Seq.{get_or-append_seam}
 use Rattle.std.proofs.lemmas.List.{get_or_append_left}
 use Rattle.std.proofs.lemmas.List.Elements.{filter-append}
 use Rattle.cast_message.proofs.Tests.{cmp_eq}
@@ -27,11 +28,6 @@ use Rattle.cast_node.specs.Giving.{given_on}
 use Rattle.cast_relay.specs.Pairs.{goes_on}
 use Rattle.cast_node.specs.Turns.{given_from}
 use Rattle.cast_node.specs.Stands.{owed_in, StandsOut}
-
-pub length-given_from : (q : ℕ) (me : ℕ) (source : ℕ) (message : Message) (links : List (Link Message)) → length (given_from q me source message links) ≡ length links
-unfolding given_on
-length-given_from q me source message [] = refl
-length-given_from q me source message (link ∷ links) = ap suc (length-given_from (q + 1) me source message links)
 
 abbrev pub goes : ℕ → ℕ → Message → ℕ → Link Message → Link Message
 goes me source message q link = cond (goes_on me message.sender source q) (with_given link message) link
@@ -59,13 +55,13 @@ pub range-more : (n a : ℕ) → range_with_len a (n + 1) ≡ range_with_len a n
 range-more zero a = ap (λ k. k ∷ []) (let z : a ≡ a + 0 = omega arith in z)
 range-more (suc n) a = ap (range_with_len a) (let z : suc n + 1 ≡ suc (n + 1) = omega arith in z) ∙ ap (λ xs. a ∷ xs) (range-more n (a + 1) ∙ ap (λ k. range_with_len (a + 1) n ++ k ∷ []) (let z : (a + 1) + n ≡ a + suc n = omega arith in z))
 
--- with one place more, at which the test holds
-one_place : (p : ℕ → Bool) (n : ℕ) → p n ≡ true → length (filter p (range_with_len 0 (n + 1))) ≡ length (filter p (range_with_len 0 n)) + 1
-one_place p n e =
+-- with one place more
+pub place_more : (p : ℕ → Bool) (n : ℕ) → length (filter p (range_with_len 0 (n + 1))) ≡ length (filter p (range_with_len 0 n)) + cond (p n) 1 0
+place_more p n =
     ap (λ xs. length (filter p xs)) (range-more n 0)
     ∙ ap length (filter-append p (range_with_len 0 n) ((0 + n) ∷ []))
     ∙ length-append (filter p (range_with_len 0 n)) (filter p ((0 + n) ∷ []))
-    ∙ ap (λ b. length (filter p (range_with_len 0 n)) + length (cond b ((0 + n) ∷ []) [])) (ap p (let z : 0 + n ≡ n = omega arith in z) ∙ e)
+    ∙ ap (λ k. length (filter p (range_with_len 0 n)) + k) (ap (λ k. length (filter p (k ∷ []))) (let z : 0 + n ≡ n = omega arith in z) ∙ elim (p n) as (λ b. length (cond b (n ∷ []) []) ≡ cond b 1 0) [ true ↦ refl | false ↦ refl ])
 
 module _ (me : ℕ) (steps : Steps) (step : Step) (q : ℕ) where
   abbrev slot_owed : ℕ → Bool
@@ -85,8 +81,7 @@ module _ (me : ℕ) (steps : Steps) (step : Step) (q : ℕ) where
 
   last_message : (given : List Held) (h : Held) → message_in (given ++ h ∷ []) (length given) ≡ h.message
   unfolding message_in
-  last_message [] h = refl
-  last_message (x ∷ given) h = last_message given h
+  last_message given h = ap (λ x. x.message) (get_or-append_seam given h [] _)
 
   message_before : (given : List Held) (h : Held) (slot : ℕ) → slot < length given → message_in (given ++ h ∷ []) slot ≡ message_in given slot
   unfolding message_in
@@ -99,7 +94,7 @@ module _ (me : ℕ) (steps : Steps) (step : Step) (q : ℕ) where
     given = ap (λ n. n + 1) stands.given ∙ sym (ap length more ∙ length-append (own_given me steps q) (h ∷ []));
     owed = λ slot. get-insert nat_cmp_total link.owed link.given h.message slot ∙ at slot;
     count = len-insert nat_cmp_total link.owed link.given h.message ∙ ap (λ b. cond b (finite.len link.owed) (finite.len link.owed + 1)) none_there ∙ ap (λ n. n + 1) stands.count
-        ∙ sym ((λ i. length (filter (λ slot. not (still slot i)) (range_with_len 0 (length (more i))))) ∙ ap (λ n. length (filter slot_owed (range_with_len 0 n))) (length-append (own_given me steps q) (h ∷ [])) ∙ one_place slot_owed (length (own_given me steps q)) (ap not fresh));
+        ∙ sym ((λ i. length (filter (λ slot. not (still slot i)) (range_with_len 0 (length (more i))))) ∙ ap (λ n. length (filter slot_owed (range_with_len 0 n))) (length-append (own_given me steps q) (h ∷ [])) ∙ place_more slot_owed (length (own_given me steps q)) ∙ ap (λ b. length (filter slot_owed (range_with_len 0 (length (own_given me steps q)))) + cond b 1 0) (ap not fresh));
   }
     where
       size : ℕ
@@ -108,14 +103,8 @@ module _ (me : ℕ) (steps : Steps) (step : Step) (q : ℕ) where
       fresh : own_acked steps q (length (own_given me steps q)) ≡ false
       fresh = false_from_ne_true _ (λ e. let l = acked_given config me steps accepted q (length (own_given me steps q)) e in omega (arith, l))
 
-      no_slot : (n slot : ℕ) → n ≤ slot → nat_lt slot n ≡ false
-      no_slot n slot l = grind (arith, nat_tests)
-
-      is_slot : (n slot : ℕ) → slot < n → nat_lt slot n ≡ true
-      is_slot n slot l = grind (arith, nat_tests)
-
       none_there : finite.contains_key link.owed link.given ≡ false
-      none_there = ap is_some (ap (finite.get link.owed) stands.given ∙ stands.owed size ∙ ap (λ b. if b && not (own_acked steps q size) then Some (message_in (own_given me steps q) size) else None) (no_slot size size (omega arith)))
+      none_there = ap is_some (ap (finite.get link.owed) stands.given ∙ stands.owed size ∙ ap (λ b. if b && not (own_acked steps q size) then Some (message_in (own_given me steps q) size) else None) (le-ltb size size (omega arith)))
 
       after : ℕ → Option Message
       after slot = if nat_lt slot (size + 1) && not (own_acked steps q slot) then Some (message_in (own_given me steps q ++ h ∷ []) slot) else None
@@ -132,7 +121,7 @@ module _ (me : ℕ) (steps : Steps) (step : Step) (q : ℕ) where
           ∙ elim (cases_eq slot size) [
             | inl e ↦
                 (ap (λ b. cond b (Some h.message) (owed_in me steps q slot)) (eq-eqb slot size e)
-                ∙ sym (ap after e ∙ (λ i. if is_slot (size + 1) size (omega arith) i && not (fresh i) then Some (last_message (own_given me steps q) h i) else None)))
+                ∙ sym (ap after e ∙ (λ i. if lt-ltb size (size + 1) (omega arith) i && not (fresh i) then Some (last_message (own_given me steps q) h i) else None)))
             | inr e ↦ ap (λ b. cond b (Some h.message) (owed_in me steps q slot)) (ne_eqb slot size e) ∙ beside slot e
           ]
           ∙ sym (is_after slot)
@@ -140,12 +129,12 @@ module _ (me : ℕ) (steps : Steps) (step : Step) (q : ℕ) where
           beside : (slot : ℕ) → slot ≢ size → owed_in me steps q slot ≡ after slot
           beside slot e = elim (cases_lt slot size) [
             | inl l ↦
-                (let in_both : nat_lt slot size ≡ nat_lt slot (size + 1) = is_slot size slot l ∙ sym (is_slot (size + 1) slot (omega (arith, l))) in
+                (let in_both : nat_lt slot size ≡ nat_lt slot (size + 1) = lt-ltb slot size l ∙ sym (lt-ltb slot (size + 1) (omega (arith, l))) in
                 λ i. if in_both i && not (own_acked steps q slot) then Some (sym (message_before (own_given me steps q) h slot l) i) else None)
             | inr l ↦
                 (let past : size + 1 ≤ slot = omega (arith, l, e) in
-                ap (λ b. if b && not (own_acked steps q slot) then Some (message_in (own_given me steps q) slot) else None) (no_slot size slot l)
-                ∙ sym (ap (λ b. if b && not (own_acked steps q slot) then Some (message_in (own_given me steps q ++ h ∷ []) slot) else None) (no_slot (size + 1) slot past)))
+                ap (λ b. if b && not (own_acked steps q slot) then Some (message_in (own_given me steps q) slot) else None) (le-ltb slot size l)
+                ∙ sym (ap (λ b. if b && not (own_acked steps q slot) then Some (message_in (own_given me steps q ++ h ∷ []) slot) else None) (le-ltb slot (size + 1) past)))
           ]
 
   -- where it takes the acknowledgement of a slot that was given
@@ -187,11 +176,8 @@ module _ (me : ℕ) (steps : Steps) (step : Step) (q : ℕ) where
           ∙ sym (ap (λ given. length (filter slot_after (range_with_len 0 (length given)))) same);
     }
       where
-        is_slot : (n : ℕ) → slot < n → nat_lt slot n ≡ true
-        is_slot n l = grind (arith, nat_tests)
-
         there : finite.contains_key link.owed slot ≡ true
-        there = ap is_some (stands.owed slot ∙ (λ i. if is_slot (length (own_given me steps q)) inside i && not (waiting i) then Some (message_in (own_given me steps q) slot) else None))
+        there = ap is_some (stands.owed slot ∙ (λ i. if lt-ltb slot (length (own_given me steps q)) inside i && not (waiting i) then Some (message_in (own_given me steps q) slot) else None))
 
         neither : (b c : Bool) → not (b || c) ≡ (not b && not c)
         neither true c = refl
@@ -199,9 +185,6 @@ module _ (me : ℕ) (steps : Steps) (step : Step) (q : ℕ) where
 
         less : length (filter slot_after (range_with_len 0 (length (own_given me steps q)))) + 1 ≡ length (filter slot_owed (range_with_len 0 (length (own_given me steps q))))
         less = fewer slot_owed slot_after 0 (length (own_given me steps q)) (omega arith) (omega (arith, inside)) (ap not waiting) (λ k. ap not (told k) ∙ neither (own_acked steps q k) (slot == k))
-
-        apart : (b c : Bool) (x : Option Message) → c ≡ false → cond (b && not c) x None ≡ cond (b && not false) x None
-        apart b c x e = ap (λ y. cond (b && not y) x None) e
 
         gone : (a b : Bool) (x : Option Message) → cond (a && not (b || true)) x None ≡ None
         gone true true x = refl

@@ -10,7 +10,7 @@ use Rattle.cast_message.specs.declared.config.Config.{Config}
 use Rattle.cast_message.specs.declared.event.Answer.{Answer}
 use Rattle.cast_message.specs.declared.event.StepFault.{StepFault}
 use Rattle.cast_message.specs.declared.message.Frame.{Frame}
-use Rattle.cast_model.specs.Steps.{Step, Ordered, Sent, Acknowledged, Arrived, Stopped, Steps, frames_by, frame_count}
+use Rattle.cast_model.specs.Steps.{Step, Sent, Acknowledged, Arrived, Steps, frames_by, frame_count}
 use Rattle.cast_model.specs.OwnSteps.{own_made, own_frames}
 use Rattle.cast_log.specs.declared.entry.Entry.{Entry}
 use Rattle.cast_log.specs.declared.entry.Origin.{Origin}
@@ -55,11 +55,9 @@ one_more log e = taken-append log (e ∷ []) ∙ ap (λ more. taken log ++ more)
 
 made_length : (p : ℕ) (steps : Steps) (step : Step) → length (own_made p steps step) ≡ frames_by step
 unfolding own_made
-made_length p steps (Ordered item) = refl
 made_length p steps (Sent to slot) = refl
 made_length p steps (Acknowledged to slot) = refl
-made_length p steps (Arrived frame) = refl
-made_length p steps Stopped = refl
+made_length p steps step = refl
 
 frames_length : (p : ℕ) (steps : Steps) → length (own_frames p steps) ≡ frame_count steps
 unfolding own_frames frame_count

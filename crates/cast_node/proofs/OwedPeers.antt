@@ -1,6 +1,6 @@
 -- The peers that are owed a slot, as a node keeps them.
-use Rattle.std.specs.Prelude.{◌≡◌, ◌≢◌, ◌↔◌, ℕ, zero, suc, ◌-◌, ◌<◌, ◌≤◌, nat_eq, nat_lt, Bool, true, false, cond, not, ◌&&◌, List, [], ◌∷◌, length, map, replicate, slice_set, slice_index_or, refl}
-use Rattle.std.specs.Ordering.{nat_cmp, eq_by_cmp}
+use Rattle.std.specs.Prelude.{◌≡◌, ◌≢◌, ◌↔◌, ℕ, zero, suc, ◌-◌, ◌<◌, ◌≤◌, nat_lt, Bool, true, false, cond, not, ◌&&◌, List, [], ◌∷◌, length, map, replicate, slice_set, slice_index_or, refl}
+use Rattle.std.specs.Ordering.{nat_cmp}
 use Rattle.std.specs.Cmp.{nat_cmp_total}
 use Rattle.std.specs.FinMap as finite
 use Rattle.std.specs.FinMap.{empty_of_len, len-empty, len-remove}
@@ -10,12 +10,15 @@ use Rattle.std.proofs.Common.{inl, inr, sym, ap, ◌∙◌, subst, arith}
 use Rattle.std.proofs.lemmas.Bool.Decides.{eqb_tells, leb_tells, nat_tests}
 use Rattle.std.proofs.lemmas.Grind.{get_or-set_at}
 use Rattle.std.proofs.Math.ListN.{length-set}
-use Rattle.std.proofs.lemmas.List.{get_or-set_other, length-map}
+use Rattle.std.proofs.lemmas.List.{get_or-set_other, length-map, get_or-map, map-set}
 use Rattle.cast_message.specs.declared.message.Message.{Message}
 use Rattle.cast_link.specs.Links.{Link, Outward, with_acknowledged}
 use Rattle.cast_node.specs.Giving.{link_in, bare, OwesNoneOf, AreOwed}
 use Rattle.cast_node.specs.Outgoing.{Outbound, owed_through, link_through, links_of, IsOutgoing}
-use Rattle.cast_node.proofs.Parts.{rows-at, rows-set}
+use Rattle.cast_message.proofs.Booleans.{and_false}
+use Rattle.cast_message.proofs.Tests.{cmp_eq}
+use Rattle.std.proofs.lemmas.Bool.{lt-ltb}
+use Rattle.cast_node.proofs.Places.{at_replicate}
 use Rattle.cast_node.proofs.Owing.{owes_acked}
 use Rattle.cast_node.proofs.Through.{link_at, link_here, len_through, through_empty, acknowledged_through}
 
@@ -25,12 +28,7 @@ is_owed links q = nat_lt 0 (finite.len (link_in links q).owed)
 
 -- nothing was given
 pub none_owed : (X : Type 0) (n : ℕ) → AreOwed {X = X} (replicate n (record { given = 0; owed = finite.empty })) set.empty
-none_owed X n q = contains-empty nat_cmp q ∙ sym (ap (λ (o : finite.FinMap nat_cmp X). nat_lt 0 (finite.len o)) (nothing_yet n q) ∙ ap (λ n. nat_lt 0 n) (len-empty nat_cmp X))
-  where
-    nothing_yet : (n q : ℕ) → (link_in (replicate n (record { given = 0; owed = finite.empty {X = X} })) q).owed ≡ finite.empty
-    nothing_yet zero q = refl
-    nothing_yet (suc n) zero = refl
-    nothing_yet (suc n) (suc q) = nothing_yet n q
+none_owed X n q = contains-empty nat_cmp q ∙ sym (ap (λ (o : finite.FinMap nat_cmp X). nat_lt 0 (finite.len o)) (ap (λ (l : Link X). l.owed) (at_replicate n q (record { given = 0; owed = finite.empty {X = X} }))) ∙ ap (λ n. nat_lt 0 n) (len-empty nat_cmp X))
 
 module _ {X : Type 0} where
   -- all peers are below the number of links
@@ -48,20 +46,13 @@ module _ {X : Type 0} where
   -- the link that stands at a peer's place owes so many slots
   module _ (links : List (Outward X)) (q owed : ℕ) (found : Outward X) (finds : found ≡ slice_index_or links q found) (within : q < length links) (counts : owed ≡ finite.len found.link.owed) where
     counted : owed ≡ finite.len (link_in (bare links) q).owed
-    counted = counts ∙ ap (λ (l : Link X). finite.len l.owed) (ap (λ (o : Outward X). o.link) finds ∙ sym (rows-at (λ (o : Outward X). o.link) links q found _ within))
+    counted = counts ∙ ap (λ (l : Link X). finite.len l.owed) (ap (λ (o : Outward X). o.link) finds ∙ sym (get_or-map (λ (o : Outward X). o.link) links q found _ within))
 
     pub owed_here : (owed ≡ 0 → ⊥) → is_owed (bare links) q ≡ true
-    owed_here some = ap (λ n. nat_lt 0 n) (sym counted) ∙ positive owed some
-      where
-        positive : (n : ℕ) → (n ≡ 0 → ⊥) → nat_lt 0 n ≡ true
-        positive zero some = absurd (some refl)
-        positive (suc n) some = grind (arith, nat_tests)
+    owed_here some = ap (λ n. nat_lt 0 n) (sym counted) ∙ lt-ltb 0 owed (omega (arith, some))
 
     pub not_owed_here : owed ≡ 0 → is_owed (bare links) q ≡ false
-    not_owed_here none = ap (λ n. nat_lt 0 n) (sym counted ∙ none) ∙ none_at_all
-      where
-        none_at_all : nat_lt 0 0 ≡ false
-        none_at_all = grind (arith, nat_tests)
+    not_owed_here none = ap (λ n. nat_lt 0 n) (sym counted ∙ none)
 
   -- a slot is acknowledged
   module _ (links : List (Link X)) (owed : set.FinSet nat_cmp) (q slot : ℕ) (after : Link X) (were : AreOwed links owed) (within : q < length links) (acked : after ≡ with_acknowledged (link_in links q) slot) where
@@ -80,25 +71,15 @@ module _ {X : Type 0} where
 
     still_owed : (finite.len after.owed ≡ 0 → ⊥) → AreOwed (slice_set links q after) owed
     still_owed some other = elim (eqb_tells other q) [
-      | inl e ↦ ap (set.contains owed) e.1 ∙ were q ∙ both (finite.len (link_in links q).owed) (finite.len after.owed) fewer some ∙ sym here ∙ ap (is_owed (slice_set links q after)) (sym e.1)
+      | inl e ↦ ap (set.contains owed) e.1 ∙ were q ∙ lt-ltb 0 (finite.len (link_in links q).owed) (omega (arith, fewer, some)) ∙ sym (lt-ltb 0 (finite.len after.owed) (omega (arith, some))) ∙ sym here ∙ ap (is_owed (slice_set links q after)) (sym e.1)
       | inr e ↦ were other ∙ sym (elsewhere other e.1)
     ]
-      where
-        both : (n m : ℕ) → m ≤ n → (m ≡ 0 → ⊥) → nat_lt 0 n ≡ nat_lt 0 m
-        both n zero l e = absurd (e refl)
-        both n (suc m) l e = grind (arith, nat_tests, l)
 
     owed_no_more : finite.len after.owed ≡ 0 → AreOwed (slice_set links q after) (set.remove owed q)
     owed_no_more none other = contains-remove nat_cmp_total owed q other ∙ elim (eqb_tells other q) [
-      | inl e ↦ ap (λ b. not b && set.contains owed other) (tie other ∙ e.0) ∙ sym (ap (is_owed (slice_set links q after)) e.1 ∙ here ∙ empty (finite.len after.owed) none)
-      | inr e ↦ ap (λ b. not b && set.contains owed other) (tie other ∙ e.0) ∙ were other ∙ sym (elsewhere other e.1)
+      | inl e ↦ ap (λ b. not b && set.contains owed other) (cmp_eq other q ∙ e.0) ∙ sym (ap (is_owed (slice_set links q after)) e.1 ∙ here ∙ ap (λ n. nat_lt 0 n) none)
+      | inr e ↦ ap (λ b. not b && set.contains owed other) (cmp_eq other q ∙ e.0) ∙ were other ∙ sym (elsewhere other e.1)
     ]
-      where
-        tie : (n : ℕ) → eq_by_cmp nat_cmp n q ≡ nat_eq n q
-        tie n = grind (arith, nat_tests)
-
-        empty : (n : ℕ) → n ≡ 0 → nat_lt 0 n ≡ false
-        empty n e = grind (arith, nat_tests, e)
 
   -- none of the peers is owed a slot
   pub none_of_both : (links : List (Link X)) (owed peers : set.FinSet nat_cmp) → AreOwed links owed → set.intersection owed peers ≡ set.empty ↔ OwesNoneOf links peers
@@ -118,11 +99,7 @@ module _ {X : Type 0} where
         where
           neither : (q : ℕ) (b : Bool) → set.contains peers q ≡ b → (is_owed links q && b) ≡ false
           neither q true e = ap (λ (o : finite.FinMap nat_cmp X). nat_lt 0 (finite.len o) && true) (h q e) ∙ ap (λ n. nat_lt 0 n && true) (len-empty nat_cmp X)
-          neither q false e = no (is_owed links q)
-            where
-              no : (b : Bool) → (b && false) ≡ false
-              no true = refl
-              no false = refl
+          neither q false e = and_false (is_owed links q)
 
 -- so it is of the messages whose places stand in the slots
 pub none_of_through : (messages : List Message) (links : List (Link ℕ)) (peers : set.FinSet nat_cmp) → OwesNoneOf links peers ↔ OwesNoneOf (map (link_through messages) links) peers
@@ -140,7 +117,7 @@ module _ (out now : Outbound) (owed : set.FinSet nat_cmp) (place to slot : ℕ) 
   in_place = after ∙ ap (λ (l : Link ℕ). with_acknowledged l slot) (link_here out now place to found none is at peer finds ∙ ap (link_in (bare out.links)) (sym at))
 
   changed : bare (slice_set out.links place acked) ≡ slice_set (bare out.links) place acked.link
-  changed = rows-set (λ (o : Outward ℕ). o.link) out.links place acked
+  changed = map-set (λ (o : Outward ℕ). o.link) out.links place acked
 
   pub acknowledged_links : map (link_through out.messages) (bare (slice_set out.links place acked)) ≡ slice_set (links_of now) to (with_acknowledged (link_in (links_of now) to) slot)
   acknowledged_links =

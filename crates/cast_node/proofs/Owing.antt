@@ -10,18 +10,8 @@ use Rattle.cast_relay.specs.Pairs.{goes_on}
 use Rattle.cast_node.specs.Giving.{given_on, link_in, OwesOnly}
 
 module _ {X : Type 0} where
-  none_some : (x : X) → ◌≡◌ {A = Option X} None (Some x) → ⊥
-  none_some x e = cc
-
-  in_some : (x y : X) → ◌≡◌ {A = Option X} (Some x) (Some y) → x ≡ y
-  in_some x y e = ap (λ o. get o) e
-    where
-      get : Option X → X
-      get None = x
-      get (Some z) = z
-
   nothing_owed : (Is : X → Type 0) (slot : ℕ) (kept : X) → finite.get (finite.empty {X = X} {R = nat_cmp}) slot ≡ Some kept → Is kept
-  nothing_owed Is slot kept e = absurd (none_some kept (sym (get-empty nat_cmp slot) ∙ e))
+  nothing_owed Is slot kept e = let n : ◌≡◌ {A = Option X} None (Some kept) = sym (get-empty nat_cmp slot) ∙ e in absurd (cc)
 
   -- nothing was given
   pub owes_none : (Is : X → Type 0) (n : ℕ) → OwesOnly Is (replicate n (record { given = 0; owed = finite.empty }))
@@ -33,7 +23,7 @@ module _ {X : Type 0} where
   one_more Is link kept w h slot k e = go (eq_by_cmp nat_cmp slot link.given) (sym (get-insert nat_cmp_total link.owed link.given kept slot) ∙ e)
     where
       go : (b : Bool) → cond b (Some kept) (finite.get link.owed slot) ≡ Some k → Is k
-      go true f = subst Is (in_some kept k f) w
+      go true f = let s : kept ≡ k = cc in subst Is s w
       go false f = h slot k f
 
   -- what is so is given
@@ -55,7 +45,7 @@ module _ {X : Type 0} where
       left link a g f = take (eq_by_cmp nat_cmp slot at) (sym (ap (λ (l : Link X). finite.get l.owed slot) a ∙ get-remove nat_cmp_total link.owed at slot) ∙ f)
         where
           take : (b : Bool) → cond b None (finite.get link.owed slot) ≡ Some kept → Is kept
-          take true f = absurd (none_some kept f)
+          take true f = absurd (cc)
           take false f = g slot kept f
 
       go : (rest : List (Link X)) (place other : ℕ) → OwesOnly Is rest → finite.get (link_in (slice_set rest place after) other).owed slot ≡ Some kept → ((slot : ℕ) (k : X) → finite.get (link_in links q).owed slot ≡ Some k → Is k) → Is kept

@@ -7,7 +7,7 @@ use Rattle.std.proofs.lemmas.Bool.{not-false, ltb-true, eq-eqb, false≢true}
 use Rattle.cast_message.specs.declared.config.Config.{Config}
 use Rattle.cast_message.specs.declared.event.StepFault.TheVariants.{NoSlot, Acked, NotTaken}
 use Rattle.cast_model.specs.Refusals.{Cause, NodeView, no_node, self_link, crashed, frames_full, step_causes, first_fault}
-use Rattle.cast_model.specs.Steps.{Step, Ordered, Sent, Acknowledged, Arrived, Stopped, Steps, own_items, frame_count}
+use Rattle.cast_model.specs.Steps.{Step, Sent, Acknowledged, Steps, own_items, frame_count}
 use Rattle.cast_model.specs.OwnSteps.{own_live, own_given, own_acked, message_in, own_fault}
 use Rattle.cast_node.specs.Kept.{Kept, link_to}
 use Rattle.cast_node.specs.Turns.{kept_view, kept_fault}
@@ -42,11 +42,8 @@ module _ (config : Config) (me : ℕ) (steps : Steps) (kept : Kept) (h : Stands 
   owed_test : (to slot : ℕ) → to < config.nodes → to ≢ me → nat_le (length (own_given me steps to)) slot ≡ false → not (finite.contains_key (link_to kept to).owed slot) ≡ own_acked steps to slot
   owed_test to slot l e inside = ap (λ o. not (is_some o)) ((h.out to l e).owed slot) ∙ by_test (nat_lt slot (length (own_given me steps to))) in_test (own_acked steps to slot)
     where
-      turn : (n k : ℕ) → nat_le n k ≡ false → nat_lt k n ≡ true
-      turn n k e = grind (arith, nat_tests)
-
       in_test : nat_lt slot (length (own_given me steps to)) ≡ true
-      in_test = turn (length (own_given me steps to)) slot inside
+      in_test = grind (arith, nat_tests, inside)
 
       by_test : (b : Bool) → b ≡ true → (c : Bool) → not (is_some (if b && not c then Some (message_in (own_given me steps to) slot) else None)) ≡ c
       by_test true t true = refl
@@ -71,7 +68,6 @@ module _ (config : Config) (me : ℕ) (steps : Steps) (kept : Kept) (h : Stands 
 
   pub faults_are : (step : Step) → kept_fault kept step ≡ own_fault config me steps step
   unfolding own_fault
-  faults_are (Ordered item) = by_seen (Ordered item)
   faults_are (Sent to slot) =
       by_seen (Sent to slot)
       ∙ for_peer to _ _ (λ inside other.
@@ -81,5 +77,4 @@ module _ (config : Config) (me : ℕ) (steps : Steps) (kept : Kept) (h : Stands 
   faults_are (Acknowledged to slot) =
       by_seen (Acknowledged to slot)
       ∙ for_peer to _ _ (λ inside other. ap (λ took. first_fault (not_taken_if took ∷ frames_full seen ∷ [])) (h.taken to slot inside))
-  faults_are (Arrived frame) = by_seen (Arrived frame)
-  faults_are Stopped = by_seen Stopped
+  faults_are step = by_seen step

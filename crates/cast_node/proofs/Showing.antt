@@ -58,13 +58,10 @@ module _ (config : Config) (me : ℕ) (steps : Steps) (kept : Kept) (st : Stands
       let f = clear _ _ d.rest in
       λ k. record { from = sym st.same_me k; seq = sym st.frames k; to = to; body = Carry slot (sym (owed_is (ltb-true to config.nodes (not-false _ a.here)) (λ z. false≢true (sym b.here ∙ eq-eqb me to (sym z))) d.here f.here) k) } ∷ []
     where
-      turn : (n k : ℕ) → nat_le n k ≡ false → nat_lt k n ≡ true
-      turn n k h = grind (arith, nat_tests)
-
       owed_is : to < config.nodes → to ≢ me → nat_le (length (own_given me steps to)) slot ≡ false → own_acked steps to slot ≡ false → message_owed kept to slot ≡ message_in (own_given me steps to) slot
       owed_is l apart inside waiting =
           ap (λ o. unwrap_or o (record { sender = 0; number = 0; item = Close })) ((st.out to l apart).owed slot
-          ∙ (λ k. if turn (length (own_given me steps to)) slot inside k && not (waiting k) then Some (message_in (own_given me steps to) slot) else None))
+          ∙ (λ k. if (let t : nat_lt slot (length (own_given me steps to)) ≡ true = grind (arith, nat_tests, inside) in t) k && not (waiting k) then Some (message_in (own_given me steps to) slot) else None))
 
   -- and of an Ack
   pub tells_taken : (to slot : ℕ) → own_made me steps (Acknowledged to slot) ≡ took_of kept to slot ∷ []

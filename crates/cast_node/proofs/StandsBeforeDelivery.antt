@@ -30,7 +30,8 @@ use Rattle.cast_node.specs.Delivering.{noted, first_members}
 use Rattle.cast_model.specs.Shown.{item_of}
 use Rattle.cast_node.specs.Stands.{item_at, newest_first, StandsOut, Stands}
 use Rattle.cast_node.proofs.Places.{length-slice_set, at_set}
-use Rattle.cast_node.proofs.Links.{length-given_from, given_from-at, goes, out_same, out_given}
+use Rattle.cast_node.proofs.Gifts.{length_given}
+use Rattle.cast_node.proofs.Links.{given_from-at, goes, out_same, out_given}
 use Rattle.cast_node.proofs.HolderSets.{KnowsAll, ready_alike, same_pair, pair_more, pair_none, knows_pair}
 use Rattle.cast_node.proofs.Back.{back_same, back_more, item_other}
 
@@ -234,7 +235,7 @@ module _ (config : Config) (me : ℕ) (step : Step) (steps : Steps) (kept : Kept
     pub new_heard : Heard config me step steps (noted_at (spread kept h.message h.source) h.message.sender h.message.number members) h.message.sender h.message.number
     new_heard = record {
       own = b.own;
-      peers_out = length-given_from 0 kept.me h.source h.message kept.outgoing ∙ b.peers_out;
+      peers_out = length_given 0 kept.me h.source h.message.sender h.message kept.outgoing ∙ b.peers_out;
       out = out_after;
       senders_back = length-slice_set kept.deliveries.hold_back h.message.sender _ ∙ b.senders_back;
       back_here = subst (HoldsBack (item_at (held me (step ∷ steps)) h.message.sender) (own_is_ready config me steps h.message.sender)) (sym (back_at h.message.sender ∙ ap (λ c. cond c (with_item (held_of kept.deliveries.hold_back h.message.sender) h.message.number h.message.item) (held_of kept.deliveries.hold_back h.message.sender)) (eq-eqb h.message.sender h.message.sender refl)))

@@ -7,11 +7,12 @@ use Rattle.std.specs.Cmp.{nat_cmp_total}
 use Rattle.std.specs.FinSet as set
 use Rattle.std.specs.FinSet.{contains-insert}
 use Rattle.std.specs.FinMap as finite
-use Rattle.std.proofs.lemmas.Bool.{cases_lt, cases_eq, or_cases, or_right, and_from, and_parts, lt-ltb, eqb-true, ltb-true, not-false, false≢true, false_from_ne_true, eq-eqb, ne_eqb}
+use Rattle.std.proofs.lemmas.Bool.{cases_lt, cases_eq, or_cases, or_right, and_from, and_parts, lt-ltb, le-ltb, eqb-true, ltb-true, not-false, false≢true, false_from_ne_true, eq-eqb, ne_eqb}
 use Rattle.std.proofs.lemmas.Bool.Decides.{nat_tests}
+use Rattle.std.proofs.Math.ListN.{get_or-map}
 use Rattle.std.proofs.lemmas.List.{append-nil}
 use Rattle.std.proofs.lemmas.List.Folds.{list_any-append}
-use Rattle.cast_message.proofs.Tests.{cmp_eq}
+use Rattle.cast_message.proofs.Tests.{cmp_eq, turned_about}
 use Rattle.cast_message.proofs.Booleans.{and_alike, and_false, and_true, or_comm, or_false, or_implied}
 use Rattle.cast_message.specs.declared.config.Config.{Config}
 use Rattle.cast_message.specs.declared.message.Item.{Item}
@@ -89,9 +90,7 @@ module _ (config : Config) (me : ℕ) (place : me < config.nodes) where
           let at : length (own_items steps) ≡ i = eqb-true (length (own_items steps)) i p.1 in
           record { sender = subst (λ y. y < config.nodes) same place; number = λ z. (let n = length-append (own_items steps) (item ∷ []) in omega (arith, n, at)) }
       by_step (Arrived f) fine t = by_body (Arrived f) f.from f.body (and_parts (nat_lt f.from config.nodes && not (f.from == me)) _ (not-false _ fine)).1 t
-      by_step (Sent to slot) fine t = absurd (false≢true t)
-      by_step (Acknowledged to slot) fine t = absurd (false≢true t)
-      by_step Stopped fine t = absurd (false≢true t)
+      by_step x fine t = absurd (false≢true t)
 
 module _ (config : Config) (me : ℕ) (steps : Steps) (kept : Kept) (st : Stands config me steps kept) where
   -- a step that brings nothing new
@@ -176,6 +175,9 @@ module _ (config : Config) (me : ℕ) (steps : Steps) (kept : Kept) (st : Stands
   unfolding own_live frame_count each
   stopped_stands accepted = quiet_stands Stopped accepted refl (append-nil (own_items steps)) refl false kept.frames refl (st.frames ∙ (let z : frame_count steps ≡ frame_count steps + 0 = omega arith in z))
 
+turn : (a b c d : ℕ) → (b == a && d == c) ≡ (a == b && c == d)
+turn a b c d = grind (arith, nat_tests)
+
 -- a slot that was acknowledged was told of
 told_before : (me : ℕ) (steps : Steps) (from slot : ℕ) → own_acked steps from slot ≡ true → (s i x : ℕ) → (from == x && is_pair (copy_at (own_given_copies me steps x) slot) s i) ≡ true → own_knows me steps s i x ≡ true
 unfolding own_acked own_knows
@@ -205,13 +207,10 @@ module _ (config : Config) (me : ℕ) (steps : Steps) (kept : Kept) (st : Stands
       back : HoldsBack (item_at (held me steps) s) (own_is_ready config me steps s) (held_of kept.deliveries.hold_back s)
       back = st.holds_back s l
 
-      not_below : (k n : ℕ) → n ≤ k → nat_lt k n ≡ false
-      not_below k n l = grind (arith, nat_tests, l)
-
       by_place : (i < (held_of kept.deliveries.hold_back s).next) ⊎ ((held_of kept.deliveries.hold_back s).next ≤ i) → holds kept s i ≡ has_pair (own_copies me steps) s i
       by_place (inl below) = ap (λ b. b || is_some (waiting_at (held_of kept.deliveries.hold_back s).waiting i)) (lt-ltb i (held_of kept.deliveries.hold_back s).next below) ∙ sym (own_held_below config me steps s i (back.below i below))
       by_place (inr past) =
-          (λ k. not_below i (held_of kept.deliveries.hold_back s).next past k || is_some (back.waits i past k))
+          (λ k. le-ltb i (held_of kept.deliveries.hold_back s).next past k || is_some (back.waits i past k))
           ∙ some_waiting (item_at (held me steps) s i) (own_is_ready config me steps s i)
           ∙ item_is (held me steps) s i
 
@@ -274,7 +273,7 @@ module _ (config : Config) (me : ℕ) (steps : Steps) (kept : Kept) (st : Stands
               ∙ ap (λ c. (k == slot) || c) (st.taken r k l)
               ∙ or_comm (k == slot) (own_taken steps r k)
               ∙ ap (λ c. own_taken steps r k || c) (sym (or_false (k == slot)))
-              ∙ (λ i. own_taken steps r k || ((sym (eq-eqb from r (sym e)) i && flip k slot i) || false)))
+              ∙ (λ i. own_taken steps r k || ((sym (eq-eqb from r (sym e)) i && turned_about k slot i) || false)))
           | inr e ↦
               (ap (λ c. set.contains (cond c (set.insert (taken_from kept from) slot) (taken_from kept r)) k) (ne_eqb r from e)
               ∙ st.taken r k l
@@ -282,9 +281,6 @@ module _ (config : Config) (me : ℕ) (steps : Steps) (kept : Kept) (st : Stands
               ∙ (λ i. own_taken steps r k || ((sym (ne_eqb from r (λ z. e (sym z))) i && (slot == k)) || false)))
         ]
         ∙ sym (own_taken-more me carry steps r k)
-      where
-        flip : (a b : ℕ) → (a == b) ≡ (b == a)
-        flip a b = grind (arith, nat_tests)
 
     carry_acks : (q k : ℕ) → own_acked (carry ∷ steps) q k ≡ own_acked steps q k
     carry_acks q k = own_acked-more me carry steps q k ∙ ap (λ c. own_acked steps q k || (c || false)) (and_false (from == q)) ∙ or_false (own_acked steps q k)
@@ -294,9 +290,6 @@ module _ (config : Config) (me : ℕ) (steps : Steps) (kept : Kept) (st : Stands
 
     carry_other : (s i : ℕ) → same_pair message.sender message.number s i ≡ false → (x : ℕ) → own_knows me (carry ∷ steps) s i x ≡ own_knows me steps s i x
     carry_other s i e x = carry_knows s i x ∙ ap (λ c. own_knows me steps s i x || ((from == x && c) || false)) (turn s message.sender i message.number ∙ e) ∙ ap (λ c. own_knows me steps s i x || (c || false)) (and_false (from == x)) ∙ or_false (own_knows me steps s i x)
-      where
-        turn : (a b c d : ℕ) → (b == a && d == c) ≡ (a == b && c == d)
-        turn a b c d = grind (arith, nat_tests)
 
     itself : (message.sender == message.sender && message.number == message.number) ≡ true
     itself = λ k. eq-eqb message.sender message.sender refl k && eq-eqb message.number message.number refl k
@@ -353,13 +346,9 @@ module _ (config : Config) (me : ℕ) (steps : Steps) (kept : Kept) (st : Stands
 
     copy_is : (copy.sender ≡ message.sender) × (copy.number ≡ message.number)
     unfolding copy_at message_in
-    copy_is = at (own_given me steps from) slot
-      where
-        at : (hs : List Held) (k : ℕ) → ((slice_index_or (map copy_of hs) k (record { sender = 0; number = 0; source = 0 })).sender ≡ (slice_index_or hs k (record { message = record { sender = 0; number = 0; item = Close }; source = 0 })).message.sender)
-            × ((slice_index_or (map copy_of hs) k (record { sender = 0; number = 0; source = 0 })).number ≡ (slice_index_or hs k (record { message = record { sender = 0; number = 0; item = Close }; source = 0 })).message.number)
-        at [] k = (refl, refl)
-        at (h ∷ hs) zero = (refl, refl)
-        at (h ∷ hs) (suc k) = at hs k
+    copy_is =
+        let e = get_or-map copy_of (own_given me steps from) slot (record { message = record { sender = 0; number = 0; item = Close }; source = 0 }) in
+        (ap (λ (c : FirstCopy). c.sender) e, ap (λ (c : FirstCopy). c.number) e)
 
     held_pair : has_pair (own_copies me steps) message.sender message.number ≡ true
     held_pair = (λ k. has_pair (own_copies me steps) (sym copy_is.0 k) (sym copy_is.1 k)) ∙ given_held config me steps from slot inside
@@ -382,9 +371,6 @@ module _ (config : Config) (me : ℕ) (steps : Steps) (kept : Kept) (st : Stands
         ap (λ y. is_pair (copy_at (own_given_copies me steps y) slot) s i) (sym (eqb-true from x e))
         ∙ (λ k. copy_is.0 k == s && copy_is.1 k == i)
         ∙ turn s message.sender i message.number)
-      where
-        turn : (a b c d : ℕ) → (b == a && d == c) ≡ (a == b && c == d)
-        turn a b c d = grind (arith, nat_tests)
 
     given_same : (q : ℕ) → own_given me (took ∷ steps) q ≡ own_given me steps q
     given_same q = own_given-more me took steps q ∙ append-nil (own_given me steps q)

@@ -6,7 +6,8 @@ use Rattle.std.specs.FinMap as finite
 use Rattle.std.specs.FinMap.{find, is_sorted, entries_sorted, get-entries, len-entries, get-from_sorted, entries-from_sorted, get-empty, get-insert, get-remove, same_map, nat_cmp-IsAntisymmetric}
 use Rattle.std.specs.FinMap.Entries.{below_all}
 use Rattle.std.proofs.Common.{sym, ap, ◌∙◌, subst, arith, length-append}
-use Rattle.std.proofs.lemmas.List.{length-map}
+use Rattle.std.proofs.Math.Seq.{get_or-append_seam}
+use Rattle.std.proofs.lemmas.List.{length-map, map-set, get_or-map, get_or_append_left}
 use Rattle.cast_message.specs.declared.message.Message.{Message}
 use Rattle.cast_link.specs.Links.{Link, Outward, with_given, with_acknowledged, IsLeastFrom}
 use Rattle.cast_relay.specs.Pairs.{goes_on}
@@ -14,7 +15,6 @@ use Rattle.cast_node.specs.Giving.{given_on, link_in, bare}
 use Rattle.cast_node.specs.Outgoing.{kept_message, owed_through, link_through, links_of, OwesBelow, Outbound}
 use Rattle.cast_node.proofs.Owing.{owes_given, owes_more}
 use Rattle.cast_node.proofs.Gifts.{bare_long}
-use Rattle.cast_node.proofs.Parts.{rows-at}
 
 -- ---- entries, with the values that a function gives them
 
@@ -53,55 +53,38 @@ len_through messages owed =
     ∙ length-map (finite.entries owed) (λ e. (e.0, kept_message messages e.1))
     ∙ sym (len-entries owed)
 
-still_some : (f : ℕ → Message) (o : Option ℕ) → is_some (option_map f o) ≡ is_some o
-still_some f None = refl
-still_some f (Some place) = refl
-
 contains_through : (messages : List Message) (owed : finite.FinMap nat_cmp ℕ) (q : ℕ) → finite.contains_key (owed_through messages owed) q ≡ finite.contains_key owed q
-contains_through messages owed q = ap is_some (get_through messages owed q) ∙ still_some (kept_message messages) (finite.get owed q)
+contains_through messages owed q = ap is_some (get_through messages owed q) ∙ elim (finite.get owed q) as (λ o. is_some (option_map (kept_message messages) o) ≡ is_some o) [ None ↦ refl | Some place ↦ refl ]
 
 pub through_empty : (messages : List Message) → owed_through messages finite.empty ≡ finite.empty
 through_empty messages = same_map nat_cmp_total nat_cmp-IsAntisymmetric _ _ (λ q. get_through messages finite.empty q ∙ ap (option_map (kept_message messages)) (get-empty nat_cmp q) ∙ sym (get-empty nat_cmp q))
+
+inward : (f : ℕ → Message) (b : Bool) (x o : Option ℕ) → option_map f (cond b x o) ≡ cond b (option_map f x) (option_map f o)
+inward f true x o = refl
+inward f false x o = refl
 
 through_insert : (messages : List Message) (owed : finite.FinMap nat_cmp ℕ) (k place : ℕ) → owed_through messages (finite.insert owed k place) ≡ finite.insert (owed_through messages owed) k (kept_message messages place)
 through_insert messages owed k place = same_map nat_cmp_total nat_cmp-IsAntisymmetric _ _ (λ q.
     get_through messages (finite.insert owed k place) q
     ∙ ap (option_map (kept_message messages)) (get-insert nat_cmp_total owed k place q)
-    ∙ inward (eq_by_cmp nat_cmp q k) (finite.get owed q)
+    ∙ inward (kept_message messages) (eq_by_cmp nat_cmp q k) (Some place) (finite.get owed q)
     ∙ sym (get-insert nat_cmp_total (owed_through messages owed) k (kept_message messages place) q ∙ ap (cond (eq_by_cmp nat_cmp q k) (Some (kept_message messages place))) (get_through messages owed q)))
-  where
-    inward : (b : Bool) (o : Option ℕ) → option_map (kept_message messages) (cond b (Some place) o) ≡ cond b (Some (kept_message messages place)) (option_map (kept_message messages) o)
-    inward true o = refl
-    inward false o = refl
 
 through_remove : (messages : List Message) (owed : finite.FinMap nat_cmp ℕ) (k : ℕ) → owed_through messages (finite.remove owed k) ≡ finite.remove (owed_through messages owed) k
 through_remove messages owed k = same_map nat_cmp_total nat_cmp-IsAntisymmetric _ _ (λ q.
     get_through messages (finite.remove owed k) q
     ∙ ap (option_map (kept_message messages)) (get-remove nat_cmp_total owed k q)
-    ∙ inward (eq_by_cmp nat_cmp q k) (finite.get owed q)
+    ∙ inward (kept_message messages) (eq_by_cmp nat_cmp q k) None (finite.get owed q)
     ∙ sym (get-remove nat_cmp_total (owed_through messages owed) k q ∙ ap (cond (eq_by_cmp nat_cmp q k) None) (get_through messages owed q)))
-  where
-    inward : (b : Bool) (o : Option ℕ) → option_map (kept_message messages) (cond b None o) ≡ cond b None (option_map (kept_message messages) o)
-    inward true o = refl
-    inward false o = refl
 
 -- ---- one message more
-
-kept_before : (messages : List Message) (message : Message) (place : ℕ) → place < length messages → kept_message (messages ++ message ∷ []) place ≡ kept_message messages place
-kept_before [] message place l = absurd (omega (arith, l))
-kept_before (m ∷ messages) message zero l = refl
-kept_before (m ∷ messages) message (suc place) l = kept_before messages message place (omega (arith, l))
-
-kept_last : (messages : List Message) (message : Message) → kept_message (messages ++ message ∷ []) (length messages) ≡ message
-kept_last [] message = refl
-kept_last (m ∷ messages) message = kept_last messages message
 
 through_more : (messages : List Message) (message : Message) (owed : finite.FinMap nat_cmp ℕ) → ((slot place : ℕ) → finite.get owed slot ≡ Some place → place < length messages) → owed_through (messages ++ message ∷ []) owed ≡ owed_through messages owed
 through_more messages message owed h = same_map nat_cmp_total nat_cmp-IsAntisymmetric _ _ (λ q. get_through (messages ++ message ∷ []) owed q ∙ at q (finite.get owed q) refl ∙ sym (get_through messages owed q))
   where
     at : (q : ℕ) (o : Option ℕ) → finite.get owed q ≡ o → option_map (kept_message (messages ++ message ∷ [])) o ≡ option_map (kept_message messages) o
     at q None e = refl
-    at q (Some place) e = ap Some (kept_before messages message place (h q place e))
+    at q (Some place) e = ap Some (get_or_append_left messages (message ∷ []) _ place (h q place e))
 
 pub given_through : (q : ℕ) (me : ℕ) (source : ℕ) (message : Message) (messages : List Message) (links : List (Link ℕ)) → OwesBelow (length messages) links → map (link_through (messages ++ message ∷ [])) (given_on q me source message.sender (length messages) links) ≡ given_on q me source message.sender message (map (link_through messages) links)
 unfolding given_on
@@ -112,7 +95,7 @@ given_through q me source message messages (link ∷ links) h = λ i. one (goes_
     same = through_more messages message link.owed (h 0)
 
     more : owed_through (messages ++ message ∷ []) (finite.insert link.owed link.given (length messages)) ≡ finite.insert (owed_through messages link.owed) link.given message
-    more = through_insert (messages ++ message ∷ []) link.owed link.given (length messages) ∙ (λ i. finite.insert (same i) link.given (kept_last messages message i))
+    more = through_insert (messages ++ message ∷ []) link.owed link.given (length messages) ∙ (λ i. finite.insert (same i) link.given (get_or-append_seam messages message [] (kept_message [] 0) i))
 
     one : (b : Bool) → link_through (messages ++ message ∷ []) (if b then with_given link (length messages) else link) ≡ (if b then with_given (link_through messages link) message else link_through messages link)
     one true = λ i. record { given = link.given + 1; owed = more i }
@@ -138,20 +121,15 @@ pub link_here : (out now : Outbound) (place to : ℕ) (found none : Outward ℕ)
 link_here out now place to found none is at l e =
     let long = length-map (bare out.links) (link_through out.messages) in
     let within : place < length out.links = omega (arith, at, l, ap (λ o. length (links_of o)) is, long, bare_long out.links) in
-    ap (λ (o : Outward ℕ). o.link) e ∙ sym (rows-at (λ (o : Outward ℕ). o.link) out.links place none _ within) ∙ ap (link_in (bare out.links)) at
+    ap (λ (o : Outward ℕ). o.link) e ∙ sym (get_or-map (λ (o : Outward ℕ). o.link) out.links place none _ within) ∙ ap (link_in (bare out.links)) at
 
 pub seen_here : (out now : Outbound) (place to : ℕ) (found none : Outward ℕ) → out ≡ now → place ≡ to → to < length (links_of now) → found ≡ slice_index_or out.links place none → link_through out.messages found.link ≡ link_in (links_of now) to
 seen_here out now place to found none is at l e =
     ap (link_through out.messages) (link_here out now place to found none is at l e) ∙ sym (link_at out.messages (bare out.links) to) ∙ ap (λ o. link_in (links_of o) to) is
 
-set_through : (messages : List Message) (links : List (Link ℕ)) (q : ℕ) (link : Link ℕ) → map (link_through messages) (slice_set links q link) ≡ slice_set (map (link_through messages) links) q (link_through messages link)
-set_through messages [] q link = refl
-set_through messages (x ∷ links) zero link = refl
-set_through messages (x ∷ links) (suc q) link = ap (λ ls. link_through messages x ∷ ls) (set_through messages links q link)
-
 pub acknowledged_through : (messages : List Message) (links : List (Link ℕ)) (q slot : ℕ) → map (link_through messages) (slice_set links q (with_acknowledged (link_in links q) slot)) ≡ slice_set (map (link_through messages) links) q (with_acknowledged (link_in (map (link_through messages) links) q) slot)
 acknowledged_through messages links q slot =
-    set_through messages links q (with_acknowledged (link_in links q) slot)
+    map-set (link_through messages) links q (with_acknowledged (link_in links q) slot)
     ∙ ap (slice_set (map (link_through messages) links) q) ((λ i. record { given = (link_in links q).given; owed = through_remove messages (link_in links q).owed slot i }) ∙ ap (λ (l : Link Message). with_acknowledged l slot) (sym (link_at messages links q)))
 
 pub nothing_given_through : (n : ℕ) → map (link_through []) (replicate n (record { given = 0; owed = finite.empty })) ≡ replicate n (record { given = 0; owed = finite.empty })

@@ -1,9 +1,8 @@
 -- A node's parts put together.
-use Rattle.std.specs.Prelude.{◌≡◌, ℕ, ◌-◌, ◌<◌, ◌==◌, nat_lt, nat_le, Bool, true, false, not, ◌&&◌, if◌then◌else◌, List, [], ◌∷◌, ◌++◌, length, slice_set, slice_index_or, Some, None}
+use Rattle.std.specs.Prelude.{◌≡◌, ℕ, ◌-◌, ◌<◌, ◌==◌, nat_lt, nat_le, Bool, true, false, not, ◌&&◌, if◌then◌else◌, List, length, slice_set, slice_index_or, None}
 use Rattle.std.specs.List.{list_any}
 use Rattle.std.specs.Ordering.{nat_cmp}
 use Rattle.std.specs.FinSet as set
-use Rattle.std.specs.FinMap as finite
 use Rattle.std.proofs.Common.{sym, ap, ◌∙◌, arith}
 use Rattle.std.proofs.lemmas.Bool.{and_parts, ltb-true}
 use Rattle.std.proofs.lemmas.Bool.Decides.{nat_tests}
@@ -15,12 +14,10 @@ use Rattle.cast_message.specs.Items.{is_close}
 use Rattle.cast_model.specs.Steps.{Ordered, Sent, Acknowledged}
 use Rattle.cast_model.proofs.Accepted.{no_cause}
 use Rattle.cast_model.proofs.Members.{here, there}
-use Rattle.cast_link.specs.Links.{Link, with_acknowledged}
-use Rattle.cast_node.specs.Giving.{link_in}
-use Rattle.cast_node.proofs.Gifts.{length_given}
-use Rattle.cast_node.specs.Kept.{Kept, link_to, holds}
-use Rattle.cast_node.specs.Turns.{Told, told_more, given_from, taken_up, own_message, carried, with_taken, acknowledged, ordered, kept_causes, kept_fault}
-use Rattle.cast_node.specs.Delivering.{Delivering, knowers_in, first_members, told_in, outcome_in, waiting_in}
+use Rattle.cast_link.specs.Links.{Link}
+use Rattle.cast_node.specs.Kept.{Kept, holds}
+use Rattle.cast_node.specs.Turns.{Told, told_more, given_from, taken_up, carried, with_taken, kept_causes, kept_fault}
+use Rattle.cast_node.specs.Delivering.{Delivering, knowers_in, first_members, told_in, waiting_in}
 use Rattle.cast_node.specs.Calls.{is_peer, may_carry}
 
 -- ---- a step that isn't refused
@@ -58,9 +55,6 @@ unfolding kept_fault
 order_fine kept item e =
     let causes = kept_causes kept (Ordered item) in
     record { unclosed = no_cause _ causes e (there here); first = no_cause _ causes e (there (there (there here))); room = no_cause _ causes e (there (there (there (there here)))) }
-
-pub length-given : (q me source : ℕ) (message : Message) (links : List (Link Message)) → length (given_from q me source message links) ≡ length links
-length-given q me source message links = length_given q me source message.sender message links
 
 -- ---- whole nodes
 

@@ -1,8 +1,7 @@
 -- A peer's word that it took a slot, in which a message is owed: what a node keeps that heard it.
-use Rattle.std.specs.Prelude.{◌≡◌, ℕ, Bool, List, length, slice_set, Some, refl}
+use Rattle.std.specs.Prelude.{◌≡◌, ℕ, Bool, List, length, slice_set, refl}
 use Rattle.std.specs.Ordering.{nat_cmp}
 use Rattle.std.specs.FinSet as set
-use Rattle.std.specs.FinMap as finite
 use Rattle.std.proofs.Common.{◌∙◌, ap, sym, subst}
 use Rattle.std.proofs.Math.ListN.{length-set}
 use Rattle.cast_message.specs.declared.config.Config.{Config}
@@ -10,9 +9,7 @@ use Rattle.cast_message.specs.declared.message.Item.{Item}
 use Rattle.cast_message.specs.declared.message.Message.{Message}
 use Rattle.cast_link.specs.Links.{Link, with_acknowledged}
 use Rattle.cast_node.specs.Giving.{link_in}
-use Rattle.cast_node.specs.Kept.{Kept, link_to}
-use Rattle.cast_node.specs.Turns.{acknowledged}
-use Rattle.cast_node.specs.Delivering.{Delivering, knowers_in, told_in, outcome_in}
+use Rattle.cast_node.specs.Delivering.{Delivering, told_in}
 use Rattle.cast_node.specs.Sound.{IsNode, IsWithin, Owes}
 use Rattle.cast_node.proofs.DeliveryTables.{told_keeps}
 use Rattle.cast_node.proofs.Owing.{owes_acked}

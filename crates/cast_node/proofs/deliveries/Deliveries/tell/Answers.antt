@@ -1,10 +1,10 @@
-use Rattle.std.proofs.Common.{refl, sym, ap, ◌++◌, ◌∙◌}
+use Rattle.std.proofs.Common.{false, true, refl, sym, ap, ◌++◌, ◌∙◌}
 use Rattle.std.specs.Prelude.{None}
 use Rattle.cast_message.proofs.Results.{on_err}
 use Rattle.cast_fifo.specs.HeldBack.{held_of, heard_items}
 use Rattle.cast_agree.specs.Journal.{counted_all}
 use Rattle.cast_node.specs.Delivering.{Delivering, heard_by, heard_news}
-use Rattle.cast_node.proofs.DeliveryTables.{row_same, both_same, noted_is, told_is, told_not, told_yes}
+use Rattle.cast_node.proofs.DeliveryTables.{row_same, both_same, noted_is, told_is, told_when}
 use Rattle.cast_node.proofs.deliveries.Deliveries.tell.Goals as goal
 
 pub returns-in_err-make_place-clause-err : goal.returns-in_err-make_place-clause-err
@@ -14,7 +14,7 @@ returns-in_err-make_place-clause-err c =
 pub returns-then-not-is_enough-clause-ok : goal.returns-then-not-is_enough-clause-ok
 returns-then-not-is_enough-clause-ok c =
     noted_is _ _ _ _ c.args.self.now c.self.view_is c.self.invariant c.from-place.result c.args.sender (c.from-place.ensures ∙ c.sender.view_is) c.requires.sender c.index_mut-row.result.now c.make_place.new.row c.note.new.row c.args.number c.args.members _ c.args.self.now.hold_back c.index_mut-row.ensures.value c.make_place.ensures.same c.note.ensures (ap (λ (ds : Delivering). ds.hold_back) c.self.view_is)
-    ∙ (told_not c.args.config.now c.args.self.now c.args.sender c.args.number c.args.members (sym c.is_enough.ensures ∙ c.if-not-is_enough.true)).0
+    ∙ (told_when c.args.config.now c.args.self.now c.args.sender c.args.number c.args.members false (sym c.is_enough.ensures ∙ c.if-not-is_enough.true)).0
 
 pub returns-in_err-outcome-clause-err : goal.returns-in_err-outcome-clause-err
 returns-in_err-outcome-clause-err c =
@@ -30,4 +30,4 @@ returns-clause-ok c =
     (done.items ∙ ap (λ (ds : Delivering). c.index_mut-items.result.now.items ++ heard_items (held_of ds.hold_back c.args.sender) c.args.number None) now)
     (done.hold_back ∙ ap (λ (ds : Delivering). heard_by ds.hold_back c.args.sender c.args.number None) now)
     (done.agree ∙ ap (λ (ds : Delivering). counted_all c.self.inside.agree (heard_news ds.hold_back c.args.sender c.args.number None)) now)
-    ∙ (told_yes c.args.config.now c.args.self.now c.args.sender c.args.number c.args.members (sym c.is_enough.ensures ∙ c.if-not-is_enough.false)).0
+    ∙ (told_when c.args.config.now c.args.self.now c.args.sender c.args.number c.args.members true (sym c.is_enough.ensures ∙ c.if-not-is_enough.false)).0

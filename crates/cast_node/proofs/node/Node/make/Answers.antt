@@ -7,7 +7,7 @@ use Rattle.std.specs.List.{list_any}
 use Rattle.cast_node.specs.Delivering.{Delivering}
 use Rattle.cast_node.specs.Sound.{Owes, IsWithin}
 use Rattle.cast_node.proofs.Owing.{owes_none}
-use Rattle.cast_node.proofs.Parts.{length-replicate}
+use Rattle.std.proofs.lemmas.List.{length-replicate}
 use Rattle.cast_node.proofs.node.Node.make.Goals as goal
 
 pub invariant_of-result : goal.invariant_of-result

@@ -1,13 +1,12 @@
-use Rattle.std.proofs.Common.{◌<◌, ◌∙◌, refl, ap, length, arith}
+use Rattle.std.proofs.Common.{◌∙◌, refl, ap, length}
 use Rattle.std.proofs.Math.ListN.{length-set}
 use Rattle.cast_message.proofs.Results.{on_err}
 use Rattle.cast_message.specs.declared.message.Message.{Message}
-use Rattle.cast_link.specs.Taken.{Inward}
 use Rattle.cast_node.specs.Kept.{Kept}
 use Rattle.cast_node.specs.Outgoing.{links_of}
 use Rattle.cast_node.specs.Sound.{slots_of}
 use Rattle.cast_node.specs.Delivering.{Delivering}
-use Rattle.cast_node.proofs.Parts.{rows-length, slots_same, slots_taken}
+use Rattle.cast_node.proofs.Parts.{slots_same, slots_taken}
 use Rattle.cast_node.proofs.DeliveryTables.{told_keeps}
 use Rattle.cast_node.proofs.Keeping.{keeps_rows}
 use Rattle.cast_node.proofs.Wholes.{whole, held_again}
@@ -15,32 +14,20 @@ use Rattle.cast_node.proofs.node.Node.take_again.Goals as goal
 
 pub returns-in_err-reserve-clause-err : goal.returns-in_err-reserve-clause-err
 returns-in_err-reserve-clause-err c =
-    let at = c.from-2.ensures ∙ c.from.view_is in
-    let links = c.self.inside.incoming.items in
-    let within : c.from-2.result < length links = omega (arith, at, c.requires.from, c.self.invariant.peers_in, rows-length (λ (l : Inward). l.slots) links, ap (λ (k : Kept). k.config.nodes) c.self.view_is) in
-    on_err c.from_residual.result ((λ k. whole c.self.inside.config c.self.inside.me c.self.inside.live c.self.inside.frames c.self.inside.stream.items (links_of c.self.inside.outgoing) (slots_same links c.from-2.result c.args.from c.index_mut-link.result.now c.reserve.new.self at within c.index_mut-link.ensures.value c.reserve.ensures.same k) c.self.inside.deliveries) ∙ c.self.view_is)
+    on_err c.from_residual.result ((λ k. whole c.self.inside.config c.self.inside.me c.self.inside.live c.self.inside.frames c.self.inside.stream.items (links_of c.self.inside.outgoing) (slots_same c.self.inside.incoming.items c.from-2.result c.args.from c.index_mut-link.result.now c.reserve.new.self c.index_mut-link.ensures.value c.reserve.ensures.same k) c.self.inside.deliveries) ∙ c.self.view_is)
 
 pub returns-in_err-outcome-clause-err : goal.returns-in_err-outcome-clause-err
 returns-in_err-outcome-clause-err c =
-    let at = c.from-2.ensures ∙ c.from.view_is in
-    let links = c.self.inside.incoming.items in
-    let within : c.from-2.result < length links = omega (arith, at, c.requires.from, c.self.invariant.peers_in, rows-length (λ (l : Inward). l.slots) links, ap (λ (k : Kept). k.config.nodes) c.self.view_is) in
-    on_err c.from_residual-in_err-outcome.result ((λ k. whole c.self.inside.config c.self.inside.me c.self.inside.live c.self.inside.frames c.self.inside.stream.items (links_of c.self.inside.outgoing) (slots_same links c.from-2.result c.args.from c.index_mut-link.result.now c.reserve.new.self at within c.index_mut-link.ensures.value c.reserve.ensures.same k) (c.in_err-outcome.ensures.err k)) ∙ c.self.view_is)
+    on_err c.from_residual-in_err-outcome.result ((λ k. whole c.self.inside.config c.self.inside.me c.self.inside.live c.self.inside.frames c.self.inside.stream.items (links_of c.self.inside.outgoing) (slots_same c.self.inside.incoming.items c.from-2.result c.args.from c.index_mut-link.result.now c.reserve.new.self c.index_mut-link.ensures.value c.reserve.ensures.same k) (c.in_err-outcome.ensures.err k)) ∙ c.self.view_is)
 
 pub invariant_of-self-2 : goal.invariant_of-self-2
 invariant_of-self-2 c =
-    let at = c.from-2.ensures ∙ c.from.view_is in
-    let links = c.self.inside.incoming.items in
-    let within : c.from-2.result < length links = omega (arith, at, c.requires.from, c.self.invariant.peers_in, rows-length (λ (l : Inward). l.slots) links, ap (λ (k : Kept). k.config.nodes) c.self.view_is) in
     let done = c.in_ok-outcome.ensures.ok in
     let told = told_keeps c.self.inside.config c.self.inside.deliveries c.args.sender c.args.number c.knowers_with-holders.result in
-    keeps_rows c.self.inside.config c.self.inside.me c.self.inside.stream.items c.self.inside.closed c.self.inside.proposed (links_of c.self.inside.outgoing) _ (slots_of links) _ c.self.inside.deliveries c.tell.new.self c.self.invariant refl
-    (ap length (slots_taken links c.from-2.result c.args.from c.index_mut-link.result.now c.reserve.new.self at within c.index_mut-link.ensures.value c.reserve.ensures.same c.args.slot c.take_reserved.new.self c.take_reserved.ensures.after) ∙ length-set (slots_of links) c.args.from _)
+    keeps_rows c.self.inside.config c.self.inside.me c.self.inside.stream.items c.self.inside.closed c.self.inside.proposed (links_of c.self.inside.outgoing) _ (slots_of c.self.inside.incoming.items) _ c.self.inside.deliveries c.tell.new.self c.self.invariant refl
+    (ap length (slots_taken c.self.inside.incoming.items c.from-2.result c.args.from c.index_mut-link.result.now c.reserve.new.self c.index_mut-link.ensures.value c.reserve.ensures.same c.self.inside.config c.args.self.now c.requires.from (ap (λ (k : Kept). k.config) c.self.view_is) c.self.invariant.peers_in (c.from-2.ensures ∙ c.from.view_is) c.args.slot c.take_reserved.new.self c.take_reserved.ensures.after) ∙ length-set (slots_of c.self.inside.incoming.items) c.args.from _)
     (ap (λ (d : Delivering). length d.hold_back) done ∙ told.0) (ap (λ (d : Delivering). length d.knowers) done ∙ told.1) c.self.invariant.owes
 
 pub returns-clause-ok : goal.returns-clause-ok
 returns-clause-ok c item =
-    let at = c.from-2.ensures ∙ c.from.view_is in
-    let links = c.self.inside.incoming.items in
-    let within : c.from-2.result < length links = omega (arith, at, c.requires.from, c.self.invariant.peers_in, rows-length (λ (l : Inward). l.slots) links, ap (λ (k : Kept). k.config.nodes) c.self.view_is) in
-    held_again c.self.inside.config c.self.inside.me c.self.inside.live c.self.inside.frames c.self.inside.stream.items (links_of c.self.inside.outgoing) (slots_of links) c.self.inside.deliveries c.args.self.now c.self.view_is c.args.from c.args.slot (let message : Message = record { sender = c.args.sender; number = c.args.number; item = item } in message) _ (slots_taken links c.from-2.result c.args.from c.index_mut-link.result.now c.reserve.new.self at within c.index_mut-link.ensures.value c.reserve.ensures.same c.args.slot c.take_reserved.new.self c.take_reserved.ensures.after) c.knowers_with-holders.result c.tell.new.self c.requires.held c.knowers_with-holders.ensures c.in_ok-outcome.ensures.ok
+    held_again c.self.inside.config c.self.inside.me c.self.inside.live c.self.inside.frames c.self.inside.stream.items (links_of c.self.inside.outgoing) (slots_of c.self.inside.incoming.items) c.self.inside.deliveries c.args.self.now c.self.view_is c.args.from c.args.slot (let message : Message = record { sender = c.args.sender; number = c.args.number; item = item } in message) _ (slots_taken c.self.inside.incoming.items c.from-2.result c.args.from c.index_mut-link.result.now c.reserve.new.self c.index_mut-link.ensures.value c.reserve.ensures.same c.self.inside.config c.args.self.now c.requires.from (ap (λ (k : Kept). k.config) c.self.view_is) c.self.invariant.peers_in (c.from-2.ensures ∙ c.from.view_is) c.args.slot c.take_reserved.new.self c.take_reserved.ensures.after) c.knowers_with-holders.result c.tell.new.self c.requires.held c.knowers_with-holders.ensures c.in_ok-outcome.ensures.ok

@@ -9,7 +9,8 @@ use Rattle.cast_node.specs.Turns.{given_from}
 use Rattle.cast_node.proofs.DeliveryTables.{told_keeps}
 use Rattle.cast_node.proofs.Keeping.{keeps_all, keeps_own, withdrawn}
 use Rattle.cast_node.proofs.Owing.{owes_given}
-use Rattle.cast_node.proofs.Wholes.{OrderFine, order_fine, length-given}
+use Rattle.cast_node.proofs.Wholes.{OrderFine, order_fine}
+use Rattle.cast_node.proofs.Gifts.{length_given}
 use Rattle.cast_node.proofs.node.Node.take_own.Goals as goal
 
 pub take_up-requires-clause-number : goal.take_up-requires-clause-number
@@ -36,7 +37,7 @@ invariant_of-self-in-Ok c =
     (c.push_reserved.ensures.items ∙ (λ k. c.reserve.ensures.items k ++ c.in_ok-kept.ensures.ok k ∷ []))
     (c.is_close-self-inside.ensures ∙ ap is_close c.in_ok-kept.ensures.ok)
     (c.in_ok-propose.ensures.ok ∙ ap (with_proposal c.self.inside.proposed) c.in_ok-kept.ensures.ok)
-    (ap length gave ∙ length-given 0 me me given all)
+    (ap length gave ∙ length_given 0 me me me given all)
     (ap (λ (d : Delivering). length d.hold_back) done ∙ told.0 ∙ length-set ds.hold_back me _)
     (ap (λ (d : Delivering). length d.knowers) done ∙ told.1)
     (subst (Owes c.self.inside.config.nodes c.self.inside.config.item_limit) (sym gave) (owes_given (IsWithin c.self.inside.config.nodes c.self.inside.config.item_limit) 0 me me me given all within c.self.invariant.owes))

@@ -6,14 +6,14 @@ use Rattle.cast_node.specs.Giving.{AreOwed}
 use Rattle.cast_node.specs.Outgoing.{link_through, OwesBelow}
 use Rattle.cast_node.proofs.Owing.{owes_none}
 use Rattle.cast_node.proofs.OwedPeers.{none_owed}
-use Rattle.cast_node.proofs.Parts.{length-replicate}
+use Rattle.std.proofs.lemmas.List.{length-replicate}
 use Rattle.cast_node.proofs.Through.{nothing_given_through}
 use Rattle.cast_node.proofs.outgoing.Outgoing.new.Goals as goal
 
 pub invariant_of-result : goal.invariant_of-result
 invariant_of-result c = record {
   below = subst (OwesBelow _) (sym c.loop-peer.invariant) (owes_none (λ place. place < _) c.loop-peer._peer);
-  peers = omega (arith, ap length c.loop-peer.invariant, length-replicate {Y = Link ℕ} c.loop-peer._peer (record { given = 0; owed = finite.empty }), c.loop-peer.auto._peer-end, c.requires);
+  peers = omega (arith, ap length c.loop-peer.invariant, length-replicate {A = Link ℕ} c.loop-peer._peer (record { given = 0; owed = finite.empty }), c.loop-peer.auto._peer-end, c.requires);
   owes = subst (AreOwed _) (sym c.new-3.ensures) (subst (λ links. AreOwed links set.empty) (sym c.loop-peer.invariant) (none_owed ℕ c.loop-peer._peer));
 }
 
