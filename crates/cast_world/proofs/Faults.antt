@@ -1,28 +1,25 @@
 -- Why an event is refused is read off the nodes that it names.
-use Rattle.std.proofs.Common.{◌≡◌, ℕ, ◌<◌, ◌≤◌, refl, sym, ◌∙◌, ap, subst, true, not, [], length, Option, Some, None}
-use Rattle.std.specs.Prelude.{nat_lt, slice_get, option_map, if◌then◌else◌}
+use Rattle.std.proofs.Common.{◌≡◌, ℕ, ◌<◌, ◌≤◌, refl, sym, ◌∙◌, ap, subst, length, Option, Some, None}
+use Rattle.std.specs.Prelude.{slice_get, option_map}
 use Rattle.std.proofs.lemmas.Option.{slice_get-map}
 use Rattle.cast_message.specs.declared.config.Config.{Config}
 use Rattle.cast_message.specs.declared.event.Event.{Event}
-use Rattle.cast_message.specs.declared.event.Event.TheVariants.{Order, Send, Ack, Arrive, Crash}
+use Rattle.cast_message.specs.declared.event.Event.TheVariants.{Arrive}
 use Rattle.cast_message.specs.declared.event.StepFault.{StepFault}
-use Rattle.cast_message.specs.declared.event.StepFault.TheVariants.{NoNode, NoFrame}
+use Rattle.cast_message.specs.declared.event.StepFault.TheVariants.{NoNode}
 use Rattle.cast_message.specs.declared.message.Frame.{Frame}
-use Rattle.cast_message.specs.declared.message.FrameBody.{FrameBody}
-use Rattle.cast_message.specs.declared.message.FrameBody.TheVariants.{Carry, Took}
+use Rattle.cast_message.specs.declared.message.FrameBody.TheVariants.{Took}
 use Rattle.cast_model.specs.History.{History, frames}
-use Rattle.cast_model.specs.Refusals.{no_node, first_fault}
-use Rattle.cast_model.specs.Replies.{causes, causes_of_arrival, fault}
+use Rattle.cast_model.specs.Replies.{fault}
 use Rattle.cast_model.specs.Steps.{Step, Arrived, Stopped, steps_of}
 use Rattle.cast_model.specs.OwnSteps.{IsStep, takes}
 use Rattle.cast_model.proofs.Members.{Member-slice_get}
 use Rattle.cast_model.proofs.OwnReplies.{own_fault-steps_of, frame_ends}
-use Rattle.cast_model.proofs.RoundFaults.{quiet}
 use Rattle.cast_node.specs.Kept.{Kept}
 use Rattle.cast_node.specs.Turns.{kept_fault}
 use Rattle.cast_node.proofs.Refusals.{faults_are}
 use Rattle.cast_world.specs.declared.frames.Mark.{Mark}
-use Rattle.cast_world.specs.Group.{State, node_at, marks_at, mark_by, mark_of, Stands}
+use Rattle.cast_world.specs.Group.{State, node_at, marks_at, mark_of, Stands}
 use Rattle.cast_world.specs.Moves.{actor_of, missing}
 use Rattle.cast_world.proofs.Stepping.{made_all, outside, no_frame, to_again}
 

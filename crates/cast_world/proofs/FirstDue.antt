@@ -17,8 +17,8 @@ use Rattle.cast_model.specs.Refusals.{first_fault}
 use Rattle.cast_model.specs.Replies.{fault, history_from}
 use Rattle.cast_model.specs.Rounds.{Due, Rest, AreAccepted, owed, due, due_between, live_nodes, events_for, plan_from, plan}
 use Rattle.cast_model.proofs.AtRest.{Member-range_with_len}
-use Rattle.cast_model.proofs.Members.{Member, here, there, Member-uncons, Member-filter, filter-Member}
-use Rattle.cast_model.proofs.Dues.{Member-map_in, Member-flat_in, range_bounds, due_ok, none_due-from_Rest}
+use Rattle.cast_model.proofs.Members.{Member, here, Member-uncons, filter-Member}
+use Rattle.cast_model.proofs.Dues.{Member-map_in, Member-flat_in, due_ok, none_due-from_Rest}
 use Rattle.cast_model.proofs.RoundFaults.{full, fault-Send}
 use Rattle.cast_world.specs.Group.{State, Stands, marks_at}
 use Rattle.cast_world.specs.Plans.{due_of}

@@ -1,5 +1,5 @@
 -- What a mark says of its frame.
-use Rattle.std.proofs.Common.{◌≡◌, ℕ, sym, ap, subst, Bool, true, false, cond, List, Result}
+use Rattle.std.proofs.Common.{◌≡◌, ℕ, sym, subst, Bool, true, false, cond, List, Result}
 use Rattle.std.specs.Prelude.{◌==◌, slice_index_or}
 use Rattle.cast_message.specs.declared.config.Config.{Config}
 use Rattle.cast_message.specs.declared.event.Answer.{Answer}

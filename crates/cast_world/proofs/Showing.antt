@@ -1,12 +1,11 @@
 -- What the readers of a world show.
-use Rattle.std.proofs.Common.{◌≡◌, ◌≢◌, ◌⊎◌, ℕ, zero, suc, ◌<◌, ◌≤◌, refl, sym, ◌∙◌, ap, subst, Bool, true, false, cond, List, [], ◌∷◌, length, map, Some, None, inl, inr, arith}
+use Rattle.std.proofs.Common.{◌≡◌, ◌≢◌, ◌⊎◌, ℕ, ◌<◌, ◌≤◌, refl, sym, ◌∙◌, ap, subst, Bool, true, false, cond, [], ◌∷◌, length, map, Some, None, inl, inr, arith}
 use Rattle.std.specs.Prelude.{◌==◌, not, if◌then◌else◌, ◌&&◌, ◌-◌, max, take, nat_lt, slice_get, slice_index_or}
 use Rattle.std.proofs.lemmas.Bool.{cases_lt, cases_eq, lt-ltb, ltb-true, lt-leb, and_parts, eq-eqb, ne_eqb, false≢true}
 use Rattle.std.proofs.lemmas.Option.{slice_get-get_or, slice_get_past}
 use Rattle.std.specs.FinMap as finite
 use Rattle.cast_message.specs.declared.config.Config.{Config}
 use Rattle.cast_message.specs.declared.event.Event.{Event}
-use Rattle.cast_message.specs.declared.message.Item.{Item}
 use Rattle.cast_model.specs.History.{History, stream, is_live, frames}
 use Rattle.cast_model.specs.Delivery.{delivered, decision, least}
 use Rattle.cast_model.specs.Replies.{IsAccepted, causes, fault}

@@ -25,7 +25,7 @@ use Rattle.cast_node.specs.Turns.{told_more, unmoved, acknowledged, arrived_body
 use Rattle.cast_node.proofs.Places.{length-slice_set, at_set}
 use Rattle.cast_world.specs.declared.frames.Mark.{Mark}
 use Rattle.cast_world.specs.Group.{State, node_at, marks_at, frame_by, mark_of}
-use Rattle.cast_world.specs.Moves.{marks_after, Takes, TakesStep, ArrivesBy, IsSound}
+use Rattle.cast_world.specs.Moves.{marks_after, TakesStep, ArrivesBy, IsSound}
 
 -- a step leaves a node's number and its configuration
 record SamePlace (kept new : Kept) : Type 0 where

@@ -1,7 +1,7 @@
 -- A world in which one node takes a step goes on as the definitions say.
-use Rattle.std.proofs.Common.{◌≡◌, ◌≢◌, ◌⊎◌, ℕ, zero, suc, ◌<◌, ◌≤◌, refl, sym, ◌∙◌, ap, subst, Bool, true, false, not, cond, List, [], ◌∷◌, ◌++◌, length, map, Option, Some, None, inl, inr, arith, Result, Ok, Err}
+use Rattle.std.proofs.Common.{◌≡◌, ◌≢◌, ◌⊎◌, ℕ, ◌<◌, ◌≤◌, refl, sym, ◌∙◌, ap, subst, Bool, true, false, not, cond, List, [], ◌∷◌, ◌++◌, length, map, Option, Some, None, inl, inr, arith, Result, Ok, Err}
 use Rattle.std.specs.Prelude.{◌==◌, nat_lt, slice_get, slice_index_or, option_map, if◌then◌else◌}
-use Rattle.std.proofs.lemmas.Bool.{cases_eq, cases_lt, ne_eqb, false≢true, eq-eqb}
+use Rattle.std.proofs.lemmas.Bool.{cases_eq, cases_lt, ne_eqb, eq-eqb}
 use Rattle.std.proofs.lemmas.Bool.Decides.{nat_tests}
 use Rattle.std.proofs.lemmas.List.{append-nil, map-append}
 use Rattle.std.proofs.lemmas.Option.{slice_get-map}
@@ -11,7 +11,7 @@ use Rattle.cast_message.specs.declared.event.Event.{Event}
 use Rattle.cast_message.specs.declared.event.Event.TheVariants.{Order, Send, Ack, Arrive, Crash}
 use Rattle.cast_message.specs.declared.event.Answer.{Answer}
 use Rattle.cast_message.specs.declared.event.StepFault.{StepFault}
-use Rattle.cast_message.specs.declared.event.StepFault.TheVariants.{NoNode, NoFrame, Crashed, Memory}
+use Rattle.cast_message.specs.declared.event.StepFault.TheVariants.{NoNode, NoFrame, Memory}
 use Rattle.cast_message.specs.declared.message.Item.TheVariants.{Close}
 use Rattle.cast_message.specs.declared.message.Frame.{Frame}
 use Rattle.cast_message.specs.declared.message.FrameBody.{FrameBody}
@@ -31,7 +31,7 @@ use Rattle.cast_model.proofs.OwnHeld.{steps_after}
 use Rattle.cast_model.proofs.OwnReplies.{own_fault-steps_of, own_frames-steps_of, frame_ends}
 use Rattle.cast_model.proofs.Possible.{node_reply-steps_of, node_after-steps_of}
 use Rattle.cast_model.proofs.RoundFaults.{quiet}
-use Rattle.cast_node.specs.Kept.{Kept, nothing_kept}
+use Rattle.cast_node.specs.Kept.{nothing_kept}
 use Rattle.cast_node.specs.Turns.{kept_after, kept_fault}
 use Rattle.cast_node.specs.Stands.{Stands as NodeStands}
 use Rattle.cast_node.proofs.Places.{length-slice_set, at_set}

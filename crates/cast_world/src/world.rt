@@ -198,6 +198,7 @@ impl World {
         }
         match self.nodes[place].crash() {
             Ok(()) => Ok(Answer::Down),
+            // A node refuses to crash for no other cause.
             Err(_) => Err(StepFault::Crashed),
         }
     }

@@ -1,4 +1,4 @@
-use Rattle.std.proofs.Common.{◌*◌, ◌∷◌, ◌++◌, [], ap, subst}
+use Rattle.std.proofs.Common.{◌*◌, ap, subst}
 use Rattle.std.proofs.lemmas.Result.{err_from_is_err_and}
 use Rattle.cast_model.specs.Rounds.{Rest, after_round}
 use Rattle.cast_model.proofs.Round.{with_all}
