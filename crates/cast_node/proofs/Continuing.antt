@@ -17,7 +17,7 @@ use Rattle.cast_node.specs.Kept.{Kept}
 use Rattle.cast_node.specs.Turns.{arrived, arrived_body, unmoved, may_arrive, may_bring, kept_answer, kept_after, Gives}
 use Rattle.cast_node.specs.Stands.{Stands, Continues}
 use Rattle.cast_node.proofs.Refusals.{faults_are}
-use Rattle.cast_node.proofs.StandsAfterDelivery.{ToldRight}
+use Rattle.cast_node.proofs.Telling.{ToldRight}
 use Rattle.cast_node.proofs.Stepping.{sent_stands, acknowledged_stands, stopped_stands, ordered_right, carried_right, acknowledged_right}
 
 module _ (config : Config) (me : ℕ) (steps : Steps) (kept : Kept) (st : Stands config me steps kept) where

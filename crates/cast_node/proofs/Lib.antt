@@ -1,11 +1,8 @@
 pub mod Places
 pub mod Links
-pub mod KnownHolders
 pub mod HolderSets
 pub mod Back
 pub mod Counting
-pub mod StandsBeforeDelivery
-pub mod StandsAfterDelivery
 pub mod Refusals
 pub mod Stepping
 pub mod Continuing
@@ -13,13 +10,9 @@ pub mod Beginning
 pub mod Showing
 pub mod Parts
 pub mod DeliveryTables
-pub mod Gifts
 pub mod Wholes
-pub mod Keeping
 pub mod Owing
-pub mod OwedPeers
-pub mod Through
-pub mod Words
 pub mod Made
 pub mod Logging
 pub mod Linking
+pub mod Telling

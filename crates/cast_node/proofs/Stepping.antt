@@ -39,11 +39,9 @@ use Rattle.cast_model.specs.Shown.{item_of}
 use Rattle.cast_node.specs.Stands.{item_at, newest_first, StandsOut, Stands}
 use Rattle.cast_node.proofs.Places.{length-slice_set, at_set}
 use Rattle.cast_node.proofs.Links.{out_same, out_acked}
-use Rattle.cast_node.proofs.KnownHolders.{knows_more, told_by, untold, given_held}
-use Rattle.cast_node.proofs.HolderSets.{knows_same, ready_alike, same_pair, pair_none}
+use Rattle.cast_node.proofs.HolderSets.{knows_more, told_by, untold, given_held, knows_same, ready_alike, same_pair, pair_none}
 use Rattle.cast_node.proofs.Back.{back_same, item_is, some_waiting}
-use Rattle.cast_node.proofs.StandsAfterDelivery.{ToldRight, told_right}
-use Rattle.cast_node.proofs.StandsBeforeDelivery.{Base, base_of, known_heard, new_heard}
+use Rattle.cast_node.proofs.Telling.{ToldRight, told_right, Base, base_of, known_heard, new_heard}
 
 -- a pair that a node holds: of a sender in the group, and of its own numbers only those it ordered
 record InRange (config : Config) (me : ℕ) (steps : Steps) (s i : ℕ) : Type 0 where

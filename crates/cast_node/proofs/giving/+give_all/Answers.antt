@@ -1,4 +1,4 @@
-use Rattle.cast_node.proofs.Gifts.{given_none, given_next, first_room}
+use Rattle.cast_node.proofs.Owing.{given_none, given_next, first_room}
 use Rattle.cast_node.proofs.giving.+give_all.Goals as goal
 
 pub returns-in_default : goal.returns-in_default

@@ -2,8 +2,7 @@ use Rattle.std.proofs.Common.{◌∙◌, ap, arith}
 use Rattle.std.specs.FinSet as set
 use Rattle.cast_message.proofs.Below.{none_below, one_below, no_more_below}
 use Rattle.cast_node.specs.Giving.{bare}
-use Rattle.cast_node.proofs.Gifts.{bare_long}
-use Rattle.cast_node.proofs.OwedPeers.{is_owed, owed_below, owed_here, not_owed_here}
+use Rattle.cast_node.proofs.Owing.{bare_long, is_owed, owed_below, owed_here, not_owed_here}
 use Rattle.cast_node.proofs.giving.owed_peers.Goals.{then-owed-ne0, else-owed-ne0}
 use Rattle.cast_node.proofs.giving.owed_peers.Goals as goal
 

@@ -1,7 +1,7 @@
 use Rattle.std.proofs.Common.{◌≡◌, ℕ, ◌&&◌, nat_lt}
 use Rattle.std.specs.FinSet as set
 use Rattle.cast_node.specs.Giving.{bare}
-use Rattle.cast_node.proofs.OwedPeers.{is_owed}
+use Rattle.cast_node.proofs.Owing.{is_owed}
 use Rattle.cast_node.proofs.giving.owed_peers.Given as goal
 
 abbrev pub invariant-loop-peer : goal.invariant-loop-peer

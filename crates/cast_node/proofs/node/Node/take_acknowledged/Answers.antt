@@ -1,5 +1,5 @@
 use Rattle.cast_node.specs.Outgoing.{links_of}
-use Rattle.cast_node.proofs.Words.{word_keeps}
+use Rattle.cast_node.proofs.Wholes.{word_keeps}
 use Rattle.cast_node.proofs.node.Node.take_acknowledged.Goals as goal
 
 pub invariant_of-self-2 : goal.invariant_of-self-2

@@ -8,8 +8,7 @@ use Rattle.cast_node.specs.Sound.{slots_of}
 use Rattle.cast_node.specs.Delivering.{Delivering}
 use Rattle.cast_node.proofs.Parts.{slots_same, slots_taken}
 use Rattle.cast_node.proofs.DeliveryTables.{told_keeps}
-use Rattle.cast_node.proofs.Keeping.{keeps_rows}
-use Rattle.cast_node.proofs.Wholes.{whole, held_again}
+use Rattle.cast_node.proofs.Wholes.{keeps_rows, whole, held_again}
 use Rattle.cast_node.proofs.node.Node.take_again.Goals as goal
 
 pub returns-in_err-reserve-clause-err : goal.returns-in_err-reserve-clause-err

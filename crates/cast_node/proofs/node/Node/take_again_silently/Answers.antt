@@ -7,8 +7,7 @@ use Rattle.cast_node.specs.Sound.{slots_of}
 use Rattle.cast_node.specs.Delivering.{Delivering}
 use Rattle.cast_node.proofs.Parts.{slots_same, slots_taken}
 use Rattle.cast_node.proofs.DeliveryTables.{told_keeps}
-use Rattle.cast_node.proofs.Keeping.{keeps_rows}
-use Rattle.cast_node.proofs.Wholes.{whole, held_again}
+use Rattle.cast_node.proofs.Wholes.{keeps_rows, whole, held_again}
 use Rattle.cast_node.proofs.node.Node.take_again_silently.Goals as goal
 
 pub returns-then-is_err-clause-not : goal.returns-then-is_err-clause-not

@@ -9,10 +9,8 @@ use Rattle.cast_node.specs.Delivering.{Delivering, waiting_in, told_in}
 use Rattle.cast_node.specs.Turns.{given_from}
 use Rattle.cast_node.proofs.Parts.{slots_same, slots_taken}
 use Rattle.cast_node.proofs.DeliveryTables.{told_keeps}
-use Rattle.cast_node.proofs.Keeping.{keeps_all, keeps_rows}
-use Rattle.cast_node.proofs.Owing.{owes_given}
-use Rattle.cast_node.proofs.Wholes.{whole, fresh, carry_fine}
-use Rattle.cast_node.proofs.Gifts.{length_given}
+use Rattle.cast_node.proofs.Wholes.{keeps_all, keeps_rows, whole, fresh, carry_fine}
+use Rattle.cast_node.proofs.Owing.{owes_given, length_given}
 use Rattle.cast_node.proofs.node.Node.take_carried.Goals as goal
 
 pub returns-then-holds-clause-outcome : goal.returns-then-holds-clause-outcome

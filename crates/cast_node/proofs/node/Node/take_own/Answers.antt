@@ -7,10 +7,8 @@ use Rattle.cast_node.specs.Outgoing.{links_of}
 use Rattle.cast_node.specs.Sound.{Owes, IsWithin, slots_of, with_proposal, without_proposal}
 use Rattle.cast_node.specs.Turns.{given_from}
 use Rattle.cast_node.proofs.DeliveryTables.{told_keeps}
-use Rattle.cast_node.proofs.Keeping.{keeps_all, keeps_own, withdrawn}
-use Rattle.cast_node.proofs.Owing.{owes_given}
-use Rattle.cast_node.proofs.Wholes.{OrderFine, order_fine}
-use Rattle.cast_node.proofs.Gifts.{length_given}
+use Rattle.cast_node.proofs.Wholes.{keeps_all, keeps_own, withdrawn, OrderFine, order_fine}
+use Rattle.cast_node.proofs.Owing.{owes_given, length_given}
 use Rattle.cast_node.proofs.node.Node.take_own.Goals as goal
 
 pub take_up-requires-clause-number : goal.take_up-requires-clause-number

@@ -1,6 +1,6 @@
 use Rattle.std.proofs.Common.{◌∙◌, ◌-◌, sym, vec_len}
 use Rattle.std.specs.Prelude.{vec_capacity}
-use Rattle.cast_node.proofs.OwedPeers.{acknowledged_links, fewer_owed, as_many_owed}
+use Rattle.cast_node.proofs.Owing.{acknowledged_links, fewer_owed, as_many_owed}
 use Rattle.cast_node.proofs.outgoing.Outgoing.acknowledge.Goals as goal
 
 pub invariant_of-self : goal.invariant_of-self

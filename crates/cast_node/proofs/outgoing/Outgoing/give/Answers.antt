@@ -3,8 +3,7 @@ use Rattle.std.specs.Prelude.{take}
 use Rattle.cast_node.specs.Turns.{given_from}
 use Rattle.cast_node.specs.Giving.{AreOwed, bare, given_on}
 use Rattle.cast_node.specs.Outgoing.{link_through, links_of, HasRoomFor}
-use Rattle.cast_node.proofs.Gifts.{length_given, given_whole}
-use Rattle.cast_node.proofs.Through.{given_through, given_below}
+use Rattle.cast_node.proofs.Owing.{length_given, given_whole, given_through, given_below}
 use Rattle.cast_node.proofs.outgoing.Outgoing.give.Goals.{After-self-2-1}
 use Rattle.cast_node.proofs.outgoing.Outgoing.give.Goals as goal
 

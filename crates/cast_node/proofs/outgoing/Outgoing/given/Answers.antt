@@ -1,5 +1,5 @@
 use Rattle.std.proofs.Common.{◌∙◌, ap}
-use Rattle.cast_node.proofs.Through.{seen_here}
+use Rattle.cast_node.proofs.Owing.{seen_here}
 use Rattle.cast_node.proofs.outgoing.Outgoing.given.Goals as goal
 
 pub returns : goal.returns

@@ -1,7 +1,7 @@
 use Rattle.std.proofs.Common.{◌∙◌, subst}
 use Rattle.cast_message.specs.declared.message.Message.{Message}
 use Rattle.cast_link.specs.Links.{Link, IsLeastFrom}
-use Rattle.cast_node.proofs.Through.{least_through, seen_here}
+use Rattle.cast_node.proofs.Owing.{least_through, seen_here}
 use Rattle.cast_node.proofs.outgoing.Outgoing.least_owed.Goals as goal
 
 pub returns : goal.returns

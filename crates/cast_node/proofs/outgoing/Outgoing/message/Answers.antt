@@ -3,7 +3,7 @@ use Rattle.std.specs.FinMap as finite
 use Rattle.std.specs.Option.{option_copied}
 use Rattle.std.proofs.lemmas.List.{get_or_default}
 use Rattle.cast_node.specs.Outgoing.{kept_message}
-use Rattle.cast_node.proofs.Through.{get_through, link_here, seen_here}
+use Rattle.cast_node.proofs.Owing.{get_through, link_here, seen_here}
 use Rattle.cast_node.proofs.outgoing.Outgoing.message.Goals as goal
 
 pub returns-in_err-place : goal.returns-in_err-place

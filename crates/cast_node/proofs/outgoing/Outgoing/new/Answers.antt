@@ -4,10 +4,8 @@ use Rattle.std.specs.FinSet as set
 use Rattle.cast_link.specs.Links.{Link}
 use Rattle.cast_node.specs.Giving.{AreOwed}
 use Rattle.cast_node.specs.Outgoing.{link_through, OwesBelow}
-use Rattle.cast_node.proofs.Owing.{owes_none}
-use Rattle.cast_node.proofs.OwedPeers.{none_owed}
+use Rattle.cast_node.proofs.Owing.{owes_none, none_owed, nothing_given_through}
 use Rattle.std.proofs.lemmas.List.{length-replicate}
-use Rattle.cast_node.proofs.Through.{nothing_given_through}
 use Rattle.cast_node.proofs.outgoing.Outgoing.new.Goals as goal
 
 pub invariant_of-result : goal.invariant_of-result

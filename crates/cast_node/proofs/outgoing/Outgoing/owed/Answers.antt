@@ -1,6 +1,6 @@
 use Rattle.std.proofs.Common.{sym, ap, ◌∙◌}
 use Rattle.std.specs.FinMap as finite
-use Rattle.cast_node.proofs.Through.{len_through, seen_here}
+use Rattle.cast_node.proofs.Owing.{len_through, seen_here}
 use Rattle.cast_node.proofs.outgoing.Outgoing.owed.Goals as goal
 
 pub returns : goal.returns

@@ -2,7 +2,7 @@ use Rattle.std.proofs.Common.{subst}
 use Rattle.std.specs.Prelude.{◌↔◌, IsFalse}
 use Rattle.cast_node.specs.Giving.{OwesNoneOf, bare}
 use Rattle.cast_node.specs.Outgoing.{links_of}
-use Rattle.cast_node.proofs.OwedPeers.{none_of_both, none_of_through}
+use Rattle.cast_node.proofs.Owing.{none_of_both, none_of_through}
 use Rattle.cast_node.proofs.outgoing.Outgoing.owes_one_of.Goals as goal
 
 pub returns : goal.returns
