@@ -172,11 +172,7 @@ enough-is config me steps all h s i l = elim config.mode as (λ mode. are_enough
 -- a pair of which nothing new is known is as ready as it was
 pub ready_alike : (config : Config) (me : ℕ) (step : Step) (steps : Steps) (s i : ℕ) → has_pair (own_copies me (step ∷ steps)) s i ≡ has_pair (own_copies me steps) s i → ((r : ℕ) → own_knows me (step ∷ steps) s i r ≡ own_knows me steps s i r) → own_is_ready config me (step ∷ steps) s i ≡ own_is_ready config me steps s i
 unfolding own_is_ready own_known_enough own_known_by
-ready_alike config me step steps s i pair knows = λ k. pair k && by_mode config.mode k
-  where
-    by_mode : (mode : Mode) → own_known_enough mode config me (step ∷ steps) s i ≡ own_known_enough mode config me steps s i
-    by_mode Basic = refl
-    by_mode Uniform = λ k. nat_lt config.faults (cond (pair k) (count_by (λ r. knows r k) (nodes_of config)) 0)
+ready_alike config me step steps s i pair knows = λ k. pair k && (elim config.mode as (λ mode. own_known_enough mode config me (step ∷ steps) s i ≡ own_known_enough mode config me steps s i) [ Basic ↦ refl | Uniform ↦ λ j. nat_lt config.faults (cond (pair j) (count_by (λ r. knows r j) (nodes_of config)) 0) ]) k
 
 -- whether these are numbers of one pair
 abbrev pub same_pair : ℕ → ℕ → ℕ → ℕ → Bool

@@ -1,46 +1,15 @@
--- How a log goes on, for whoever keeps one: with a step that its node took, or with an order that it refused.
-use Rattle.std.proofs.Common.{◌≡◌, ℕ, zero, suc, ◌<◌, ◌≤◌, refl, sym, ◌∙◌, ap, List, [], ◌∷◌, ◌++◌, length, map, Option, Some, ◌⊎◌, inl, inr, arith, Ok, length-append}
-use Rattle.std.specs.Prelude.{reverse, slice_get}
-use Rattle.std.specs.List.{All}
+-- What logs tell one behind the other, and how the frames of a trail are numbered.
+use Rattle.std.proofs.Common.{◌≡◌, ℕ, zero, suc, ◌<◌, ◌≤◌, refl, sym, ◌∙◌, ap, List, [], ◌∷◌, ◌++◌, length, map, Some, ◌⊎◌, inl, inr, arith, length-append}
+use Rattle.std.specs.Prelude.{slice_get}
 use Rattle.std.proofs.lemmas.List.{append-nil, append_assoc, length-map}
-use Rattle.std.proofs.lemmas.List.Quantifiers.{all_pairs_push}
 use Rattle.std.proofs.lemmas.Bool.{cases_lt}
-use Rattle.std.proofs.lemmas.Grind.{reverse_onto}
 use Rattle.cast_message.specs.declared.config.Config.{Config}
-use Rattle.cast_message.specs.declared.event.Answer.{Answer}
-use Rattle.cast_message.specs.declared.event.StepFault.{StepFault}
 use Rattle.cast_message.specs.declared.message.Frame.{Frame}
 use Rattle.cast_model.specs.Steps.{Step, Sent, Acknowledged, Arrived, Steps, frames_by, frame_count}
 use Rattle.cast_model.specs.OwnSteps.{own_made, own_frames}
 use Rattle.cast_log.specs.declared.entry.Entry.{Entry}
-use Rattle.cast_log.specs.declared.entry.Origin.{Origin}
-use Rattle.cast_log.specs.declared.entry.EntryKind.TheVariants.{Step as StepEntry, Refused}
-use Rattle.cast_node.specs.Kept.{Kept, nothing_kept}
-use Rattle.cast_node.specs.Turns.{Gives, kept_after}
-use Rattle.cast_node.proofs.Beginning.{stands_for_nothing}
-use Rattle.cast_node.proofs.Continuing.{continues}
-use Rattle.cast_node.proofs.Refusals.{faults_are}
-use Rattle.cast_node.specs.Linked.{StampedStep, Trail, Made, event_of, outcome_in, outcome_in_answer, steps_in, kept_in, taken_by, taken_in, stamped, made_in, IsFor, AreTaken, taken_of, taken, IsBefore, IsLogOf, OnArrival, EachArrival}
+use Rattle.cast_node.specs.Linked.{Trail, Made, steps_in, stamped, made_in, AreTaken, taken_of, taken, OnArrival, EachArrival}
 use Rattle.cast_node.proofs.Made.{frame_in, made_frames}
-
-abbrev pub marked : ℕ → Step → StampedStep
-marked stamp step = record { stamp = stamp; step = step }
-
--- the entry of a step that was answered so
-abbrev pub step_entry : ℕ → ℕ → Step → Option Origin → Answer → Entry
-step_entry p stamp step origin answer = record { stamp = stamp; kind = StepEntry (event_of p step) origin (outcome_in_answer answer) }
-
-abbrev pub refused_entry : ℕ → Origin → StepFault → Entry
-refused_entry stamp origin fault = record { stamp = stamp; kind = Refused origin fault }
-
--- all stamps so far are smaller
-abbrev pub AreBelow : ℕ → List Entry → Type 0
-AreBelow stamp log = All (λ e. e.stamp < stamp) log
-
--- a log with nothing in it, of a new node
-pub log_begins : (config : Config) (p : ℕ) → p < config.nodes → IsLogOf config p [] [] (nothing_kept config p)
-unfolding taken taken_in AreTaken steps_in kept_in
-log_begins config p l = record { rising = λ i j d a b. absurd (omega (arith, b)); tells = refl; accepted = record {}; stands = stands_for_nothing config p l; reached = refl }
 
 -- what two logs tell, one behind the other
 pub taken-append : (xs ys : List Entry) → taken (xs ++ ys) ≡ taken xs ++ taken ys
@@ -87,55 +56,16 @@ made_numbered config p (mark ∷ trail) taken k m at = by_step mark.step at (mad
       | inr h ↦ (ap (λ (x : Made). x.frame.from) (sym h.1) ∙ from, ap (λ (x : Made). x.frame.seq) (sym h.1) ∙ seq ∙ sym (made_many config p trail taken.0) ∙ sym h.0)
     ]
 
-    none : slice_get (made_in config p trail ++ []) k ≡ Some m → ((k : ℕ) (m : Made) → slice_get (made_in config p trail) k ≡ Some m → (m.frame.from ≡ p) × (m.frame.seq ≡ k)) → (m.frame.from ≡ p) × (m.frame.seq ≡ k)
-    none e ih = ih k m (ap (λ all. slice_get all k) (sym (append-nil (made_in config p trail))) ∙ e)
-
     by_step : (step : Step) → slice_get (made_in config p trail ++ map (stamped mark.stamp) (own_made p (steps_in config p trail) step)) k ≡ Some m
         → ((k : ℕ) (m : Made) → slice_get (made_in config p trail) k ≡ Some m → (m.frame.from ≡ p) × (m.frame.seq ≡ k)) → (m.frame.from ≡ p) × (m.frame.seq ≡ k)
     by_step (Sent to slot) e ih = last _ refl refl e ih
     by_step (Acknowledged to slot) e ih = last _ refl refl e ih
-    by_step step e ih = none e ih
-
-module _ (config : Config) (p : ℕ) (trail : Trail) (log : List Entry) (kept : Kept) (is : IsLogOf config p trail log kept) where
-  -- the node took a step
-  pub log_takes : (stamp : ℕ) (step : Step) (origin : Option Origin) (answer : Answer) (new : Kept) → AreBelow stamp log → IsFor p step → Gives kept step (Ok answer) new
-      → IsLogOf config p (marked stamp step ∷ trail) (log ++ step_entry p stamp step origin answer ∷ []) new
-  unfolding taken_in AreTaken steps_in kept_in
-  log_takes stamp step origin answer new below to gives =
-      let steps = steps_in config p trail in
-      let on = continues config p steps kept is.stands step (Ok answer) new gives in
-      let e = step_entry p stamp step origin answer in
-      record {
-        rising = all_pairs_push IsBefore log e is.rising below;
-        tells =
-            one_more log e
-            ∙ ap (λ all. all ++ taken_of e.stamp e.kind) is.tells
-            ∙ ap (λ (r : _). reverse (taken_in config p trail) ++ record { stamp = stamp; event = event_of p step; outcome = outcome_in r } ∷ []) (sym on.0)
-            ∙ sym (reverse_onto (taken_in config p trail) (taken_by config p steps (marked stamp step)) []);
-        accepted = (is.accepted, sym (faults_are config p steps kept is.stands step) ∙ gives.0, to);
-        stands = on.1;
-        reached = gives.2 ∙ ap (λ k. kept_after k step) is.reached;
-      }
-
-  -- it refused an order
-  pub log_refuses : (stamp : ℕ) (origin : Origin) (fault : StepFault) → AreBelow stamp log → IsLogOf config p trail (log ++ refused_entry stamp origin fault ∷ []) kept
-  log_refuses stamp origin fault below = record {
-    rising = all_pairs_push IsBefore log (refused_entry stamp origin fault) is.rising below;
-    tells = one_more log (refused_entry stamp origin fault) ∙ append-nil (taken log) ∙ is.tells;
-    accepted = is.accepted;
-    stands = is.stands;
-    reached = is.reached;
-  }
+    by_step step e ih = ih k m (ap (λ all. slice_get all k) (sym (append-nil (made_in config p trail))) ∙ e)
 
 pub get_left : {A : Type 0} (xs ys : List A) (k : ℕ) (x : A) → slice_get xs k ≡ Some x → slice_get (xs ++ ys) k ≡ Some x
 get_left [] ys k x e = absurd (cc)
 get_left (y ∷ xs) ys zero x e = e
 get_left (y ∷ xs) ys (suc k) x e = get_left xs ys k x e
-
--- what was made stays
-pub still_made : (config : Config) (p : ℕ) (mark : StampedStep) (trail : Trail) (k : ℕ) (m : Made) → slice_get (made_in config p trail) k ≡ Some m → slice_get (made_in config p (mark ∷ trail)) k ≡ Some m
-unfolding made_in
-still_made config p mark trail k m e = get_left (made_in config p trail) _ k m e
 
 -- from what is known of each arrival to what is wanted
 pub each_arrival : (P Q : ℕ → Frame → Type 0) → ((stamp : ℕ) (frame : Frame) → P stamp frame → Q stamp frame) → (trail : Trail) → EachArrival P trail → EachArrival Q trail

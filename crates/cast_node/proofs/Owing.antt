@@ -2,7 +2,7 @@
 use Rattle.std.specs.Prelude.{◌≡◌, ℕ, suc, ◌+◌, Bool, if◌then◌else◌, List, [], ◌∷◌, ◌++◌, take, length, refl, zero, true, false, cond, replicate, slice_set, Option, Some, None, ◌<◌, ◌&&◌, T, map, slice_index_or, option_map, is_some, ◌≢◌, ◌↔◌, ◌-◌, ◌≤◌, nat_lt, not}
 use Rattle.std.specs.List.{All}
 use Rattle.std.proofs.Common.{sym, ap, subst, ◌∙◌, arith, drop, length-append, inl, inr}
-use Rattle.std.proofs.lemmas.List.{length-map, map-set, get_or-map, get_or_append_left, get_or-set_other}
+use Rattle.std.proofs.lemmas.List.{nil_from_length, get_or_past, length-map, map-set, get_or-map, get_or_append_left, get_or-set_other}
 use Rattle.cast_link.specs.Links.{Link, Outward, with_given, with_acknowledged, IsLeastFrom}
 use Rattle.cast_relay.specs.Pairs.{goes_on}
 use Rattle.cast_node.proofs.Parts.{slice_back}
@@ -26,13 +26,9 @@ use Rattle.std.proofs.lemmas.Bool.{lt-ltb}
 use Rattle.cast_node.proofs.Places.{at_replicate}
 
 module _ {X : Type 0} where
-  none : (links : List (Outward X)) → length links ≡ 0 → links ≡ []
-  none [] e = refl
-  none (x ∷ links) e = absurd (omega (arith, e))
-
   pub given_none : (q me source sender : ℕ) (kept : X) (links : List (Outward X)) → length links ≡ 0 → bare links ≡ given_on q me source sender kept (bare links)
   unfolding given_on
-  given_none q me source sender kept links e = ap bare (none links e) ∙ sym (ap (λ ls. given_on q me source sender kept (bare ls)) (none links e))
+  given_none q me source sender kept links e = ap bare (nil_from_length links e) ∙ sym (ap (λ ls. given_on q me source sender kept (bare ls)) (nil_from_length links e))
 
   pub given_next : (q me source sender : ℕ) (kept : X) (links rest more : List (Outward X)) (link given : Outward X) (goes : Bool) → links ≡ link ∷ rest → given.link ≡ (if goes then with_given link.link kept else link.link) → goes ≡ goes_on me sender source q → bare more ≡ given_on (q + 1) me source sender kept (bare rest) →
       bare (given ∷ more) ≡ given_on q me source sender kept (bare links)
@@ -103,9 +99,6 @@ module _ {X : Type 0} where
       go (x ∷ rest) zero (suc other) h f g = h (suc other) slot kept f
       go (x ∷ rest) (suc place) zero h f g = h zero slot kept f
       go (x ∷ rest) (suc place) (suc other) h f g = go rest place other (λ q. h (suc q)) f g
-
-  pub owes_more : (Is Are : X → Type 0) (links : List (Link X)) → ((kept : X) → Is kept → Are kept) → OwesOnly Is links → OwesOnly Are links
-  owes_more Is Are links more h q slot kept e = more kept (h q slot kept e)
 
 -- ---- entries, with the values that a function gives them
 
@@ -198,7 +191,7 @@ given_below messages more message links after me source sender e g h =
     subst (λ n. OwesBelow n after) (sym (ap length e ∙ length-append messages (message ∷ [])))
     (subst (OwesBelow (length messages + 1)) (sym g)
     (owes_given (λ place. place < length messages + 1) 0 me source sender (length messages) links (omega arith)
-    (owes_more (λ place. place < length messages) (λ place. place < length messages + 1) links (λ place l. omega (arith, l)) h)))
+    (λ q slot kept f. let l : kept < length messages = h q slot kept f in omega (arith, l))))
 
 -- ---- links
 
@@ -244,13 +237,8 @@ module _ {X : Type 0} where
   pub owed_below : (links : List (Link X)) (n q : ℕ) → length links ≤ n → (nat_lt q n && is_owed links q) ≡ is_owed links q
   owed_below links n q all = elim (leb_tells (suc q) n) [
     | inl e ↦ ap (λ b. b && is_owed links q) e.0
-    | inr e ↦ ap (λ b. b && is_owed links q) e.0 ∙ sym (beyond links q (omega (arith, all, e.1)))
+    | inr e ↦ ap (λ b. b && is_owed links q) e.0 ∙ sym (ap (λ (l : Link X). nat_lt 0 (finite.len l.owed)) (get_or_past links q (record { given = 0; owed = finite.empty }) (omega (arith, all, e.1))) ∙ ap (λ n. nat_lt 0 n) (len-empty nat_cmp X))
   ]
-    where
-      beyond : (links : List (Link X)) (q : ℕ) → length links ≤ q → is_owed links q ≡ false
-      beyond [] q l = ap (λ n. nat_lt 0 n) (len-empty nat_cmp X)
-      beyond (x ∷ links) zero l = absurd (omega (arith, l))
-      beyond (x ∷ links) (suc q) l = beyond links q (omega (arith, l))
 
   -- the link that stands at a peer's place owes so many slots
   module _ (links : List (Outward X)) (q owed : ℕ) (found : Outward X) (finds : found ≡ slice_index_or links q found) (within : q < length links) (counts : owed ≡ finite.len found.link.owed) where

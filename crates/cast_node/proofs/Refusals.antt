@@ -16,11 +16,7 @@ use Rattle.cast_node.specs.Stands.{Stands}
 -- causes behind one that doesn't hold
 skip : (cause : Cause) (xs ys : List Cause) → (cause.holds ≡ false → first_fault xs ≡ first_fault ys) → first_fault (cause ∷ xs) ≡ first_fault (cause ∷ ys)
 unfolding first_fault
-skip cause xs ys h = by_test cause.holds refl
-  where
-    by_test : (b : Bool) → cause.holds ≡ b → cond cause.holds (Some cause.refusal) (first_fault xs) ≡ cond cause.holds (Some cause.refusal) (first_fault ys)
-    by_test true e = ap (λ c. cond c (Some cause.refusal) (first_fault xs)) e ∙ sym (ap (λ c. cond c (Some cause.refusal) (first_fault ys)) e)
-    by_test false e = ap (λ c. cond c (Some cause.refusal) (first_fault xs)) e ∙ h e ∙ sym (ap (λ c. cond c (Some cause.refusal) (first_fault ys)) e)
+skip cause xs ys h = (elim cause.holds as (λ b. (b ≡ false → first_fault xs ≡ first_fault ys) → cond b (Some cause.refusal) (first_fault xs) ≡ cond b (Some cause.refusal) (first_fault ys)) [ true ↦ λ g. refl | false ↦ λ g. g refl ]) h
 
 -- the causes that look at what a node shows of a peer
 abbrev no_slot : ℕ → ℕ → Cause
@@ -40,15 +36,12 @@ module _ (config : Config) (me : ℕ) (steps : Steps) (kept : Kept) (h : Stands 
   apart to e same = false≢true (sym e ∙ eq-eqb me to (sym same))
 
   owed_test : (to slot : ℕ) → to < config.nodes → to ≢ me → nat_le (length (own_given me steps to)) slot ≡ false → not (finite.contains_key (link_to kept to).owed slot) ≡ own_acked steps to slot
-  owed_test to slot l e inside = ap (λ o. not (is_some o)) ((h.out to l e).owed slot) ∙ by_test (nat_lt slot (length (own_given me steps to))) in_test (own_acked steps to slot)
+  owed_test to slot l e inside =
+      ap (λ o. not (is_some o)) ((h.out to l e).owed slot ∙ ap (λ b. if b && not (own_acked steps to slot) then Some (message_in (own_given me steps to) slot) else None) in_test)
+      ∙ elim (own_acked steps to slot) as (λ c. not (is_some (if not c then Some (message_in (own_given me steps to) slot) else None)) ≡ c) [ true ↦ refl | false ↦ refl ]
     where
       in_test : nat_lt slot (length (own_given me steps to)) ≡ true
       in_test = grind (arith, nat_tests, inside)
-
-      by_test : (b : Bool) → b ≡ true → (c : Bool) → not (is_some (if b && not c then Some (message_in (own_given me steps to) slot) else None)) ≡ c
-      by_test true t true = refl
-      by_test true t false = refl
-      by_test false t c = absurd (false≢true t)
 
   -- what the node shows by its steps, and of its peers by what it keeps
   abbrev seen : NodeView

@@ -128,24 +128,25 @@ impl Deliveries {
         ensures ok { OnOk result (self.new ≡ told_in config.now self.old sender number members) }
         ensures err { OnErr result (self.new ≡ self.old) }
     {
+        let had_turn = self.hold_back.had_turn(sender, number);
         let place = usize::from(sender.0);
         let row = &mut self.knowers[place];
         make_place(row, number)?;
-        if !is_enough(config, &members) {
+        if !had_turn && is_enough(config, &members) {
+            let items = &mut self.delivered[place];
+            let outcome = deliver(
+                &mut self.hold_back,
+                items,
+                &mut self.agree,
+                sender,
+                number,
+                None,
+            )?;
             note(row, number, members);
-            return Ok(no_news(self.alloc));
+            return Ok(outcome);
         }
-        let items = &mut self.delivered[place];
-        let outcome = deliver(
-            &mut self.hold_back,
-            items,
-            &mut self.agree,
-            sender,
-            number,
-            None,
-        )?;
         note(row, number, members);
-        Ok(outcome)
+        Ok(no_news(self.alloc))
     }
 
     /// These nodes are known to hold a pair, where nothing has its turn by that. Says whether it did so. It may always say that it
