@@ -1,6 +1,6 @@
 -- A node that has done nothing stands for no steps.
-use Rattle.std.proofs.Common.{◌≡◌, ℕ, ◌<◌, refl, sym, ◌∙◌, ap, subst, false, not, ◌&&◌, [], Some, None, arith}
-use Rattle.std.specs.Prelude.{nat_lt, slice_index_or, if◌then◌else◌}
+use Rattle.std.proofs.Common.{ℕ, ◌<◌, refl, sym, ◌∙◌, ap, subst, not, ◌&&◌, [], Some, None, arith}
+use Rattle.std.specs.Prelude.{slice_index_or, if◌then◌else◌}
 use Rattle.std.specs.Ordering.{nat_cmp}
 use Rattle.std.specs.FinSet as set
 use Rattle.std.specs.FinSet.{contains-empty}

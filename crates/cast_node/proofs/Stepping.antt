@@ -1,5 +1,5 @@
 -- Each step that is not refused leaves a node that stands for it, and answers what the definitions say.
-use Rattle.std.proofs.Common.{◌≡◌, ◌≢◌, ◌⊎◌, ◌≤◌, ℕ, zero, suc, ◌+◌, ◌-◌, ◌<◌, refl, sym, ◌∙◌, ap, subst, Bool, true, false, not, ◌&&◌, ◌||◌, cond, List, [], ◌∷◌, ◌++◌, length, map, Option, Some, None, inl, inr, arith, length-append}
+use Rattle.std.proofs.Common.{◌≡◌, ◌≢◌, ◌⊎◌, ◌≤◌, ℕ, ◌+◌, ◌-◌, ◌<◌, refl, sym, ◌∙◌, ap, subst, Bool, true, false, not, ◌&&◌, ◌||◌, cond, List, [], ◌∷◌, ◌++◌, length, map, Option, Some, None, inl, inr, arith, length-append}
 use Rattle.std.specs.Prelude.{◌*◌, ◌==◌, nat_lt, is_some, slice_index_or, if◌then◌else◌}
 use Rattle.std.specs.List.{filter, list_any, prefix_len, range_with_len}
 use Rattle.std.specs.Ordering.{nat_cmp}
