@@ -7,6 +7,7 @@ use Rattle.std.specs.BTreeMap.{is_at}
 use Rattle.std.specs.FinSet as set
 use Rattle.std.proofs.Common.{sym, ap, ◌∙◌, subst, arith, inl, inr}
 use Rattle.std.specs.BTreeSet.{insert_key}
+use Rattle.std.proofs.lemmas.List.Folds.{list_any_none}
 use Rattle.std.proofs.lemmas.Map.Views.{All-insert_key}
 use Rattle.std.proofs.lemmas.Bool.Decides.{nat_tests, leb_tells}
 use Rattle.std.proofs.lemmas.Bool.{lt-ltb}
@@ -95,3 +96,9 @@ far_window base words far more slot h l e = record {
   short = h.short;
   beyond = subst (All (λ slot. base + 262144 ≤ slot)) (sym e) (All-insert_key nat_cmp slot (λ slot. base + 262144 ≤ slot) far h.beyond l);
 }
+
+-- the base itself was not taken
+pub base_free : (base : ℕ) (words far : List ℕ) (s : set.FinSet nat_cmp) → IsWindow base words far → taken_set base words far ≡ s → base + 1 < 2 ^ 64 → set.contains s base ≡ false
+base_free base words far s h e l =
+    let none = list_any_none (is_at (nat_cmp base)) far (λ k d m. grind (arith, nat_tests, h.beyond k d m)) in
+    grind (arith, nat_tests, taken_in base words far s e base (omega (arith, l)), h.least l, none)

@@ -46,6 +46,7 @@ impl LinkIn {
     }
 
     /// Makes room for a slot.
+    #[inline(always)]
     pub fn reserve(&mut self, slot: u64) -> Result<(), AllocError>
         requires { slot < 262144 }
         ensures same { self.new.slots ≡ self.old.slots }
@@ -55,17 +56,21 @@ impl LinkIn {
     }
 
     /// Takes a slot for which there is room, and says whether it is the first time. It takes no memory.
+    #[inline(always)]
     pub fn take_reserved(&mut self, slot: u64) -> bool
         requires { has_room self.old slot ≡ true }
         ensures first { result ≡ not (set.contains self.old.slots slot) }
         ensures after { self.new.slots ≡ set.insert self.old.slots slot }
     {
-        if self.may_ack(slot) {
-            return false;
-        }
         if slot > self.base || slot == u64::MAX {
+            if self.may_ack(slot) {
+                return false;
+            }
             set_bit(&mut self.words, bit_of(self.base, slot));
             return true;
+        }
+        if slot < self.base {
+            return false;
         }
         advance(&mut self.base, &mut self.words, &mut self.far);
         true
@@ -87,6 +92,7 @@ impl LinkIn {
     }
 
     /// Whether the slot was taken, so that it may be acknowledged. It takes no memory.
+    #[inline(always)]
     pub fn may_ack(&self, slot: u64) -> bool
         ensures { result ≡ set.contains self.now.slots slot }
     {

@@ -18,6 +18,7 @@ pub const REACH: u64 = 262_144;
 const WORDS: usize = 4097;
 
 /// Makes a bit for a slot within reach, and room for those that far slots get where the base moves on.
+#[inline(always)]
 pub fn make_bit(
     base: u64,
     words: &mut VecDeque<u64>,
@@ -41,6 +42,7 @@ pub fn make_bit(
 
 /// Takes the base: the next slot that was not taken becomes the base, and what comes within reach gets a bit. It takes no
 /// memory.
+#[inline(always)]
 pub fn advance(base: &mut u64, words: &mut VecDeque<u64>, far: &mut BTreeSet<u64>)
     requires more { base.old + 1 < 2 ^ 64 }
     requires window { IsWindow base.old words.old.items far.old.keys }

@@ -151,6 +151,7 @@ impl Deliveries {
 
     /// These nodes are known to hold a pair, where nothing has its turn by that. Says whether it did so. It may always say that it
     /// did not: then nothing changed, and `tell` says what comes of it.
+    #[inline(always)]
     pub fn tell_silently(
         &mut self,
         config: &Config,

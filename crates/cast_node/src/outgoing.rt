@@ -99,6 +99,7 @@ impl Outgoing {
     }
 
     /// Marks a slot of a peer as acknowledged.
+    #[inline(always)]
     pub fn acknowledge(&mut self, to: NodeId, slot: u64)
         requires { to < length (links_of self.old) }
         ensures { links_of self.new ≡ slice_set (links_of self.old) to

@@ -147,6 +147,7 @@ fn play_events<O: Observer>(
 }
 
 // Takes one event. Answers whether it was accepted.
+#[inline(always)]
 fn play_event<O: Observer>(
     world: &mut World,
     index: u64,

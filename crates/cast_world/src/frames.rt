@@ -32,6 +32,7 @@ pub struct Mark {
 }
 
 /// A frame for a slot. It is answered by its number.
+#[inline(always)]
 pub fn make(
     node: &mut Node,
     made: &mut Vec<Mark>,

@@ -134,6 +134,7 @@ impl World {
     }
 
     // A node makes a frame for a slot.
+    #[inline(always)]
     fn make(
         &mut self,
         kind: FrameKind,
