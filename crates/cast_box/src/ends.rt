@@ -85,6 +85,7 @@ impl<T> Putter<T> {
     /// call, the item comes back and nothing was put: the box then held as many items as it has places, and this putter's
     /// among them were the last that it had put. So the only putter of a box gets an item back only where it has put at least
     /// that many. It may spin behind a thread that stalls in a put or a take.
+    #[inline(always)]
     pub fn put<R: Wait>(&mut self, rt: &R, item: T) -> Result<(), Full<T>>
         ensures same { IsSamePutter self.old self.new }
         ensures put { MatchResult result
@@ -104,6 +105,7 @@ impl<T> Taker<T> {
     /// Takes the item at the front of the box, where it is not empty. It answers nothing only where the box was empty at
     /// one moment of the call; so all that the putters have put that have ended was taken then. It may spin behind a thread
     /// that stalls in a put.
+    #[inline(always)]
     pub fn take<R: Wait>(&mut self, rt: &R) -> Option<T>
         ensures same { IsSameTaker self.old self.new }
         ensures taken { TakesItem self.old result self.new }
@@ -124,6 +126,7 @@ impl<T> Taker<T> {
     }
 
     // Takes the item at the front, where there is one.
+    #[inline(always)]
     fn pop<R: Wait>(&mut self, rt: &R) -> Option<T>
         ensures same { IsSameTaker self.old self.new }
         ensures taken { TakesItem self.old result self.new }

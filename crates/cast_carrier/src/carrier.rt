@@ -231,6 +231,7 @@ fn keep(delayed: &mut Vec<Delayed>, parcel: Parcel, fate: Fate)
 }
 
 // Hands on a parcel once or twice. A copy that finds no memory is lost.
+#[inline(always)]
 fn hand_on<R: Wait>(rt: &R, inboxes: &mut Vec<Putter<Parcel>>, parcel: Parcel, twice: bool)
     ensures { HandsOn twice inboxes.old.items parcel inboxes.new.items }
 {
@@ -251,6 +252,7 @@ fn put_copy<R: Wait>(rt: &R, inboxes: &mut Vec<Putter<Parcel>>, parcel: &Parcel,
 }
 
 // Puts a parcel into the inbox of its target. It is lost where that is full.
+#[inline(always)]
 fn put<R: Wait>(rt: &R, inboxes: &mut Vec<Putter<Parcel>>, parcel: Parcel)
     ensures { PutsOne inboxes.old.items parcel inboxes.new.items }
 {

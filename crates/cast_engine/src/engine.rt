@@ -336,6 +336,7 @@ impl Engine {
     // Makes a frame for a slot, which it carries or acknowledges, and hands it on, where none waits to be put. Answers whether it
     // was made.
     #[tactic(auto, using(crate::proofs::Again::desk_same))]
+    #[inline(always)]
     fn make<R: Wait>(&mut self, rt: &R, kind: FrameKind, to: NodeId, slot: u64) -> bool
         ensures same { IsSameEngine self.old self.new }
         ensures few { DoesFew 0 0 1 0 self.old self.new }
@@ -557,6 +558,7 @@ fn brought_by(frame: &Frame) -> Received {
 }
 
 // Puts a parcel into the outbox, or keeps it where that is full. Answers whether it was put.
+#[inline(always)]
 fn hand<R: Wait>(
     rt: &R,
     outbox: &mut Putter<Parcel>,

@@ -96,6 +96,7 @@ impl Journal {
     }
 
     /// Whether an entry may be logged. Where none may, the engine has ended: its log or its clock is full, or it crashes now.
+    #[inline(always)]
     pub fn may_log(&mut self) -> bool
         ensures may { IsTrue result → (self.new ≡ self.old) × MayLog self.old }
         ensures halts { IsFalse result → Halts self.old self.new }
@@ -178,6 +179,7 @@ impl Journal {
 
     /// Makes a frame of this kind for a slot, and logs it, or answers why the node makes none: want of memory only for one that
     /// carries a message. A refusal changes nothing.
+    #[inline(always)]
     pub fn make(&mut self, kind: FrameKind, to: NodeId, slot: u64) -> Result<Parcel, StepFault>
         requires { MayLog self.old }
         ensures ok { OnOk result

@@ -125,6 +125,7 @@ impl OpenLog {
     }
 
     /// Puts an entry at the end. It takes no memory.
+    #[inline(always)]
     pub fn push(&mut self, entry: Entry)
         requires { length self.old.entries < self.old.room }
         ensures entries { self.new.entries ≡ self.old.entries ++ entry ∷ [] }
