@@ -113,8 +113,8 @@ impl Client {
         }
     }
 
-    /// Takes the notice at the front of the client's tray. It answers nothing only where the tray was empty at one moment of
-    /// the call. It waits for no other thread, as a tray is a box with one putter.
+    /// Takes the notice at the front of the client's tray, or answers nothing where it finds the tray empty. It may have to
+    /// wait for the engine's thread where that stalls in the middle of a put.
     pub fn next<R: Wait>(&mut self, rt: &R) -> Option<Notice>
         ensures same { IsSameClient self.old self.new }
         ensures orders { self.new.orders ≡ self.old.orders }

@@ -44,8 +44,9 @@ impl Desk {
         self.orders.take(rt)
     }
 
-    /// Puts the notice into the tray of this client, by its number among those of the desk. Where that tray was full at one
-    /// moment of the call, the notice comes back and nothing was put. It waits for no other thread.
+    /// Puts the notice into the tray of this client, by its number among those of the desk. Where it finds that tray full, the
+    /// notice comes back and nothing was put. It may have to wait for the client's thread where that stalls in the middle of a
+    /// take.
     pub fn notify<R: Wait>(
         &mut self,
         rt: &R,
