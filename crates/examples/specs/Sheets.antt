@@ -5,8 +5,8 @@
 use Rattle.std.specs.Prelude.{◌≡◌, ℕ, ◌+◌, ◌-◌, ◌*◌, ◌^◌, ◌<◌, ◌==◌, nat_lt, ◌&&◌, min, if◌then◌else◌, List, [], ◌∷◌, length, slice_index, slice_set, Option, Some, None}
 use Rattle.std.specs.List.{sum_by}
 use Rattle.cast.specs.Types.{Item, Message, Data}
-use Rattle.example_ledger.specs.declared.transfer.Transfer.{Transfer}
-use Rattle.example_ledger.specs.declared.sheet.Sheet.{Sheet}
+use Rattle.examples.specs.declared.ledger.transfer.Transfer.{Transfer}
+use Rattle.examples.specs.declared.ledger.sheet.Sheet.{Sheet}
 
 abbrev pub account_count : ℕ
 account_count = 4

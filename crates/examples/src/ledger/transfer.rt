@@ -1,6 +1,6 @@
 //! Transfers between accounts, and the items that say them.
 ghost use Rattle.std.specs.Prelude.{◌≡◌, ◌<◌, Some, IfOk, IfSome};
-ghost use Rattle.example_ledger.specs.Sheets.{account_count, transfer_in};
+ghost use Rattle.examples.specs.Sheets.{account_count, transfer_in};
 
 use cast::{Item, data};
 use std::alloc::{AllocError, Global};

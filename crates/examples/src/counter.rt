@@ -1,7 +1,5 @@
 //! A counter that each node of a group keeps: what is added is broadcast, and each node sums what it delivers. A node may deliver
 //! the additions of different senders in another order than its peers; a sum doesn't depend on it.
-#![tactic(auto)]
-
 use anyhow::Result;
 use cast::{
     Follower, Followers, Item, List, Machine, Message, NodeId, Settings, data, no_faults,
@@ -34,12 +32,11 @@ fn addition(alloc: Global, by: u8) -> Result<List<Item>, AllocError> {
     Ok(items)
 }
 
-fn main(rt: HostRuntime) -> Result<()> {
-    count(rt, rt.alloc())
-}
-
-// Three nodes in threads, of which each adds its number and one.
-fn count<R: Threads + Wait + Print + Copy + Send + 'static>(rt: R, alloc: Global) -> Result<()> {
+/// Three nodes in threads, of which each adds its number and one.
+pub fn count<R: Threads + Wait + Print + Copy + Send + 'static>(
+    rt: R,
+    alloc: Global,
+) -> Result<()> {
     let config = Settings::of(3, 1).check()?;
     let mut followers = Followers::new(alloc);
     for node in 0..3u8 {

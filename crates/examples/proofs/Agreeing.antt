@@ -4,9 +4,9 @@ use Rattle.std.proofs.lemmas.List.{ext_get_or}
 use Rattle.cast.specs.Types.{Message}
 use Rattle.cast.specs.Told.{of_sender}
 use Rattle.cast.proofs.Sums.{sums_agree}
-use Rattle.example_ledger.specs.declared.sheet.Sheet.{Sheet}
-use Rattle.example_ledger.specs.Law.{SheetsAgreeAtRest}
-use Rattle.example_ledger.specs.Sheets.{AreSums, IsSheetOf, transfer_in, received, sent, received_by, sent_by, capped}
+use Rattle.examples.specs.declared.ledger.sheet.Sheet.{Sheet}
+use Rattle.examples.specs.Law.{SheetsAgreeAtRest}
+use Rattle.examples.specs.Sheets.{AreSums, IsSheetOf, transfer_in, received, sent, received_by, sent_by, capped}
 
 same_lists : (one other : List ℕ) (total more : ℕ → ℕ) → AreSums one total → AreSums other more → ((a : ℕ) → total a ≡ more a) → one ≡ other
 same_lists one other total more sums others same =

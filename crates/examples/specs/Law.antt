@@ -5,8 +5,8 @@ use Rattle.cast.specs.Rounds.{Rest, Live, FewCrashedIn}
 use Rattle.cast.specs.Followed.{IsFollowed, past_of}
 use Rattle.cast.specs.declared.followed.Followed.{Followed}
 use Rattle.cast.specs.declared.follower.Follower.{Follower}
-use Rattle.example_ledger.specs.declared.sheet.Sheet.{Sheet}
-use Rattle.example_ledger.specs.Sheets.{IsSheetOf}
+use Rattle.examples.specs.declared.ledger.sheet.Sheet.{Sheet}
+use Rattle.examples.specs.Sheets.{IsSheetOf}
 
 -- the node of this sheet is live
 abbrev pub IsAtLiveNode : Config → Followed Sheet → ℕ → Sheet → Type 0

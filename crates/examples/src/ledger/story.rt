@@ -1,6 +1,6 @@
 //! What happens in the example: who orders what, and what goes wrong.
-use crate::sheet::Sheet;
-use crate::transfer::Transfer;
+use crate::ledger::sheet::Sheet;
+use crate::ledger::transfer::Transfer;
 use cast::{
     Config, ConfigFault, Fault, FaultPlan, Follower, Followers, FrameKind, Frames, List, NodeId,
     Settings, no_faults,

@@ -4,8 +4,6 @@
 //! What a node keeps must not depend on the order between senders. Here it is sums, of what each account received and of what
 //! it sent. That an account is never overdrawn could not be kept so: whether a transfer is covered would depend on what came
 //! before it.
-#![tactic(auto)]
-
 mod law;
 mod sheet;
 mod story;
@@ -18,12 +16,7 @@ use std::alloc::Global;
 use std::sync::Wait;
 use std::thread::Threads;
 
-fn main(rt: HostRuntime) -> Result<()> {
-    by_seed(&rt, rt.alloc(), 7)?;
-    in_threads(rt, rt.alloc())
-}
-
-fn by_seed<R: Wait + Print>(rt: &R, alloc: Global, seed: u64) -> Result<()> {
+pub fn by_seed<R: Wait + Print>(rt: &R, alloc: Global, seed: u64) -> Result<()> {
     let plan = story::losses_and_a_crash(alloc)?;
     let run = run_followers_by_seed(
         rt,
@@ -37,8 +30,8 @@ fn by_seed<R: Wait + Print>(rt: &R, alloc: Global, seed: u64) -> Result<()> {
     show(rt, &run)
 }
 
-// How the threads take turns differs from run to run. What is printed doesn't: at rest all have delivered all items.
-fn in_threads<R: Threads + Wait + Print + Copy + Send + 'static>(
+/// How the threads take turns differs from run to run. What is printed doesn't: at rest all have delivered all items.
+pub fn in_threads<R: Threads + Wait + Print + Copy + Send + 'static>(
     rt: R,
     alloc: Global,
 ) -> Result<()> {

@@ -1,8 +1,8 @@
 //! The sheet of a node: what each account has received and sent, by the transfers that the node delivered.
 ghost use Rattle.std.specs.Prelude.{◌≡◌, ◌<◌, []};
-ghost use Rattle.example_ledger.specs.Sheets.{account_count, added};
+ghost use Rattle.examples.specs.Sheets.{account_count, added};
 
-use crate::transfer::{ACCOUNTS, Transfer};
+use crate::ledger::transfer::{ACCOUNTS, Transfer};
 use cast::{Machine, Message};
 use std::fmt;
 use std::fmt::{Display, Formatter, Write};
@@ -17,7 +17,7 @@ pub struct Sheet {
 }
 
 impl Machine for Sheet {
-    ghost use Rattle.example_ledger.specs.Sheets.{IsSheetOf};
+    ghost use Rattle.examples.specs.Sheets.{IsSheetOf};
 
     ghost stands = { IsSheetOf };
 
@@ -30,7 +30,7 @@ impl Machine for Sheet {
 }
 
 impl Sheet {
-    ghost use Rattle.example_ledger.specs.Sheets.{IsSheetOf};
+    ghost use Rattle.examples.specs.Sheets.{IsSheetOf};
 
     /// The sheet on which nothing was moved.
     pub fn new() -> Sheet

@@ -1,7 +1,5 @@
 //! The three ways to use the kit, in the order of need, a module each: a group as one value, a group of jobs by a seed and in
 //! threads, and nodes whose frames the caller moves.
-#![tactic(auto)]
-
 mod jobs;
 mod transport;
 mod world;
@@ -12,8 +10,7 @@ use std::alloc::Global;
 use std::sync::Wait;
 use std::thread::Threads;
 
-fn main(rt: HostRuntime) -> Result<()> {
-    let alloc = rt.alloc();
+pub fn show<R: Threads + Wait + Print + Copy + Send + 'static>(rt: R, alloc: Global) -> Result<()> {
     println!(&rt; "one value: {} delivered", world::first_path(alloc)?)?;
     by_seed(&rt, alloc)?;
     in_threads(rt, alloc)?;
