@@ -3,6 +3,8 @@
    REFUSE_THREADS names with all after it. Threads may allocate at the same time: each allocation has a number of its own. How
    many there were stands as a long in the file that COUNT_ALLOCATIONS names, in whatever way the program ends.
 
+   A program with the address sanitizer has an allocator of its own, before which no library comes: its functions are led here.
+
    The read that FAIL_READ names fails with EIO, and so does the write that FAIL_WRITE names; of the write that SHORT_WRITE
    names one byte is taken, and of the one that EMPTY_WRITE names none. Reads and writes of all files count. */
 #define _GNU_SOURCE
@@ -11,6 +13,7 @@
 #include <fcntl.h>
 #include <pthread.h>
 #include <stdlib.h>
+#include <string.h>
 #include <sys/mman.h>
 #include <sys/uio.h>
 #include <unistd.h>
@@ -58,22 +61,27 @@ int pthread_create(pthread_t *thread, const pthread_attr_t *attributes, void *(*
     return next(thread, attributes, start, argument);
 }
 
-void *malloc(size_t size) {
-    static void *(*next)(size_t);
-    if (!next) next = next_of("malloc");
-    return refused() ? NULL : next(size);
+static void *(*next_malloc)(size_t);
+static void *(*next_realloc)(void *, size_t);
+
+static void *some_malloc(size_t size) {
+    if (!next_malloc) next_malloc = next_of("malloc");
+    return refused() ? NULL : next_malloc(size);
 }
+
+static void *some_realloc(void *block, size_t size) {
+    if (!next_realloc) next_realloc = next_of("realloc");
+    return refused() ? NULL : next_realloc(block, size);
+}
+
+void *malloc(size_t size) { return some_malloc(size); }
+
+void *realloc(void *block, size_t size) { return some_realloc(block, size); }
 
 void *calloc(size_t count, size_t size) {
     static void *(*next)(size_t, size_t);
     if (!next) next = next_of("calloc");
     return refused() ? NULL : next(count, size);
-}
-
-void *realloc(void *block, size_t size) {
-    static void *(*next)(void *, size_t);
-    if (!next) next = next_of("realloc");
-    return refused() ? NULL : next(block, size);
 }
 
 void *aligned_alloc(size_t align, size_t size) {
@@ -86,6 +94,34 @@ int posix_memalign(void **block, size_t align, size_t size) {
     static int (*next)(void **, size_t, size_t);
     if (!next) next = next_of("posix_memalign");
     return refused() ? ENOMEM : next(block, align, size);
+}
+
+/* The sanitizer's functions begin with a jump to where they are done, by NEAR bytes. It is made one to a jump by FAR bytes, which stands
+   within its reach and leads here. Answers where it led before. */
+enum { PAGE = 4096, NEAR = 5, FAR = 14, REACH = 1 << 28 };
+
+static void *led(const char *name, void *here) {
+    static const unsigned char far_jump[] = {0xff, 0x25, 0, 0, 0, 0};
+    static unsigned char *place;
+    unsigned char *own = dlsym(RTLD_DEFAULT, name), *page = (unsigned char *)((size_t)own & -PAGE);
+    int all = PROT_READ | PROT_WRITE | PROT_EXEC, away;
+    if (!place) place = mmap(page - REACH, PAGE, all, MAP_PRIVATE | MAP_ANONYMOUS, -1, 0);
+    if (*own != 0xe9 || place == MAP_FAILED || mprotect(page, 2 * PAGE, all)) abort();
+    memcpy(&away, own + 1, sizeof away);
+    unsigned char *done = own + NEAR + away;
+    memcpy(place, far_jump, sizeof far_jump);
+    memcpy(place + sizeof far_jump, &here, sizeof here);
+    away = (int)(place - (own + NEAR));
+    memcpy(own + 1, &away, sizeof away);
+    place += FAR;
+    return done;
+}
+
+__attribute__((constructor)) static void lead_allocator(void) {
+    Dl_info own, here;
+    if (!dladdr(dlsym(RTLD_DEFAULT, "malloc"), &own) || !dladdr((void *)some_malloc, &here) || own.dli_fbase == here.dli_fbase) return;
+    next_malloc = (void *(*)(size_t))led("malloc", some_malloc);
+    next_realloc = (void *(*)(void *, size_t))led("realloc", some_realloc);
 }
 
 /* Whether this is the read that fails. */

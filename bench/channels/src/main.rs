@@ -1,6 +1,6 @@
-//! Threads that hand every item to every other by crossbeam's bounded channels: the measure beside `test_driver time threads`,
+//! Threads that hand every item to every other by crossbeam's bounded channels: the measure beside `castgroup live`,
 //! with no protocol. Nothing is lost, logged or acknowledged, and no node passes on what it did not make. The arguments are
-//! the number of nodes and of items a node; what is printed has the places of that command: deliveries, entries (none),
+//! the number of nodes and of items a node; what is printed: deliveries, log entries (none),
 //! microseconds, and that all was delivered.
 
 use crossbeam_channel::{bounded, Receiver, Sender};

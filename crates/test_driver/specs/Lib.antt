@@ -1,2 +1,0 @@
-pub mod NewJobs
-pub mod Silence
