@@ -5,6 +5,7 @@
 
 mod boxes;
 mod desk;
+mod limits;
 mod merge;
 mod node;
 mod parts;
@@ -21,7 +22,7 @@ use std::sync::Wait;
 use std::thread::Threads;
 
 const USAGE: &str =
-    "usage: test_driver parts|boxes|desk|node|world|merge|pieces|threads|time [WORD..]";
+    "usage: test_driver parts|boxes|desk|node|world|merge|pieces|threads|limits|time [WORD..]";
 
 fn main(rt: HostRuntime) -> Result<()> {
     let command = env::args(&rt)?.nth(1);
@@ -55,6 +56,7 @@ pub fn run_lines<R: Runtime + AllocGlobal + Threads + Wait + Copy + Send + 'stat
         "merge" => merge::run(&rt),
         "pieces" => pieces::run(&rt),
         "threads" => threads::run(rt),
+        "limits" => limits::run(&rt),
         _ => bail!(USAGE),
     }
 }

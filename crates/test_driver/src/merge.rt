@@ -65,15 +65,20 @@ pub fn run_by<S: Schedule, R: Wait>(
 // Runs the group that the words tell.
 fn run_told<R: Wait>(rt: &R, alloc: Global, mut words: Words<'_>) -> Result<LiveRun<Signal>> {
     let steps = words.number()?;
+    let mut schedule = Listed::new(choices_of(alloc, words.word())?);
+    run_by(rt, alloc, words.rest.as_bytes(), steps, &mut schedule)
+}
+
+/// The choices of a list, with a comma between two of them.
+pub fn choices_of(alloc: Global, list: &str) -> Result<Vec<u64>> {
     let mut choices = Vec::new(alloc);
-    for number in words.word().split(',') {
+    for number in list.split(',') {
         let choice = number
             .parse::<u64>()
             .context(format_args!("reading the choice {number:?}"))?;
         choices.push(choice)?;
     }
-    let mut schedule = Listed::new(choices);
-    run_by(rt, alloc, words.rest.as_bytes(), steps, &mut schedule)
+    Ok(choices)
 }
 
 fn print_merge<R: Runtime + Wait>(rt: &R, alloc: Global, words: Words<'_>) -> Result<()> {
