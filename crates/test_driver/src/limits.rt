@@ -6,16 +6,18 @@
 //! at most, and an engine takes the script's turns. It answers how each node ended, with the entries of its log, how many turns and
 //! deliveries their gates counted, how often jobs were called, and what became of the orders of each.
 //! `by-seed SEED SCRIPT` answers whether `run_group_by_seed` has the run that the seed's schedule makes.
+//! `hear AWAITED SEED SCRIPT` runs a follower for each job of the script, which awaits so many messages, and answers how many each
+//! machine took while the group ran.
 //! `follow AWAITED SEED SCRIPT` runs a follower for each job of the script, which awaits so many messages, and answers how each node
-//! ended, how many messages each machine took, and how many of its orders were left.
+//! ended, how many messages each machine took, and how many of its orders were left; or the code of the group's refusal.
 //! `data LENGTH` orders an item of so many bytes, and answers its number, or the code of its refusal.
 use crate::merge::choices_of;
 use crate::threads::{Meeting, Signal, Wanted, signals};
 use crate::words::{Words, answer, refuse};
 use anyhow::{Result, bail, ensure};
 use cast::{
-    Answer, CountingGate, Event, Follower, Followers, Gate, Limits, Listed, LiveRun, Machine,
-    Message, NodeId, OpenGate, Progress, Recorded, Schedule, Script, Seeded, Settings,
+    Answer, CountingGate, Event, Follower, Followers, Gate, Item, Limits, List, Listed, LiveRun,
+    Machine, Message, NodeId, OpenGate, Progress, Recorded, Schedule, Script, Seeded, Settings,
     USUAL_LIMITS, USUAL_STEPS, World, assemble, data, read_script, run_followers_by_seed,
     run_group_by_seed, run_scheduled,
 };
@@ -50,6 +52,7 @@ pub fn run<R: Runtime + AllocGlobal + Wait>(rt: &R) -> Result<()> {
             }
             "calls" => call_jobs(rt, alloc, words)?,
             "by-seed" => compare_seeds(rt, alloc, words)?,
+            "hear" => hear(rt, alloc, words)?,
             "follow" => follow(rt, alloc, words)?,
             "data" => order_data(rt, alloc, words)?,
             other => bail!("{other:?} is no call"),
@@ -172,6 +175,37 @@ fn compare_seeds<R: Print + Wait>(rt: &R, alloc: Global, mut words: Words<'_>) -
     Ok(())
 }
 
+// The followers of jobs, each of which awaits so many messages.
+fn followers_of(
+    alloc: Global,
+    jobs: List<(NodeId, List<Item>)>,
+    awaited: u64,
+) -> Result<Followers<Counter>> {
+    let mut followers = Followers::new(alloc);
+    for (node, items) in jobs.into_vec() {
+        let follower = Follower::new(items, Counter { messages: 0 });
+        followers.add(node, follower.awaiting(awaited))?;
+    }
+    Ok(followers)
+}
+
+fn hear<R: Print + Wait>(rt: &R, alloc: Global, mut words: Words<'_>) -> Result<()> {
+    let (awaited, seed) = (words.number()?, words.number()?);
+    let Script {
+        config,
+        plan,
+        jobs,
+        ..
+    } = read_script(alloc, words.rest.as_bytes())?;
+    let jobs = followers_of(alloc, jobs, awaited)?.into_jobs();
+    let run = run_group_by_seed(rt, alloc, config, &plan, jobs, seed)?;
+    for (follower, client) in run.jobs.iter().zip(run.clients.iter()) {
+        let messages = follower.machine().messages;
+        println!(rt; "follower at {}: {messages} messages", client.node.0)?;
+    }
+    Ok(())
+}
+
 fn follow<R: Print + Wait>(rt: &R, alloc: Global, mut words: Words<'_>) -> Result<()> {
     let (awaited, seed) = (words.number()?, words.number()?);
     let Script {
@@ -180,12 +214,11 @@ fn follow<R: Print + Wait>(rt: &R, alloc: Global, mut words: Words<'_>) -> Resul
         jobs,
         ..
     } = read_script(alloc, words.rest.as_bytes())?;
-    let mut followers = Followers::new(alloc);
-    for (node, items) in jobs.into_vec() {
-        let follower = Follower::new(items, Counter { messages: 0 });
-        followers.add(node, follower.awaiting(awaited))?;
-    }
-    let run = run_followers_by_seed(rt, alloc, config, &plan, followers, seed)?;
+    let followers = followers_of(alloc, jobs, awaited)?;
+    let run = match run_followers_by_seed(rt, alloc, config, &plan, followers, seed) {
+        Ok(run) => run,
+        Err(fault) => return Ok(println!(rt; "fault {}", fault.code())?),
+    };
     for report in run.report.reports() {
         println!(rt; "node {} {:?}", report.node.id().0, report.ended)?;
     }
