@@ -1,5 +1,5 @@
 /* Calls that no caller should make, and what they answer: null pointers, handles that hold nothing or hold something where they should
- * not, buffers that are too short, numbers of no kind. Ends with the number of the first line that is wrong, or 0. */
+ * not, buffers that are too short, numbers of no kind; and calls at their limits, and one past them. Ends with the number of the first line that is wrong, or 0. */
 #include "castgroup.h"
 #include <string.h>
 
@@ -14,14 +14,16 @@ static int judges(void) {
     NEED(cast_judge(NULL, 1, &verdict) == CAST_MISUSED && cast_judge(RECORD, 1, NULL) == CAST_MISUSED);
     NEED(cast_judge(RECORD, (size_t)-1, &verdict) == CAST_MISUSED);
     NEED(cast_judge(NULL, 0, &verdict) == CAST_BAD && verdict.line == 1 && verdict.rule == 0);
-    NEED(cast_judge(RECORD, sizeof RECORD - 1, &verdict) == CAST_DONE && verdict.line == 0);
+    verdict.rule = 9;
+    NEED(cast_judge(RECORD, sizeof RECORD - 1, &verdict) == CAST_DONE && verdict.line == 0 && verdict.rule == 0);
     NEED(cast_judge_new(NULL) == CAST_MISUSED && cast_judge_feed(&judge, "a", 1) == CAST_MISUSED);
     NEED(cast_judge_finish(&judge, &verdict) == CAST_MISUSED);
     NEED(cast_judge_new(&judge) == CAST_DONE && cast_judge_new(&judge) == CAST_MISUSED);
     NEED(cast_judge_feed(NULL, "a", 1) == CAST_MISUSED && cast_judge_feed(&judge, NULL, 1) == CAST_MISUSED);
     NEED(cast_judge_feed(&judge, NULL, 0) == CAST_DONE && cast_judge_finish(&judge, NULL) == CAST_MISUSED);
     NEED(cast_judge_feed(&judge, RECORD, sizeof RECORD - 1) == CAST_DONE);
-    NEED(cast_judge_finish(&judge, &verdict) == CAST_DONE);
+    verdict.line = verdict.rule = 9;
+    NEED(cast_judge_finish(&judge, &verdict) == CAST_DONE && verdict.line == 0 && verdict.rule == 0);
     NEED(cast_judge_feed(&judge, "a", 1) == CAST_MISUSED && cast_judge_finish(&judge, &verdict) == CAST_MISUSED);
     NEED(cast_judge_new(&judge) == CAST_DONE && cast_judge_feed(&judge, "cast/1 2", 8) == CAST_DONE);
     cast_judge_drop(&judge);
@@ -88,6 +90,35 @@ static int worlds(void) {
     return 0;
 }
 
+/* A group of 64 nodes, and none of 65; items of 1,024 bytes, and none of 1,025; a stream of 4,095 items and a close, and a round of as
+ * many slots. */
+static int limits(void) {
+    struct cast_world world = CAST_EMPTY;
+    struct cast_config many = CAST_CONFIG(65, 0), most = CAST_CONFIG(64, 0), pair = CAST_CONFIG(2, 0);
+    struct cast_event order = {.kind = CAST_ORDER, .node = 63, .item = CAST_DATA};
+    struct cast_reply reply;
+    uint64_t fault, count;
+    static char bytes[1025];
+    NEED(cast_world_new(&world, &many, &fault) == CAST_REFUSED && fault == 1);
+    NEED(cast_world_new(&world, &most, &fault) == CAST_DONE);
+    NEED(cast_world_step(&world, &order, bytes, 1025, &reply) == CAST_DONE && reply.code == 5);
+    NEED(cast_world_step(&world, &order, bytes, 1024, &reply) == CAST_DONE && reply.code == 0 && reply.deliveries == 1);
+    NEED(cast_world_round(&world, &reply) == CAST_DONE && reply.code == 0 && reply.number == 2 * 63);
+    NEED(cast_world_delivered(&world, 0, 63, &count) == CAST_DONE && count == 1);
+    cast_world_drop(&world);
+    order.node = 0;
+    NEED(cast_world_new(&world, &pair, &fault) == CAST_DONE);
+    for (int item = 0; item < 4095; item++)
+        NEED(cast_world_step(&world, &order, bytes, 1, &reply) == CAST_DONE && reply.code == 0);
+    NEED(cast_world_step(&world, &order, bytes, 1, &reply) == CAST_DONE && reply.code == 7);
+    order.item = CAST_CLOSE;
+    NEED(cast_world_step(&world, &order, NULL, 0, &reply) == CAST_DONE && reply.code == 0 && reply.number == 4095);
+    NEED(cast_world_round(&world, &reply) == CAST_DONE && reply.code == 0 && reply.number == 2 * 4096);
+    NEED(cast_world_delivered(&world, 1, 0, &count) == CAST_DONE && count == 4096);
+    cast_world_drop(&world);
+    return 0;
+}
+
 static int texts(void) {
     struct cast_text told;
     char out[64];
@@ -107,6 +138,7 @@ static int texts(void) {
 int main(void) {
     int wrong = judges();
     if (wrong == 0) wrong = worlds();
+    if (wrong == 0) wrong = limits();
     if (wrong == 0) wrong = texts();
     return wrong;
 }
