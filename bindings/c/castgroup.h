@@ -3,7 +3,8 @@
  *
  * Link libcastgroup, which `bindings/library FOLDER` makes. Each function of this header looks for null pointers, and then makes the
  * call of the library that has the same name with cast_c_ for cast_. What it answers is proved: the clauses stand with the crate
- * cast_c, in crates/cast_c/src. Texts of codes, and cast_world_steps, which makes a call for each event, are plain C.
+ * cast_c, in crates/cast_c/src. Plain C are the texts of codes, and cast_c_version and cast_c_world_steps in castgroup.c, which makes a
+ * call of cast_c_world_step for each event.
  *
  * Statuses are those of the program, and stand beside each call. Each call answers CAST_MISUSED of a null pointer too. A record that
  * is told (a verdict, a reply, a count ..) is whole where the status is 0, or 3 of a verdict, or where a function says so; else nothing
@@ -120,8 +121,13 @@ uint32_t cast_c_run(const uint8_t *script, size_t count, uint8_t *out, size_t ro
 uint32_t cast_c_draw(const uint8_t *script, size_t count, uint64_t from, uint64_t to, uint8_t *out, size_t room,
                      struct cast_text *told);
 
+/* Two more, in plain C over these. */
+uint32_t cast_c_version(void);
+uint32_t cast_c_world_steps(struct cast_world *world, const struct cast_event *events, size_t count, const uint8_t *bytes,
+                            size_t size, struct cast_reply *replies, uint64_t *taken);
+
 /* The version of the library, as CAST_VERSION_NUMBER counts it. */
-uint32_t cast_version(void);
+static inline uint32_t cast_version(void) { return cast_c_version(); }
 
 /* What a code says, in English. One that there is not has the text "no such code". */
 static inline const char *cast_status_text(uint64_t status) {
@@ -233,8 +239,12 @@ static inline uint32_t cast_world_step(struct cast_world *world, const struct ca
 /* Takes `count` events by cast_world_step, and writes a reply for each. Of an order of bytes `number` is where they begin in `bytes`,
  * and `value` how many there are. It stops at the first whose status is not CAST_DONE, and answers that; those that do not stand in
  * `bytes` are a misuse. `taken` is how many events have a reply; a refused one has its code there, and the next is taken. */
-uint32_t cast_world_steps(struct cast_world *world, const struct cast_event *events, size_t count, const void *bytes, size_t size,
-                          struct cast_reply *replies, uint64_t *taken);
+static inline uint32_t cast_world_steps(struct cast_world *world, const struct cast_event *events, size_t count, const void *bytes,
+                                        size_t size, struct cast_reply *replies, uint64_t *taken) {
+    if (world == NULL || (count > 0 && (events == NULL || replies == NULL)) || !cast_has(bytes, size) || taken == NULL)
+        return CAST_MISUSED;
+    return cast_c_world_steps(world, events, count, cast_some(bytes), size, replies, taken);
+}
 
 /* All that live nodes owe one another is sent, taken and acknowledged. CAST_DONE, also where `code` is 12; CAST_MISUSED the handle
  * holds no group; CAST_OUT_OF_MEMORY. Of a round that is refused, or for which memory is wanted, the events before stand. */
