@@ -1,11 +1,14 @@
-/* castgroup for C: groups that broadcast numbered items, the judge of their records, and texts of their scripts.
+/* castgroup for C and C++: groups that broadcast numbered items, the judge of their records, and texts of their scripts. It is plain
+ * C99, and C++98.
  *
- * Link libcastgroup.a, which `bindings/library FOLDER` makes. Each function of this header looks for null pointers, and then makes
- * the call of the library that has the same name with cast_c_ for cast_. What it answers is proved: the clauses stand with the
- * crate cast_c, in crates/cast_c/src.
+ * Link libcastgroup, which `bindings/library FOLDER` makes. Each function of this header looks for null pointers, and then makes the
+ * call of the library that has the same name with cast_c_ for cast_. What it answers is proved: the clauses stand with the crate
+ * cast_c, in crates/cast_c/src. Plain C are the texts of codes, and cast_c_version and cast_c_world_steps in castgroup.c, which makes a
+ * call of cast_c_world_step for each event.
  *
- * Statuses are those of the program. A record that is told (a verdict, a reply, a count ..) is whole where the status is 0, or 3 of
- * a verdict, or where a function says so; else nothing in it counts.
+ * Statuses are those of the program, and stand beside each call. Each call answers CAST_MISUSED of a null pointer too. A record that
+ * is told (a verdict, a reply, a count ..) is whole where the status is 0, or 3 of a verdict, or where a function says so; else nothing
+ * in it counts.
  *
  * What a caller keeps, since no function can see it:
  * - A handle begins as zeros (CAST_EMPTY). It is passed by its address and copied nowhere, and what stands in it is the library's.
@@ -21,6 +24,14 @@
 #include <stdbool.h>
 #include <stddef.h>
 #include <stdint.h>
+
+/* The version of this header, as text and as a number: 10,000 * major + 100 * minor + patch. cast_version() is that of the library. A
+ * library of the same major and minor version has at least what this header declares. */
+#define CAST_VERSION_MAJOR 0
+#define CAST_VERSION_MINOR 2
+#define CAST_VERSION_PATCH 0
+#define CAST_VERSION "0.2.0"
+#define CAST_VERSION_NUMBER (10000 * CAST_VERSION_MAJOR + 100 * CAST_VERSION_MINOR + CAST_VERSION_PATCH)
 
 #ifdef __cplusplus
 extern "C" {
@@ -47,7 +58,7 @@ struct cast_world {
 };
 #define CAST_EMPTY {false, NULL}
 
-/* The first line that offends, counted from 1, and the least rule that it breaks (docs/FORMATS.md); 0 and 0 of a good record. */
+/* The first line that offends, counted from 1, and the least rule that it breaks (cast_rule_text); 0 and 0 of a good record. */
 struct cast_verdict {
     uint64_t line, rule;
 };
@@ -57,7 +68,8 @@ struct cast_verdict {
 struct cast_config {
     uint64_t nodes, faults, choices, item_limit, log_limit, box_size, first_stamp, mode;
 };
-#define CAST_CONFIG(nodes, faults) {(nodes), (faults), (faults) + 1, 4096, 65536, 64, 0, 0}
+#define CAST_CONFIG(nodes, faults) \
+    {(uint64_t)(nodes), (uint64_t)(faults), (uint64_t)(faults) + 1, 4096, 65536, 64, 0, 0}
 
 enum cast_event_kind { CAST_ORDER = 0, CAST_SEND = 1, CAST_ACK = 2, CAST_ARRIVE = 3, CAST_CRASH = 4 };
 enum cast_item_kind { CAST_DATA = 0, CAST_PROPOSE = 1, CAST_CLOSE = 2 };
@@ -69,9 +81,9 @@ struct cast_event {
     uint64_t number, value;
 };
 
-/* What came of an event: `code` 0, or that of its refusal. `number` is that of the item or the frame that was made, or the node at
- * which a frame arrived; of a round it is how many frames were made. Node `node` (of an arrival `number`) delivered the items
- * `first` to `first + deliveries - 1` of `sender`, and took so many decisions. */
+/* What came of an event: `code` 0, or that of its refusal (cast_refusal_text). `number` is that of the item or the frame that was
+ * made, or the node at which a frame arrived; of a round it is how many frames were made. Node `node` (of an arrival `number`)
+ * delivered the items `first` to `first + deliveries - 1` of `sender`, and took so many decisions. */
 struct cast_reply {
     uint64_t code, number, sender, first, deliveries, decisions;
 };
@@ -82,7 +94,7 @@ struct cast_item {
 };
 
 /* How long a text is; or why there is none: fault 1 the script has more than 67,108,864 bytes, 2 it is no JSON, 3 the element
- * `place` is not of its form, counted from 1, or 0 the whole, 4 the configuration is refused with code `place`. */
+ * `place` is not of its form, counted from 1, or 0 the whole, 4 the configuration is refused with code `place` (cast_config_text). */
 struct cast_text {
     uint64_t length, fault, place;
 };
@@ -109,85 +121,181 @@ uint32_t cast_c_run(const uint8_t *script, size_t count, uint8_t *out, size_t ro
 uint32_t cast_c_draw(const uint8_t *script, size_t count, uint64_t from, uint64_t to, uint8_t *out, size_t room,
                      struct cast_text *told);
 
+/* Two more, in plain C over these. */
+uint32_t cast_c_version(void);
+uint32_t cast_c_world_steps(struct cast_world *world, const struct cast_event *events, size_t count, const uint8_t *bytes,
+                            size_t size, struct cast_reply *replies, uint64_t *taken);
+
+/* The version of the library, as CAST_VERSION_NUMBER counts it. */
+static inline uint32_t cast_version(void) { return cast_c_version(); }
+
+/* What a code says, in English. One that there is not has the text "no such code". */
+static inline const char *cast_status_text(uint64_t status) {
+    switch (status) {
+    case CAST_DONE: return "done";
+    case CAST_MISUSED: return "there is no such call";
+    case CAST_REFUSED: return "it was refused";
+    case CAST_BAD: return "the record is bad";
+    case CAST_OUT_OF_MEMORY: return "out of memory";
+    case CAST_TOO_SHORT: return "the buffer has no room";
+    default: return "no such code";
+    }
+}
+/* Why an event was refused: the `code` of a reply. */
+static inline const char *cast_refusal_text(uint64_t code) {
+    switch (code) {
+    case 0: return "accepted";
+    case 1: return "no such node";
+    case 2: return "a link from a node to itself";
+    case 3: return "the node crashed";
+    case 4: return "the stream is closed";
+    case 5: return "the payload is too long";
+    case 6: return "the node proposed in this instance before";
+    case 7: return "the stream is full";
+    case 8: return "no such slot";
+    case 9: return "the slot was acknowledged";
+    case 10: return "the slot was not taken";
+    case 11: return "no such frame";
+    case 12: return "the node can make no more frames";
+    default: return "no such code";
+    }
+}
+/* What a line of a record did that is bad: the `rule` of a verdict. */
+static inline const char *cast_rule_text(uint64_t rule) {
+    switch (rule) {
+    case 0: return "no line of a record, or a head or an end that is missing or stands again";
+    case 1: return "a broadcast or a delivery out of turn, or a delivery of what was not broadcast";
+    case 2: return "a broadcast after the sender's close";
+    case 3: return "a decision that nobody proposed";
+    case 4: return "more decided values in an instance than choices, where fewer nodes than choices may crash";
+    case 5: return "a line of a node that has crashed";
+    case 6: return "a second proposal of a node in an instance";
+    default: return "no such code";
+    }
+}
+/* Why a configuration was refused. */
+static inline const char *cast_config_text(uint64_t fault) {
+    switch (fault) {
+    case 1: return "the number of nodes is not 1 to 64";
+    case 2: return "the number of faults is not below the number of nodes";
+    case 3: return "the number of choices is not 1 to the number of nodes";
+    case 4: return "the item limit is not 1 to 4096";
+    case 5: return "the log limit is not 1 to 65536";
+    case 6: return "the box size is not 1 to 4096";
+    case 7: return "no such mode; or uniform mode, and not fewer than half of the nodes may crash";
+    default: return "no such code";
+    }
+}
+
 /* A buffer that is null has no bytes; where it should have some that is a misuse. */
-static inline bool cast_has(const void *bytes, size_t count) { return (bytes != NULL || count == 0) && count <= SIZE_MAX / 2; }
+static inline bool cast_has(const void *bytes, size_t count) { return (bytes != NULL || count == 0) && count <= (size_t)-1 / 2; }
 static inline uint8_t *cast_some(const void *bytes) {
     static uint8_t none;
     return bytes != NULL ? (uint8_t *)bytes : &none;
 }
 
-/* The judge of a record: CAST_DONE it is good, CAST_BAD it is bad, and `verdict` says where. */
+/* The judge of a record: CAST_DONE it is good, CAST_BAD it is bad, and `verdict` says where; CAST_OUT_OF_MEMORY. */
 static inline uint32_t cast_judge(const void *record, size_t count, struct cast_verdict *verdict) {
     if (!cast_has(record, count) || verdict == NULL) return CAST_MISUSED;
     return cast_c_judge(cast_some(record), count, verdict);
 }
 
 /* The same of a record that comes in pieces: a judge is made, fed, and asked once, which drops it. After want of memory it answers
- * that alone. */
+ * that alone.
+ * CAST_DONE; CAST_MISUSED the handle holds something; CAST_OUT_OF_MEMORY. */
 static inline uint32_t cast_judge_new(struct cast_judging *judge) {
-    return judge == NULL ? CAST_MISUSED : cast_c_judge_new(judge);
+    if (judge == NULL) return CAST_MISUSED;
+    return cast_c_judge_new(judge);
 }
+/* CAST_DONE; CAST_MISUSED the handle holds no judge; CAST_REFUSED with it all pieces have 2^63 bytes; CAST_OUT_OF_MEMORY. */
 static inline uint32_t cast_judge_feed(struct cast_judging *judge, const void *piece, size_t count) {
     if (judge == NULL || !cast_has(piece, count)) return CAST_MISUSED;
     return cast_c_judge_feed(judge, cast_some(piece), count);
 }
+/* CAST_DONE it is good; CAST_MISUSED the handle holds no judge; CAST_BAD; CAST_OUT_OF_MEMORY a piece found no memory. */
 static inline uint32_t cast_judge_finish(struct cast_judging *judge, struct cast_verdict *verdict) {
-    return judge == NULL || verdict == NULL ? CAST_MISUSED : cast_c_judge_finish(judge, verdict);
+    if (judge == NULL || verdict == NULL) return CAST_MISUSED;
+    return cast_c_judge_finish(judge, verdict);
 }
 static inline void cast_judge_drop(struct cast_judging *judge) {
     if (judge != NULL) cast_c_judge_drop(judge);
 }
 
-/* A group in which nothing has happened. CAST_REFUSED: `fault` is the code of the first number that is out of range. */
+/* A group in which nothing has happened: CAST_DONE; CAST_MISUSED the handle holds something; CAST_REFUSED, and `fault` is 7 where there
+ * is no such mode, or else the code of the first number that is out of range; CAST_OUT_OF_MEMORY. */
 static inline uint32_t cast_world_new(struct cast_world *world, const struct cast_config *config, uint64_t *fault) {
-    return world == NULL || config == NULL || fault == NULL ? CAST_MISUSED : cast_c_world_new(world, config, fault);
+    if (world == NULL || config == NULL || fault == NULL) return CAST_MISUSED;
+    return cast_c_world_new(world, config, fault);
 }
 
-/* The group takes an event; the bytes are copied, and asked for only where it orders some. A refused event changes nothing, and its
- * status is CAST_DONE. */
+/* The group takes an event; the bytes are copied, and asked for only where it orders some. CAST_DONE, of a refused event too, which
+ * changes nothing; CAST_MISUSED the handle holds no group, or there is no such kind; CAST_OUT_OF_MEMORY, and nothing changed. */
 static inline uint32_t cast_world_step(struct cast_world *world, const struct cast_event *event, const void *bytes, size_t count,
                                        struct cast_reply *reply) {
     if (world == NULL || event == NULL || !cast_has(bytes, count) || reply == NULL) return CAST_MISUSED;
     return cast_c_world_step(world, event, cast_some(bytes), count, reply);
 }
 
-/* All that live nodes owe one another is sent, taken and acknowledged. Of a round that is refused (code 12), or for which memory is
- * wanted, the events before stand. */
-static inline uint32_t cast_world_round(struct cast_world *world, struct cast_reply *reply) {
-    return world == NULL || reply == NULL ? CAST_MISUSED : cast_c_world_round(world, reply);
+/* Takes `count` events by cast_world_step, and writes a reply for each. Of an order of bytes `number` is where they begin in `bytes`,
+ * and `value` how many there are. It stops at the first whose status is not CAST_DONE, and answers that; those that do not stand in
+ * `bytes` are a misuse. `taken` is how many events have a reply; a refused one has its code there, and the next is taken. */
+static inline uint32_t cast_world_steps(struct cast_world *world, const struct cast_event *events, size_t count, const void *bytes,
+                                        size_t size, struct cast_reply *replies, uint64_t *taken) {
+    if (world == NULL || (count > 0 && (events == NULL || replies == NULL)) || !cast_has(bytes, size) || taken == NULL)
+        return CAST_MISUSED;
+    return cast_c_world_steps(world, events, count, cast_some(bytes), size, replies, taken);
 }
 
-/* Readers. They change nothing in the group. CAST_REFUSED: there is no such node, link or item. Of an item whose bytes find no room
- * (CAST_TOO_SHORT) the rest is told. */
-static inline uint32_t cast_world_delivered(struct cast_world *world, uint8_t node, uint8_t sender, uint64_t *count) {
-    return world == NULL || count == NULL ? CAST_MISUSED : cast_c_world_delivered(world, node, sender, count);
+/* All that live nodes owe one another is sent, taken and acknowledged. CAST_DONE, also where `code` is 12; CAST_MISUSED the handle
+ * holds no group; CAST_OUT_OF_MEMORY. Of a round that is refused, or for which memory is wanted, the events before stand. */
+static inline uint32_t cast_world_round(struct cast_world *world, struct cast_reply *reply) {
+    if (world == NULL || reply == NULL) return CAST_MISUSED;
+    return cast_c_world_round(world, reply);
 }
+
+/* Readers, which change nothing in the group. CAST_DONE; CAST_MISUSED the handle holds no group; CAST_REFUSED there is no such node,
+ * link or item.
+ * How many items `node` delivered from `sender`: CAST_DONE, CAST_MISUSED, CAST_REFUSED. */
+static inline uint32_t cast_world_delivered(struct cast_world *world, uint8_t node, uint8_t sender, uint64_t *count) {
+    if (world == NULL || count == NULL) return CAST_MISUSED;
+    return cast_c_world_delivered(world, node, sender, count);
+}
+/* One of them, by its number: CAST_DONE, CAST_MISUSED, CAST_REFUSED, CAST_TOO_SHORT. With the last `item` is whole, and no byte is
+ * written. */
 static inline uint32_t cast_world_item(struct cast_world *world, uint8_t node, uint8_t sender, uint64_t number,
                                        struct cast_item *item, void *bytes, size_t room) {
     if (world == NULL || item == NULL || !cast_has(bytes, room)) return CAST_MISUSED;
     return cast_c_world_item(world, node, sender, number, item, cast_some(bytes), room);
 }
+/* The value that a node decided in an instance, if it did; a node that there is not decided none: CAST_DONE, CAST_MISUSED. */
 static inline uint32_t cast_world_decision(struct cast_world *world, uint8_t node, uint64_t instance, bool *is_decided,
                                            uint64_t *value) {
     if (world == NULL || is_decided == NULL || value == NULL) return CAST_MISUSED;
     return cast_c_world_decision(world, node, instance, is_decided, value);
 }
+/* How many slots of what `from` gives `to` are not acknowledged: CAST_DONE, CAST_MISUSED, CAST_REFUSED. */
 static inline uint32_t cast_world_owed(struct cast_world *world, uint8_t from, uint8_t to, uint64_t *count) {
-    return world == NULL || count == NULL ? CAST_MISUSED : cast_c_world_owed(world, from, to, count);
+    if (world == NULL || count == NULL) return CAST_MISUSED;
+    return cast_c_world_owed(world, from, to, count);
 }
+/* Whether it is a node that has not crashed: CAST_DONE, CAST_MISUSED. */
 static inline uint32_t cast_world_live(struct cast_world *world, uint8_t node, bool *is_so) {
-    return world == NULL || is_so == NULL ? CAST_MISUSED : cast_c_world_live(world, node, is_so);
+    if (world == NULL || is_so == NULL) return CAST_MISUSED;
+    return cast_c_world_live(world, node, is_so);
 }
+/* Whether no live node owes a live node a slot: CAST_DONE, CAST_MISUSED. */
 static inline uint32_t cast_world_at_rest(struct cast_world *world, bool *is_so) {
-    return world == NULL || is_so == NULL ? CAST_MISUSED : cast_c_world_at_rest(world, is_so);
+    if (world == NULL || is_so == NULL) return CAST_MISUSED;
+    return cast_c_world_at_rest(world, is_so);
 }
 
 static inline void cast_world_drop(struct cast_world *world) {
     if (world != NULL) cast_c_world_drop(world);
 }
 
-/* The record of a script, and the picture of its events `from` to `to` (0 and UINT64_MAX: all). CAST_TOO_SHORT: nothing is written,
- * and `told` says how long the text is; so a buffer of no bytes asks for that. CAST_REFUSED: `told` says why. */
+/* The record of a script, and the picture of its events `from` to `to` (0 and UINT64_MAX: all). CAST_DONE; CAST_TOO_SHORT: nothing is
+ * written, and `told` says how long the text is, so a buffer of no bytes asks for that; CAST_REFUSED: `told` says why;
+ * CAST_OUT_OF_MEMORY. */
 static inline uint32_t cast_run(const void *script, size_t count, void *out, size_t room, struct cast_text *told) {
     if (!cast_has(script, count) || !cast_has(out, room) || told == NULL) return CAST_MISUSED;
     return cast_c_run(cast_some(script), count, cast_some(out), room, told);

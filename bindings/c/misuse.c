@@ -1,5 +1,6 @@
 /* Calls that no caller should make, and what they answer: null pointers, handles that hold nothing or hold something where they should
- * not, buffers that are too short, numbers of no kind; and calls at their limits, and one past them. Ends with the number of the first line that is wrong, or 0. */
+ * not, buffers that are too short, numbers of no kind, events that stand nowhere; calls at their limits, and one past them; and the
+ * texts of codes. Ends with the number of the first line that is wrong, or 0. */
 #include "castgroup.h"
 #include <string.h>
 
@@ -63,6 +64,8 @@ static int worlds(void) {
     NEED(cast_world_new(&world, &config, NULL) == CAST_MISUSED);
     NEED(cast_world_new(&world, &wrong, &fault) == CAST_REFUSED && fault == 7 && is_empty(&world) == 0);
     NEED(cast_world_new(&world, &odd, &fault) == CAST_REFUSED && fault == 7);
+    odd.nodes = 65, fault = 0;
+    NEED(cast_world_new(&world, &odd, &fault) == CAST_REFUSED && fault == 7);
     NEED(cast_world_new(&world, &config, &fault) == CAST_DONE && cast_world_new(&world, &config, &fault) == CAST_MISUSED);
     NEED(cast_world_step(&world, NULL, NULL, 0, &reply) == CAST_MISUSED);
     NEED(cast_world_step(&world, &event, NULL, 0, NULL) == CAST_MISUSED);
@@ -119,6 +122,52 @@ static int limits(void) {
     return 0;
 }
 
+/* Many events at once: a refused one is passed over, and the first that is none stops the call. */
+static int many(void) {
+    struct cast_world world = CAST_EMPTY;
+    struct cast_config config = CAST_CONFIG(2, 0);
+    struct cast_event events[] = {
+        {CAST_ORDER, 0, 0, CAST_DATA, 1, 3},
+        {CAST_SEND, 0, 1, 0, 9, 0},
+        {CAST_ORDER, 1, 0, CAST_PROPOSE, UINT64_MAX, UINT64_MAX},
+        {CAST_ORDER, 0, 0, CAST_DATA, 5, 0},
+        {CAST_ORDER, 0, 0, CAST_DATA, 5, 1},
+        {CAST_ORDER, 0, 0, CAST_DATA, UINT64_MAX, 2},
+    };
+    struct cast_reply replies[6];
+    struct cast_item item;
+    uint64_t fault, taken = 9;
+    char bytes[4] = "";
+    NEED(cast_world_steps(&world, events, 1, "abcde", 5, replies, &taken) == CAST_MISUSED && taken == 0);
+    NEED(cast_world_new(&world, &config, &fault) == CAST_DONE);
+    NEED(cast_world_steps(NULL, events, 1, "abcde", 5, replies, &taken) == CAST_MISUSED);
+    NEED(cast_world_steps(&world, NULL, 1, "abcde", 5, replies, &taken) == CAST_MISUSED);
+    NEED(cast_world_steps(&world, events, 1, NULL, 5, replies, &taken) == CAST_MISUSED);
+    NEED(cast_world_steps(&world, events, 1, "abcde", 5, NULL, &taken) == CAST_MISUSED);
+    NEED(cast_world_steps(&world, events, 1, "abcde", 5, replies, NULL) == CAST_MISUSED);
+    NEED(cast_world_steps(&world, NULL, 0, NULL, 0, NULL, &taken) == CAST_DONE && taken == 0);
+    NEED(cast_world_steps(&world, events, 5, "abcde", 5, replies, &taken) == CAST_MISUSED && taken == 4);
+    NEED(replies[0].code == 0 && replies[1].code == 8 && replies[2].code == 0 && replies[3].number == 1);
+    NEED(cast_world_item(&world, 0, 0, 0, &item, bytes, 3) == CAST_DONE && strcmp(bytes, "bcd") == 0);
+    NEED(cast_world_steps(&world, events + 5, 1, "abcde", 5, replies, &taken) == CAST_MISUSED && taken == 0);
+    events[5].kind = 9;
+    NEED(cast_world_steps(&world, events + 5, 1, "abcde", 5, replies, &taken) == CAST_MISUSED && taken == 0);
+    cast_world_drop(&world);
+    return 0;
+}
+
+static int codes(void) {
+    NEED(cast_version() == CAST_VERSION_NUMBER);
+    NEED(strcmp(cast_refusal_text(12), "the node can make no more frames") == 0);
+    NEED(strcmp(cast_refusal_text(13), "no such code") == 0 && strcmp(cast_refusal_text(0), "accepted") == 0);
+    NEED(strcmp(cast_rule_text(6), "a second proposal of a node in an instance") == 0);
+    NEED(strcmp(cast_rule_text(7), "no such code") == 0 && strcmp(cast_config_text(8), "no such code") == 0);
+    NEED(strcmp(cast_config_text(1), "the number of nodes is not 1 to 64") == 0);
+    NEED(strcmp(cast_status_text(CAST_TOO_SHORT), "the buffer has no room") == 0);
+    NEED(strcmp(cast_status_text(4), "no such code") == 0);
+    return 0;
+}
+
 static int texts(void) {
     struct cast_text told;
     char out[64];
@@ -139,6 +188,8 @@ int main(void) {
     int wrong = judges();
     if (wrong == 0) wrong = worlds();
     if (wrong == 0) wrong = limits();
+    if (wrong == 0) wrong = many();
+    if (wrong == 0) wrong = codes();
     if (wrong == 0) wrong = texts();
     return wrong;
 }

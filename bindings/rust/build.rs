@@ -1,12 +1,50 @@
-//! Links libcastgroup.a, from the folder that CASTGROUP_LIB names, or else from `lib` beside this file. `bindings/library FOLDER` makes
-//! it.
-use std::{env, path::PathBuf};
+//! Links libcastgroup.a, from the folder that CASTGROUP_LIB names, or `lib` beside this file, or the folder that pkg-config tells.
+use std::path::PathBuf;
+use std::process::{exit, Command};
+use std::env;
+
+const ARCHIVE: &str = "libcastgroup.a";
+
+/// The folder of the library that pkg-config knows, or why there is none.
+fn by_pkg_config() -> Result<PathBuf, String> {
+    let program = env::var_os("PKG_CONFIG").unwrap_or_else(|| "pkg-config".into());
+    let told = Command::new(program).args(["--variable=libdir", "castgroup"]).output();
+    let told = told.map_err(|fault| format!("pkg-config can't be run: {fault}"))?;
+    let folder = String::from_utf8_lossy(&told.stdout).trim().to_string();
+    if !told.status.success() || folder.is_empty() {
+        return Err("pkg-config doesn't know castgroup".to_string());
+    }
+    Ok(PathBuf::from(folder))
+}
+
+fn folder() -> Result<PathBuf, String> {
+    if let Some(named) = env::var_os("CASTGROUP_LIB") {
+        return Ok(PathBuf::from(named));
+    }
+    let beside = PathBuf::from(env::var_os("CARGO_MANIFEST_DIR").unwrap_or_default()).join("lib");
+    if beside.join(ARCHIVE).is_file() {
+        return Ok(beside);
+    }
+    by_pkg_config().map_err(|why| format!("name the folder of {ARCHIVE} by CASTGROUP_LIB: {why}"))
+}
 
 fn main() {
-    println!("cargo:rerun-if-env-changed=CASTGROUP_LIB");
-    let beside = || PathBuf::from(env::var_os("CARGO_MANIFEST_DIR").unwrap_or_default()).join("lib");
-    let folder = env::var_os("CASTGROUP_LIB").map_or_else(beside, PathBuf::from);
-    println!("cargo:rerun-if-changed={}", folder.join("libcastgroup.a").display());
-    println!("cargo:rustc-link-search=native={}", folder.display());
-    println!("cargo:rustc-link-lib=static=castgroup");
+    for name in ["CASTGROUP_LIB", "PKG_CONFIG", "PKG_CONFIG_PATH"] {
+        println!("cargo:rerun-if-env-changed={name}");
+    }
+    let found = folder().and_then(|folder| match folder.join(ARCHIVE).is_file() {
+        true => Ok(folder),
+        false => Err(format!("there is no {ARCHIVE} in {}", folder.display())),
+    });
+    match found {
+        Ok(folder) => {
+            println!("cargo:rerun-if-changed={}", folder.join(ARCHIVE).display());
+            println!("cargo:rustc-link-search=native={}", folder.display());
+            println!("cargo:rustc-link-lib=static=castgroup");
+        }
+        Err(why) => {
+            eprintln!("castgroup: {why}");
+            exit(1);
+        }
+    }
 }

@@ -13,7 +13,7 @@ fn main() -> Result<(), Box<dyn std::error::Error>> {
     world.step(&Event::Crash { node: 3 })?;
     let mut world = std::thread::spawn(move || world.round().map(|_| world)).join().expect("a thread")?;
     world.round()?;
-    println!("{} {:?} {:?}", world.at_rest(), world.decision(1, 1), world.delivered(1, 0).map(|items| items.len()));
+    println!("{} {:?} {:?}", world.at_rest(), world.decision(1, 1), world.delivered(1, 0).count());
     println!("{:?} {:?} {:?}", world.owed(0, 1), world.item(2, 1, 9), World::new(&Config::of(4, 4)).err());
     let script = br#"{"nodes":2,"faults":0,"choices":1,"events":[["order",0,"data","61"],["settle"]]}"#;
     let record = run(script)?;

@@ -1,13 +1,14 @@
 //! Why a call was refused.
+use std::collections::TryReserveError;
 use std::error::Error;
 use std::fmt;
 
 /// The library wanted memory, and got none.
-#[derive(Clone, Copy, Debug, PartialEq, Eq)]
+#[derive(Clone, Copy, Debug, PartialEq, Eq, PartialOrd, Ord, Hash)]
 pub struct OutOfMemory;
 
 /// The first number of a configuration that is out of range, or want of memory.
-#[derive(Clone, Copy, Debug, PartialEq, Eq)]
+#[derive(Clone, Copy, Debug, PartialEq, Eq, PartialOrd, Ord, Hash)]
 pub enum ConfigError {
     /// The nodes are not 1 to 64.
     Nodes,
@@ -28,7 +29,7 @@ pub enum ConfigError {
 }
 
 /// Why an event is refused, after which all is as it was.
-#[derive(Clone, Copy, Debug, PartialEq, Eq)]
+#[derive(Clone, Copy, Debug, PartialEq, Eq, PartialOrd, Ord, Hash)]
 pub enum Refusal {
     /// 1: a node that doesn't exist.
     NoNode,
@@ -57,7 +58,7 @@ pub enum Refusal {
 }
 
 /// A step or a round was refused, or there was no memory for it.
-#[derive(Clone, Copy, Debug, PartialEq, Eq)]
+#[derive(Clone, Copy, Debug, PartialEq, Eq, PartialOrd, Ord, Hash)]
 pub enum StepError {
     /// It was refused.
     Refused(Refusal),
@@ -66,7 +67,7 @@ pub enum StepError {
 }
 
 /// A piece of a record was not judged.
-#[derive(Clone, Copy, Debug, PartialEq, Eq)]
+#[derive(Clone, Copy, Debug, PartialEq, Eq, PartialOrd, Ord, Hash)]
 pub enum JudgeError {
     /// All pieces together have 2^63 bytes.
     TooLong,
@@ -75,7 +76,7 @@ pub enum JudgeError {
 }
 
 /// A script is refused, or there was no memory for its text.
-#[derive(Clone, Copy, Debug, PartialEq, Eq)]
+#[derive(Clone, Copy, Debug, PartialEq, Eq, PartialOrd, Ord, Hash)]
 pub enum TextError {
     /// The script has more than 67,108,864 bytes.
     TooLong,
@@ -123,6 +124,11 @@ impl ConfigError {
     /// The fault of this code, where it is one.
     pub fn from_code(code: u64) -> Option<ConfigError> {
         by_code(&CONFIG_ERRORS, code)
+    }
+
+    /// The number of the fault, 1 to 7; want of memory has none.
+    pub fn code(self) -> Option<u64> {
+        (self != ConfigError::OutOfMemory).then_some(self as u64 + 1)
     }
 }
 
@@ -206,6 +212,18 @@ impl fmt::Display for TextError {
             TextError::Config(fault) => write!(f, "the configuration is refused: {fault}"),
             TextError::OutOfMemory => OutOfMemory.fmt(f),
         }
+    }
+}
+
+impl From<OutOfMemory> for StepError {
+    fn from(_: OutOfMemory) -> StepError {
+        StepError::OutOfMemory
+    }
+}
+
+impl From<TryReserveError> for OutOfMemory {
+    fn from(_: TryReserveError) -> OutOfMemory {
+        OutOfMemory
     }
 }
 

@@ -1,17 +1,19 @@
 //! What a group takes and answers.
 use crate::raw;
+use std::fmt;
 
 /// When a message whose turn has come is delivered.
-#[derive(Clone, Copy, Debug, PartialEq, Eq)]
+#[derive(Clone, Copy, Debug, Default, PartialEq, Eq, PartialOrd, Ord, Hash)]
 pub enum Mode {
     /// In the step in which the node holds it.
+    #[default]
     Basic,
     /// Once more nodes than may crash hold it.
     Uniform,
 }
 
 /// A configuration. Its numbers are looked at where a group is made.
-#[derive(Clone, Debug, PartialEq, Eq)]
+#[derive(Clone, Copy, Debug, PartialEq, Eq, PartialOrd, Ord, Hash)]
 pub struct Config {
     /// How many nodes there are, 1 to 64.
     pub nodes: u64,
@@ -31,8 +33,14 @@ pub struct Config {
     pub mode: Mode,
 }
 
-/// What a node broadcasts.
-#[derive(Clone, Debug, PartialEq, Eq)]
+/// What a node broadcasts. It is shown as a word of a record: `data:6162`, `prop:7:3` or `close`.
+///
+/// ```
+/// use castgroup::Item;
+///
+/// assert_eq!(Item::from("ab").to_string(), "data:6162");
+/// ```
+#[derive(Clone, Debug, PartialEq, Eq, PartialOrd, Ord, Hash)]
 pub enum Item {
     /// Bytes, at most 1,024.
     Data(Vec<u8>),
@@ -47,8 +55,16 @@ pub enum Item {
     Close,
 }
 
-/// One step of one node. A frame for which no arrival comes is lost.
-#[derive(Clone, Debug, PartialEq, Eq)]
+/// One step of one node. A frame for which no arrival comes is lost. It is shown as an element of a script.
+///
+/// ```
+/// use castgroup::{Event, Item};
+///
+/// assert_eq!(Event::order(0, "ab").to_string(), r#"["order",0,"data","6162"]"#);
+/// assert_eq!(Event::order(1, Item::Close).to_string(), r#"["order",1,"close"]"#);
+/// assert_eq!(Event::send(0, 1, 4), Event::Send { from: 0, to: 1, slot: 4 });
+/// ```
+#[derive(Clone, Debug, PartialEq, Eq, PartialOrd, Ord, Hash)]
 pub enum Event {
     /// The node broadcasts an item.
     Order {
@@ -89,9 +105,9 @@ pub enum Event {
     },
 }
 
-/// What a step delivers and decides at its node. The items are read by [`World::item`](crate::World::item), the decisions by
-/// [`World::decision`](crate::World::decision).
-#[derive(Clone, Copy, Debug, Default, PartialEq, Eq)]
+/// What a step delivers and decides at its node. The items are read by [`World::deliveries_of`](crate::World::deliveries_of), the
+/// decisions by [`World::decisions_of`](crate::World::decisions_of).
+#[derive(Clone, Copy, Debug, Default, PartialEq, Eq, PartialOrd, Ord, Hash)]
 pub struct Outcome {
     /// Whose items were delivered, where some were.
     pub sender: u8,
@@ -104,7 +120,7 @@ pub struct Outcome {
 }
 
 /// The answer to an accepted event.
-#[derive(Clone, Copy, Debug, PartialEq, Eq)]
+#[derive(Clone, Copy, Debug, PartialEq, Eq, PartialOrd, Ord, Hash)]
 pub enum Reply {
     /// The item has this number in its node's stream.
     Ordered {
@@ -127,6 +143,127 @@ pub enum Reply {
     },
     /// The node has crashed.
     Down,
+}
+
+/// An item that a step delivered.
+#[derive(Clone, Debug, PartialEq, Eq, PartialOrd, Ord, Hash)]
+pub struct Delivery {
+    /// Whose item it is.
+    pub sender: u8,
+    /// Its number in the sender's stream.
+    pub number: u64,
+    /// The item.
+    pub item: Item,
+}
+
+/// A decision that a step took.
+#[derive(Clone, Copy, Debug, PartialEq, Eq, PartialOrd, Ord, Hash)]
+pub struct Decision {
+    /// The number of the agreement.
+    pub instance: u64,
+    /// The value.
+    pub value: u64,
+}
+
+/// The usual configuration of one node, which tolerates no crash.
+impl Default for Config {
+    fn default() -> Config {
+        Config::of(1, 0)
+    }
+}
+
+impl fmt::Display for Mode {
+    fn fmt(&self, f: &mut fmt::Formatter<'_>) -> fmt::Result {
+        f.write_str(match self {
+            Mode::Basic => "basic",
+            Mode::Uniform => "uniform",
+        })
+    }
+}
+
+/// The members of a script that make this configuration.
+///
+/// ```
+/// assert!(castgroup::Config::of(3, 1).to_string().starts_with(r#""nodes":3,"faults":1,"choices":2,"mode":"basic","item_limit":4096"#));
+/// ```
+impl fmt::Display for Config {
+    fn fmt(&self, f: &mut fmt::Formatter<'_>) -> fmt::Result {
+        write!(f, r#""nodes":{},"faults":{},"choices":{},"mode":"{}","#, self.nodes, self.faults, self.choices, self.mode)?;
+        write!(f, r#""item_limit":{},"log_limit":{},"#, self.item_limit, self.log_limit)?;
+        write!(f, r#""box_size":{},"first_stamp":{}"#, self.box_size, self.first_stamp)
+    }
+}
+
+fn put_hex(bytes: &[u8], f: &mut fmt::Formatter<'_>) -> fmt::Result {
+    bytes.iter().try_for_each(|byte| write!(f, "{byte:02x}"))
+}
+
+impl fmt::Display for Item {
+    fn fmt(&self, f: &mut fmt::Formatter<'_>) -> fmt::Result {
+        match self {
+            Item::Data(bytes) => {
+                f.write_str("data:")?;
+                put_hex(bytes, f)
+            }
+            Item::Propose { instance, value } => write!(f, "prop:{instance}:{value}"),
+            Item::Close => f.write_str("close"),
+        }
+    }
+}
+
+impl fmt::Display for Event {
+    fn fmt(&self, f: &mut fmt::Formatter<'_>) -> fmt::Result {
+        match self {
+            Event::Order { node, item } => match item {
+                Item::Data(bytes) => {
+                    write!(f, r#"["order",{node},"data",""#)?;
+                    put_hex(bytes, f)?;
+                    f.write_str(r#""]"#)
+                }
+                Item::Propose { instance, value } => write!(f, r#"["order",{node},"propose",{instance},{value}]"#),
+                Item::Close => write!(f, r#"["order",{node},"close"]"#),
+            },
+            Event::Send { from, to, slot } => write!(f, r#"["send",{from},{to},{slot}]"#),
+            Event::Ack { from, to, slot } => write!(f, r#"["ack",{from},{to},{slot}]"#),
+            Event::Arrive { from, seq } => write!(f, r#"["arrive",{from},{seq}]"#),
+            Event::Crash { node } => write!(f, r#"["crash",{node}]"#),
+        }
+    }
+}
+
+impl From<Vec<u8>> for Item {
+    fn from(bytes: Vec<u8>) -> Item {
+        Item::Data(bytes)
+    }
+}
+
+impl From<&[u8]> for Item {
+    fn from(bytes: &[u8]) -> Item {
+        Item::Data(bytes.to_vec())
+    }
+}
+
+impl<const N: usize> From<&[u8; N]> for Item {
+    fn from(bytes: &[u8; N]) -> Item {
+        Item::Data(bytes.to_vec())
+    }
+}
+
+impl From<&str> for Item {
+    fn from(text: &str) -> Item {
+        Item::Data(text.as_bytes().to_vec())
+    }
+}
+
+impl Reply {
+    /// The node that took the event, and what it delivered and decided, where that can be some.
+    pub fn outcome(&self, event: &Event) -> Option<(u8, Outcome)> {
+        match (*self, event) {
+            (Reply::Ordered { outcome, .. }, Event::Order { node, .. }) => Some((*node, outcome)),
+            (Reply::Arrived { node, outcome }, _) => Some((node, outcome)),
+            _ => None,
+        }
+    }
 }
 
 impl Config {
@@ -163,6 +300,36 @@ impl Config {
 }
 
 impl Event {
+    /// The node broadcasts an item: bytes, a text, or an [`Item`].
+    pub fn order(node: u8, item: impl Into<Item>) -> Event {
+        Event::Order { node, item: item.into() }
+    }
+
+    /// The node proposes a value in an instance.
+    pub fn propose(node: u8, instance: u64, value: u64) -> Event {
+        Event::Order { node, item: Item::Propose { instance, value } }
+    }
+
+    /// `from` makes a frame with the message in this slot of its link to `to`.
+    pub fn send(from: u8, to: u8, slot: u64) -> Event {
+        Event::Send { from, to, slot }
+    }
+
+    /// `from` makes a frame that tells `to` that it took this slot of the link from `to`.
+    pub fn ack(from: u8, to: u8, slot: u64) -> Event {
+        Event::Ack { from, to, slot }
+    }
+
+    /// The frame with this number, made by `from`, comes to its target.
+    pub fn arrive(from: u8, seq: u64) -> Event {
+        Event::Arrive { from, seq }
+    }
+
+    /// The node takes no step from here on.
+    pub fn crash(node: u8) -> Event {
+        Event::Crash { node }
+    }
+
     /// The numbers of an event, and the bytes of its item.
     pub(crate) fn numbers(&self) -> (raw::Event, &[u8]) {
         let none = raw::Event::default();

@@ -1,9 +1,10 @@
 //! The judge of records.
 use crate::error::{JudgeError, OutOfMemory};
 use crate::raw;
+use std::fmt;
 
-/// What a judge says of a record.
-#[derive(Clone, Copy, Debug, PartialEq, Eq)]
+/// What a judge says of a record. It is shown as `castgroup judge` writes it: `good`, or `bad LINE RULE`.
+#[derive(Clone, Copy, Debug, PartialEq, Eq, PartialOrd, Ord, Hash)]
 pub enum Verdict {
     /// It is a record, and no line breaks a rule.
     Good,
@@ -14,6 +15,29 @@ pub enum Verdict {
         /// The rule.
         rule: u64,
     },
+}
+
+impl fmt::Display for Verdict {
+    fn fmt(&self, f: &mut fmt::Formatter<'_>) -> fmt::Result {
+        match self {
+            Verdict::Good => f.write_str("good"),
+            Verdict::Bad { line, rule } => write!(f, "bad {line} {rule}"),
+        }
+    }
+}
+
+/// What a line did that breaks this rule, where it is one.
+pub fn rule_text(rule: u64) -> Option<&'static str> {
+    Some(match rule {
+        0 => "no line of a record, or a head or an end that is missing or stands again",
+        1 => "a broadcast or a delivery out of turn, or a delivery of what was not broadcast",
+        2 => "a broadcast after the sender's close",
+        3 => "a decision that nobody proposed",
+        4 => "more decided values in an instance than choices, where fewer nodes than choices may crash",
+        5 => "a line of a node that has crashed",
+        6 => "a second proposal of a node in an instance",
+        _ => return None,
+    })
 }
 
 /// The verdict on a record, or want of memory.
@@ -51,6 +75,12 @@ fn verdict(status: u32, said: &raw::Verdict) -> Result<Verdict, OutOfMemory> {
 /// ```
 pub struct Judge {
     handle: raw::Handle,
+}
+
+impl fmt::Debug for Judge {
+    fn fmt(&self, f: &mut fmt::Formatter<'_>) -> fmt::Result {
+        f.debug_struct("Judge").finish_non_exhaustive()
+    }
 }
 
 // SAFETY: a judge owns its memory, and calls of it take `&mut` or the judge itself.

@@ -5,10 +5,10 @@
 //! use castgroup::{Config, Event, Item, World};
 //!
 //! let mut world = World::new(&Config::of(2, 0))?;
-//! world.step(&Event::Order { node: 0, item: Item::Data(b"a".to_vec()) })?;
+//! world.step(&Event::order(0, "a"))?;
 //! world.round()?;
 //! assert!(world.at_rest());
-//! assert_eq!(world.delivered(1, 0), Some(vec![Item::Data(b"a".to_vec())]));
+//! assert_eq!(world.delivered(1, 0).next(), Some(Ok(Item::from("a"))));
 //! # Ok::<(), Box<dyn std::error::Error>>(())
 //! ```
 //!
@@ -27,11 +27,22 @@ mod error;
 mod event;
 mod judge;
 mod raw;
+mod record;
 mod text;
 mod world;
 
 pub use error::{ConfigError, JudgeError, OutOfMemory, Refusal, StepError, TextError};
-pub use event::{Config, Event, Item, Mode, Outcome, Reply};
-pub use judge::{judge, Judge, Verdict};
+pub use event::{Config, Decision, Delivery, Event, Item, Mode, Outcome, Reply};
+pub use judge::{judge, rule_text, Judge, Verdict};
 pub use text::{draw, run};
 pub use world::World;
+
+/// The version of the library that is linked: 10,000 times its major number, 100 times its minor number, and its patch.
+///
+/// ```
+/// assert_eq!(castgroup::library_version() / 100, 2);
+/// ```
+pub fn library_version() -> u32 {
+    // SAFETY: it takes nothing.
+    unsafe { raw::cast_c_version() }
+}

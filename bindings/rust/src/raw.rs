@@ -78,6 +78,7 @@ pub(crate) struct Text {
 // is written through, and leads to as many bytes as are said. A handle begins empty, stays where its owner keeps it while a call
 // runs, and is never copied.
 extern "C" {
+    pub(crate) fn cast_c_version() -> u32;
     pub(crate) fn cast_c_judge(record: *const u8, count: usize, verdict: *mut Verdict) -> u32;
     pub(crate) fn cast_c_judge_new(judge: *mut Handle) -> u32;
     pub(crate) fn cast_c_judge_feed(judge: *mut Handle, piece: *const u8, count: usize) -> u32;

@@ -1,6 +1,7 @@
 //! The texts of scripts.
-use crate::error::{ConfigError, TextError};
+use crate::error::{ConfigError, OutOfMemory, TextError};
 use crate::raw;
+use std::ops::{Bound, RangeBounds};
 
 /// So many bytes are tried first.
 const FIRST_ROOM: usize = 65_536;
@@ -19,38 +20,64 @@ pub fn run(script: &[u8]) -> Result<Vec<u8>, TextError> {
     })
 }
 
-/// The picture of a script's events, as SVG, of which those from one place to another are shown.
+/// The picture of a script's events, as SVG, of which those in a range of places are shown: `..` shows all.
 ///
 /// ```
 /// let script = br#"{"nodes":1,"faults":0,"choices":1,"events":[["crash",0]]}"#;
-/// assert!(castgroup::draw(script, 0..=u64::MAX)?.starts_with(b"<svg"));
+/// assert!(castgroup::draw(script, ..)?.starts_with(b"<svg"));
+/// assert_eq!(castgroup::draw(script, 0..=9), castgroup::draw(script, ..));
 /// # Ok::<(), castgroup::TextError>(())
 /// ```
-pub fn draw(script: &[u8], window: std::ops::RangeInclusive<u64>) -> Result<Vec<u8>, TextError> {
-    let (from, to) = window.into_inner();
+pub fn draw(script: &[u8], window: impl RangeBounds<u64>) -> Result<Vec<u8>, TextError> {
+    let (from, to) = ends(&window);
     text(|out, told| {
         // SAFETY: see `raw`.
         unsafe { raw::cast_c_draw(script.as_ptr(), script.len(), from, to, out.as_mut_ptr(), out.len(), told) }
     })
 }
 
-/// Asks for a text, and once more where the first buffer was too short.
-fn text(mut ask: impl FnMut(&mut [u8], &mut raw::Text) -> u32) -> Result<Vec<u8>, TextError> {
+/// Asks for a text, and once more where the first buffer was too short: the status, the text, and what was told.
+fn asked(mut ask: impl FnMut(&mut [u8], &mut raw::Text) -> u32) -> Result<(u32, Vec<u8>, raw::Text), OutOfMemory> {
     let mut told = raw::Text::default();
-    let mut out = vec![0; FIRST_ROOM];
+    let mut out = Vec::new();
+    grow(&mut out, FIRST_ROOM)?;
     let mut status = ask(&mut out, &mut told);
     if status == raw::TOO_SHORT {
-        out.resize(told.length as usize, 0);
+        grow(&mut out, told.length as usize)?;
         status = ask(&mut out, &mut told);
     }
+    out.truncate(told.length as usize);
+    Ok((status, out, told))
+}
+
+fn grow(out: &mut Vec<u8>, room: usize) -> Result<(), OutOfMemory> {
+    out.try_reserve_exact(room.saturating_sub(out.len()))?;
+    out.resize(room, 0);
+    Ok(())
+}
+
+fn text(ask: impl FnMut(&mut [u8], &mut raw::Text) -> u32) -> Result<Vec<u8>, TextError> {
+    let (status, out, told) = asked(ask).map_err(|OutOfMemory| TextError::OutOfMemory)?;
     match status {
-        raw::DONE => {
-            out.truncate(told.length as usize);
-            Ok(out)
-        }
+        raw::DONE => Ok(out),
         raw::REFUSED => Err(fault(&told)),
         _ => Err(TextError::OutOfMemory),
     }
+}
+
+/// The first and the last place of a range. One that has none is told as 1 and 0.
+fn ends(window: &impl RangeBounds<u64>) -> (u64, u64) {
+    let from = match window.start_bound() {
+        Bound::Included(&from) => Some(from),
+        Bound::Excluded(&before) => before.checked_add(1),
+        Bound::Unbounded => Some(0),
+    };
+    let to = match window.end_bound() {
+        Bound::Included(&to) => Some(to),
+        Bound::Excluded(&behind) => behind.checked_sub(1),
+        Bound::Unbounded => Some(u64::MAX),
+    };
+    from.zip(to).unwrap_or((1, 0))
 }
 
 fn fault(told: &raw::Text) -> TextError {

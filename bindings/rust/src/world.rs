@@ -1,14 +1,15 @@
 //! A group as one value.
-use crate::error::{ConfigError, Refusal, StepError};
-use crate::event::{Config, Event, Item, Reply};
+use crate::error::{ConfigError, OutOfMemory, Refusal, StepError};
+use crate::event::{Config, Decision, Delivery, Event, Item, Outcome, Reply};
 use crate::raw;
 use std::cell::UnsafeCell;
+use std::fmt;
 
 /// The longest payload that a group takes.
 const MOST_BYTES: usize = 1_024;
 
 /// A group: events go in, replies come out, and readers show what each node has delivered, decided and owes. It may go to another
-/// thread, and is used by one at a time.
+/// thread, and is used by one at a time: it is not `Sync`, since a reader too takes the group out of its handle and puts it back.
 ///
 /// ```compile_fail
 /// fn is_sync<T: Sync>() {}
@@ -17,6 +18,13 @@ const MOST_BYTES: usize = 1_024;
 pub struct World {
     // The library takes the group out of its handle for each call, a reader's too.
     handle: UnsafeCell<raw::Handle>,
+    config: Config,
+}
+
+impl fmt::Debug for World {
+    fn fmt(&self, f: &mut fmt::Formatter<'_>) -> fmt::Result {
+        f.debug_struct("World").field("config", &self.config).field("at_rest", &self.at_rest()).finish_non_exhaustive()
+    }
 }
 
 // SAFETY: a group owns its memory. It is not `Sync`, so its calls come one after another.
@@ -36,10 +44,15 @@ impl World {
         let mut fault = 0;
         // SAFETY: see `raw`.
         match unsafe { raw::cast_c_world_new(&mut handle, &config.numbers(), &mut fault) } {
-            raw::DONE => Ok(World { handle: UnsafeCell::new(handle) }),
+            raw::DONE => Ok(World { handle: UnsafeCell::new(handle), config: *config }),
             raw::REFUSED => Err(ConfigError::from_code(fault).unwrap_or(ConfigError::Mode)),
             _ => Err(ConfigError::OutOfMemory),
         }
+    }
+
+    /// The configuration that it was made with.
+    pub fn config(&self) -> &Config {
+        &self.config
     }
 
     /// Takes one event. A refused one changes nothing.
@@ -82,27 +95,80 @@ impl World {
     }
 
     /// The item with this number, from 0 on, of those that `node` delivered from `sender`.
-    pub fn item(&self, node: u8, sender: u8, number: u64) -> Option<Item> {
-        let mut told = raw::Item::default();
-        let mut room = [0; MOST_BYTES];
+    pub fn item(&self, node: u8, sender: u8, number: u64) -> Result<Option<Item>, OutOfMemory> {
         // SAFETY: see `raw`.
-        let status = unsafe {
-            raw::cast_c_world_item(self.handle.get(), node, sender, number, &mut told, room.as_mut_ptr(), room.len())
-        };
-        if status != raw::DONE {
-            return None;
-        }
-        Some(match told.kind {
-            0 => Item::Data(room[..told.length as usize].to_vec()),
-            1 => Item::Propose { instance: told.instance, value: told.value },
-            _ => Item::Close,
+        read_item(|told, room| unsafe {
+            raw::cast_c_world_item(self.handle.get(), node, sender, number, told, room.as_mut_ptr(), room.len())
         })
     }
 
-    /// The items that `node` delivered from `sender`, in order, where both are nodes.
-    pub fn delivered(&self, node: u8, sender: u8) -> Option<Vec<Item>> {
-        let count = self.delivered_count(node, sender)?;
-        (0..count).map(|number| self.item(node, sender, number)).collect()
+    /// The items that `node` delivered from `sender`, in order; none where one is no node.
+    ///
+    /// ```
+    /// use castgroup::{Config, Event, Item, World};
+    ///
+    /// let mut world = World::new(&Config::of(2, 0))?;
+    /// world.step(&Event::order(0, "a"))?;
+    /// world.round()?;
+    /// assert_eq!(world.delivered(1, 0).collect::<Result<Vec<_>, _>>()?, [Item::from("a")]);
+    /// # Ok::<(), Box<dyn std::error::Error>>(())
+    /// ```
+    pub fn delivered(&self, node: u8, sender: u8) -> impl Iterator<Item = Result<Item, OutOfMemory>> + '_ {
+        (0..).map_while(move |number| self.item(node, sender, number).transpose())
+    }
+
+    /// What a step delivered at `node`, by the outcome in its reply.
+    pub fn deliveries_of(&self, node: u8, outcome: Outcome) -> impl Iterator<Item = Result<Delivery, OutOfMemory>> + '_ {
+        let numbers = outcome.first..outcome.first + outcome.deliveries;
+        numbers.map_while(move |number| {
+            let item = self.item(node, outcome.sender, number).transpose()?;
+            Some(item.map(|item| Delivery { sender: outcome.sender, number, item }))
+        })
+    }
+
+    /// The decisions that a step took at `node`, by the outcome in its reply, in the order of the deliveries that brought them. It is
+    /// asked before the group takes another event.
+    ///
+    /// ```
+    /// use castgroup::{Config, Decision, Event, World};
+    ///
+    /// let mut world = World::new(&Config::of(1, 0))?;
+    /// let event = Event::propose(0, 7, 3);
+    /// let (node, outcome) = world.step(&event)?.outcome(&event).unwrap();
+    /// assert_eq!(world.decisions_of(node, outcome)?, [Decision { instance: 7, value: 3 }]);
+    /// # Ok::<(), Box<dyn std::error::Error>>(())
+    /// ```
+    pub fn decisions_of(&self, node: u8, outcome: Outcome) -> Result<Vec<Decision>, OutOfMemory> {
+        let mut decisions = Vec::new();
+        decisions.try_reserve_exact(outcome.decisions as usize)?;
+        if outcome.decisions == 0 {
+            return Ok(decisions);
+        }
+        for delivery in self.deliveries_of(node, outcome) {
+            let Item::Propose { instance, .. } = delivery?.item else {
+                continue;
+            };
+            match self.decision(node, instance) {
+                Some(value) if !self.had_decided(node, instance, outcome.sender)? => decisions.push(Decision { instance, value }),
+                _ => {}
+            }
+        }
+        Ok(decisions)
+    }
+
+    /// Whether a node had decided in an instance before it delivered the proposal of this sender there: the first n - f proposals
+    /// decide.
+    fn had_decided(&self, node: u8, instance: u64, sender: u8) -> Result<bool, OutOfMemory> {
+        let mut proposals = 0;
+        for other in (0..self.config.nodes as u8).filter(|&other| other != sender) {
+            for item in self.delivered(node, other) {
+                if matches!(item?, Item::Propose { instance: found, .. } if found == instance) {
+                    proposals += 1;
+                    break;
+                }
+            }
+        }
+        Ok(proposals >= self.config.nodes - self.config.faults)
     }
 
     /// The value that `node` decided in the instance, if it did.
@@ -136,6 +202,24 @@ impl World {
         unsafe { raw::cast_c_world_at_rest(self.handle.get(), &mut is_so) };
         is_so
     }
+}
+
+fn read_item(read: impl FnOnce(&mut raw::Item, &mut [u8]) -> u32) -> Result<Option<Item>, OutOfMemory> {
+    let mut told = raw::Item::default();
+    let mut room = [0; MOST_BYTES];
+    if read(&mut told, &mut room) != raw::DONE {
+        return Ok(None);
+    }
+    Ok(Some(match told.kind {
+        0 => {
+            let mut bytes = Vec::new();
+            bytes.try_reserve_exact(told.length as usize)?;
+            bytes.extend_from_slice(&room[..told.length as usize]);
+            Item::Data(bytes)
+        }
+        1 => Item::Propose { instance: told.instance, value: told.value },
+        _ => Item::Close,
+    }))
 }
 
 fn accept(status: u32, told: &raw::Reply) -> Result<(), StepError> {

@@ -1,5 +1,7 @@
 //! Refusals, errors, and handles.
-use castgroup::{Config, ConfigError, Event, Item, Judge, Mode, OutOfMemory, Refusal, Reply, StepError, TextError, World};
+use castgroup::{
+    rule_text, Config, ConfigError, Event, Item, Judge, Mode, OutOfMemory, Refusal, Reply, StepError, TextError, World,
+};
 use std::error::Error;
 use std::io::Write;
 
@@ -19,7 +21,7 @@ fn a_group_goes_to_another_thread() {
     .join()
     .unwrap();
     assert!(world.at_rest());
-    assert_eq!(world.delivered(2, 0), Some(vec![Item::Data(vec![1, 2])]));
+    assert_eq!(world.delivered(2, 0).collect::<Vec<_>>(), [Ok(Item::Data(vec![1, 2]))]);
 }
 
 #[test]
@@ -71,15 +73,30 @@ fn readers_say_what_is_there() {
     assert!(world.at_rest());
     assert_eq!((world.decision(0, 7), world.decision(1, 7), world.decision(1, 8)), (Some(2), Some(2), None));
     assert_eq!((world.delivered_count(0, 1), world.delivered_count(0, 2)), (Some(1), None));
-    assert_eq!(world.item(1, 0, 0), Some(Item::Propose { instance: 7, value: 3 }));
-    assert_eq!((world.item(1, 0, 1), world.item(1, 0, u64::MAX)), (None, None));
+    assert_eq!(world.item(1, 0, 0), Ok(Some(Item::Propose { instance: 7, value: 3 })));
+    assert_eq!((world.item(1, 0, 1), world.item(1, 0, u64::MAX)), (Ok(None), Ok(None)));
+    assert_eq!(world.config(), &Config::of(2, 0));
+    assert!(format!("{world:?}").starts_with("World { config: Config { nodes: 2, "));
     assert!(world.live(1) && !world.live(2));
+}
+
+#[test]
+fn words_and_orders() {
+    assert!((0..=6).all(|rule| rule_text(rule).is_some()) && rule_text(7).is_none());
+    assert!(Event::crash(1) > Event::arrive(9, 9) && Item::Close > Item::from("a"));
+    assert_eq!(Config::default(), Config::of(1, 0));
+    assert_eq!(StepError::Refused(Refusal::NoSlot).to_string(), "refused: no such slot");
+    assert_eq!(StepError::from(OutOfMemory), StepError::OutOfMemory);
+    assert_eq!((ConfigError::Mode.code(), ConfigError::OutOfMemory.code()), (Some(7), None));
+    assert_eq!(Event::propose(1, 7, 3).to_string(), r#"["order",1,"propose",7,3]"#);
+    let all = [Event::send(0, 1, 2), Event::ack(0, 1, 2), Event::arrive(0, 2), Event::crash(0)].map(|event| event.to_string());
+    assert_eq!(all, [r#"["send",0,1,2]"#, r#"["ack",0,1,2]"#, r#"["arrive",0,2]"#, r#"["crash",0]"#]);
 }
 
 #[test]
 fn a_judge_is_a_writer_and_is_dropped_unasked() {
     let mut judge = Judge::new().unwrap();
-    write!(judge, "cast/1 {} 0 1\n", 2).unwrap();
+    writeln!(judge, "cast/1 {} 0 1", 2).unwrap();
     drop(judge);
 }
 

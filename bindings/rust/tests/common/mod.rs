@@ -28,6 +28,8 @@ pub struct Group {
     pub config: Config,
     pub elements: Vec<Element>,
     pub record: String,
+    /// The same as the group writes it.
+    pub written: String,
     pub world: World,
     // Of each node's frames: the target, the slot, and whether it acknowledges.
     frames: Vec<Vec<(u8, u64, bool)>>,
@@ -45,8 +47,11 @@ impl Group {
             Mode::Uniform => format!("cast/2 {nodes} {faults} {choices} uniform\n"),
         };
         let frames = vec![Vec::new(); nodes as usize];
+        let mut written = String::new();
+        config.write_head(&mut written).expect("memory");
         Group {
             config,
+            written,
             elements: Vec::new(),
             record: head,
             world,
@@ -103,7 +108,9 @@ impl Group {
 
     // Whether the event was accepted.
     fn step(&mut self, event: &Event, index: usize) -> bool {
-        let reply = match self.world.step(event) {
+        let answer = self.world.step(event);
+        self.world.write_lines_of(index as u64, event, &answer, &mut self.written).expect("memory");
+        let reply = match answer {
             Ok(reply) => reply,
             Err(StepError::Refused(refusal)) => {
                 self.record += &format!("r {index} {}\n", refusal.code());
@@ -142,7 +149,7 @@ impl Group {
         let sender = outcome.sender;
         let mut decisions = Vec::new();
         for number in outcome.first..outcome.first + outcome.deliveries {
-            let item = self.world.item(node, sender, number).expect("a delivered item");
+            let item = self.world.item(node, sender, number).ok().flatten().expect("a delivered item");
             self.record += &format!("d {node} {sender} {number} {}\n", word(&item));
             if let Item::Propose { instance, .. } = item {
                 if let (Some(value), true) = (self.world.decision(node, instance), !self.decided.contains(&(node, instance))) {
