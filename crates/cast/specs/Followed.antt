@@ -25,7 +25,7 @@ use Rattle.cast_node.specs.declared.report.NodeReport.{NodeReport}
 use Rattle.cast_run.specs.Planned.{faults_of, KeepsTo}
 use Rattle.cast_run.specs.declared.reports.ClientReport.{ClientReport}
 use Rattle.cast_message.specs.declared.plan.Fault.{Fault}
-use Rattle.cast.specs.Groups.{LogsEnd}
+use Rattle.cast_run.specs.Ran.{LogsEnd}
 use Rattle.cast.specs.declared.follower.Follower.{Follower}
 use Rattle.cast.specs.declared.followed.Followed.{Followed}
 

@@ -1,7 +1,6 @@
 pub mod Types
 pub mod Settings
 pub mod Followers
-pub mod Groups
 pub mod Followed
 pub mod Sums
 pub use Rattle.cast_model.specs.Headline

@@ -5,7 +5,7 @@ ghost use Rattle.cast_job.specs.Faults.{Fits, IsFaultOf};
 ghost use Rattle.cast_message.specs.declared.plan.Fault.{Fault};
 ghost use Rattle.cast.specs.declared.follower.Follower.{Follower as Following};
 ghost use Rattle.cast.specs.Followers.{FollowerFact, AreNewFollowers};
-ghost use Rattle.cast.specs.Groups.{IsRun};
+ghost use Rattle.cast_run.specs.Ran.{IsRun};
 ghost use Rattle.cast.specs.Followed.{AreCaughtUp, IsFollowed, told_by};
 
 use crate::follower::Follower;

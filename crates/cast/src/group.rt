@@ -2,7 +2,7 @@
 ghost use Rattle.std.specs.Prelude.{◌≡◌, [], ℕ, false, slice_get, Some, IfOk, IfErr, OnOk};
 ghost use Rattle.cast_job.specs.Faults.{Fits, IsFaultOf};
 ghost use Rattle.cast_job.specs.Jobs.{told_job};
-ghost use Rattle.cast.specs.Groups.{IsRun};
+ghost use Rattle.cast_run.specs.Ran.{IsRun};
 
 use cast_job::ClientJob;
 use cast_message::{Config, NodeId};
