@@ -17,7 +17,7 @@ use Rattle.cast_model.specs.Rounds.{FewCrashedIn, Live, Rest}
 use Rattle.cast_world.specs.Group.{Stands}
 use Rattle.cast_desk.specs.Feed.{feed}
 use Rattle.cast_desk.specs.declared.notice.Notice.{Notice}
-use Rattle.cast_job.specs.Jobs.{told_job}
+use Rattle.cast_run.specs.Jobs.{told_job}
 use Rattle.cast_merge.specs.Merge.{TellsMerge}
 use Rattle.cast_merge.specs.Told.{of_sender, told}
 use Rattle.cast_node.specs.Linked.{Linked}

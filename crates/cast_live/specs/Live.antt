@@ -28,12 +28,12 @@ use Rattle.cast_record.specs.VerdictText.{verdict_text}
 use Rattle.cast_run.specs.Ran.{IsRun}
 use Rattle.cast_run.specs.declared.run.LiveRun.{LiveRun}
 use Rattle.cast_run.specs.declared.reports.ClientReport.{ClientReport}
-use Rattle.cast_job.specs.Faults.{JobsFit}
+use Rattle.cast_run.specs.Faults.{JobsFit}
 use Rattle.cast_carrier.specs.Plans.{ArePlanned}
-use Rattle.cast_job.specs.SubmitAll.{SubmitsGiven}
+use Rattle.cast_run.specs.SubmitAll.{SubmitsGiven}
 use Rattle.cast_message.specs.declared.live_fault.LiveFault.{LiveFault}
 use Rattle.cast_message.specs.declared.live_fault.LiveFault.TheVariants as lives
-use Rattle.cast_job.specs.declared.submit_all.SubmitAll.{SubmitAll}
+use Rattle.cast_run.specs.declared.submit_all.SubmitAll.{SubmitAll}
 use Rattle.cast_script.specs.declared.script.Script.{Script}
 use Rattle.cast_live.specs.declared.live.FinishedRun.{FinishedRun}
 use Rattle.cast_live.specs.declared.summary.Summary.{Summary}

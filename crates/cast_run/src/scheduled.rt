@@ -1,9 +1,11 @@
 //! A group that runs in one thread, in the order of a schedule.
 ghost use Rattle.std.specs.Prelude.{◌≡◌, [], ℕ, false, slice_get, Some, IfOk, IfErr, OnOk, vec_len};
-ghost use Rattle.cast_job.specs.Faults.{Fits, IsFaultOf};
-ghost use Rattle.cast_job.specs.Jobs.{told_job};
+ghost use Rattle.cast_run.specs.Faults.{Fits, IsFaultOf};
+ghost use Rattle.cast_run.specs.Jobs.{told_job};
 ghost use Rattle.cast_run.specs.Ran.{IsRun};
 
+use crate::fits::count_fitting;
+use crate::job::ClientJob;
 use crate::limits::Limits;
 use crate::prepared::prepare;
 use crate::room::Room;
@@ -11,7 +13,6 @@ use crate::run::{LiveRun, finish};
 use crate::schedule::Schedule;
 use crate::stepped::run_by;
 use cast_engine::Gate;
-use cast_job::{ClientJob, count_fitting};
 use cast_message::{Config, FaultPlan, LiveFault, NodeId};
 use std::alloc::Global;
 use std::sync::Wait;

@@ -1,6 +1,6 @@
 -- Jobs that have not begun: none of these has submitted or got anything.
 use Rattle.std.specs.Prelude.{◌≡◌, ℕ, List, [], Some, false, slice_get}
-use Rattle.cast_job.specs.Jobs.{told_job}
+use Rattle.cast_run.specs.Jobs.{told_job}
 use Rattle.test_driver.specs.Silence.{IsSilent}
 use Rattle.test_driver.specs.declared.threads.jobs.Keeper.{Keeper}
 use Rattle.test_driver.specs.declared.threads.jobs.Silent.{Silent}

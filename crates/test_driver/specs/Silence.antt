@@ -2,7 +2,7 @@
 use Rattle.std.specs.Prelude.{◌≡◌, ◌+◌, ℕ, List, [], Bool, true, Some, length, slice_get}
 use Rattle.cast_desk.specs.declared.desk.OrderIn.{OrderIn}
 use Rattle.cast_desk.specs.declared.notice.Notice.{Notice}
-use Rattle.cast_job.specs.Submissions.{AreFirst}
+use Rattle.cast_run.specs.Submissions.{AreFirst}
 use Rattle.cast_run.specs.declared.reports.ClientReport.{ClientReport}
 use Rattle.test_driver.specs.declared.threads.jobs.Silent.{Silent}
 

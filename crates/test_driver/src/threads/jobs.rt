@@ -1,7 +1,7 @@
 //! The jobs of clients: one tells a meeting of its calls and its replies, one keeps each notice, and one takes none.
 ghost use Rattle.std.specs.Prelude.{◌≡◌, [], false, IfOk};
 ghost use Rattle.cast_desk.specs.Desk.{IsSameClient};
-ghost use Rattle.cast_job.specs.Jobs.{got};
+ghost use Rattle.cast_run.specs.Jobs.{got};
 ghost use Rattle.test_driver.specs.Silence.{IsSilent};
 
 use crate::threads::meeting::Meeting;

@@ -1,6 +1,6 @@
 use Rattle.std.proofs.Common.{◌∙◌, ap, refl, sym, subst}
 use Rattle.std.proofs.lemmas.Result.{err_from_is_err_and}
-use Rattle.cast_job.specs.Jobs.{told_job}
+use Rattle.cast_run.specs.Jobs.{told_job}
 use Rattle.cast_run.proofs.Replied.{none_left}
 use Rattle.cast_live.specs.Live.{IsRunOf}
 use Rattle.cast_live.proofs.LiveLemmas.{new_fact, fits, refused_for}

@@ -3,17 +3,17 @@ use Rattle.std.proofs.lemmas.Option.{slice_get_within}
 use Rattle.cast_box.specs.Lists.{of}
 use Rattle.cast_box.proofs.Closing.{found}
 use Rattle.cast_run.specs.Rooms.{HasRoom}
-use Rattle.cast_job.specs.Faults.{Fits}
+use Rattle.cast_run.specs.Faults.{Fits}
 use Rattle.cast_run.specs.Planned.{faults_of, HaveFaults, KeepsTo}
 use Rattle.cast_run.specs.declared.reports.ClientReport.{ClientReport}
 use Rattle.cast_run.specs.Group.{AreSetUp}
-use Rattle.cast_job.specs.Jobs.{IsCount}
+use Rattle.cast_run.specs.Jobs.{IsCount}
 use Rattle.cast_run.specs.Serves.{AreServed, HaveOrigins}
-use Rattle.cast_job.specs.Seats.{ended_client}
+use Rattle.cast_run.specs.Seats.{ended_client}
 use Rattle.cast_run.proofs.Bounds.{all_end}
 use Rattle.cast_run.proofs.Causes.{still_fits}
 use Rattle.cast_run.proofs.Counted.{new_rows}
-use Rattle.cast_job.proofs.Numbered.{first_counts}
+use Rattle.cast_run.proofs.Numbered.{first_counts}
 use Rattle.cast_run.proofs.Outer.{still_seated}
 use Rattle.cast_run.proofs.Returned.{still_set, still_sized}
 use Rattle.cast_run.proofs.Served.{served}

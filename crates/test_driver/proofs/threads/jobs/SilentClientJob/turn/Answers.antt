@@ -1,5 +1,5 @@
 use Rattle.std.proofs.Common.{◌≡◌, ap, ◌∙◌, map, Bool, true, false, not, IsTrue}
-use Rattle.cast_job.proofs.Submitting.{first_next}
+use Rattle.cast_run.proofs.Submitting.{first_next}
 use Rattle.test_driver.proofs.threads.jobs.SilentClientJob.turn.Goals as goal
 
 twice : (b : Bool) → not (not b) ≡ true → IsTrue b
