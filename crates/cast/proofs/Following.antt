@@ -19,7 +19,7 @@ use Rattle.cast_model.proofs.Prefix.{delivery_log-front, delivery_log_is_prefix}
 use Rattle.cast_model.proofs.DecidedAtRest.{all_delivered_same}
 use Rattle.cast_desk.specs.Feed.{feed}
 use Rattle.cast_desk.specs.declared.notice.Notice.{Notice}
-use Rattle.cast_job.specs.Jobs.{told_job}
+use Rattle.cast_run.specs.Jobs.{told_job}
 use Rattle.cast_node.specs.Linked.{Linked, steps_in}
 use Rattle.cast_node.specs.declared.report.NodeReport.{NodeReport}
 use Rattle.cast_merge.specs.Merge.{TellsMerge, event_in}

@@ -10,9 +10,9 @@ use Rattle.cast_desk.specs.Desk.{ClientState}
 use Rattle.cast_desk.specs.declared.desk.OrderIn.{OrderIn}
 use Rattle.cast_desk.specs.declared.notice.Notice.{Notice}
 use Rattle.cast_desk.specs.declared.notice.Notice.TheVariants.{Delivered}
-use Rattle.cast_job.specs.Jobs.{submitted, got, told_job}
-use Rattle.cast_job.specs.Submissions.{AreFirst, SubmitsNext}
-use Rattle.cast_job.proofs.Submitting.{first_next}
+use Rattle.cast_run.specs.Jobs.{submitted, got, told_job}
+use Rattle.cast_run.specs.Submissions.{AreFirst, SubmitsNext}
+use Rattle.cast_run.proofs.Submitting.{first_next}
 use Rattle.cast_merge.specs.Told.{message_told, told}
 use Rattle.cast.specs.declared.follower.Follower.{Follower}
 use Rattle.cast.specs.Followers.{GoesOn, HearsMore, FollowerFact, IsNewFollower, AreNewFollowers}

@@ -17,7 +17,7 @@ use Rattle.cast_model.specs.Rounds.{FewCrashedIn, Live, Rest}
 use Rattle.cast_world.specs.Group.{Stands}
 use Rattle.cast_desk.specs.Feed.{feed}
 use Rattle.cast_desk.specs.declared.notice.Notice.{Notice}
-use Rattle.cast_job.specs.Jobs.{told_job}
+use Rattle.cast_run.specs.Jobs.{told_job}
 use Rattle.cast_merge.specs.Merge.{TellsMerge}
 use Rattle.cast_merge.specs.Told.{of_sender, told}
 use Rattle.cast_node.specs.Linked.{Linked}
@@ -25,7 +25,7 @@ use Rattle.cast_node.specs.declared.report.NodeReport.{NodeReport}
 use Rattle.cast_run.specs.Planned.{faults_of, KeepsTo}
 use Rattle.cast_run.specs.declared.reports.ClientReport.{ClientReport}
 use Rattle.cast_message.specs.declared.plan.Fault.{Fault}
-use Rattle.cast.specs.Groups.{LogsEnd}
+use Rattle.cast_run.specs.Ran.{LogsEnd}
 use Rattle.cast.specs.declared.follower.Follower.{Follower}
 use Rattle.cast.specs.declared.followed.Followed.{Followed}
 

@@ -7,8 +7,8 @@ use Rattle.std.specs.Prelude.{◌≡◌, ℕ, ◌+◌, Bool, true, List, [], ◌
 use Rattle.cast_message.specs.declared.message.Message.{Message}
 use Rattle.cast_desk.specs.declared.desk.OrderIn.{OrderIn}
 use Rattle.cast_desk.specs.declared.notice.Notice.{Notice}
-use Rattle.cast_job.specs.Jobs.{told_job}
-use Rattle.cast_job.specs.Submissions.{AreFirst}
+use Rattle.cast_run.specs.Jobs.{told_job}
+use Rattle.cast_run.specs.Submissions.{AreFirst}
 use Rattle.cast_merge.specs.Told.{told}
 use Rattle.cast.specs.declared.follower.Follower.{Follower}
 

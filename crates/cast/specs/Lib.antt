@@ -1,10 +1,9 @@
 pub mod Types
 pub mod Settings
 pub mod Followers
-pub mod Groups
 pub mod Followed
 pub mod Sums
 pub use Rattle.cast_model.specs.Headline
 pub use Rattle.cast_model.specs.Rounds
 pub use Rattle.cast_merge.specs.Told
-pub use Rattle.cast_job.specs.Jobs
+pub use Rattle.cast_run.specs.Jobs

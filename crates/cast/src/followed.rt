@@ -1,11 +1,11 @@
 //! A group of followers that has run, and its machines, which have taken all that their nodes delivered.
 ghost use Rattle.std.specs.Prelude.{◌≡◌, ℕ, List, slice_get, IfOk, IfErr, OnOk};
 ghost use Rattle.cast_message.specs.declared.config.Config.{Config as Configured};
-ghost use Rattle.cast_job.specs.Faults.{Fits, IsFaultOf};
+ghost use Rattle.cast_run.specs.Faults.{Fits, IsFaultOf};
 ghost use Rattle.cast_message.specs.declared.plan.Fault.{Fault};
 ghost use Rattle.cast.specs.declared.follower.Follower.{Follower as Following};
 ghost use Rattle.cast.specs.Followers.{FollowerFact, AreNewFollowers};
-ghost use Rattle.cast.specs.Groups.{IsRun};
+ghost use Rattle.cast_run.specs.Ran.{IsRun};
 ghost use Rattle.cast.specs.Followed.{AreCaughtUp, IsFollowed, told_by};
 
 use crate::follower::Follower;

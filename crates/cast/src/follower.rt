@@ -3,15 +3,15 @@ ghost use Rattle.std.specs.Prelude.{◌≡◌, ◌↔◌, ◌<◌, ◌≤◌, �
 ghost use Rattle.cast_message.specs.declared.message.Message.{Message};
 ghost use Rattle.cast_desk.specs.Desk.{IsSameClient};
 ghost use Rattle.cast_desk.specs.declared.notice.Notice.{Notice as Told};
-ghost use Rattle.cast_job.specs.Jobs.{HoldsOf, KeepsFact, Listens, got};
-ghost use Rattle.cast_job.specs.Submissions.{SubmitsNext};
+ghost use Rattle.cast_run.specs.Jobs.{HoldsOf, KeepsFact, Listens, got};
+ghost use Rattle.cast_run.specs.Submissions.{SubmitsNext};
 ghost use Rattle.cast_merge.specs.Told.{told};
 ghost use Rattle.cast.specs.Followers.{GoesOn, HearsMore};
 
 use crate::machine::Machine;
 use cast_desk::{Client, Notice};
-use cast_job::{ClientJob, Submissions};
 use cast_message::{Item, List};
+use cast_run::{ClientJob, Submissions};
 use std::sync::Wait;
 
 /// Submits its items, one in a turn where the desk has room, and hands each message that its node tells it was delivered to its

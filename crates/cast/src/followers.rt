@@ -1,6 +1,6 @@
 //! The followers of a group, before it runs.
 ghost use Rattle.std.specs.Prelude.{◌≡◌, ◌++◌, ◌∷◌, [], OnOk, OnErr};
-ghost use Rattle.cast_job.specs.Jobs.{told_job};
+ghost use Rattle.cast_run.specs.Jobs.{told_job};
 ghost use Rattle.cast.specs.Followers.{IsNewFollower, AreNewFollowers};
 
 use crate::follower::Follower;

@@ -1,13 +1,12 @@
 //! A group of jobs with the usual gates and limits.
 ghost use Rattle.std.specs.Prelude.{◌≡◌, [], ℕ, false, slice_get, Some, IfOk, IfErr, OnOk};
-ghost use Rattle.cast_job.specs.Faults.{Fits, IsFaultOf};
-ghost use Rattle.cast_job.specs.Jobs.{told_job};
-ghost use Rattle.cast.specs.Groups.{IsRun};
+ghost use Rattle.cast_run.specs.Faults.{Fits, IsFaultOf};
+ghost use Rattle.cast_run.specs.Jobs.{told_job};
+ghost use Rattle.cast_run.specs.Ran.{IsRun};
 
-use cast_job::ClientJob;
 use cast_message::{Config, NodeId};
 use cast_run::{
-    Limits, LiveFault, LiveRun, OpenGate, Seeded, find_misfit, run_live, run_scheduled,
+    ClientJob, Limits, LiveFault, LiveRun, OpenGate, Seeded, find_misfit, run_live, run_scheduled,
 };
 use cast_script::FaultPlan;
 use std::alloc::Global;

@@ -1,14 +1,14 @@
 -- Running the group of a script, and what its faults mean.
 use Rattle.std.proofs.Common.{◌≡◌, ℕ, zero, suc, ◌==◌, ◌<◌, ◌≤◌, Bool, true, false, cond, List, [], ◌∷◌, ◌++◌, length, map, Option, Result, Err, slice_get, Some, refl, sym, ap, subst, ◌∙◌, arith, append_assoc}
 use Rattle.std.proofs.lemmas.List.{map-append}
-use Rattle.cast_job.specs.declared.submit_all.SubmitAll.{SubmitAll}
+use Rattle.cast_run.specs.declared.submit_all.SubmitAll.{SubmitAll}
 use Rattle.cast_message.specs.declared.message.Item.{Item}
 use Rattle.cast_box.specs.Lists.{of}
 use Rattle.cast_message.specs.declared.live_fault.LiveFault.{LiveFault}
 use Rattle.cast_message.specs.declared.live_fault.LiveFault.TheVariants as lives
-use Rattle.cast_job.specs.Faults.{JobsFit, IsFaultOf}
-use Rattle.cast_job.specs.Jobs.{told_job, replies_in}
-use Rattle.cast_job.specs.SubmitAll.{SubmitsGiven}
+use Rattle.cast_run.specs.Faults.{JobsFit, IsFaultOf}
+use Rattle.cast_run.specs.Jobs.{told_job, replies_in}
+use Rattle.cast_run.specs.SubmitAll.{SubmitsGiven}
 use Rattle.cast_script.specs.declared.script.Script.{Script}
 use Rattle.cast_text.specs.Text.{fault_of_live}
 use Rattle.cast_live.specs.Live.{IsNewJob, AreNewJobs, items_of, IsOfRunning}

@@ -7,7 +7,7 @@
 --     node_text config past p ended        the line of node p: its end, and how many items it delivered from each node
 --     summary_text config past ends said   the whole summary
 --     IsOfRunning script fault             why the group of the script is not run, or memory was wanted
-use Rattle.std.specs.Prelude.{◌≡◌, ℕ, ◌+◌, ◌≤◌, ◌++◌, ◌↔◌, [], ◌∷◌, List, Bool, true, false, IsTrue, length, map, flat_map, codes, decimal, reverse, slice_get, Some, None, Option}
+use Rattle.std.specs.Prelude.{◌≡◌, ℕ, ◌+◌, ◌++◌, ◌↔◌, [], ◌∷◌, List, Bool, true, false, IsTrue, length, map, flat_map, codes, decimal, reverse, slice_get, Some, Option}
 use Rattle.std.specs.List.{range_with_len}
 use Rattle.cast_message.specs.declared.config.Config.{Config}
 use Rattle.cast_message.specs.declared.event.Event.{Event}
@@ -25,16 +25,15 @@ use Rattle.cast_merge.specs.Merge.{TellsMerge}
 use Rattle.cast_merge.specs.ByStamp.{merged_events}
 use Rattle.cast_record.specs.declared.verdict.Verdict.TheVariants.{Good}
 use Rattle.cast_record.specs.VerdictText.{verdict_text}
-use Rattle.cast_run.specs.Planned.{faults_of, KeepsTo}
+use Rattle.cast_run.specs.Ran.{IsRun}
+use Rattle.cast_run.specs.declared.run.LiveRun.{LiveRun}
 use Rattle.cast_run.specs.declared.reports.ClientReport.{ClientReport}
-use Rattle.cast_job.specs.Faults.{JobsFit}
-use Rattle.cast_carrier.specs.Plans.{ArePlanned, crash_from}
-use Rattle.cast_job.specs.SubmitAll.{SubmitsGiven}
-use Rattle.cast_engine.specs.Journals.{EndsAs}
-use Rattle.cast_run.specs.Serves.{AreStamped, AreServed, HaveOrigins}
+use Rattle.cast_run.specs.Faults.{JobsFit}
+use Rattle.cast_carrier.specs.Plans.{ArePlanned}
+use Rattle.cast_run.specs.SubmitAll.{SubmitsGiven}
 use Rattle.cast_message.specs.declared.live_fault.LiveFault.{LiveFault}
 use Rattle.cast_message.specs.declared.live_fault.LiveFault.TheVariants as lives
-use Rattle.cast_job.specs.declared.submit_all.SubmitAll.{SubmitAll}
+use Rattle.cast_run.specs.declared.submit_all.SubmitAll.{SubmitAll}
 use Rattle.cast_script.specs.declared.script.Script.{Script}
 use Rattle.cast_live.specs.declared.live.FinishedRun.{FinishedRun}
 use Rattle.cast_live.specs.declared.summary.Summary.{Summary}
@@ -85,27 +84,20 @@ pub record FitsGroup (script : Script) : Type 0 where
   pub jobs : JobsFit script.config.nodes script.jobs
   pub plan : ArePlanned script.config.nodes script.plan.faults
 
--- these are reports of a run of the script, which fits its group: what arrives keeps to its plan, each log ends as plan and
--- limits say, with the stamps that the clocks give, and each job of the script had a client, which submitted the first of its
--- items; no more of them are left at its node than a box has places, and none where that stopped
+-- these are the reports of a run of the script, which fits its group, in which each of its jobs had a client that submits its
+-- items; of these none are left at a node that stopped
 pub record IsRunOf (script : Script) (reports : List NodeReport) : Type 0 where
   pub fits : FitsGroup script
-  pub planned : KeepsTo script.config (faults_of script.plan.faults) reports
-  pub logs : (p : ℕ) (report : NodeReport) → slice_get reports p ≡ Some report
-      → EndsAs script.config.log_limit (crash_from p None script.plan.faults) (Some report.ended) report.log
-  pub stamps : AreStamped script.config reports
-  -- the jobs that were handed in, and what came back of them
+  -- the jobs that were handed in
   pub handed : List (ℕ × SubmitAll)
-  pub back : List SubmitAll
-  pub clients : List ClientReport
   pub items : map items_of handed ≡ script.jobs
   pub new : AreNewJobs handed
-  pub served : AreServed script.config SubmitsGiven handed reports back clients
-  pub origins : HaveOrigins handed reports
-  pub room : (i : ℕ) (client : ClientReport) → slice_get clients i ≡ Some client
-      → client.left ≤ script.config.box_size
+  -- what came back of them
+  pub back : LiveRun SubmitAll
+  pub ran : IsRun script.config script.plan.faults SubmitsGiven handed back
+  pub reported : back.report.reports ≡ reports
   pub none_left : (i : ℕ) (client : ClientReport) (report : NodeReport)
-      → slice_get clients i ≡ Some client → slice_get reports client.node ≡ Some report
+      → slice_get back.clients.items i ≡ Some client → slice_get reports client.node ≡ Some report
       → report.ended ≡ Stopped → client.left ≡ 0
 
 -- ---- its summary

@@ -1,6 +1,6 @@
 //! Running the group of a script, and telling what became of it.
 ghost use Rattle.std.specs.Prelude.{◌≡◌, ◌<◌, ◌++◌, ◌∷◌, [], false, length, IfOk, IfErr, IsSome, OnOk, map};
-ghost use Rattle.cast_job.specs.Jobs.{told_job};
+ghost use Rattle.cast_run.specs.Jobs.{told_job};
 ghost use Rattle.cast_text.specs.Text.{TakesInput, Tells};
 ghost use Rattle.cast_live.specs.Live.{events_of, IsFinished, IsNewJob, AreNewJobs, items_of, IsOfRunning, IsRunOf};
 ghost use Rattle.cast_live.specs.Replayed.{RecordsReplay};

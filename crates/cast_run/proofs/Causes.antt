@@ -3,9 +3,9 @@ use Rattle.std.proofs.Common.{◌≡◌, ℕ, List, Result, Ok, Err, IfErr, sym,
 use Rattle.std.specs.Prelude.{IsErrAnd}
 use Rattle.cast_message.specs.declared.plan.Fault.{Fault}
 use Rattle.cast_message.specs.declared.live_fault.LiveFault.{LiveFault}
-use Rattle.cast_job.specs.declared.fault.StartFault.{StartFault}
-use Rattle.cast_job.specs.declared.fault.StartFault.TheVariants.{Memory, Threads}
-use Rattle.cast_job.specs.Faults.{Fits, IsFaultOf, fault_by}
+use Rattle.cast_run.specs.declared.fault.StartFault.{StartFault}
+use Rattle.cast_run.specs.declared.fault.StartFault.TheVariants.{Memory, Threads}
+use Rattle.cast_run.specs.Faults.{Fits, IsFaultOf, fault_by}
 
 -- what fits by a slice and a length
 pub still_fits : {J : Type 0} (nodes : ℕ) (faults : List Fault) (slice jobs : List (ℕ × J)) (many gates : ℕ) → slice ≡ jobs → many ≡ gates → Fits nodes slice many faults → Fits nodes jobs gates faults

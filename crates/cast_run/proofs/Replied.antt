@@ -20,10 +20,10 @@ use Rattle.cast_engine.specs.Serving.{Matches, IsAnswered, entries_of, is_of, or
 use Rattle.cast_node.specs.declared.report.EngineEnd.TheVariants.{Stopped}
 use Rattle.cast_node.specs.declared.report.NodeReport.{NodeReport}
 use Rattle.cast_run.specs.declared.reports.ClientReport.{ClientReport}
-use Rattle.cast_job.specs.declared.submit_all.SubmitAll.{SubmitAll}
-use Rattle.cast_job.specs.Jobs.{replies_in}
-use Rattle.cast_job.specs.SubmitAll.{SubmitsGiven}
-use Rattle.cast_job.proofs.Submitting.{all_sent}
+use Rattle.cast_run.specs.declared.submit_all.SubmitAll.{SubmitAll}
+use Rattle.cast_run.specs.Jobs.{replies_in}
+use Rattle.cast_run.specs.SubmitAll.{SubmitsGiven}
+use Rattle.cast_run.proofs.Submitting.{all_sent}
 use Rattle.cast_run.specs.Serves.{AreServed, IsServed}
 use Rattle.cast_box.proofs.Closing.{found}
 

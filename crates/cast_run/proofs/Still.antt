@@ -8,10 +8,10 @@ use Rattle.cast_desk.specs.declared.notice.Notice.{Notice}
 use Rattle.cast_engine.specs.Engines.{EngineState, IsSameEngine}
 use Rattle.cast_engine.proofs.Again.{desk_same}
 use Rattle.cast_carrier.specs.Carriers.{CarrierState, IsSameCarrier}
-use Rattle.cast_job.specs.declared.jobs.Seat.{Seat}
-use Rattle.cast_job.specs.declared.jobs.Ended.{Ended}
-use Rattle.cast_job.specs.Jobs.{submitted, got, HoldsOf}
-use Rattle.cast_job.specs.Seats.{IsEndedAs, AreEnded}
+use Rattle.cast_run.specs.declared.jobs.Seat.{Seat}
+use Rattle.cast_run.specs.declared.jobs.Ended.{Ended}
+use Rattle.cast_run.specs.Jobs.{submitted, got, HoldsOf}
+use Rattle.cast_run.specs.Seats.{IsEndedAs, AreEnded}
 use Rattle.cast_run.specs.Stepped.{AreStill, KeepsEnded, WasSeated, WereSeated}
 
 module _ {T : Type 0} (Same : T → T → Type 0) (self : (x : T) → Same x x) where

@@ -2,9 +2,9 @@
 use Rattle.std.specs.Prelude.{◌≡◌, ℕ, Bool, List, length, slice_get, Some}
 use Rattle.cast_desk.specs.declared.desk.OrderIn.{OrderIn}
 use Rattle.cast_desk.specs.declared.notice.Notice.{Notice}
-use Rattle.cast_job.specs.declared.jobs.Seat.{Seat}
-use Rattle.cast_job.specs.declared.jobs.Ended.{Ended}
-use Rattle.cast_job.specs.Seats.{IsEndedAs}
+use Rattle.cast_run.specs.declared.jobs.Seat.{Seat}
+use Rattle.cast_run.specs.declared.jobs.Ended.{Ended}
+use Rattle.cast_run.specs.Seats.{IsEndedAs}
 use Rattle.cast_engine.specs.Engines.{IsSameEngine}
 use Rattle.cast_carrier.specs.Carriers.{IsSameCarrier}
 use Rattle.cast_carrier.specs.Lists.{AreSame}

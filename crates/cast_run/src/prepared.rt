@@ -1,19 +1,20 @@
 //! All that a run needs before its threads start.
 ghost use Rattle.std.specs.Prelude.{◌≡◌, ℕ, length, map, slice_get, Some, IfOk};
-ghost use Rattle.cast_job.specs.declared.jobs.Seat.{Seat};
-ghost use Rattle.cast_job.specs.Faults.{JobsFit};
+ghost use Rattle.cast_run.specs.declared.jobs.Seat.{Seat};
+ghost use Rattle.cast_run.specs.Faults.{JobsFit};
 ghost use Rattle.cast_run.specs.Group.{IsGroup, AreSetUp};
 ghost use Rattle.cast_run.specs.Fresh.{HaveBoxesOf, HaveDesksOf};
 ghost use Rattle.cast_run.specs.Planned.{faults_of, HaveFaults};
-ghost use Rattle.cast_job.specs.Jobs.{IsCount, IsFresh};
-ghost use Rattle.cast_job.specs.Seats.{seat_job, seat_client};
+ghost use Rattle.cast_run.specs.Jobs.{IsCount, IsFresh};
+ghost use Rattle.cast_run.specs.Seats.{seat_job, seat_client};
 ghost use Rattle.cast_run.specs.Reports.{AreNewRows, AreSeated};
 
+use crate::desks::make_desks;
+use crate::jobs::{Seat, seat_jobs};
 use crate::make::make_group;
 use crate::reports::{Row, make_rows};
 use crate::started::Group;
 use cast_carrier::Board;
-use cast_job::{Seat, make_desks, seat_jobs};
 use cast_message::{Config, Fault, NodeId};
 use std::alloc::{AllocError, Global};
 use std::sync::Arc;

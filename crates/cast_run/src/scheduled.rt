@@ -1,15 +1,11 @@
 //! A group that runs in one thread, in the order of a schedule.
-ghost use Rattle.std.specs.Prelude.{◌≡◌, ◌≤◌, [], ℕ, None, false, slice_get, Some, IfOk, IfErr, OnOk, vec_len};
-ghost use Rattle.cast_node.specs.Linked.{Linked};
-ghost use Rattle.cast_node.specs.declared.report.NodeReport.{NodeReport};
-ghost use Rattle.cast_engine.specs.Journals.{EndsAs};
-ghost use Rattle.cast_carrier.specs.Plans.{crash_from};
-ghost use Rattle.cast_job.specs.Faults.{Fits, IsFaultOf};
-ghost use Rattle.cast_job.specs.Jobs.{told_job};
-ghost use Rattle.cast_run.specs.Planned.{faults_of, KeepsTo};
-ghost use Rattle.cast_run.specs.declared.reports.ClientReport.{ClientReport};
-ghost use Rattle.cast_run.specs.Serves.{AreStamped, AreServed, HaveOrigins};
+ghost use Rattle.std.specs.Prelude.{◌≡◌, [], ℕ, false, slice_get, Some, IfOk, IfErr, OnOk, vec_len};
+ghost use Rattle.cast_run.specs.Faults.{Fits, IsFaultOf};
+ghost use Rattle.cast_run.specs.Jobs.{told_job};
+ghost use Rattle.cast_run.specs.Ran.{IsRun};
 
+use crate::fits::count_fitting;
+use crate::job::ClientJob;
 use crate::limits::Limits;
 use crate::prepared::prepare;
 use crate::room::Room;
@@ -17,14 +13,13 @@ use crate::run::{LiveRun, finish};
 use crate::schedule::Schedule;
 use crate::stepped::run_by;
 use cast_engine::Gate;
-use cast_job::{ClientJob, count_fitting};
 use cast_message::{Config, FaultPlan, LiveFault, NodeId};
 use std::alloc::Global;
 use std::sync::Wait;
 
 /// Runs a group as `run_live` does, in the calling thread: its engines, carriers and jobs take one step at a time, in the order
-/// that the schedule says. What is known of the answer is the same, clause by clause; and as no thread runs beside it, no clock is
-/// read and nothing else is drawn by lot, the same group by the same schedule has the same logs, which is tested.
+/// that the schedule says. What is known of the answer is the same (`ran`). As no thread runs beside it, no clock is read and nothing
+/// else is drawn by lot, the same group by the same schedule has the same logs, which is tested.
 ///
 /// An engine's step is a turn, a carrier's a parcel that it carries, where there is one, and a job's a call. Turns and calls have the
 /// limits that they have there. The run ends once all have ended, and after `steps` steps in any case: an engine that has not ended
@@ -45,20 +40,7 @@ pub fn run_scheduled<J: ClientJob + Drop, G: Gate + Drop, L: Into<Limits>, S: Sc
 ) -> Result<LiveRun<J>, LiveFault>
     requires facts { (i node : ℕ) (job : J) → slice_get jobs.items i ≡ Some (told_job node job)
         → J.fact job job [] [] false }
-    ensures config { IfOk result (λ run. run.report.config ≡ config) }
-    ensures linked { IfOk result (λ run. Linked config run.report.reports) }
-    ensures planned { IfOk result (λ run.
-        KeepsTo config (faults_of plan.now.faults) run.report.reports) }
-    ensures logs { IfOk result (λ run. (p : ℕ) (report : NodeReport)
-        → slice_get run.report.reports p ≡ Some report
-        → EndsAs config.log_limit (crash_from p None plan.now.faults)
-        (Some report.ended) report.log) }
-    ensures stamps { IfOk result (λ run. AreStamped config run.report.reports) }
-    ensures jobs { IfOk result (λ run.
-        AreServed config J.fact jobs.items run.report.reports run.jobs.items run.clients.items) }
-    ensures origins { IfOk result (λ run. HaveOrigins jobs.items run.report.reports) }
-    ensures room { IfOk result (λ run. (i : ℕ) (r : ClientReport)
-        → slice_get run.clients.items i ≡ Some r → r.left ≤ config.box_size) }
+    ensures ran { IfOk result (IsRun config plan.now.faults J.fact jobs.items) }
     ensures fits { OnOk result
         (Fits config.nodes jobs.items (vec_len gates) plan.now.faults) }
     ensures fault { IfErr result

@@ -1,20 +1,22 @@
 //! Engines, carriers and jobs in threads of their own, started, stopped and joined.
 ghost use Rattle.std.specs.Prelude.{◌≡◌, ℕ, false, length, map, slice_get, Some, IfOk, OnOk, vec_len};
-ghost use Rattle.cast_job.specs.declared.jobs.Seat.{Seat};
+ghost use Rattle.cast_run.specs.declared.jobs.Seat.{Seat};
 ghost use Rattle.cast_engine.specs.Engines.{IsSameEngine};
 ghost use Rattle.cast_carrier.specs.Carriers.{IsSameCarrier};
 ghost use Rattle.cast_carrier.specs.Lists.{AreSame};
 ghost use Rattle.cast_run.specs.Group.{IsGroup};
-ghost use Rattle.cast_job.specs.Jobs.{submitted, got};
+ghost use Rattle.cast_run.specs.Jobs.{submitted, got};
 ghost use Rattle.cast_carrier.specs.Lists.{IsRoomFor};
-ghost use Rattle.cast_job.specs.Seats.{AreEnded};
+ghost use Rattle.cast_run.specs.Seats.{AreEnded};
 
+use crate::fault::StartFault;
+use crate::job::ClientJob;
+use crate::jobs::{Ended, JobThread, Seat, start_jobs};
 use crate::threads::{
     CarrierThread, EngineThread, join_all, join_into, start_carriers, start_engines,
 };
 use cast_carrier::{Board, Carrier};
 use cast_engine::{Engine, Gate};
-use cast_job::{ClientJob, Ended, JobThread, Seat, StartFault, start_jobs};
 use std::alloc::{AllocError, Global};
 use std::sync::{Arc, Wait};
 use std::thread::Threads;

@@ -1,19 +1,20 @@
 //! Engines, carriers and jobs in one thread, step by step, in the order of a schedule.
 ghost use Rattle.std.specs.Prelude.{◌≡◌, ◌<◌, ℕ, false, length, slice_get, Some, IfOk, IfSome, vec_len};
-ghost use Rattle.cast_job.specs.declared.jobs.Seat.{Seat};
+ghost use Rattle.cast_run.specs.declared.jobs.Seat.{Seat};
 ghost use Rattle.cast_engine.specs.Engines.{IsSameEngine};
 ghost use Rattle.cast_carrier.specs.Carriers.{IsSameCarrier};
 ghost use Rattle.cast_carrier.specs.Lists.{AreSame, IsRoomFor};
-ghost use Rattle.cast_job.specs.Jobs.{submitted, got};
-ghost use Rattle.cast_job.specs.Seats.{AreEnded};
+ghost use Rattle.cast_run.specs.Jobs.{submitted, got};
+ghost use Rattle.cast_run.specs.Seats.{AreEnded};
 ghost use Rattle.cast_run.specs.Group.{IsGroup};
 ghost use Rattle.cast_run.specs.Stepped.{AreStill, KeepsEnded, WasSeated, WereSeated, StayAs};
 
+use crate::job::ClientJob;
+use crate::jobs::{Ended, Seat};
 use crate::schedule::Schedule;
 use crate::started::Group;
 use cast_carrier::{Board, Carrier};
 use cast_engine::{Engine, Gate, Quiet, Turn};
-use cast_job::{ClientJob, Ended, Seat};
 use std::alloc::{AllocError, Global};
 use std::sync::Wait;
 

@@ -1,6 +1,6 @@
 use Rattle.std.proofs.Common.{subst}
 use Rattle.cast.specs.Followers.{FollowerFact, AreNewFollowers}
-use Rattle.cast.specs.Groups.{IsRun}
+use Rattle.cast_run.specs.Ran.{IsRun}
 use Rattle.cast.proofs.followed.run_followers_by_seed.Goals as goal
 
 pub returns-clause-followed : goal.returns-clause-followed

@@ -1,6 +1,6 @@
-use Rattle.std.proofs.Common.{◌∙◌, ap, sym, subst}
+use Rattle.std.proofs.Common.{◌∙◌, ap, refl, sym, subst}
 use Rattle.std.proofs.lemmas.Result.{err_from_is_err_and}
-use Rattle.cast_job.specs.Jobs.{told_job}
+use Rattle.cast_run.specs.Jobs.{told_job}
 use Rattle.cast_run.proofs.Replied.{none_left}
 use Rattle.cast_live.specs.Live.{IsRunOf}
 use Rattle.cast_live.proofs.LiveLemmas.{new_fact, fits, refused_for}
@@ -23,16 +23,11 @@ returns-clause-ran g c =
         jobs = fits c.args.script handed c.in_ok-jobs.ensures.items _ (c.in_ok-gates.ensures ∙ c.nodes-2.ensures) c.in_ok-run.ensures.fits.jobs_fit;
         plan = c.in_ok-run.ensures.fits.plan_fits;
       };
-      planned = c.in_ok-run.ensures.planned;
-      logs = c.in_ok-run.ensures.logs;
-      stamps = c.in_ok-run.ensures.stamps;
-      handed = c.in_ok-jobs.jobs.items;
-      back = run.jobs.items;
-      clients = run.clients.items;
+      handed = handed;
       items = c.in_ok-jobs.ensures.items;
       new = c.in_ok-jobs.ensures.new;
-      served = c.in_ok-run.ensures.jobs;
-      origins = c.in_ok-run.ensures.origins;
-      room = c.in_ok-run.ensures.room;
-      none_left = none_left c.args.script.config handed _ run.jobs.items run.clients.items c.in_ok-run.ensures.jobs;
+      back = run;
+      ran = c.in_ok-run.ensures.ran;
+      reported = refl;
+      none_left = none_left c.args.script.config handed _ run.jobs.items run.clients.items c.in_ok-run.ensures.ran.served;
     })

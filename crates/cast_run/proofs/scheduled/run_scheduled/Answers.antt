@@ -1,18 +1,19 @@
-use Rattle.std.proofs.Common.{◌≡◌, ◌∙◌, subst, ℕ, List, map, take, length, vec_len, rules, arith}
+use Rattle.std.proofs.Common.{◌≡◌, ◌≤◌, ◌∙◌, subst, ℕ, List, Some, map, take, length, slice_get, vec_len, rules, arith}
 use Rattle.std.proofs.lemmas.Option.{slice_get_within}
 use Rattle.cast_box.specs.Lists.{of}
 use Rattle.cast_box.proofs.Closing.{found}
 use Rattle.cast_run.specs.Rooms.{HasRoom}
-use Rattle.cast_job.specs.Faults.{Fits}
-use Rattle.cast_run.specs.Planned.{faults_of, HaveFaults}
+use Rattle.cast_run.specs.Faults.{Fits}
+use Rattle.cast_run.specs.Planned.{faults_of, HaveFaults, KeepsTo}
+use Rattle.cast_run.specs.declared.reports.ClientReport.{ClientReport}
 use Rattle.cast_run.specs.Group.{AreSetUp}
-use Rattle.cast_job.specs.Jobs.{IsCount}
+use Rattle.cast_run.specs.Jobs.{IsCount}
 use Rattle.cast_run.specs.Serves.{AreServed, HaveOrigins}
-use Rattle.cast_job.specs.Seats.{ended_client}
+use Rattle.cast_run.specs.Seats.{ended_client}
 use Rattle.cast_run.proofs.Bounds.{all_end}
 use Rattle.cast_run.proofs.Causes.{still_fits}
 use Rattle.cast_run.proofs.Counted.{new_rows}
-use Rattle.cast_job.proofs.Numbered.{first_counts}
+use Rattle.cast_run.proofs.Numbered.{first_counts}
 use Rattle.cast_run.proofs.Outer.{still_seated}
 use Rattle.cast_run.proofs.Returned.{still_set, still_sized}
 use Rattle.cast_run.proofs.Served.{served}
@@ -96,21 +97,16 @@ set_up g c =
     let engines = back.group.engines.items in
     subst (λ l. AreSetUp c.args.config l engines) c.as_slice-2.ensures (still_set c.args.config c.as_slice-2.result.now p.made.group.engines.items engines p.ensures.set back.ensures.same)
 
-pub returns-clause-planned : goal.returns-clause-planned
-returns-clause-planned g c =
+planned : (g : _) (c : After-finish g) → KeepsTo c.args.config (faults_of c.args.plan.now.faults) c.finish.result.report.reports
+planned g c =
     let p = c.in_ok-made in
     let back = c.in_ok-group in
     let faults = c.args.plan.now.faults in
     let made = subst (λ l. HaveFaults (faults_of l) p.made.group.carriers.items) c.as_slice-2.ensures p.ensures.plan in
     c.finish.ensures.planned (faults_of faults) (λ q x at. let was = back.ensures.carriers q x at in was.2.2 ∙ made q was.0 was.1)
 
-pub returns-clause-logs : goal.returns-clause-logs
-returns-clause-logs g c =
-    let back = c.in_ok-group in
-    all_end c.args.config c.args.plan.now.faults back.ended.items back.group.engines.items c.finish.result.report.reports (set_up g (goal.at.returns-clause-logs g c).After-finish) c.finish.ensures.reports
-
-pub returns-clause-room : goal.returns-clause-room
-returns-clause-room g c i r at =
+room : (g : _) (c : After-finish g) (i : ℕ) (r : ClientReport) → slice_get c.finish.result.clients.items i ≡ Some r → r.left ≤ c.args.config.box_size
+room g c i r at =
     let p = c.in_ok-made in
     let back = c.in_ok-group in
     let fin = c.finish.ensures.jobs in
@@ -137,8 +133,20 @@ told g c =
     (λ q e at. (still_set c.args.config c.as_slice-2.result.now p.made.group.engines.items engines p.ensures.set back.ensures.same q e at).0) (λ q e at. (back.ensures.group.nodes q e at).0)
     (same_counts fact jobs seats p.ensures.jobs ended back.ensures.jobs p.ensures.fresh)
 
-pub returns-clause-jobs : goal.returns-clause-jobs
-returns-clause-jobs g c = (told g (goal.at.returns-clause-jobs g c).After-finish).0
-
-pub returns-clause-origins : goal.returns-clause-origins
-returns-clause-origins g c = (told g (goal.at.returns-clause-origins g c).After-finish).1
+pub returns-clause-ran : goal.returns-clause-ran
+returns-clause-ran g c =
+    let end = (goal.at.returns-clause-ran g c).After-finish in
+    let back = c.in_ok-group in
+    let fin = c.finish.ensures in
+    let reports = c.finish.result.report.reports in
+    let served = told g end in
+    record {
+      config_is = fin.config;
+      linked = fin.linked;
+      planned = planned g end;
+      logs = all_end c.args.config c.args.plan.now.faults back.ended.items back.group.engines.items reports (set_up g end) fin.reports;
+      stamps = fin.stamps;
+      served = served.0;
+      origins = served.1;
+      room = room g end;
+    }

@@ -1,7 +1,7 @@
 use Rattle.std.proofs.Common.{◌≡◌, ℕ, length, refl, rules, arith, ap}
-use Rattle.cast_job.specs.declared.jobs.Seat.{Seat}
-use Rattle.cast_job.specs.declared.jobs.Ended.{Ended}
-use Rattle.cast_job.specs.Seats.{IsEndedAs}
+use Rattle.cast_run.specs.declared.jobs.Seat.{Seat}
+use Rattle.cast_run.specs.declared.jobs.Ended.{Ended}
+use Rattle.cast_run.specs.Seats.{IsEndedAs}
 use Rattle.cast_run.proofs.Each.{paired_at, paired_more, paired_done}
 use Rattle.cast_run.proofs.stepped.begin_jobs.Goals as goal
 

@@ -1,5 +1,5 @@
 use Rattle.std.proofs.Common.{◌+◌, ◌≤◌, ℕ, length, vec_len, vec_capacity}
-use Rattle.cast_job.specs.Seats.{IsEndedAs}
+use Rattle.cast_run.specs.Seats.{IsEndedAs}
 use Rattle.cast_run.proofs.Each.{Paired}
 use Rattle.cast_run.proofs.stepped.begin_jobs.Given as goal
 

@@ -2,7 +2,7 @@ use Rattle.std.proofs.Common.{sym, subst}
 use Rattle.cast_engine.specs.Engines.{IsSameEngine}
 use Rattle.cast_engine.proofs.Again.{engine_again}
 use Rattle.cast_carrier.specs.Carriers.{IsSameCarrier}
-use Rattle.cast_job.specs.Seats.{IsEndedAs}
+use Rattle.cast_run.specs.Seats.{IsEndedAs}
 use Rattle.cast_run.specs.declared.started.Group.{Group}
 use Rattle.cast_run.specs.Stepped.{AreStill, KeepsEnded}
 use Rattle.cast_run.proofs.Still.{engine_self, carrier_self, carrier_again, job_again, still_self, still_more, were_seated}

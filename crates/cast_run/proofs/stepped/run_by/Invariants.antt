@@ -1,6 +1,6 @@
 use Rattle.cast_engine.specs.Engines.{IsSameEngine}
 use Rattle.cast_carrier.specs.Carriers.{IsSameCarrier}
-use Rattle.cast_job.specs.Seats.{AreEnded}
+use Rattle.cast_run.specs.Seats.{AreEnded}
 use Rattle.cast_run.specs.Stepped.{AreStill}
 use Rattle.cast_run.proofs.stepped.run_by.Given as goal
 

@@ -1,5 +1,5 @@
 use Rattle.std.proofs.Common.{sym, subst}
-use Rattle.cast_job.specs.Jobs.{got}
+use Rattle.cast_run.specs.Jobs.{got}
 use Rattle.cast.specs.Followers.{HearsMore}
 use Rattle.cast.proofs.Hearing.{got_more}
 use Rattle.cast.proofs.follower.Follower.hear_next.Goals as goal
