@@ -17,10 +17,11 @@ use Rattle.cast_script.specs.declared.script.ScriptEvent.TheVariants.{Settle}
 use Rattle.cast_world.specs.Group.{State, Stands, Continues}
 use Rattle.cast_world.specs.Moves.{IsSilent}
 use Rattle.cast_world.specs.Plans.{events_from}
+use Rattle.cast_world.specs.Rounds.{TakesSilently}
 use Rattle.cast_world.proofs.Running.{settled as settled_step}
 use Rattle.cast_world.proofs.Stepping.{made_count}
 use Rattle.cast_text.specs.declared.fault.TextFault.{TextFault}
-use Rattle.cast_text.specs.Played.{Played, Taken, SettleBegun, SettleEnded, Left, tried, one_left, round_left, joined, settled, left_by, played_from, Seeing, Observes, Plays, PlaysAll, ShowsReply}
+use Rattle.cast_text.specs.Played.{Played, Taken, SettleBegun, SettleEnded, Left, tried, one_left, round_left, joined, settled, left_by, played_from, Seeing, Observes, Overlooks, Plays, PlaysAll, ShowsReply}
 
 -- ---- whether an event is refused
 
@@ -211,6 +212,45 @@ module _ {O : Type 0} {saw : Seeing O} {ready : O → Type 0} (laws : Observes s
         subst (λ h. Stands config h world) (sym (ap (λ left. left.past) is)) t.stands,
         subst (saw old new (Ok tt)) (sym (ap (λ left. left.took) is ∙ append-nil t.seen)) t.sees,
       )
+
+  -- ---- events of which each was silent
+
+  none_where_silent : (refusal : Option StepFault) (a : Answer) → IsSilent (reply_by refusal a) → refusal ≡ None
+  none_where_silent None a quiet = refl
+  none_where_silent (Some refusal) a quiet = absurd quiet
+
+  -- an observer that overlooks such an event
+  module _ (o : O) (here : ready o) (overlooks : Overlooks saw ready o) where
+    one_overlooked : (now : History) (event : Event) (r : Result Answer StepFault) → reply config now event ≡ r → IsSilent r → saw o o (Ok tt) (Taken index event r ∷ [])
+    one_overlooked now event (Err refusal) e quiet = absurd quiet
+    one_overlooked now event (Ok answer) e quiet = overlooks index event answer here quiet
+
+    pub silent_seen : (now : History) (events : List Event) (world : State) → TakesSilently config now events world → Plays saw config (tried config index now events) world o o (Ok true)
+    unfolding TakesSilently tried reply
+    silent_seen now [] world st = (refl, st, laws.none o here)
+    silent_seen now (event ∷ events) world took =
+        let none = none_where_silent (fault config now event) (answer config now event) took.0 in
+        let on = tried_on config index now event events none in
+        let rest = silent_seen (event ∷ now) events world took.1 in
+        let one = Taken index event (reply config now event) in (
+          rest.0 ∙ sym (ap (λ left. not left.stopped) on),
+          subst (λ h. Stands config h world) (sym (ap (λ left. left.past) on)) rest.1,
+          subst (saw o o (Ok tt)) (sym (ap (λ left. left.took) on)) (laws.more o o o (Ok tt) (one ∷ []) (tried config index (event ∷ now) events).took (one_overlooked now event (reply config now event) refl took.0) rest.2),
+        )
+
+    -- others were played after them
+    pub silent_then : (now : History) (front rest events : List Event) (mid world : State) (new : O) (result : Result Bool TextFault) → front ++ rest ≡ events → TakesSilently config now front mid →
+        ((h : History) → Stands config h mid → Plays saw config (tried config index h rest) world o new result) → Plays saw config (tried config index now events) world o new result
+    silent_then now front rest events mid world new result whole took then =
+        let first = silent_seen now front mid took in
+        let left = tried config index now front in
+        let is = tried_append config index now front rest (went_on left.stopped true refl first.0) in
+        subst (λ l. Plays saw config l world o new result) (sym is ∙ ap (tried config index now) whole) (joined_plays result (then left.past first.1))
+      where
+        joined_plays : (result : Result Bool TextFault) → Plays saw config (tried config index (tried config index now front).past rest) world o new result →
+            Plays saw config (joined (tried config index now front) (tried config index (tried config index now front).past rest)) world o new result
+        joined_plays (Ok all) plays = (plays.0, plays.1, laws.more o o new (Ok tt) (tried config index now front).took _ (silent_seen now front mid took).2 plays.2)
+        joined_plays (Err why) plays = laws.more o o new (Err why) (tried config index now front).took _ (silent_seen now front mid took).2 plays
 
   -- ---- slot by slot
 

@@ -1,13 +1,14 @@
 //! Playing a script: its events are taken one by one, of a settle those of two rounds, and an observer is shown each.
 ghost use Rattle.std.specs.Prelude.{List, [], ◌∷◌, Result, Ok, OnOk, IsTrue};
 ghost use Rattle.cast_world.specs.Group.{Stands, StandingFor};
+ghost use Rattle.cast_world.specs.Plans.{events_from};
 ghost use Rattle.cast_text.specs.declared.fault.TextFault.{TextFault as AnyFault};
 ghost use Rattle.cast_text.specs.Played.{Played, Taken, SettleBegun, SettleEnded, tried, one_left, round_left, settled, left_by, played, Observes, Overlooks, Plays, PlaysAll, ShowsReply};
 
 use crate::fault::TextFault;
 use cast_message::{Event, Reply};
 use cast_script::{Script, ScriptEvent};
-use cast_world::{World, is_want_of_memory};
+use cast_world::{DueSlot, World, is_want_of_memory};
 
 /// Is shown what is taken as a script is played. `saw` says what came of calls from one state of it to another: what they
 /// showed, in order, and whether one failed. By the laws of `Observes` what is shown comes to the end of what was, and after a
@@ -118,12 +119,39 @@ fn play_round<O: Observer>(
 {
     let mut due = world.due()?;
     'slots: while let Some(slot) = due.pop_front() {
-        let events = world.events_for(slot);
-        if !play_events(world, index, &events, observer)? {
+        if !play_slot(world, index, &slot, observer)? {
             return Ok(false);
         }
     }
     Ok(true)
+}
+
+// Plays the four events that settle a slot, up to the first that is refused. Answers whether none was refused.
+#[inline(always)]
+fn play_slot<O: Observer>(
+    world: &mut World,
+    index: u64,
+    slot: &DueSlot,
+    observer: &mut O,
+) -> Result<bool, TextFault>
+    requires { O.ready observer.old }
+    ensures ready { OnOk result (O.ready observer.new) }
+    ensures plays { StandingFor world.old (λ config past. Plays O.saw config
+        (tried config index past (events_from world.old slot.now)) world.new observer.old observer.new result) }
+{
+    let carry = world.frame_count(slot.from);
+    let took = world.frame_count(slot.to);
+    let mut taken = 0;
+    if observer.overlooks_silence() {
+        // (most slots bring no news)
+        taken = world.settle_silently(slot, carry, took);
+        if taken == 4 {
+            return Ok(true);
+        }
+    }
+    let events = slot.events(carry, took);
+    let events = &events[..];
+    play_events(world, index, &events[taken..], observer)
 }
 
 // Plays these events up to the first that is refused. Answers whether none was refused.

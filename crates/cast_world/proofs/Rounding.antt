@@ -1,5 +1,6 @@
 -- A round comes together slot by slot: its events are those of the plan.
-use Rattle.std.proofs.Common.{◌≡◌, ℕ, ◌+◌, ◌*◌, ◌<◌, refl, sym, ◌∙◌, ap, subst, List, [], ◌∷◌, ◌++◌, length, drop, get_or, Some, None, Result, Ok, Err, IfOk, inl, inr, ◌⊎◌, append_assoc, append-nil}
+use Rattle.std.proofs.Common.{◌≡◌, ℕ, ◌+◌, ◌-◌, ◌*◌, ◌<◌, arith, refl, sym, ◌∙◌, ap, subst, List, [], ◌∷◌, ◌++◌, length, take, drop, get_or, Some, None, Result, Ok, Err, IfOk, inl, inr, ◌⊎◌, append_assoc, append-nil}
+use Rattle.std.proofs.lemmas.List.{length-drop, take_all}
 use Rattle.cast_message.proofs.Lists.{drop-next}
 use Rattle.cast_message.specs.declared.config.Config.{Config}
 use Rattle.cast_message.specs.declared.event.Event.{Event}
@@ -15,8 +16,18 @@ use Rattle.cast_model.proofs.RoundFaults.{Going, Going-next, Going-start, plan_f
 use Rattle.cast_model.proofs.TwoRounds.{round_frames, holds_all, holds_no_more}
 use Rattle.cast_world.specs.Group.{State, Stands, Continues}
 use Rattle.cast_world.specs.Plans.{events_from}
-use Rattle.cast_world.specs.Rounds.{Stops, TakesAll, StopsFor, StopsRound, EndsRound, TakesRound, Spreads}
+use Rattle.cast_world.specs.Rounds.{Stops, TakesAll, TakesSilently, StopsFor, StopsRound, EndsRound, TakesRound, Spreads}
 use Rattle.cast_world.proofs.Stepping.{made_count}
+
+-- what is left of a list from a place on, as a slice of it is read
+pub from_place : {A : Type 0} (n : ℕ) (xs : List A) → take (length xs - n) (drop n xs) ≡ drop n xs
+from_place n xs = let rest = length-drop n xs in take_all (length xs - n) (drop n xs) (omega (arith, rest))
+
+-- after events that were silent
+stands_after : (config : Config) (now : History) (events : List Event) (world : State) → TakesSilently config now events world → Stands config (with_all now events) world
+unfolding TakesSilently
+stands_after config now [] world st = st
+stands_after config now (event ∷ events) world took = stands_after config (event ∷ now) events world took.1
 
 module _ (config : Config) (past : History) where
   -- the events in front were taken, and these are left
@@ -57,6 +68,36 @@ module _ (config : Config) (past : History) where
         subst (λ h. Stands config h world) (sym (history_from-with_all config past events stands.accepted)) stands,
       )
 
+  pub silent_all : (events : List Event) (world : State) → TakesSilently config past events world → TakesAll config past events (Ok tt) world
+  silent_all events world took = taking_done events [] world refl (record { front = events; split = sym (append-nil events); stands = stands_after config past events world took })
+
+  -- others were taken after some that were silent
+  module _ (front : List Event) (mid : State) (took : TakesSilently config past front mid) where
+    silent_stands : Stands config (with_all past front) mid
+    silent_stands = stands_after config past front mid took
+
+    pub silent_then : (rest events : List Event) (result : Result (Unit {0}) StepFault) (new : State) → front ++ rest ≡ events →
+        ((h : History) → Stands config h mid → TakesAll config h rest result new) → TakesAll config past events result new
+    silent_then rest events result new whole then = subst (λ all. TakesAll config past all result new) whole (by_result result (then (with_all past front) silent_stands))
+      where
+        moved : (more : List Event) → IsAccepted config (with_all (with_all past front) more) → Stands config (history_from config (with_all past front) more) new → Stands config (with_all past (front ++ more)) new
+        moved more accepted st = subst (λ h. Stands config h new) (history_from-with_all config (with_all past front) more accepted ∙ sym (with_all-append past past front more)) st
+
+        by_result : (result : Result (Unit {0}) StepFault) → TakesAll config (with_all past front) rest result new → TakesAll config past (front ++ rest) result new
+        by_result (Ok done) all =
+            let accepted = accepted_all config (with_all past front) rest silent_stands.accepted all.0 in
+            taking_done (front ++ rest) [] new refl (record { front = front ++ rest; split = sym (append-nil (front ++ rest)); stands = moved rest accepted all.1 })
+        by_result (Err refusal) stop =
+            let accepted = accepted_all config (with_all past front) stop.front silent_stands.accepted stop.accepted in
+            taking_stops (front ++ rest) stop.rest stop.event new new
+                (record {
+                  front = front ++ stop.front;
+                  split = ap (λ es. front ++ es) stop.split ∙ sym (append_assoc front stop.front (stop.event ∷ stop.rest));
+                  stands = moved stop.front accepted stop.stands;
+                })
+                refusal
+                (subst (λ h. IsRefused (fault config h stop.event) refusal) (history_from-with_all config (with_all past front) stop.front accepted ∙ sym (with_all-append past past front stop.front)) stop.refused, moved stop.front accepted stop.stands)
+
   -- the slots before were settled, and these are left
   pub record IsLeft (left : List Due) (world : State) : Type 0 where
     pub before : List Due
@@ -93,10 +134,10 @@ module _ (config : Config) (past : History) where
     split_next : plan config past ≡ round.front ++ (events_for past before d ++ plan_from past (before ++ d ∷ []) ds)
     split_next = round.split ∙ ap (λ events. round.front ++ events) (plan_next before ds d)
 
-    module _ (events : List Event) (is : events ≡ events_from world d) (new : State) where
-      pub slot_settled : TakesAll config now events (Ok tt) new → IsLeft ds new
+    module _ (new : State) where
+      pub slot_settled : TakesAll config now (events_from world d) (Ok tt) new → IsLeft ds new
       slot_settled takes =
-          let all = subst (λ es. TakesAll config now es (Ok tt) new) (is ∙ slot_events) takes in
+          let all = subst (λ es. TakesAll config now es (Ok tt) new) slot_events takes in
           let accepted = accepted_all config now (events_for past before d) round.stands.accepted all.0 in
           let after = history_from-with_all config now (events_for past before d) accepted in
           let joined = with_all-append past past round.front (events_for past before d) in
@@ -108,9 +149,9 @@ module _ (config : Config) (past : History) where
             going = subst (λ h. Going config past h (before ++ d ∷ []) ds) (sym joined) (Going-next config past now before d ds round.going);
           }
 
-      pub slot_stops : (refusal : StepFault) → TakesAll config now events (Err refusal) new → StopsRound config past refusal new
+      pub slot_stops : (refusal : StepFault) → TakesAll config now (events_from world d) (Err refusal) new → StopsRound config past refusal new
       slot_stops refusal takes =
-          let stop = subst (λ es. TakesAll config now es (Err refusal) new) (is ∙ slot_events) takes in
+          let stop = subst (λ es. TakesAll config now es (Err refusal) new) slot_events takes in
           let accepted = accepted_all config now stop.front round.stands.accepted stop.accepted in
           let whole = round.front ++ stop.front in
           let later = stop.rest ++ plan_from past (before ++ d ∷ []) ds in

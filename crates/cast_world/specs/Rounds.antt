@@ -1,6 +1,7 @@
 -- What a round leaves, and what holds after it and at rest.
 --     TakesAll config past events result world   the events were taken, or those before one that was refused
 --     TakesRound config past result world        the same of the plan of a round
+--     TakesSilently config past events world     the events were taken, and nothing was delivered or decided by any of them
 --     Spreads config past                        after the round each live node holds exactly what some live node held before it
 --     IsSettled past p q                         p and q are not both live, or p owes q nothing
 --     IsFirstGiver config past p                 the least live node that owes a live node a slot
@@ -15,9 +16,10 @@ use Rattle.cast_message.specs.declared.event.StepFault.TheVariants.{FramesFull, 
 use Rattle.cast_model.specs.History.{History, is_live, broadcast, has_pair, first}
 use Rattle.cast_model.specs.Delivery.{delivered, decision}
 use Rattle.cast_model.specs.Headline.{IsPrefixOf}
-use Rattle.cast_model.specs.Replies.{IsRefused, fault, history_from}
+use Rattle.cast_model.specs.Replies.{IsRefused, fault, reply, history_from}
 use Rattle.cast_model.specs.Rounds.{owed, Rest, Due, Live, AreAccepted, makes_frame, plan, after_round, proposers}
 use Rattle.cast_world.specs.Group.{State, Stands, marks_at}
+use Rattle.cast_world.specs.Moves.{IsSilent}
 use Rattle.cast_world.specs.Plans.{events_of}
 
 -- these were taken, and the next one was refused
@@ -35,6 +37,12 @@ abbrev pub TakesAll : Config → History → List Event → Result (Unit {0}) St
 TakesAll config past events (Ok done) world =
     AreAccepted config past events × Stands config (history_from config past events) world
 TakesAll config past events (Err refusal) world = Stops config past events refusal world
+
+-- the events were taken, and nothing was delivered or decided by any of them
+unfoldable pub TakesSilently : Config → History → List Event → State → Type 0
+TakesSilently config past [] world = Stands config past world
+TakesSilently config past (event ∷ events) world =
+    IsSilent (reply config past event) × TakesSilently config (event ∷ past) events world
 
 -- why a round stops after some events, with these left: the frames of the next one's node are full; or it has no fault, and
 -- memory was wanted

@@ -5,7 +5,7 @@ ghost use Rattle.cast_node.specs.Kept.{link_to};
 ghost use Rattle.cast_node.specs.Calls.{is_peer};
 ghost use Rattle.cast_model.specs.Rounds.{due};
 ghost use Rattle.cast_world.specs.Group.{StandingFor};
-ghost use Rattle.cast_world.specs.Plans.{AreLive, live_at, due_of, due_between_at, due_at, owed_below, OwesNoneFrom, events_from, IsBounded};
+ghost use Rattle.cast_world.specs.Plans.{AreLive, live_at, due_of, due_between_at, due_at, owed_below, OwesNoneFrom, events_of, IsBounded};
 
 use crate::due_slots::{DueSlot, DueSlots};
 use crate::world::World;
@@ -22,19 +22,18 @@ impl World {
     {
         find_due(self.allocator(), self)
     }
+}
 
-    /// The events that settle one slot from here: it is sent, the frame arrives, the slot is acknowledged, and that arrives.
-    /// It takes no memory.
-    pub fn events_for(&self, due: DueSlot) -> [Event; 4]
-        ensures { result ≡ events_from self.now due }
+impl DueSlot {
+    /// The events that settle the slot, whose two frames are to have these numbers: it is sent, the frame arrives, the slot is
+    /// acknowledged, and that arrives. It takes no memory.
+    pub fn events(&self, carry: u64, took: u64) -> [Event; 4]
+        ensures { result ≡ events_of self.now carry took }
     {
-        let DueSlot { from, to, slot } = due;
+        let DueSlot { from, to, slot } = *self;
         [
             Event::Send { from, to, slot },
-            Event::Arrive {
-                from,
-                seq: self.frame_count(from),
-            },
+            Event::Arrive { from, seq: carry },
             Event::Ack {
                 from: to,
                 to: from,
@@ -42,7 +41,7 @@ impl World {
             },
             Event::Arrive {
                 from: to,
-                seq: self.frame_count(to),
+                seq: took,
             },
         ]
     }

@@ -6,6 +6,7 @@ ghost use Rattle.cast_model.specs.History.{History};
 ghost use Rattle.cast_model.specs.Replies.{IsAccepted};
 ghost use Rattle.cast_model.specs.Rounds.{Rest, HoldTheSame, AreAccepted, plan, after_round};
 ghost use Rattle.cast_world.specs.Group.{Stands, StandingFor};
+ghost use Rattle.cast_world.specs.Plans.{events_from};
 ghost use Rattle.cast_world.specs.Rounds.{TakesAll, TakesRound, Spreads, events_after};
 
 use crate::due_slots::DueSlot;
@@ -62,10 +63,26 @@ impl World {
         };
         let frames = 2 * due.len();
         'slots: while let Some(slot) = due.pop_front() {
-            let events = self.events_for(slot);
-            self.take_all(&events)?;
+            self.settle(&slot)?;
         }
         Ok(frames)
+    }
+
+    // Takes the four events that settle a slot, up to the first that is refused.
+    fn settle(&mut self, due: &DueSlot) -> Result<(), StepFault>
+        ensures { StandingFor self.old (λ config past.
+            TakesAll config past (events_from self.old due.now) result self.new) }
+    {
+        let carry = self.frame_count(due.from);
+        let took = self.frame_count(due.to);
+        // (most slots bring no news)
+        let taken = self.settle_silently(due, carry, took);
+        if taken == 4 {
+            return Ok(());
+        }
+        let events = due.events(carry, took);
+        let events = &events[..];
+        self.take_all(&events[taken..])
     }
 
     // What becomes of a round whose slots find no room: the first event may have a cause of refusal all the same.

@@ -1,5 +1,5 @@
 //! The group as one value: events go in, replies come out.
-ghost use Rattle.std.specs.Prelude.{◌≡◌, ◌≢◌, ◌<◌, ◌^◌, ◌∷◌, IsTrue, IsFalse, IfOk, IfSome, IfNone, OnErr, [], length, option_map, nat_lt, ◌&&◌, Err};
+ghost use Rattle.std.specs.Prelude.{◌≡◌, ◌≢◌, ◌<◌, ◌≤◌, ◌^◌, ◌∷◌, IsTrue, IsFalse, IfOk, IfSome, IfNone, OnErr, [], length, take, option_map, nat_lt, ◌&&◌, Err};
 ghost use Rattle.cast_message.specs.declared.event.StepFault.TheVariants.{Memory};
 ghost use Rattle.cast_model.specs.History.{is_live};
 ghost use Rattle.cast_model.specs.Replies.{reply};
@@ -8,7 +8,10 @@ ghost use Rattle.cast_model.specs.Shown.{ShowsDelivered, ShowsStream, ShowsOwed}
 ghost use Rattle.cast_world.specs.Group.{Stands, StandingFor, Continues, FindsNode, IsFar, IsCrash, IsRefusedForCause, node_at, marks_at};
 ghost use Rattle.cast_node.specs.Calls.{number_reply, silent_reply};
 ghost use Rattle.cast_world.specs.Moves.{FindsMark, IsSilent, MakesFrame, StepsTo};
+ghost use Rattle.cast_world.specs.Plans.{events_of};
+ghost use Rattle.cast_world.specs.Rounds.{TakesSilently};
 
+use crate::due_slots::DueSlot;
 use crate::frames::{self, Mark};
 use cast_message::FrameKind::{Carry, Took};
 use cast_message::{Answer, Config, Event, FrameKind, Item, NodeId, Reply, StepFault};
@@ -116,6 +119,31 @@ impl World {
             Event::Arrive { from, seq } => self.arrive_silently(*from, *seq).is_some(),
             Event::Order { .. } | Event::Crash { .. } => false,
         }
+    }
+
+    /// Takes the events that settle a slot, whose two frames are to have these numbers, from the first on, as long as each is
+    /// accepted and nothing is delivered or decided by it. Answers how many it took. It may always stop early, and the world
+    /// is then as after the events that it took.
+    #[inline(always)]
+    pub fn settle_silently(&mut self, due: &DueSlot, carry: u64, took: u64) -> usize
+        ensures few { result ≤ 4 }
+        ensures takes { StandingFor self.old (λ config past.
+            TakesSilently config past (take result (events_of due.now carry took)) self.new) }
+    {
+        let DueSlot { from, to, slot } = *due;
+        if self.make(Carry, from, to, slot).is_err() {
+            return 0;
+        }
+        if self.arrive_silently(from, carry).is_none() {
+            return 1;
+        }
+        if self.make(Took, to, from, slot).is_err() {
+            return 2;
+        }
+        if self.arrive_silently(to, took).is_none() {
+            return 3;
+        }
+        4
     }
 
     fn order(&mut self, node: NodeId, item: &Item) -> Reply
@@ -260,7 +288,7 @@ impl World {
     }
 
     /// How many frames a node made; none where it is no node.
-    pub(crate) fn frame_count(&self, node: NodeId) -> u64
+    pub fn frame_count(&self, node: NodeId) -> u64
         ensures value { result ≡ length (marks_at self.now node) }
         ensures bound { result < 2 ^ 63 }
     {

@@ -10,16 +10,16 @@ use Rattle.cast_world.proofs.world.World.round.Goals as goal
 pub slots-init : goal.slots-init
 slots-init c config past st = left_first config past _ c.args.self.now (c.in-Ok.ensures.found config past st) st
 
-pub returns-in_err-take_all-clause-takes : goal.returns-in_err-take_all-clause-takes
-returns-in_err-take_all-clause-takes c config past st =
+pub returns-in_err-settle-clause-takes : goal.returns-in_err-settle-clause-takes
+returns-in_err-settle-clause-takes c config past st =
     let p = err_from_is_err_and c.from_residual.result c.from_residual.ensures.1 in
     let left = subst (λ slots. IsLeft config past slots c.slots.self) c.in-Some.ensures.some (c.slots.invariant config past st) in
-    rw (p.1, p.2) (slot_stops config past _ c.in-Some.slot c.slots.self left _ c.events_for-events.ensures c.take_all.new.self c.in_err-take_all.field-0.0 (c.in_err-take_all.ensures config (with_all past left.front) left.stands))
+    rw (p.1, p.2) (slot_stops config past _ c.in-Some.slot c.slots.self left c.settle.new.self c.in_err-settle.field-0.0 (c.in_err-settle.ensures config (with_all past left.front) left.stands))
 
 pub slots-preserved : goal.slots-preserved
 slots-preserved c config past st =
     let left = subst (λ slots. IsLeft config past slots c.slots.self) c.in-Some.ensures.some (c.slots.invariant config past st) in
-    slot_settled config past _ c.in-Some.slot c.slots.self left _ c.events_for-events.ensures c.take_all.new.self (c.in_ok-take_all.ensures config (with_all past left.front) left.stands)
+    slot_settled config past _ c.in-Some.slot c.slots.self left c.settle.new.self (c.in_ok-settle.ensures config (with_all past left.front) left.stands)
 
 pub returns-clause-takes : goal.returns-clause-takes
 returns-clause-takes c config past st =
