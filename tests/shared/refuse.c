@@ -3,7 +3,8 @@
    REFUSE_THREADS names with all after it. Threads may allocate at the same time: each allocation has a number of its own. How
    many there were stands as a long in the file that COUNT_ALLOCATIONS names, in whatever way the program ends.
 
-   A program with the address sanitizer has an allocator of its own, before which no library comes: its functions are led here.
+   A program with the address sanitizer has an allocator of its own, before which no library comes: its functions are led here. What
+   the C library allocates is given then, since the sanitizer ends where it isn't.
 
    The read that FAIL_READ names fails with EIO, and so does the write that FAIL_WRITE names; of the write that SHORT_WRITE
    names one byte is taken, and of the one that EMPTY_WRITE names none. Reads and writes of all files count. */
@@ -64,14 +65,22 @@ int pthread_create(pthread_t *thread, const pthread_attr_t *attributes, void *(*
 static void *(*next_malloc)(size_t);
 static void *(*next_realloc)(void *, size_t);
 
+static void *led_program = NULL; /* where it was loaded */
+
+/* Whether an allocation for this caller is refused. */
+static int refused_to(void *caller) {
+    Dl_info of;
+    return !(led_program && dladdr(caller, &of) && of.dli_fbase != led_program) && refused();
+}
+
 static void *some_malloc(size_t size) {
     if (!next_malloc) next_malloc = next_of("malloc");
-    return refused() ? NULL : next_malloc(size);
+    return refused_to(__builtin_return_address(0)) ? NULL : next_malloc(size);
 }
 
 static void *some_realloc(void *block, size_t size) {
     if (!next_realloc) next_realloc = next_of("realloc");
-    return refused() ? NULL : next_realloc(block, size);
+    return refused_to(__builtin_return_address(0)) ? NULL : next_realloc(block, size);
 }
 
 void *malloc(size_t size) { return some_malloc(size); }
@@ -120,6 +129,7 @@ static void *led(const char *name, void *here) {
 __attribute__((constructor)) static void lead_allocator(void) {
     Dl_info own, here;
     if (!dladdr(dlsym(RTLD_DEFAULT, "malloc"), &own) || !dladdr((void *)some_malloc, &here) || own.dli_fbase == here.dli_fbase) return;
+    led_program = own.dli_fbase;
     next_malloc = (void *(*)(size_t))led("malloc", some_malloc);
     next_realloc = (void *(*)(void *, size_t))led("realloc", some_realloc);
 }
