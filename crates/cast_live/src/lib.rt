@@ -8,6 +8,6 @@ mod summary;
 mod verdict;
 mod walk;
 
-pub use live::{FinishedRun, live_text, live_text_by};
+pub use live::{FinishedRun, Way, live_text};
 pub use outputs::RunOutputs;
 pub use summary::Summary;

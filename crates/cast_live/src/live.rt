@@ -1,6 +1,9 @@
 //! Running the group of a script, and telling what became of it.
-ghost use Rattle.std.specs.Prelude.{◌≡◌, ◌<◌, ◌++◌, ◌∷◌, [], false, length, IfOk, IfErr, IsSome, OnOk, map};
+ghost use Rattle.std.specs.Prelude.{◌≡◌, ◌<◌, ◌++◌, ◌∷◌, [], false, length, IfOk, IfErr, IsSome, OnOk, map, vec_len};
+ghost use Rattle.cast_run.specs.Faults.{Fits, IsFaultOf};
 ghost use Rattle.cast_run.specs.Jobs.{told_job};
+ghost use Rattle.cast_run.specs.Ran.{IsRun};
+ghost use Rattle.cast_run.specs.SubmitAll.{SubmitsGiven};
 ghost use Rattle.cast_text.specs.Text.{TakesInput, Tells};
 ghost use Rattle.cast_live.specs.Live.{events_of, IsFinished, IsNewJob, AreNewJobs, items_of, IsOfRunning, IsRunOf};
 ghost use Rattle.cast_live.specs.Replayed.{RecordsReplay};
@@ -10,14 +13,14 @@ use crate::outputs::RunOutputs;
 use crate::summary::Summary;
 use crate::verdict::judge_run;
 use cast_log::{EntryKind, KindRef, Log};
-use cast_message::{Item, List, NodeId};
+use cast_message::{Config, Item, List, NodeId};
 use cast_node::GroupReport;
 use cast_record::Meter;
 use cast_run::{
-    ClientReport, CountingGate, LiveRun, Progress, Schedule, SubmitAll, find_misfit, run_live,
-    run_scheduled,
+    ClientReport, CountingGate, LiveFault, LiveRun, Progress, Schedule, SubmitAll, find_misfit,
+    run_live, run_scheduled,
 };
-use cast_script::Script;
+use cast_script::{FaultPlan, Script};
 use cast_text::{TextFault, read_script_text};
 use cast_world::World;
 use std::alloc::{AllocError, Global};
@@ -37,17 +40,34 @@ pub struct FinishedRun {
     pub left: u64,
 }
 
-/// Reads a script to its end, runs its group in threads, with its plan and a client for each of its jobs, and writes what is
-/// wanted of the run. The events of the script are left aside. Nothing is written before all threads have ended; until then
-/// `progress` tells another thread how far the run is.
+/// How a group is run.
+#[derive(Drop)]
+pub enum Way<S> {
+    /// In threads.
+    Threads,
+    /// In the calling thread, in the order of a schedule. The run takes as many steps at most as the turns and calls of its script, and
+    /// the parcels of its carriers, may want.
+    By(S),
+}
+
+/// Reads a script to its end, runs its group one way or the other, with its plan and a client for each of its jobs, and writes what is
+/// wanted of the run. The events of the script are left aside. Nothing is written before the run has ended; until then `progress`
+/// tells another thread how far it is.
 ///
 /// After `Write` or `Memory` each writer has a front of its text, or nothing; after any other fault nothing.
-pub fn live_text<R: Read, S: Write, F: Write, T: Threads + Wait + Copy + Send + 'static>(
+pub fn live_text<
+    R: Read,
+    S: Write,
+    F: Write,
+    C: Schedule + Drop,
+    T: Threads + Wait + Copy + Send + 'static,
+>(
     rt: T,
     alloc: Global,
     reader: &mut Meter<R>,
     outputs: &mut RunOutputs<S, F>,
     progress: &Arc<Progress, Global>,
+    way: Way<C>,
 ) -> Result<FinishedRun, TextFault>
     requires { (reader.old.failed ≡ false) × AreSound outputs.old }
     // It is a run of the script that was read, and each writer has its text of that run and nothing else; or a fault has its cause.
@@ -63,32 +83,7 @@ pub fn live_text<R: Read, S: Write, F: Write, T: Threads + Wait + Copy + Send + 
 {
     let script = read_script_text(alloc, reader)?;
     progress.expect(count_due(&script));
-    let run = run_script(rt, alloc, script, progress)?;
-    outputs.write(alloc, &run)?;
-    Ok(run)
-}
-
-/// The same of a group that runs in the calling thread, by a schedule. It ends by itself, after as many steps at most as the turns
-/// and calls of its script, and the parcels of its carriers, may want.
-pub fn live_text_by<R: Read, S: Write, F: Write, C: Schedule, T: Wait>(
-    rt: &T,
-    alloc: Global,
-    reader: &mut Meter<R>,
-    outputs: &mut RunOutputs<S, F>,
-    progress: &Arc<Progress, Global>,
-    schedule: &mut C,
-) -> Result<FinishedRun, TextFault>
-    requires { (reader.old.failed ≡ false) × AreSound outputs.old }
-    ensures exact { RunsGroup (R.remaining reader.old.inner) reader.new.failed
-        S.contents F.contents outputs.old outputs.new result }
-    ensures law { IfOk result (λ run. IsSome outputs.old.replay
-        → RecordsReplay run.report.config (events_of run)) }
-    ensures told { Tells result reader.new.failed (is_of_output result) }
-    ensures taken { TakesInput (R.remaining reader.old.inner) (R.remaining reader.new.inner) }
-{
-    let script = read_script_text(alloc, reader)?;
-    progress.expect(count_due(&script));
-    let run = run_script_by(rt, alloc, script, progress, schedule)?;
+    let run = run_script(rt, alloc, script, progress, way)?;
     outputs.write(alloc, &run)?;
     Ok(run)
 }
@@ -110,44 +105,15 @@ fn count_steps(script: &Script) -> u64 {
     script.turns.saturating_mul(all)
 }
 
-// Runs the group of a script in threads, with its plan and a client for each of its jobs, and merges its logs. All threads have
-// ended when it returns. Refused are a group that does not fit the script's jobs and plan, or of which a thread was not started,
-// each as `Live`, and want of memory, which is `Memory` alone.
-fn run_script<T: Threads + Wait + Copy + Send + 'static>(
+// Runs the group of a script, with its plan and a client for each of its jobs, and merges its logs. All threads have ended when it
+// returns. Refused are a group that does not fit the script's jobs and plan, or of which a thread was not started, each as `Live`, and
+// want of memory, which is `Memory` alone.
+fn run_script<S: Schedule + Drop, T: Threads + Wait + Copy + Send + 'static>(
     rt: T,
     alloc: Global,
     script: Script,
     progress: &Arc<Progress, Global>,
-) -> Result<FinishedRun, TextFault>
-    ensures config { IfOk result (λ run. run.report.config ≡ script.config) }
-    ensures ran { IfOk result (λ run. IsRunOf script run.report.reports) }
-    ensures ok { IfOk result IsFinished }
-    ensures err { IfErr result (IsOfRunning script) }
-{
-    let Script {
-        config,
-        turns,
-        plan,
-        jobs,
-        ..
-    } = script;
-    // What does not fit is told before any memory is asked for.
-    if let Some(misfit) = find_misfit(&config, &plan, jobs.as_slice(), config.nodes() as usize) {
-        return Err(TextFault::from(misfit));
-    }
-    let gates = CountingGate::for_nodes(alloc, config.nodes(), progress)?;
-    let jobs = submit_all(alloc, jobs)?;
-    let run = run_live(rt, alloc, config, &plan, jobs, gates, turns)?;
-    Ok(merge_logs(alloc, run)?)
-}
-
-// The same in the calling thread, by a schedule.
-fn run_script_by<S: Schedule, T: Wait>(
-    rt: &T,
-    alloc: Global,
-    script: Script,
-    progress: &Arc<Progress, Global>,
-    schedule: &mut S,
+    way: Way<S>,
 ) -> Result<FinishedRun, TextFault>
     ensures config { IfOk result (λ run. run.report.config ≡ script.config) }
     ensures ran { IfOk result (λ run. IsRunOf script run.report.reports) }
@@ -162,15 +128,49 @@ fn run_script_by<S: Schedule, T: Wait>(
         jobs,
         ..
     } = script;
+    // What does not fit is told before any memory is asked for.
     if let Some(misfit) = find_misfit(&config, &plan, jobs.as_slice(), config.nodes() as usize) {
         return Err(TextFault::from(misfit));
     }
     let gates = CountingGate::for_nodes(alloc, config.nodes(), progress)?;
     let jobs = submit_all(alloc, jobs)?;
-    let run = run_scheduled(
-        rt, alloc, config, &plan, jobs, gates, turns, steps, schedule,
-    )?;
+    let run = run_jobs(rt, alloc, config, &plan, jobs, gates, turns, steps, way)?;
     Ok(merge_logs(alloc, run)?)
+}
+
+// Runs the jobs of a script one way or the other.
+fn run_jobs<S: Schedule + Drop, T: Threads + Wait + Copy + Send + 'static>(
+    rt: T,
+    alloc: Global,
+    config: Config,
+    plan: &FaultPlan,
+    jobs: Vec<(NodeId, SubmitAll)>,
+    gates: Vec<CountingGate>,
+    turns: u64,
+    steps: u64,
+    way: Way<S>,
+) -> Result<LiveRun<SubmitAll>, LiveFault>
+    requires { AreNewJobs jobs.items }
+    ensures ran { IfOk result (IsRun config plan.now.faults SubmitsGiven jobs.items) }
+    ensures fits { OnOk result
+        (Fits config.nodes jobs.items (vec_len gates) plan.now.faults) }
+    ensures fault { IfErr result
+        (IsFaultOf config.nodes jobs.items (vec_len gates) plan.now.faults) }
+{
+    match way {
+        Way::Threads => run_live(rt, alloc, config, plan, jobs, gates, turns),
+        Way::By(mut schedule) => run_scheduled(
+            &rt,
+            alloc,
+            config,
+            plan,
+            jobs,
+            gates,
+            turns,
+            steps,
+            &mut schedule,
+        ),
+    }
 }
 
 impl FinishedRun {

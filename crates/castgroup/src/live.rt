@@ -9,7 +9,7 @@ use crate::remarks::{remark_on_orders, remark_on_overwriting, remark_on_script};
 use crate::seeds::live_seeds;
 use crate::status::Status;
 use cast_command::{LiveTask, RunPlaces, Running, Taken};
-use cast_live::{FinishedRun, Summary, live_text, live_text_by};
+use cast_live::{FinishedRun, Summary, Way, live_text};
 use cast_record::Meter;
 use cast_run::{Progress, Seeded};
 use cast_text::{TextFault, Verdict};
@@ -101,20 +101,11 @@ pub fn run_group<
     };
     let reporter = ProgressReporter::start(*rt, alloc, group.progress_to, &progress);
     let mut reader = Meter::new(input);
-    let run = match group.seed {
-        None => live_text(*rt, alloc, &mut reader, &mut outputs, &progress),
-        Some(seed) => {
-            let mut schedule = Seeded::mixed(seed);
-            live_text_by(
-                rt,
-                alloc,
-                &mut reader,
-                &mut outputs,
-                &progress,
-                &mut schedule,
-            )
-        }
+    let way = match group.seed {
+        None => Way::Threads,
+        Some(seed) => Way::By(Seeded::mixed(seed)),
     };
+    let run = live_text(*rt, alloc, &mut reader, &mut outputs, &progress, way);
     if let Some(reporter) = reporter {
         reporter.stop(rt);
     }

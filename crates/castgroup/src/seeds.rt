@@ -7,7 +7,7 @@ use crate::outputs::summary_target;
 use crate::remarks::remark_on_script;
 use crate::status::Status;
 use cast_command::{LiveTask, Seeds, Taken};
-use cast_live::{FinishedRun, RunOutputs, live_text_by};
+use cast_live::{FinishedRun, RunOutputs, Way, live_text};
 use cast_node::EngineEnd;
 use cast_record::Meter;
 use cast_run::{Progress, Seeded};
@@ -183,7 +183,7 @@ fn tell_runs<R: Clock>(
 }
 
 // Runs the script's group by the seed. The summary's text is nobody's.
-fn run_seed<'a, R: Runtime + AllocGlobal + Threads + Wait>(
+fn run_seed<'a, R: Runtime + AllocGlobal + Threads + Wait + Copy + Send + 'static>(
     rt: &R,
     mut text: &[u8],
     progress: &Arc<Progress, Global>,
@@ -195,14 +195,13 @@ fn run_seed<'a, R: Runtime + AllocGlobal + Threads + Wait>(
         replay: None,
     };
     let mut reader = Meter::new(&mut text);
-    let mut schedule = Seeded::mixed(seed);
-    let run = live_text_by(
-        rt,
+    let run = live_text(
+        *rt,
         rt.alloc(),
         &mut reader,
         &mut outputs,
         progress,
-        &mut schedule,
+        Way::By(Seeded::mixed(seed)),
     );
     match run {
         Ok(run) => Ok(run),

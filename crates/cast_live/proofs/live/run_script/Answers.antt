@@ -1,13 +1,9 @@
 use Rattle.std.proofs.Common.{◌∙◌, ap, refl, sym, subst}
 use Rattle.std.proofs.lemmas.Result.{err_from_is_err_and}
-use Rattle.cast_run.specs.Jobs.{told_job}
 use Rattle.cast_run.proofs.Replied.{none_left}
 use Rattle.cast_live.specs.Live.{IsRunOf}
-use Rattle.cast_live.proofs.LiveLemmas.{new_fact, fits, refused_for}
+use Rattle.cast_live.proofs.LiveLemmas.{fits, refused_for}
 use Rattle.cast_live.proofs.live.run_script.Goals as goal
-
-pub run_live-requires-clause-facts : goal.run_live-requires-clause-facts
-run_live-requires-clause-facts g c lifetimes within i node job at = new_fact job (c.in_ok-jobs.ensures.new i (told_job node job) at)
 
 pub returns-in_err-run-clause-err : goal.returns-in_err-run-clause-err
 returns-in_err-run-clause-err g c =
