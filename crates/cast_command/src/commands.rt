@@ -1,7 +1,6 @@
 //! The commands with their arguments and texts.
 use crate::version::VERSION;
-use clap::builder::ValueParser;
-use clap::{Arg, ArgAction, Command, value_parser};
+use clap::{Arg, ArgAction, Command};
 use std::alloc::{AllocError, Global};
 
 /// What the lines `r EVENT CODE` of a record mean.
@@ -18,6 +17,13 @@ const REFUSALS: &str = "Refused events (r EVENT CODE):
   10  a slot that was not taken
   11  a frame that was not made
   12  a node that has made all its frames";
+
+/// What a refusal with this code means.
+pub fn refusal_meaning(code: u64) -> Option<&'static str> {
+    let line = REFUSALS.lines().nth(code as usize)?;
+    let (_code, meaning) = line.trim_start().split_once("  ")?;
+    Some(meaning)
+}
 
 /// What the lines of a summary mean.
 const ENDS: &str =
@@ -73,7 +79,8 @@ const LAST: usize = 900;
 
 // Flags that each command takes.
 fn explain_flag<'a>(alloc: Global) -> Result<Arg<'a>, AllocError> {
-    let help = "Say in one more line on standard error where a fault is, and why, as on a terminal";
+    let help =
+        "Say in one more line on standard error where a fault is, and why, as on a terminal, or where the environment has CASTGROUP_EXPLAIN=1";
     flag(alloc, "explain", help)
         .global(true)
         .display_order(LAST)
@@ -132,14 +139,9 @@ pub fn live_command<'a>(alloc: Global) -> Result<Command<'a>, AllocError> {
 fn with_seeds<'a>(alloc: Global, command: Command<'a>) -> Result<Command<'a>, AllocError> {
     let seed = "Run in one thread, by the schedule of seed N: the same run each time";
     let times = "Run M seeds from N on, and tell of those runs that are not as one hopes";
-    let least_once = ValueParser::unsigned(1, u64::MAX);
     command
-        .arg(option(alloc, "seed", "N", seed).value_parser(value_parser!(u64)))?
-        .arg(
-            option(alloc, "times", "M", times)
-                .value_parser(least_once)
-                .requires_arg("seed")?,
-        )
+        .arg(number(alloc, "seed", "N", seed))?
+        .arg(number(alloc, "times", "M", times).requires_arg("seed")?)
 }
 
 fn with_outputs<'a>(alloc: Global, command: Command<'a>) -> Result<Command<'a>, AllocError> {
@@ -182,18 +184,18 @@ pub fn draw_command<'a>(alloc: Global) -> Result<Command<'a>, AllocError> {
     Command::new(alloc, "draw")
         .about("Writes a picture of a script's events as SVG")
         .after_help(MARKS)
-        .arg(place(alloc, "from", "A", from))?
-        .arg(place(alloc, "to", "B", to))?
+        .arg(number(alloc, "from", "A", from))?
+        .arg(number(alloc, "to", "B", to))?
         .arg(flag(alloc, "html", html))?
         .arg(script(alloc))
 }
 
-// An option that gives the place of an event.
-fn place<'a>(
+// An option that takes a number. One below 0 is taken here, and refused in words of its own with all else that is none.
+fn number<'a>(
     alloc: Global,
     name: &'static str,
     value_name: &'static str,
     help: &'static str,
 ) -> Arg<'a> {
-    option(alloc, name, value_name, help).value_parser(value_parser!(u64))
+    option(alloc, name, value_name, help).allow_negative_numbers(true)
 }

@@ -8,7 +8,8 @@ mod request;
 mod version;
 
 pub use explain::{
-    RULES, Taken, aside_words, group_words, head_words, script_words, twice_words, verdict_words,
+    RULES, Refusals, Taken, aside_words, group_words, head_words, refused_words, script_words,
+    twice_words, verdict_words,
 };
 pub use request::{
     Detail, LiveTask, Place, Refusal, Request, RunPlaces, Running, Seeds, Shown, Task, parse,

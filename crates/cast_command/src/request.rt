@@ -1,5 +1,6 @@
 //! What the words of a call ask for.
 use crate::commands::{castgroup_command, draw_command, live_command};
+use cast_record::escaped;
 use clap::error::ErrorKind;
 use clap::{ArgMatches, Command, Error};
 use std::alloc::{AllocError, Global};
@@ -265,27 +266,56 @@ fn live<'a>(alloc: Global, matches: &ArgMatches<'a>) -> Result<Task<'a>, Refusal
     }
     Ok(Task::Live(LiveTask {
         script: input_of(matches, "SCRIPT"),
-        running: running_of(matches),
+        running: running_of(alloc, matches)?,
         places,
         tells_progress: matches.get_flag("progress"),
     }))
 }
 
 // (a number of times without a seed was refused with the words)
-fn running_of(matches: &ArgMatches<'_>) -> Running {
-    let seed: Option<u64> = matches.get_one("seed");
-    let times: Option<u64> = matches.get_one("times");
-    match (seed, times) {
+fn running_of(alloc: Global, matches: &ArgMatches<'_>) -> Result<Running, Refusal> {
+    let seed = number_of(alloc, matches, "seed", 0)?;
+    let times = number_of(alloc, matches, "times", 1)?;
+    Ok(match (seed, times) {
         (None, _) => Running::InThreads,
         (Some(seed), None) => Running::BySeed(seed),
         (Some(first), Some(times)) => Running::BySeeds(Seeds { first, times }),
+    })
+}
+
+// The number that an option names, at least this one.
+fn number_of(
+    alloc: Global,
+    matches: &ArgMatches<'_>,
+    name: &str,
+    least: u64,
+) -> Result<Option<u64>, Refusal> {
+    let Some(word) = matches.get_str(name) else {
+        return Ok(None);
+    };
+    match word.parse::<u64>() {
+        Ok(number) if number >= least => Ok(Some(number)),
+        _ => Err(number_fault(alloc, name, least, word)?),
     }
+}
+
+fn number_fault(alloc: Global, name: &str, least: u64, word: &str) -> Result<Refusal, AllocError> {
+    let command = match name {
+        "seed" | "times" => live_command(alloc)?.bin_name("castgroup live")?,
+        _ => draw_command(alloc)?.bin_name("castgroup draw")?,
+    };
+    let shown = escaped(alloc, word.as_bytes())?;
+    let most = u64::MAX;
+    let message = format!(in alloc;
+        "--{name} is '{shown}', and must be a whole number from {least} to {most}"
+    )?;
+    Ok(fault(command, message.as_str()))
 }
 
 // A first event that stands behind the last is a fault.
 fn draw<'a>(alloc: Global, matches: &ArgMatches<'a>) -> Result<Task<'a>, Refusal> {
-    let from: Option<u64> = matches.get_one("from");
-    let to: Option<u64> = matches.get_one("to");
+    let from = number_of(alloc, matches, "from", 0)?;
+    let to = number_of(alloc, matches, "to", 0)?;
     if from.unwrap_or(0) > to.unwrap_or(u64::MAX) {
         let command = draw_command(alloc)?.bin_name("castgroup draw")?;
         return Err(fault(

@@ -1,7 +1,11 @@
 //! What a command works with: the runtime, standard error, and whether more is said there than the fixed texts.
 use cast_command::Detail;
 use std::alloc::AllocError;
+use std::env::Env;
 use std::io::{IsTerminal, Stderr};
+
+// Where this variable of the environment is 1, faults are explained as on a terminal.
+const EXPLAIN: &str = "CASTGROUP_EXPLAIN";
 
 /// The runtime and standard error, as a command is handed them.
 #[derive(Drop)]
@@ -12,13 +16,13 @@ pub struct Console<'a, R> {
     pub explains: bool,
 }
 
-impl<'a, R> Console<'a, R> {
+impl<'a, R: Env> Console<'a, R> {
     /// The console of a call that wants so much detail.
     pub fn new(rt: &'a R, stderr: Stderr, detail: Detail) -> Console<'a, R> {
         let explains = match detail {
             Detail::Always => true,
             Detail::Never => false,
-            Detail::OnTerminal => stderr.is_terminal(),
+            Detail::OnTerminal => stderr.is_terminal() || is_asked_for(rt),
         };
         Console {
             rt,
@@ -26,7 +30,15 @@ impl<'a, R> Console<'a, R> {
             explains,
         }
     }
+}
 
+// Whether the environment asks for words. A value that has no room here is another than the one that does.
+fn is_asked_for<R: Env>(rt: &R) -> bool {
+    let mut value = [0u8; 1];
+    matches!(rt.var(EXPLAIN, &mut value), Ok(1)) && value == *b"1"
+}
+
+impl<R> Console<'_, R> {
     /// Says a line on standard error.
     pub fn say(&self, words: &str) {
         // Where standard error fails there is nowhere left to say so.

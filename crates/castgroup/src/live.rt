@@ -46,7 +46,7 @@ fn live_once<R: Runtime + AllocGlobal + Threads + Wait + Copy + Send + 'static>(
     match run_group(console, &mut source, group) {
         Ok(run) => {
             remark_on_orders(console, &run);
-            remark_on_script(console, source, Taken::Group);
+            remark_on_script(console, source, Taken::Group, None);
             status_of(run.summary)
         }
         Err(stop) => tell_stop(console, stop, source),

@@ -11,6 +11,7 @@ mod live;
 mod output;
 mod outputs;
 mod progress;
+mod refusals;
 mod remarks;
 mod seeds;
 mod status;

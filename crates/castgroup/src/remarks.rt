@@ -2,18 +2,19 @@
 use crate::console::Console;
 use crate::explain::input_name;
 use crate::input::Source;
-use cast_command::{LiveTask, Place, Taken, aside_words, twice_words};
+use cast_command::{LiveTask, Place, Refusals, Taken, aside_words, refused_words, twice_words};
 use cast_live::FinishedRun;
 use std::alloc::{AllocError, Global};
 use std::fs;
 use std::os::unix::fs::MetadataExt;
 use std::rt::Runtime;
 
-/// Says which lists of a script the command left aside, and which member stands twice.
+/// Says which lists of a script the command left aside, which member stands twice, and which event was refused first.
 pub fn remark_on_script<R: Runtime + AllocGlobal>(
     console: &Console<'_, R>,
     source: Source<'_, R::File, R::Reader>,
     taken: Taken,
+    refusals: Option<Refusals>,
 ) {
     if !console.explains {
         return;
@@ -25,6 +26,10 @@ pub fn remark_on_script<R: Runtime + AllocGlobal>(
     };
     say_of(console, place, aside_words(alloc, bytes.as_slice(), taken));
     say_of(console, place, twice_words(alloc, bytes.as_slice()));
+    if let Some(refusals) = refusals {
+        let words = refused_words(alloc, bytes.as_slice(), refusals);
+        say_of(console, place, words.map(Some));
+    }
 }
 
 // Says these words of an input, where there are any.

@@ -29,7 +29,7 @@ pub fn live_seeds<R: Runtime + AllocGlobal + Threads + Wait + Clock + Copy + Sen
     let mut source = open_script(console, task);
     match run_and_keep(console, &mut source, task, seeds) {
         Ok(status) => {
-            remark_on_script(console, source, Taken::Group);
+            remark_on_script(console, source, Taken::Group, None);
             status
         }
         Err(stop) => tell_stop(console, stop, source),

@@ -1,4 +1,5 @@
 //! What is wrong with a record: the line that offends, and the rule that it breaks in words.
+use crate::explain::due::due_words;
 use crate::explain::excerpt::quoted;
 use std::alloc::{AllocError, Global};
 
@@ -20,7 +21,10 @@ struct TextLine<'a> {
     is_ended: bool,
 }
 
-/// Which line of the text breaks which rule.
+/// The rule of what is out of turn.
+const TURNS: u64 = 1;
+
+/// Which line of the text breaks which rule, and what was due where it is out of turn.
 pub fn verdict_words(
     alloc: Global,
     text: &[u8],
@@ -28,17 +32,29 @@ pub fn verdict_words(
     rule: u64,
 ) -> Result<String, AllocError> {
     let broken = find_rule(rule).unwrap_or("no rule has this number");
-    let shown = line_words(alloc, line_at(text, line))?;
-    format!(in alloc; "line {line} breaks rule {rule} ({broken}): {shown}")
+    let shown = line_words(alloc, text, line)?;
+    let words = format!(in alloc; "line {line} breaks rule {rule} ({broken}): {shown}")?;
+    if rule != TURNS {
+        return Ok(words);
+    }
+    match due_words(alloc, text, line)? {
+        Some(due) => format!(in alloc; "{words}; {due}"),
+        None => Ok(words),
+    }
 }
 
 /// Why a text has no head of the first format.
 pub fn head_words(alloc: Global, text: &[u8]) -> Result<String, AllocError> {
-    let shown = line_words(alloc, line_at(text, 1))?;
+    let shown = line_words(alloc, text, 1)?;
     format!(in alloc; "line 1 is not cast/1 N F K, with N 1 to 16, F below N and K 1 to N: {shown}")
 }
 
-fn line_words(alloc: Global, line: TextLine<'_>) -> Result<String, AllocError> {
+// The line with this number, as it is shown.
+fn line_words(alloc: Global, text: &[u8], number: u64) -> Result<String, AllocError> {
+    if text.is_empty() {
+        return format!(in alloc; "the input is empty");
+    }
+    let line = line_at(text, number);
     if line.is_ended {
         return quoted(alloc, line.bytes);
     }

@@ -7,8 +7,8 @@ use std::alloc::{AllocError, Global};
 /// What a command takes of a script.
 #[derive(Clone, Copy)]
 pub enum Taken {
-    /// Its events, step by step.
-    Events,
+    /// Its events, step by step, of which those from this place on are shown.
+    Events { from: u64 },
     /// Its plan and jobs, which its group runs by.
     Group,
 }
@@ -21,7 +21,7 @@ pub fn aside_words(
 ) -> Result<Option<String>, AllocError> {
     match read_script(alloc, bytes) {
         Ok(script) => match taken {
-            Taken::Events => no_events_words(alloc, &script),
+            Taken::Events { from } => no_events_words(alloc, &script, from),
             Taken::Group => events_words(alloc, &script),
         },
         Err(ScriptFault::Memory) => Err(AllocError),
@@ -29,17 +29,27 @@ pub fn aside_words(
     }
 }
 
-fn no_events_words(alloc: Global, script: &Script) -> Result<Option<String>, AllocError> {
+fn no_events_words(
+    alloc: Global,
+    script: &Script,
+    from: u64,
+) -> Result<Option<String>, AllocError> {
     let events = script.events.as_slice().len();
     let plan = script.plan.faults.as_slice().len();
     let jobs = script.jobs.as_slice().len();
-    if events > 0 || (plan == 0 && jobs == 0) {
-        return Ok(None);
+    if events == 0 && (plan > 0 || jobs > 0) {
+        let words = format!(in alloc;
+            "there are no events: the plan ({plan}) and the jobs ({jobs}) are taken by live alone"
+        )?;
+        return Ok(Some(words));
     }
-    let words = format!(in alloc;
-        "there are no events: the plan ({plan}) and the jobs ({jobs}) are taken by live alone"
-    )?;
-    Ok(Some(words))
+    if from > 0 && from >= events as u64 {
+        let words = format!(in alloc;
+            "there is no event {from} (counted from 0), as there are {events}: none is drawn"
+        )?;
+        return Ok(Some(words));
+    }
+    Ok(None)
 }
 
 fn events_words(alloc: Global, script: &Script) -> Result<Option<String>, AllocError> {

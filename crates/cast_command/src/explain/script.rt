@@ -11,8 +11,20 @@ pub fn script_words(alloc: Global, bytes: &[u8], fault: ScriptFault) -> Result<S
     match Value::from_slice(alloc, bytes) {
         Ok(value) => value_words(alloc, &value, fault),
         Err(error) if error.is_memory() => Err(AllocError),
-        Err(error) => format!(in alloc; "{error}"),
+        Err(error) => match other_input(bytes) {
+            Some(words) => String::from_str(alloc, words),
+            None => format!(in alloc; "{error}"),
+        },
     }
+}
+
+// What these bytes are, which are no JSON, where it is something else that the program knows.
+fn other_input(bytes: &[u8]) -> Option<&'static str> {
+    if bytes.is_empty() {
+        return Some("the input is empty, where a script is expected");
+    }
+    let is_record = bytes.starts_with(b"cast/1 ") || bytes.starts_with(b"cast/2 ");
+    is_record.then_some("this is a record, which judge takes, where a script is expected")
 }
 
 fn value_words(alloc: Global, value: &Value, fault: ScriptFault) -> Result<String, AllocError> {
