@@ -1,7 +1,7 @@
 -- What is known of the machines of followers whose group has ended.
-use Rattle.std.proofs.Common.{◌≡◌, ◌<◌, ◌≤◌, ℕ, zero, suc, ◌+◌, List, [], ◌∷◌, ◌++◌, length, map, drop, Some, None, Option, Result, refl, sym, ap, ◌∙◌, subst, arith, append_assoc}
+use Rattle.std.proofs.Common.{◌≡◌, ◌<◌, ℕ, zero, suc, List, [], ◌∷◌, ◌++◌, length, map, take, drop, Some, Result, refl, sym, ap, ◌∙◌, subst, arith}
 use Rattle.std.specs.Prelude.{slice_get}
-use Rattle.std.proofs.lemmas.List.{append-nil, drop-append-le, drop_all, length-map}
+use Rattle.std.proofs.lemmas.List.{append-nil, drop-append-le, drop_all, length-map, take-append-le, take-map}
 use Rattle.std.proofs.lemmas.List.Elements.{filter_map-append}
 use Rattle.std.proofs.lemmas.Option.{slice_get_within}
 use Rattle.cast_message.specs.declared.config.Config.{Config}
@@ -17,25 +17,42 @@ use Rattle.cast_model.specs.Steps.{steps_of}
 use Rattle.cast_model.proofs.OwnTurns.{own_log-steps_of}
 use Rattle.cast_model.proofs.Prefix.{delivery_log-front, delivery_log_is_prefix}
 use Rattle.cast_model.proofs.DecidedAtRest.{all_delivered_same}
+use Rattle.cast_message.specs.declared.message.Item.{Item}
+use Rattle.cast_log.specs.declared.entry.Entry.{Entry}
+use Rattle.cast_log.specs.declared.entry.EntryKind.{EntryKind}
+use Rattle.cast_log.specs.declared.entry.EntryKind.TheVariants.{Step as StepEntry, Refused}
 use Rattle.cast_desk.specs.Feed.{feed}
+use Rattle.cast_desk.specs.declared.desk.OrderIn.{OrderIn}
+use Rattle.cast_engine.specs.Serving.{Matches, IsAnswered, IsAnsweredBy, before, entries_of}
 use Rattle.cast_desk.specs.declared.notice.Notice.{Notice}
-use Rattle.cast_run.specs.Jobs.{told_job}
-use Rattle.cast_node.specs.Linked.{Linked, steps_in}
+use Rattle.cast_node.specs.Linked.{Linked, Trail, steps_in}
 use Rattle.cast_node.specs.declared.report.NodeReport.{NodeReport}
-use Rattle.cast_merge.specs.Merge.{TellsMerge, event_in}
+use Rattle.cast_merge.specs.Merge.{TellsMerge}
 use Rattle.cast_merge.specs.Told.{message_told, told}
 use Rattle.cast.proofs.WholeFeeds.{told_feed, merged_steps}
 use Rattle.cast_run.specs.Serves.{AreServed, IsServed}
 use Rattle.cast_run.specs.declared.reports.ClientReport.{ClientReport}
 use Rattle.cast.specs.declared.follower.Follower.{Follower}
 use Rattle.cast.specs.Followers.{FollowerFact, AreNewFollowers}
-use Rattle.cast.specs.Followed.{told_by, told_in, IsCaughtUp, AreCaughtUp, HaveTaken, ArePlaced, DeliverPrefixes, DeliverTheSameAtRest}
+use Rattle.cast.specs.Followed.{told_by, told_in, IsCaughtUp, AreCaughtUp, HaveTaken, IsOfItem, IsOrdered, HaveOrdered, DeliverPrefixes, DeliverTheSameAtRest}
 
 -- a list has something at each place
 pub something_at : {A : Type 0} (xs : List A) (i : ℕ) → i < length xs → (x : A) × (slice_get xs i ≡ Some x)
 something_at [] i within = absurd (omega (arith, within))
 something_at (x ∷ xs) zero within = (x, refl)
 something_at (x ∷ xs) (suc i) within = something_at xs i (omega (arith, within))
+
+-- an entry that answers an order is of its item
+of_item : (config : Config) (p : ℕ) (trail : Trail) (kind : EntryKind) (stamp : ℕ) (order : OrderIn) → IsAnsweredBy config p (steps_in config p (before stamp trail)) kind order → IsOfItem p kind order.item
+of_item config p trail (StepEntry event origin outcome) stamp order answers = answers.0
+of_item config p trail (Refused origin fault) stamp order answers = tt
+
+matches_items : (config : Config) (p : ℕ) (trail : Trail) (entries : List Entry) (orders : List OrderIn) → Matches (IsAnswered config p trail) entries orders → Matches (λ e item. IsOfItem p e.kind item) entries (map (λ (o : OrderIn). o.item) orders)
+unfolding Matches
+matches_items config p trail [] [] m = tt
+matches_items config p trail [] (o ∷ orders) m = absurd m
+matches_items config p trail (e ∷ entries) [] m = absurd m
+matches_items config p trail (e ∷ entries) (o ∷ orders) m = (of_item config p trail e.kind e.stamp o m.0, matches_items config p trail entries orders m.1)
 
 -- what is told behind the first notices
 told_rest : (all front rest : List Notice) (heard : ℕ) → all ≡ front ++ rest → heard ≡ length front → told front ++ told (drop heard all) ≡ told all
@@ -91,14 +108,35 @@ module _ (config : Config) (reports : List NodeReport) (linked : Linked config r
         let up = caught.1 i machine at_machine in
         taken_at i up.0 machine client (served.2 i up.0 client up.1 at_client) at_client up.2
 
-    pub are_placed : ArePlaced handed clients
-    are_placed = (
+    -- of one follower, which is known to be served
+    ordered_at : (i : ℕ) (follower : Follower M) (client : ClientReport) → (is : IsServed config (FollowerFact stands) handed reports i follower client) → IsOrdered is.handed client is.report
+    ordered_at i follower client is = record {
+      orders = subst (Matches (λ e item. IsOfItem client.node e.kind item) (entries_of client.client is.report.log)) first
+          (matches_items config client.node is.trail (entries_of client.client is.report.log) (take client.tickets is.sent) is.entries);
+      all = λ stopped.
+          let none = is.holds.all (is.stopped stopped) in
+          is.many ∙ sym (length-map is.sent (λ (o : OrderIn). o.item)) ∙ ap length (sym (append-nil (map (λ (o : OrderIn). o.item) is.sent)) ∙ ap (λ left. map (λ (o : OrderIn). o.item) is.sent ++ left) (sym none) ∙ is.holds.ordered);
+    }
+      where
+        items : List Item
+        items = map (λ (o : OrderIn). o.item) is.sent
+
+        first : map (λ (o : OrderIn). o.item) (take client.tickets is.sent) ≡ take client.tickets is.handed.left
+        first =
+            let many = is.many in
+            let same = length-map is.sent (λ (o : OrderIn). o.item) in
+            sym (take-map (λ (o : OrderIn). o.item) client.tickets is.sent)
+            ∙ sym (take-append-le client.tickets items follower.left (omega (arith, many, same)))
+            ∙ ap (take client.tickets) is.holds.ordered
+
+    pub have_ordered : HaveOrdered handed clients reports
+    have_ordered = (
       served.1,
       λ i client at.
           let within : i < length back = let n = slice_get_within clients i client at in let a = served.0 in let b = served.1 in omega (arith, n, a, b) in
           let there = something_at back i within in
           let is = served.2 i there.0 client there.1 at in
-          (is.handed, is.node),
+          (is.handed, is.report, is.node, is.report_at, ordered_at i there.0 client is),
     )
 
     pub as_many : length machines ≡ length handed

@@ -1,17 +1,14 @@
 -- What a follower hears, by one turn and by all.
-use Rattle.std.proofs.Common.{◌≡◌, ℕ, zero, suc, ◌+◌, Bool, true, false, not, List, [], ◌∷◌, ◌++◌, length, length-append, map, take, get_or, ◌<◌, refl, sym, ap, ◌∙◌, subst, arith, append_assoc, IsTrue, Some}
-use Rattle.std.specs.Prelude.{slice_get}
+use Rattle.std.proofs.Common.{◌≡◌, ℕ, zero, suc, ◌+◌, Bool, true, false, not, List, [], ◌∷◌, ◌++◌, length, length-append, map, take, get_or, ◌<◌, refl, sym, ap, ◌∙◌, subst, arith, append_assoc, IsTrue}
 use Rattle.std.proofs.lemmas.List.{append-nil, map-append, take_more}
 use Rattle.std.proofs.lemmas.List.Elements.{filter_map-append}
-use Rattle.cast_message.specs.declared.message.Item.{Item}
 use Rattle.cast_message.specs.declared.message.Message.{Message}
 use Rattle.cast_box.specs.Ends.{PutterEnd}
 use Rattle.cast_desk.specs.Desk.{ClientState}
 use Rattle.cast_desk.specs.declared.desk.OrderIn.{OrderIn}
 use Rattle.cast_desk.specs.declared.notice.Notice.{Notice}
-use Rattle.cast_desk.specs.declared.notice.Notice.TheVariants.{Delivered}
 use Rattle.cast_run.specs.Jobs.{submitted, got, told_job}
-use Rattle.cast_run.specs.Submissions.{AreFirst, SubmitsNext}
+use Rattle.cast_run.specs.Submissions.{SubmitsNext}
 use Rattle.cast_run.proofs.Submitting.{first_next}
 use Rattle.cast_merge.specs.Told.{message_told, told}
 use Rattle.cast.specs.declared.follower.Follower.{Follower}

@@ -1,13 +1,16 @@
 -- What a group of followers has come to.
 --     told_by reports client            what the log of its node tells a client
 --     AreCaughtUp stands .. machines    each machine has taken what its follower has not heard of that
---     ArePlaced followers clients       each follower's client is at its node
+--     IsOfItem p kind item              the entry is of an order of this item, which node p took up or refused
+--     HaveOrdered followers clients ..  each follower's client is at its node, which took the orders of its first items
 --     HaveTaken stands config past ..   each machine stands for exactly what its node delivered, in order
 --     DeliverPrefixes config past       what a node delivered of a sender is a prefix of what that sender broadcast
 --     DeliverTheSameAtRest config past  at rest live nodes have delivered the same of each sender
 --     IsFollowed stands config ..       all that is known of what a group of followers gives back
-use Rattle.std.specs.Prelude.{◌≡◌, ℕ, List, [], ◌++◌, length, drop, map, slice_get, Option, Some, None}
+use Rattle.std.specs.Prelude.{◌≡◌, ◌+◌, ℕ, List, [], ◌++◌, length, take, drop, map, slice_get, Option, Some, None}
 use Rattle.cast_message.specs.declared.config.Config.{Config}
+use Rattle.cast_message.specs.declared.event.Event.TheVariants.{Order}
+use Rattle.cast_message.specs.declared.message.Item.{Item}
 use Rattle.cast_message.specs.declared.message.Message.{Message}
 use Rattle.cast_model.specs.Delivery.{delivery_log}
 use Rattle.cast_model.specs.Headline.{IsPrefixOf}
@@ -15,14 +18,19 @@ use Rattle.cast_model.specs.History.{History, broadcast}
 use Rattle.cast_model.specs.Replies.{history, replies}
 use Rattle.cast_model.specs.Rounds.{FewCrashedIn, Live, Rest}
 use Rattle.cast_world.specs.Group.{Stands}
+use Rattle.cast_log.specs.declared.entry.EntryKind.{EntryKind}
+use Rattle.cast_log.specs.declared.entry.EntryKind.TheVariants.{Step as StepEntry, Refused}
 use Rattle.cast_desk.specs.Feed.{feed}
 use Rattle.cast_desk.specs.declared.notice.Notice.{Notice}
 use Rattle.cast_run.specs.Jobs.{told_job}
 use Rattle.cast_merge.specs.Merge.{TellsMerge}
 use Rattle.cast_merge.specs.Told.{of_sender, told}
 use Rattle.cast_node.specs.Linked.{Linked}
+use Rattle.cast_engine.specs.Serving.{Matches, entries_of}
+use Rattle.cast_node.specs.declared.report.EngineEnd.TheVariants.{Stopped}
 use Rattle.cast_node.specs.declared.report.NodeReport.{NodeReport}
 use Rattle.cast_run.specs.Planned.{faults_of, KeepsTo}
+use Rattle.cast_run.specs.Serves.{AreStamped, HaveOrigins}
 use Rattle.cast_run.specs.declared.reports.ClientReport.{ClientReport}
 use Rattle.cast_message.specs.declared.plan.Fault.{Fault}
 use Rattle.cast_run.specs.Ran.{LogsEnd}
@@ -52,12 +60,26 @@ AreCaughtUp {M} stands reports clients followers machines =
     → (follower : Follower M) × (slice_get followers i ≡ Some follower)
     × IsCaughtUp stands reports clients i follower machine)
 
--- each follower's client is at its node
-abbrev pub ArePlaced : {M : Type 0} → List (ℕ × Follower M) → List ClientReport → Type 0
-ArePlaced {M} followers clients =
+-- the entry is of an order of this item, which node p took up, or refused
+abbrev pub IsOfItem : ℕ → EntryKind → Item → Type 0
+IsOfItem p (StepEntry event origin outcome) item = event ≡ Order p item
+IsOfItem p (Refused origin fault) item = Unit {0}
+
+-- The log of the node has, of this client, the orders of the follower's first items, one for one and in order: as many as the report
+-- has tickets. Where the engine stopped, all items are among these or left in the desk.
+pub record IsOrdered {M : Type 0} (follower : Follower M) (client : ClientReport) (report : NodeReport)
+    : Type 0 where
+  pub orders : Matches (λ e item. IsOfItem client.node e.kind item)
+      (entries_of client.client report.log) (take client.tickets follower.left)
+  pub all : report.ended ≡ Stopped → client.tickets + client.left ≡ length follower.left
+
+abbrev pub HaveOrdered : {M : Type 0} → List (ℕ × Follower M) → List ClientReport → List NodeReport → Type 0
+HaveOrdered {M} followers clients reports =
     (length clients ≡ length followers)
     × ((i : ℕ) (client : ClientReport) → slice_get clients i ≡ Some client
-    → (follower : Follower M) × (slice_get followers i ≡ Some (told_job client.node follower)))
+    → (follower : Follower M) × (report : NodeReport)
+    × (slice_get followers i ≡ Some (told_job client.node follower))
+    × (slice_get reports client.node ≡ Some report) × IsOrdered follower client report)
 
 abbrev pub HaveTaken : {M : Type 0} → (M → List Message → Type 0) → Config → History → List M
     → List ClientReport → Type 0
@@ -81,9 +103,11 @@ past_of config run = history config run.assembly.events
 
 pub record IsFollowed {M : Type 0} (stands : M → List Message → Type 0) (config : Config)
     (faults : List Fault) (followers : List (ℕ × Follower M)) (run : Followed M) : Type 0 where
+  -- of the followers' items
+  pub ordered : HaveOrdered followers run.clients.items run.report.reports
+  pub origins : HaveOrigins followers run.report.reports
   -- of the machines
   pub machines : length run.machines.items ≡ length followers
-  pub placed : ArePlaced followers run.clients.items
   pub taken : HaveTaken stands config (past_of config run) run.machines.items run.clients.items
   pub prefix : DeliverPrefixes config (past_of config run)
   pub agree : DeliverTheSameAtRest config (past_of config run)
@@ -92,6 +116,7 @@ pub record IsFollowed {M : Type 0} (stands : M → List Message → Type 0) (con
   pub linked : Linked config run.report.reports
   pub planned : KeepsTo config (faults_of faults) run.report.reports
   pub logs : LogsEnd config faults run.report.reports
+  pub stamps : AreStamped config run.report.reports
   pub merge : TellsMerge (map (λ report. report.log) run.report.reports) run.assembly.events
       run.assembly.replies
   pub replies_are : run.assembly.replies ≡ replies config run.assembly.events

@@ -1,6 +1,5 @@
-use Rattle.std.proofs.Common.{◌≡◌, ℕ, List, ◌++◌, length, drop, ap, subst, ◌∙◌, rules}
+use Rattle.std.proofs.Common.{◌≡◌, ◌++◌, length, drop, ap, subst, ◌∙◌, rules}
 use Rattle.std.specs.Prelude.{slice_get}
-use Rattle.cast_message.specs.declared.message.Message.{Message}
 use Rattle.cast_merge.specs.Told.{told}
 use Rattle.cast_run.proofs.Each.{paired_more, paired_done}
 use Rattle.cast.specs.Followed.{IsCaughtUp, told_by}

@@ -1,8 +1,8 @@
-use Rattle.std.proofs.Common.{◌≡◌, subst, ap, ◌∙◌}
+use Rattle.std.proofs.Common.{◌≡◌, subst}
 use Rattle.cast_model.specs.Replies.{history, replies}
 use Rattle.cast_world.specs.Group.{Stands}
 use Rattle.cast.specs.Followed.{AreCaughtUp}
-use Rattle.cast.proofs.Following.{prefixes, agree, have_taken, are_placed, as_many}
+use Rattle.cast.proofs.Following.{prefixes, agree, have_taken, have_ordered, as_many}
 use Rattle.cast.proofs.followed.conclude.Goals as goal
 
 pub returns : goal.returns
@@ -20,7 +20,7 @@ returns g c config faults followers ran new =
     (subst (λ l. AreCaughtUp stands c.reports.result.now l run.jobs.items machines) c.as_slice.ensures.value c.in_ok-machines.ensures) in
     record {
       machines = as_many config reports ran.linked events results merge world.accepted stands followers run.jobs.items run.clients.items machines ran.served new caught;
-      placed = are_placed config reports ran.linked events results merge world.accepted stands followers run.jobs.items run.clients.items machines ran.served new caught;
+      ordered = have_ordered config reports ran.linked events results merge world.accepted stands followers run.jobs.items run.clients.items machines ran.served new caught;
       taken = have_taken config reports ran.linked events results merge world.accepted stands followers run.jobs.items run.clients.items machines ran.served new caught;
       prefix = prefixes config reports ran.linked events results merge world.accepted;
       agree = agree config reports ran.linked events results merge world.accepted;
@@ -28,6 +28,8 @@ returns g c config faults followers ran new =
       linked = ran.linked;
       planned = ran.planned;
       logs = ran.logs;
+      stamps = ran.stamps;
+      origins = ran.origins;
       merge = merge;
       replies_are = subst (λ k. results ≡ replies k events) ran.config_is c.in_ok-assembly.ensures.replies;
       world = world;

@@ -1,4 +1,4 @@
-use Rattle.std.proofs.Common.{◌≡◌, not, map, refl, ap}
+use Rattle.std.proofs.Common.{not, map, refl, ap}
 use Rattle.cast.proofs.Hearing.{keeps_following, twice}
 use Rattle.cast.proofs.follower.FollowerClientJob.turn.Goals as goal
 
