@@ -90,13 +90,13 @@ module _ (config : Config) (past : History) where
         by_result (Err refusal) stop =
             let accepted = accepted_all config (with_all past front) stop.front silent_stands.accepted stop.accepted in
             taking_stops (front ++ rest) stop.rest stop.event new new
-                (record {
-                  front = front ++ stop.front;
-                  split = ap (λ es. front ++ es) stop.split ∙ sym (append_assoc front stop.front (stop.event ∷ stop.rest));
-                  stands = moved stop.front accepted stop.stands;
-                })
-                refusal
-                (subst (λ h. IsRefused (fault config h stop.event) refusal) (history_from-with_all config (with_all past front) stop.front accepted ∙ sym (with_all-append past past front stop.front)) stop.refused, moved stop.front accepted stop.stands)
+            (record {
+              front = front ++ stop.front;
+              split = ap (λ es. front ++ es) stop.split ∙ sym (append_assoc front stop.front (stop.event ∷ stop.rest));
+              stands = moved stop.front accepted stop.stands;
+            })
+            refusal
+            (subst (λ h. IsRefused (fault config h stop.event) refusal) (history_from-with_all config (with_all past front) stop.front accepted ∙ sym (with_all-append past past front stop.front)) stop.refused, moved stop.front accepted stop.stands)
 
   -- the slots before were settled, and these are left
   pub record IsLeft (left : List Due) (world : State) : Type 0 where
