@@ -3,7 +3,7 @@
 ghost use Rattle.std.specs.Prelude.{◌≡◌, ◌+◌, ◌<◌, ◌≤◌, ◌^◌, ◌++◌, ◌∷◌, [], List as Entries, length, vec_len, vec_capacity, slice_get, Some, IsTrue, IfOk, IfSome, OnOk, OnErr};
 ghost use Rattle.cast_model.specs.OwnSteps.{nothing};
 ghost use Rattle.cast_log.specs.declared.entry.EntryKind.{EntryKind as Kind};
-ghost use Rattle.cast_log.specs.Logged.{silent, kind_of, IsShort, IsPlaced, StartsWith, shown_kind, shown_entry, is_step, step_event};
+ghost use Rattle.cast_log.specs.Logged.{silent, kind_of, IsShort, IsPlaced, StartsWith, shown_kind, shown_entry, step_event};
 
 use crate::entry::{Entry, EntryKind};
 use cast_message::{Event, NodeId, Outcome};
@@ -306,13 +306,6 @@ fn kind_ref<'a>(brief: Brief, number: u32, whole: &'a [EntryKind]) -> KindRef<'a
 }
 
 impl<'a> KindRef<'a> {
-    /// Whether it tells a step, and no refused order.
-    pub fn is_step(&self) -> bool
-        ensures { result ≡ is_step (shown_kind self.now) }
-    {
-        !matches!(self, KindRef::Whole(EntryKind::Refused { .. }))
-    }
-
     /// A copy of the step's event, where it tells a step, or want of memory, which only the bytes of an item take.
     pub fn copy_event(&self) -> Result<Option<Event>, AllocError>
         ensures { IfOk result (λ copy. copy ≡ step_event (shown_kind self.now)) }
