@@ -1,0 +1,3 @@
+mod Taking
+mod Firsts
+mod Misfits

@@ -1,0 +1,3 @@
+-- What several logs say together.
+pub mod Merging
+pub mod Fronts

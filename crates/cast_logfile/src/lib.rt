@@ -1,0 +1,24 @@
+//! Logs of a group's nodes as files, and what they say together: the text of a log, and the merge of the logs into one run, which
+//! the group accepts with what the nodes logged.
+#![tactic(auto)]
+
+mod copies;
+mod fault;
+mod file_log;
+mod gathered;
+mod log_words;
+mod merging;
+mod misfit;
+mod reading;
+mod record;
+mod same;
+mod writing;
+
+pub use fault::{LogCause, LogFault, MergeFault};
+pub use file_log::{FileLog, LoggedStep};
+pub use gathered::{Gathered, gather, locate};
+pub use merging::{Merged, StepPlace, merge_steps};
+pub use misfit::Misfit;
+pub use reading::read_log;
+pub use record::{judge_record, record_of, summary_of};
+pub use writing::{append_end, append_entry, append_head};

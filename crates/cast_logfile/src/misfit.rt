@@ -1,0 +1,82 @@
+//! Where the group doesn't agree with the logs.
+ghost use Rattle.std.specs.Prelude.{◌≡◌, ◌<◌, IfNone, IsOk, length, map, slice_index_or};
+ghost use Rattle.std.specs.List.{All};
+ghost use Rattle.cast_node.specs.Linked.{outcome_in};
+ghost use Rattle.cast_logfile.specs.Merging.{outcome_at};
+ghost use Rattle.cast_logfile.specs.declared.merging.StepPlace.{StepPlace as Place};
+
+use crate::file_log::LoggedStep;
+use crate::merging::StepPlace;
+use crate::same::has_outcome;
+use cast_message::{List, Reply, StepFault};
+use std::alloc::AllocError;
+
+/// Why logs don't merge into a run of the group.
+#[derive(Clone, Copy)]
+pub enum Misfit {
+    /// The group refuses the step in this place.
+    Refused { at: StepPlace, fault: StepFault },
+    /// It delivers or decides something else there.
+    Differs { at: StepPlace },
+    /// Memory was wanted.
+    Memory,
+}
+
+impl From<AllocError> for Misfit {
+    fn from(_refused: AllocError) -> Misfit {
+        Misfit::Memory
+    }
+}
+
+/// The first step that is refused, or by which something else is delivered or decided than was logged.
+pub fn find_misfit(
+    logs: &[List<LoggedStep>],
+    order: &[StepPlace],
+    replies: &[Reply],
+) -> Option<Misfit>
+    ensures accepted { IfNone result (All IsOk replies.now) }
+    ensures outcomes { IfNone result
+        (map outcome_in replies.now ≡ map (outcome_at logs.now) order.now) }
+{
+    if order.len() != replies.len() {
+        return Some(Misfit::Memory);
+    }
+    'each: for index in 0..order.len() {
+        let at = place_in(order, index);
+        let misfit = misfit_at(logs, at, &replies[index]);
+        if misfit.is_some() {
+            return misfit;
+        }
+    }
+    None
+}
+
+fn misfit_at(logs: &[List<LoggedStep>], at: StepPlace, reply: &Reply) -> Option<Misfit>
+    ensures accepted { IfNone result (IsOk reply.now) }
+    ensures outcome { IfNone result (outcome_in reply.now ≡ outcome_at logs.now at) }
+{
+    match reply {
+        Ok(answer) => {
+            let Some(log) = logs.get(at.node) else {
+                return Some(Misfit::Differs { at });
+            };
+            let Some(step) = log.as_slice().get(at.place) else {
+                return Some(Misfit::Differs { at });
+            };
+            if has_outcome(answer, &step.outcome) {
+                None
+            } else {
+                Some(Misfit::Differs { at })
+            }
+        }
+        Err(fault) => Some(Misfit::Refused { at, fault: *fault }),
+    }
+}
+
+// The place at this index.
+fn place_in(order: &[StepPlace], index: usize) -> StepPlace
+    requires { index < length order.now }
+    ensures { (other : Place) → result ≡ slice_index_or order.now index other }
+{
+    order[index]
+}

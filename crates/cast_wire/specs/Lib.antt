@@ -1,0 +1,3 @@
+-- What a packet is as bytes.
+pub mod Law
+pub mod Wire
