@@ -1,14 +1,26 @@
 """The binding for Python: what it answers, what it refuses, and that a handle that is closed answers all the same.
 
 usage: python3 test_castgroup.py [PROGRAM]      with a program, `castgroup run` and `judge` must write the same
+
+Where hypothesis is installed (python3-hypothesis of Debian), groups and records are tried at random too.
 """
+import pickle
 import random
+import re
 import subprocess
 import sys
+import threading
+import time
 import unittest
+from pathlib import Path
 
 import castgroup
-from castgroup import Close, Propose, Verdict
+from castgroup import Ack, Arrive, Close, Crash, Order, Propose, Send, Verdict
+
+try:
+    from hypothesis import given, settings, strategies
+except ImportError:
+    given = None
 
 PROGRAM = sys.argv.pop(1) if len(sys.argv) > 1 else None
 SCRIPT = b'{"nodes":3,"faults":1,"choices":2,"events":[["order",0,"data","61"],["send",0,1,0],["arrive",0,0],["settle"]]}'
@@ -18,9 +30,24 @@ RECORD = b"cast/1 3 1 2\nb 0 0 data:61\nd 0 0 0 data:61\nd 1 0 0 data:61\nd 2 0 
 class Records(unittest.TestCase):
     def test_verdicts(self):
         self.assertEqual(castgroup.judge(RECORD), Verdict(0, 0))
-        self.assertTrue(castgroup.judge(RECORD).good)
         self.assertEqual(castgroup.judge(b""), Verdict(1, 0))
         self.assertEqual(castgroup.judge(b"cast/1 1 0 1\nx 0\nb 0 0 data:61\nend\n"), Verdict(3, 5))
+
+    def test_a_verdict_is_true_of_a_good_record_alone(self):
+        good, bad = castgroup.judge(RECORD), castgroup.judge(RECORD[:-4])
+        self.assertEqual((bool(good), good.good, str(good)), (True, True, "good"))
+        self.assertEqual((bool(bad), bad.good), (False, False))
+        self.assertIn("line 6 breaks rule 0 (what is no line", str(bad))
+
+    def test_any_bytes_are_taken(self):
+        for kind in (bytes, bytearray, memoryview, lambda data: memoryview(bytearray(data * 2))[: len(data)]):
+            record, judge = kind(RECORD), castgroup.Judge()
+            self.assertTrue(castgroup.judge(record))
+            judge.feed(record)
+            self.assertTrue(judge.finish())
+        for text in (RECORD.decode(), 5, None, [1]):
+            self.assertRaises(TypeError, castgroup.judge, text)
+            self.assertRaises(TypeError, castgroup.Judge().feed, text)
 
     def test_pieces(self):
         numbers = random.Random(1)
@@ -58,12 +85,37 @@ class Texts(unittest.TestCase):
         orders = b",".join([b'["order",0,"data","' + b"61" * 1000 + b'"]'] * 100)
         self.assertGreater(len(castgroup.run(b'{"nodes":1,"faults":0,"choices":1,"events":[' + orders + b"]}")), 400_000)
 
+    def test_any_bytes_are_a_script(self):
+        for kind in (bytearray, memoryview):
+            self.assertEqual(castgroup.run(kind(SCRIPT)), RECORD)
+        self.assertRaises(TypeError, castgroup.run, SCRIPT.decode())
+        self.assertRaises(TypeError, castgroup.draw, SCRIPT, 1.5)
+        self.assertRaises(ValueError, castgroup.draw, SCRIPT, -1)
+
     def test_refused_scripts(self):
         for script, fault in ((b"{", (2, 0)), (b"{}", (3, 0)), (SCRIPT.replace(b'"settle"', b"7"), (3, 4)),
                               (SCRIPT.replace(b'"faults":1', b'"faults":3'), (4, 2)), (b" " * 67_108_865, (1, 0))):
             with self.assertRaises(castgroup.BadScript) as caught:
                 castgroup.run(script)
             self.assertEqual((caught.exception.fault, caught.exception.place), fault)
+
+    def test_errors_say_why_and_go_to_another_process(self):
+        errors = {
+            castgroup.Refused(11): "a frame that was not made (code 11)",
+            castgroup.BadConfig(2): "faults must be below nodes (code 2)",
+            castgroup.BadScript(3, 4): "element 4 is not of its form",
+            castgroup.BadScript(4, 1): "nodes must be from 1 to 64 (code 1)",
+            castgroup.BadScript(2, 0): "it is no JSON",
+            castgroup.Closed(): "it was finished or closed",
+            castgroup.TooLong(): "2^63 bytes",
+            castgroup.Refused(99): "no code that is known",
+        }
+        for error, words in errors.items():
+            again = pickle.loads(pickle.dumps(error))
+            self.assertIsInstance(error, castgroup.Error)
+            self.assertEqual((type(again), vars(again), str(again)), (type(error), vars(error), str(error)))
+            self.assertIn(words, str(error))
+        self.assertTrue(all(issubclass(kind, ValueError) for kind in (castgroup.BadConfig, castgroup.BadScript, castgroup.Closed)))
 
     def test_the_program_writes_the_same(self):
         if PROGRAM is None:
@@ -96,6 +148,34 @@ class Groups(unittest.TestCase):
         world.order(1, Propose(7, 2))
         self.assertEqual(world.decision(1, 7), 2)
 
+    def test_events_and_deliveries(self):
+        with castgroup.World(2, 0) as world:
+            events = [Order(0, b"a"), Order(0, Propose(1, 2)), Send(0, 1, 0), Arrive(0, 0), Ack(1, 0, 0), Order(0, Close()), Crash(0)]
+            replies = [world.step(event) for event in events]
+            self.assertEqual([reply.number for reply in replies], [0, 1, 0, 1, 0, 2, 0])
+            arrived = replies[3]
+            self.assertEqual(list(world.deliveries(arrived.number, arrived.sender, arrived.first)), [b"a"])
+            self.assertEqual(list(world.deliveries(0, 0)), [b"a", Propose(1, 2), Close()])
+            self.assertEqual(list(world.deliveries(0, 0, 2)), [Close()])
+            self.assertEqual(list(world.deliveries(7, 0)), [])
+        self.assertRaises(castgroup.Closed, world.at_rest)
+
+    def test_traps(self):
+        world = castgroup.World(2, 0)
+        for item in (5, (7, 3), [7, 3], "a", None, ()):
+            self.assertRaises(TypeError, world.order, 0, item)
+            self.assertRaises(TypeError, world.step, Order(0, item))
+        for call in (lambda: castgroup.World(2.9, 0), lambda: castgroup.World("3", 0), lambda: castgroup.World(3, 0, item_limit=1.5),
+                     lambda: castgroup.World(3, 0, uniform="no"), lambda: world.crash(0.0), lambda: world.send("0", 1, 0),
+                     lambda: world.propose(0, 1.0, 2), lambda: world.live(0.5), lambda: world.step((4, 0))):
+            self.assertRaises(TypeError, call)
+        self.assertEqual(world.delivered(0, 0), [])
+        for item in (bytearray(b"a"), memoryview(b"b")):
+            world.order(0, item)
+        self.assertEqual(world.delivered(0, 0), [b"a", b"b"])
+        self.assertNotEqual(Propose(7, 3), (7, 3))
+        self.assertNotEqual(Send(0, 1, 0), Ack(0, 1, 0))
+
     def test_refusals(self):
         world = castgroup.World(2, 0)
         for code, call in ((1, lambda: world.crash(2)), (2, lambda: world.send(1, 1, 0)), (5, lambda: world.order(0, b"a" * 1025)),
@@ -103,7 +183,8 @@ class Groups(unittest.TestCase):
             with self.assertRaises(castgroup.Refused) as caught:
                 call()
             self.assertEqual(caught.exception.code, code)
-        for call in (lambda: world.crash(256), lambda: world.crash(-1), lambda: world.arrive(0, 2**64)):
+        for call in (lambda: world.crash(256), lambda: world.crash(-1), lambda: world.arrive(0, 2**64), lambda: world.propose(0, 0, -1),
+                     lambda: world.send(0, 300, 0), lambda: world.owed(0, 256), lambda: castgroup.World(-1, 0)):
             self.assertRaises(ValueError, call)
         with self.assertRaises(castgroup.BadConfig) as caught:
             castgroup.World(2, 1, uniform=True)
@@ -116,6 +197,107 @@ class Groups(unittest.TestCase):
         for call in (world.round, world.at_rest, lambda: world.order(0, b"a"), lambda: world.delivered(0, 0), lambda: world.live(0),
                      lambda: world.owed(0, 1), lambda: world.decision(0, 0), lambda: world.item(0, 0, 0)):
             self.assertRaises(ValueError, call)
+
+
+class Threads(unittest.TestCase):
+    def test_long_calls_let_go_of_the_lock(self):
+        """While a call runs in one thread, another goes on."""
+        items = 400
+        world, judge = castgroup.World(16, 0), castgroup.Judge()
+        for node in range(16):
+            for number in range(items):
+                world.order(node, b"a")
+        record = b"cast/1 1 0 1\n" + b"".join(b"b 0 %d data:%s\nd 0 0 %d data:%s\n" % (n, b"61" * 1000, n, b"61" * 1000)
+                                               for n in range(4_000))
+        for call in (world.round, lambda: judge.feed(record), lambda: castgroup.judge(record)):
+            self.assertGreater(self.turns_during(call), 0)
+
+    def turns_during(self, call):
+        """How often this thread had a turn while another was in the call, which takes a tenth of a second about."""
+        began, ended = threading.Event(), threading.Event()
+
+        def run():
+            began.set()
+            call()
+            ended.set()
+
+        thread, turns = threading.Thread(target=run), 0
+        thread.start()
+        began.wait()
+        time.sleep(0.005)
+        while not ended.is_set():
+            turns += 1
+            time.sleep(0.001)
+        thread.join()
+        return turns
+
+    def test_threads_share_a_group(self):
+        world = castgroup.World(4, 0)
+
+        def order(node):
+            for number in range(300):
+                world.order(node, b"%d" % number)
+                world.delivered(node, node)
+
+        threads = [threading.Thread(target=order, args=(node,)) for node in range(4)]
+        for thread in threads:
+            thread.start()
+        for thread in threads:
+            thread.join()
+        self.assertEqual([world.delivered(node, node) for node in range(4)], [[b"%d" % number for number in range(300)]] * 4)
+
+
+class Package(unittest.TestCase):
+    def test_names(self):
+        self.assertTrue(all(hasattr(castgroup, name) for name in castgroup.__all__))
+        self.assertRegex(castgroup.__version__, r"^\d+\.\d+\.\d+$")
+        self.assertTrue(Path(castgroup.__file__).with_name("py.typed").is_file())
+        if PROGRAM is not None:
+            said = subprocess.run([PROGRAM, "--version"], stdout=subprocess.PIPE, text=True).stdout
+            self.assertEqual(re.match(r"castgroup (\S+)", said)[1], castgroup.__version__)
+
+
+@unittest.skipIf(given is None, "hypothesis is not installed")
+class AtRandom(unittest.TestCase):
+    """What the kit proves, as Python shows it."""
+
+    if given is not None:
+        numbers = strategies.integers(0, 3)
+        items = strategies.one_of(strategies.binary(max_size=4), strategies.builds(Propose, numbers, numbers), strategies.just(Close()))
+        events = strategies.lists(strategies.one_of(
+            strategies.builds(Order, numbers, items), strategies.builds(Send, numbers, numbers, numbers),
+            strategies.builds(Ack, numbers, numbers, numbers), strategies.builds(Arrive, numbers, strategies.integers(0, 5)),
+            strategies.builds(Crash, numbers)), max_size=40)
+
+        @settings(deadline=None, max_examples=150)
+        @given(events)
+        def test_nodes_deliver_prefixes(self, events):
+            with castgroup.World(3, 1) as world:
+                ordered = {node: [] for node in range(3)}
+                for event in events:
+                    try:
+                        world.step(event)
+                    except castgroup.Refused as refused:
+                        self.assertTrue(1 <= refused.code <= 12)
+                        continue
+                    if isinstance(event, Order):
+                        ordered[event.node].append(event.item)
+                for node in range(3):
+                    for sender in range(3):
+                        delivered = world.delivered(node, sender)
+                        self.assertEqual(delivered, ordered[sender][: len(delivered)])
+                world.round(), world.round()
+                self.assertTrue(world.at_rest())
+
+        @settings(deadline=None, max_examples=150)
+        @given(strategies.binary(max_size=60), strategies.lists(strategies.integers(0, 90), max_size=6))
+        def test_cuts_change_no_verdict(self, tail, cuts):
+            record = RECORD[:40] + tail
+            with castgroup.Judge() as judge:
+                places = [0, *sorted(min(cut, len(record)) for cut in cuts), len(record)]
+                for first, last in zip(places, places[1:]):
+                    judge.feed(memoryview(record)[first:last])
+                self.assertEqual(judge.finish(), castgroup.judge(record))
 
 
 if __name__ == "__main__":

@@ -1,0 +1,44 @@
+"""castgroup for Python: the judge of records, groups as values, and the texts of scripts, over the proved library.
+
+    import castgroup
+    castgroup.judge(b"cast/1 1 0 1\\nx 0\\nb 0 0 data:61\\nend\\n")      # Verdict(line=3, rule=5), which is false
+    with castgroup.World(2, 0) as world:
+        world.order(0, b"a")
+        world.round()
+        list(world.deliveries(1, 0))                                     # [b"a"]
+
+It loads libcastgroup.so, which stands in this package, or which CASTGROUP_LIBRARY names. Threads may share a group or a judge: its
+calls come one after another. Calls that may take long let go of the interpreter's lock.
+"""
+from ._errors import BadConfig, BadScript, Closed, Error, Refused, TooLong
+from ._events import Ack, Arrive, Close, Crash, Event, Item, Order, Propose, Reply, Send
+from ._judge import Judge, Verdict, judge
+from ._texts import draw, run
+from ._world import World
+
+__version__ = "0.2.0"
+
+__all__ = [
+    "Ack",
+    "Arrive",
+    "BadConfig",
+    "BadScript",
+    "Close",
+    "Closed",
+    "Crash",
+    "Error",
+    "Event",
+    "Item",
+    "Judge",
+    "Order",
+    "Propose",
+    "Refused",
+    "Reply",
+    "Send",
+    "TooLong",
+    "Verdict",
+    "World",
+    "draw",
+    "judge",
+    "run",
+]

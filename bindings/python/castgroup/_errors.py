@@ -1,0 +1,91 @@
+"""What can go wrong, in words. Each error can be pickled, as a pool of processes must."""
+from __future__ import annotations
+
+_REFUSALS = (
+    "a node that does not exist",
+    "a link from a node to itself",
+    "a node that has crashed",
+    "a stream that is closed",
+    "a payload of more than 1,024 bytes",
+    "a second proposal in an instance",
+    "a stream that is full: its last place is kept for the close",
+    "a slot that was not given",
+    "a slot that was acknowledged",
+    "a slot that was not taken",
+    "a frame that was not made",
+    "a node that has made all its frames",
+)
+_CONFIGS = (
+    "nodes must be from 1 to 64",
+    "faults must be below nodes",
+    "choices must be from 1 to nodes",
+    "item_limit must be from 1 to 4,096",
+    "log_limit must be from 1 to 65,536",
+    "box_size must be from 1 to 4,096",
+    "in uniform mode faults must be fewer than half of nodes",
+)
+
+
+def _word(words: tuple[str, ...], code: int) -> str:
+    """The words for a code, counted from 1."""
+    return words[code - 1] if 0 < code <= len(words) else "no code that is known"
+
+
+class Error(Exception):
+    """The base of all errors of this package, but for want of memory, wrong types, and numbers that no call takes. As text it says
+    what is wrong."""
+
+
+class Refused(Error):
+    """An event is refused, and changed nothing. `code` is that of docs/FORMATS.md, 1 to 12."""
+
+    def __init__(self, code: int) -> None:
+        super().__init__(code)
+        self.code = code
+
+    def __str__(self) -> str:
+        return f"the event is refused: {_word(_REFUSALS, self.code)} (code {self.code})"
+
+
+class BadConfig(Error, ValueError):
+    """A number of a configuration is out of range. `code` is that of docs/FORMATS.md, 1 to 7."""
+
+    def __init__(self, code: int) -> None:
+        super().__init__(code)
+        self.code = code
+
+    def __str__(self) -> str:
+        return f"the configuration is refused: {_word(_CONFIGS, self.code)} (code {self.code})"
+
+
+class BadScript(Error, ValueError):
+    """A script is refused. `fault` is 1 too long, 2 no JSON, 3 a shape, 4 a configuration; `place` is the element of the shape, from 1
+    on, 0 for the whole, or the code of the configuration."""
+
+    def __init__(self, fault: int, place: int) -> None:
+        super().__init__(fault, place)
+        self.fault, self.place = fault, place
+
+    def __str__(self) -> str:
+        return f"the script is refused: {self._why()}"
+
+    def _why(self) -> str:
+        if self.fault == 4:
+            return f"{_word(_CONFIGS, self.place)} (code {self.place})"
+        if self.fault == 3 and self.place > 0:
+            return f"element {self.place} is not of its form (counted from 1 through events, plan and jobs)"
+        return _word(("it has more than 67,108,864 bytes", "it is no JSON", "it is not of its form as a whole"), self.fault)
+
+
+class Closed(Error, ValueError):
+    """A group was closed, or a judge was finished or closed."""
+
+    def __str__(self) -> str:
+        return "it was finished or closed"
+
+
+class TooLong(Error, ValueError):
+    """With this piece a record would have 2^63 bytes."""
+
+    def __str__(self) -> str:
+        return "the record has 2^63 bytes"

@@ -1,0 +1,100 @@
+"""The judge: a record whole, or in pieces."""
+from __future__ import annotations
+
+import threading
+from ctypes import addressof
+from types import TracebackType
+from typing import NamedTuple
+
+from . import _library as library
+from ._errors import TooLong
+from ._library import Readable, accept, free, held
+
+# A shorter piece is judged in a few microseconds, in which the interpreter's lock is kept.
+_LONG = 8_192
+_RULES = (
+    "what is no line of a record or out of range, a head or an end that is missing or stands twice, or bytes after the end",
+    "a broadcast or a delivery out of turn, or a delivery of what was not broadcast",
+    "a broadcast after its node's close",
+    "a decided value that was not proposed",
+    "more decided values in an instance than choices, where fewer nodes than choices may crash",
+    "a line of a node that has crashed",
+    "a second proposal of a node in an instance",
+)
+
+_judge = free["judge"]
+_new, _feed, _feed_long, _finish, _drop = (
+    held["judge_new"],
+    held["judge_feed"],
+    free["judge_feed"],
+    free["judge_finish"],
+    free["judge_drop"],
+)
+
+
+class Verdict(NamedTuple):
+    """The first line that offends, counted from 1, and the least rule that it breaks; of a good record line 0. It is true of a good
+    record alone."""
+
+    line: int
+    rule: int
+
+    @property
+    def good(self) -> bool:
+        return self.line == 0
+
+    def __bool__(self) -> bool:
+        return self.good
+
+    def __str__(self) -> str:
+        if self.good:
+            return "good"
+        return f"bad: line {self.line} breaks rule {self.rule} ({_RULES[self.rule]})"
+
+
+def judge(record: Readable) -> Verdict:
+    """The verdict on a record."""
+    data, said = library.read(record), library.VerdictNumbers()
+    accept(_judge(data, len(data), addressof(said)))
+    return Verdict(said.line, said.rule)
+
+
+class Judge:
+    """A judge of a record that comes in pieces, however it is cut."""
+
+    def __init__(self) -> None:
+        self._lock, self._handle = threading.RLock(), library.Handle()
+        self._at = addressof(self._handle)
+        accept(_new(self._at))
+
+    def feed(self, piece: Readable) -> None:
+        """Takes the next piece. After MemoryError that is the answer to each later call."""
+        data = library.read(piece)
+        feed = _feed if len(data) < _LONG else _feed_long
+        with self._lock:
+            status = feed(self._at, data, len(data))
+        if accept(status) == library.REFUSED:
+            raise TooLong()
+
+    def finish(self) -> Verdict:
+        """The verdict on all pieces joined. Afterwards the judge takes nothing more."""
+        said = library.VerdictNumbers()
+        with self._lock:
+            status = _finish(self._at, addressof(said))
+        accept(status)
+        return Verdict(said.line, said.rule)
+
+    def close(self) -> None:
+        """Lets go of the judge, which then takes nothing more."""
+        with self._lock:
+            _drop(self._at)
+
+    def __enter__(self) -> Judge:
+        return self
+
+    def __exit__(self, kind: type[BaseException] | None, error: BaseException | None, trace: TracebackType | None) -> None:
+        self.close()
+
+    def __del__(self) -> None:
+        if hasattr(self, "_at"):
+            self.close()

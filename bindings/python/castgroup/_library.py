@@ -1,0 +1,122 @@
+"""The exports of libcastgroup.so, by ctypes, and what their statuses mean. Each is proved; the header bindings/c/castgroup.h says what
+a caller keeps.
+
+An export is had twice. One of `free` lets go of the interpreter's lock while it runs, one of `held` keeps it, which is quicker where
+there is little to do."""
+from __future__ import annotations
+
+import ctypes
+import operator
+import os
+from ctypes import c_bool, c_char_p, c_size_t, c_uint8, c_uint32, c_uint64, c_void_p
+from pathlib import Path
+from typing import Any, Callable, SupportsIndex, Union
+
+from ._errors import Closed
+
+DONE, MISUSED, REFUSED, BAD, OUT_OF_MEMORY, TOO_SHORT = 0, 1, 2, 3, 5, 6
+
+# What is taken where bytes are read.
+Readable = Union[bytes, bytearray, memoryview]
+
+
+class Handle(ctypes.Structure):
+    """A group or a judge, or none."""
+
+    _fields_ = [("held", c_bool), ("at", c_void_p)]
+
+
+class VerdictNumbers(ctypes.Structure):
+    _fields_ = [("line", c_uint64), ("rule", c_uint64)]
+
+
+class ConfigNumbers(ctypes.Structure):
+    _fields_ = [
+        ("nodes", c_uint64),
+        ("faults", c_uint64),
+        ("choices", c_uint64),
+        ("item_limit", c_uint64),
+        ("log_limit", c_uint64),
+        ("box_size", c_uint64),
+        ("first_stamp", c_uint64),
+        ("mode", c_uint64),
+    ]
+
+
+class ItemNumbers(ctypes.Structure):
+    _fields_ = [("kind", c_uint64), ("length", c_uint64), ("instance", c_uint64), ("value", c_uint64)]
+
+
+class TextNumbers(ctypes.Structure):
+    _fields_ = [("length", c_uint64), ("fault", c_uint64), ("place", c_uint64)]
+
+
+_PATH = os.environ.get("CASTGROUP_LIBRARY", str(Path(__file__).with_name("libcastgroup.so")))
+_BYTES = (c_char_p, c_size_t)
+_ROOM = (c_void_p, c_size_t)
+# Of each export its arguments; a pointer to a record is an address.
+_EXPORTS: dict[str, tuple[Any, ...]] = {
+    "judge": (*_BYTES, c_void_p),
+    "judge_new": (c_void_p,),
+    "judge_feed": (c_void_p, *_BYTES),
+    "judge_finish": (c_void_p, c_void_p),
+    "judge_drop": (c_void_p,),
+    "world_new": (c_void_p, c_void_p, c_void_p),
+    "world_step": (c_void_p, c_void_p, *_BYTES, c_void_p),
+    "world_round": (c_void_p, c_void_p),
+    "world_delivered": (c_void_p, c_uint8, c_uint8, c_void_p),
+    "world_item": (c_void_p, c_uint8, c_uint8, c_uint64, c_void_p, *_ROOM),
+    "world_decision": (c_void_p, c_uint8, c_uint64, c_void_p, c_void_p),
+    "world_owed": (c_void_p, c_uint8, c_uint8, c_void_p),
+    "world_live": (c_void_p, c_uint8, c_void_p),
+    "world_at_rest": (c_void_p, c_void_p),
+    "world_drop": (c_void_p,),
+    "run": (*_BYTES, *_ROOM, c_void_p),
+    "draw": (*_BYTES, c_uint64, c_uint64, *_ROOM, c_void_p),
+}
+
+
+class Exports:
+    """The exports of a library, by their names without `cast_c_`."""
+
+    def __init__(self, library: ctypes.CDLL) -> None:
+        self._library = library
+
+    def __getitem__(self, name: str) -> Callable[..., int]:
+        function = self._library[f"cast_c_{name}"]
+        function.argtypes = _EXPORTS[name]
+        function.restype = None if name.endswith("_drop") else c_uint32
+        return function
+
+
+free, held = Exports(ctypes.CDLL(_PATH)), Exports(ctypes.PyDLL(_PATH))
+
+
+def accept(status: int) -> int:
+    """A status that is no error of the caller's or of memory."""
+    if status == MISUSED:
+        raise Closed()
+    if status == OUT_OF_MEMORY:
+        raise MemoryError
+    return status
+
+
+def read(readable: Readable) -> bytes:
+    """The bytes as they stand now: what can be written is copied, as another thread may write it while a call runs."""
+    return readable if isinstance(readable, bytes) else bytes(memoryview(readable))
+
+
+def within(number: SupportsIndex, bound: int, what: str) -> int:
+    """The number, which the library could not be given where it is out of range."""
+    whole = operator.index(number)
+    if not 0 <= whole < bound:
+        raise ValueError(f"{what} {whole} is not 0 to {bound - 1}")
+    return whole
+
+
+def node(number: SupportsIndex) -> int:
+    return within(number, 2**8, "node")
+
+
+def count(number: SupportsIndex, what: str = "number") -> int:
+    return within(number, 2**64, what)

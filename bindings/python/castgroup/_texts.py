@@ -1,0 +1,56 @@
+"""The record of a script, and the picture of its events."""
+from __future__ import annotations
+
+import mmap
+from ctypes import addressof, c_char
+from typing import Callable, SupportsIndex
+
+from . import _library as library
+from ._errors import BadScript
+from ._library import Readable, accept, count, free
+
+# The room for a text. A page of it is had once it is written, so ample room costs nothing, and a text is made once.
+_AMPLE = 2**30
+_LEAST = 2**16
+
+_run, _draw = free["run"], free["draw"]
+
+
+def run(script: Readable) -> bytes:
+    """The record of a script, as `castgroup run` writes it."""
+    data = library.read(script)
+    return _text(lambda out, room, told: _run(data, len(data), out, room, told))
+
+
+def draw(script: Readable, first: SupportsIndex = 0, last: SupportsIndex = 2**64 - 1) -> bytes:
+    """The picture of a script's events as SVG, of which those from one place to another are shown."""
+    data, window = library.read(script), (count(first, "place"), count(last, "place"))
+    return _text(lambda out, room, told: _draw(data, len(data), *window, out, room, told))
+
+
+def _text(make: Callable[[int, int, int], int]) -> bytes:
+    """The text that a call makes, which is given an address, the room there, and the address of what it tells."""
+    told, room, least = library.TextNumbers(), _AMPLE, _LEAST
+    while True:
+        with _pages(room, least) as pages:
+            out = c_char.from_buffer(pages)
+            status = make(addressof(out), len(pages), addressof(told))
+            del out  # (pages that are lent are not given back)
+            text = pages[: told.length] if status == library.DONE else b""
+        if accept(status) != library.TOO_SHORT:
+            break
+        room = least = told.length
+    if status == library.REFUSED:
+        raise BadScript(told.fault, told.place)
+    return text
+
+
+def _pages(room: int, least: int) -> mmap.mmap:
+    """So much room, or as much as can be had, but no less than the least."""
+    while True:
+        try:
+            return mmap.mmap(-1, room, flags=mmap.MAP_PRIVATE | mmap.MAP_ANONYMOUS)
+        except OSError:
+            if room <= least:
+                raise MemoryError from None
+            room = max(least, room // 2)
