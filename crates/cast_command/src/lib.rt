@@ -11,5 +11,6 @@ pub use explain::{
     RULES, Taken, aside_words, group_words, head_words, script_words, twice_words, verdict_words,
 };
 pub use request::{
-    Detail, LiveTask, Place, Refusal, Request, RunPlaces, Running, Seeds, Shown, Task, parse,
+    Detail, LiveTask, MergeTask, Place, Refusal, Request, RunPlaces, Running, Seeds, Shown, Task,
+    parse,
 };

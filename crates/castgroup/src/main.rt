@@ -8,6 +8,7 @@ mod explain;
 mod input;
 mod judge;
 mod live;
+mod merge;
 mod output;
 mod outputs;
 mod progress;
@@ -22,6 +23,7 @@ use command_line::{command_words, detail_of, refuse_request, refuse_words};
 use console::Console;
 use judge::judge_records;
 use live::run_live;
+use merge::merge_logs;
 use status::Status;
 use std::io::Stderr;
 use std::process::ExitCode;
@@ -73,6 +75,7 @@ fn perform<R: Runtime + AllocGlobal + Threads + Wait + Clock + Copy + Send + 'st
             };
             write_text(console, command, script)
         }
+        Task::Merge(task) => merge_logs(console, &task),
         Task::Migrate(record) => write_text(console, TextCommand::Migrate, record),
     }
 }
