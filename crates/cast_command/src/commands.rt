@@ -36,6 +36,14 @@ const ENDS: &str =
 rest: whether all that live nodes gave live nodes was acknowledged
 verdict: what the judge says of the record of what happened";
 
+/// What the lines of the summary of merged logs mean.
+const MERGED_ENDS: &str =
+    "A line for each node, with its end and how many items it delivered from each node. Ends:
+  stopped    its log has its last line
+  crashed    it has none
+rest: whether all that live nodes gave live nodes was acknowledged
+verdict: what the judge says of the record of what happened";
+
 /// What the marks of a picture mean.
 const MARKS: &str = "A line for each node, time to the right, a column for each event. Marks:
   dot      a broadcast, with the item
@@ -54,6 +62,7 @@ pub fn castgroup_command<'a>(
     let command = with_command(program(alloc)?, run_command(alloc))?;
     let command = with_command(command, judge_command(alloc, rules))?;
     let command = with_command(command, live_command(alloc))?;
+    let command = with_command(command, merge_command(alloc))?;
     let command = with_command(command, migrate_command(alloc))?;
     with_command(command, draw_command(alloc))
 }
@@ -132,7 +141,21 @@ pub fn live_command<'a>(alloc: Global) -> Result<Command<'a>, AllocError> {
     let command = Command::new(alloc, "live")
         .about("Runs a script's group, by its plan and jobs, and writes what became of it")
         .after_help(ENDS);
-    with_outputs(alloc, with_seeds(alloc, command)?)?.arg(script(alloc))
+    let progress = "Say on standard error each second how far the run is, as on a terminal";
+    with_outputs(alloc, with_seeds(alloc, command)?)?
+        .arg(flag(alloc, "progress", progress))?
+        .arg(script(alloc))
+}
+
+/// The command that merges the logs of a group's processes.
+pub fn merge_command<'a>(alloc: Global) -> Result<Command<'a>, AllocError> {
+    let logs = Arg::new(alloc, "LOG").num_args(0..).help(
+        "The logs, one of each process; standard input if absent. A node without a log crashed before its first step",
+    );
+    let command = Command::new(alloc, "merge")
+        .about("Merges the logs of a group's processes into one run, and writes what became of it")
+        .after_help(MERGED_ENDS);
+    with_outputs(alloc, command)?.arg(logs)
 }
 
 // The options that say by which seeds a group runs in place of threads.
@@ -149,12 +172,10 @@ fn with_outputs<'a>(alloc: Global, command: Command<'a>) -> Result<Command<'a>, 
         "Also write the record of the run to FILE; - is standard output, and the summary then goes to standard error";
     let replay = "Also write to FILE a script that runs the same step by step";
     let picture = "Also write to FILE a picture of the run as SVG";
-    let progress = "Say on standard error each second how far the run is, as on a terminal";
     command
         .arg(option(alloc, "record", "FILE", record))?
         .arg(option(alloc, "replay", "FILE", replay))?
-        .arg(option(alloc, "draw", "FILE", picture))?
-        .arg(flag(alloc, "progress", progress))
+        .arg(option(alloc, "draw", "FILE", picture))
 }
 
 // An option that takes a value.

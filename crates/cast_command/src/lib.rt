@@ -12,5 +12,6 @@ pub use explain::{
     twice_words, verdict_words,
 };
 pub use request::{
-    Detail, LiveTask, Place, Refusal, Request, RunPlaces, Running, Seeds, Shown, Task, parse,
+    Detail, LiveTask, MergeTask, Place, Refusal, Request, RunPlaces, Running, Seeds, Shown, Task,
+    parse,
 };

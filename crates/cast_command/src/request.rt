@@ -1,5 +1,5 @@
 //! What the words of a call ask for.
-use crate::commands::{castgroup_command, draw_command, live_command};
+use crate::commands::{castgroup_command, draw_command, live_command, merge_command};
 use cast_record::escaped;
 use clap::error::ErrorKind;
 use clap::{ArgMatches, Command, Error};
@@ -117,6 +117,14 @@ pub struct LiveTask<'a> {
     pub tells_progress: bool,
 }
 
+/// Logs that are to be merged.
+#[derive(Drop)]
+pub struct MergeTask<'a> {
+    /// The logs, one at least.
+    pub logs: Vec<Place<'a>>,
+    pub places: RunPlaces<'a>,
+}
+
 /// What the program is asked to do.
 #[derive(Drop)]
 pub enum Task<'a> {
@@ -138,6 +146,8 @@ pub enum Task<'a> {
     },
     /// To write a record with the new head.
     Migrate(Place<'a>),
+    /// To merge the logs of a group's processes.
+    Merge(MergeTask<'a>),
 }
 
 /// What a call asks for.
@@ -213,7 +223,8 @@ fn task_of<'a>(
 ) -> Result<Task<'a>, Refusal> {
     match command {
         "run" => Ok(Task::Run(input_of(matches, "SCRIPT"))),
-        "judge" => Ok(Task::Judge(records_of(alloc, matches)?)),
+        "judge" => Ok(Task::Judge(inputs_of(alloc, matches, "RECORD")?)),
+        "merge" => merge(alloc, matches),
         "live" => live(alloc, matches),
         "draw" => draw(alloc, matches),
         // (there is no other)
@@ -239,9 +250,13 @@ fn input_of<'a>(matches: &ArgMatches<'a>, name: &str) -> Place<'a> {
     place_of(matches, name).unwrap_or(Place::Standard)
 }
 
-fn records_of<'a>(alloc: Global, matches: &ArgMatches<'a>) -> Result<Vec<Place<'a>>, AllocError> {
+fn inputs_of<'a>(
+    alloc: Global,
+    matches: &ArgMatches<'a>,
+    name: &str,
+) -> Result<Vec<Place<'a>>, AllocError> {
     let mut places = Vec::new(alloc);
-    for word in matches.get_strs("RECORD").unwrap_or(&[]) {
+    for word in matches.get_strs(name).unwrap_or(&[]) {
         places.push(Place::named(word))?;
     }
     if places.is_empty() {
@@ -250,19 +265,32 @@ fn records_of<'a>(alloc: Global, matches: &ArgMatches<'a>) -> Result<Vec<Place<'
     Ok(places)
 }
 
-// Two outputs of one name are a fault: one of them would be lost.
-fn live<'a>(alloc: Global, matches: &ArgMatches<'a>) -> Result<Task<'a>, Refusal> {
-    let places = RunPlaces {
+const ONE_NAME: &str = "two of --record, --replay and --draw have one name";
+
+fn run_places<'a>(matches: &ArgMatches<'a>) -> RunPlaces<'a> {
+    RunPlaces {
         record: place_of(matches, "record"),
         replay: place_of(matches, "replay"),
         picture: place_of(matches, "draw"),
-    };
+    }
+}
+
+fn merge<'a>(alloc: Global, matches: &ArgMatches<'a>) -> Result<Task<'a>, Refusal> {
+    let places = run_places(matches);
+    if places.have_a_name_twice() {
+        let command = merge_command(alloc)?.bin_name("castgroup merge")?;
+        return Err(fault(command, ONE_NAME));
+    }
+    let logs = inputs_of(alloc, matches, "LOG")?;
+    Ok(Task::Merge(MergeTask { logs, places }))
+}
+
+// Two outputs of one name are a fault: one of them would be lost.
+fn live<'a>(alloc: Global, matches: &ArgMatches<'a>) -> Result<Task<'a>, Refusal> {
+    let places = run_places(matches);
     if places.have_a_name_twice() {
         let command = live_command(alloc)?.bin_name("castgroup live")?;
-        return Err(fault(
-            command,
-            "two of --record, --replay and --draw have one name",
-        ));
+        return Err(fault(command, ONE_NAME));
     }
     Ok(Task::Live(LiveTask {
         script: input_of(matches, "SCRIPT"),

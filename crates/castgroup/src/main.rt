@@ -8,6 +8,7 @@ mod explain;
 mod input;
 mod judge;
 mod live;
+mod merge;
 mod output;
 mod outputs;
 mod progress;
@@ -23,6 +24,7 @@ use command_line::{command_words, detail_of, refuse_request, refuse_words};
 use console::Console;
 use judge::judge_records;
 use live::run_live;
+use merge::merge_logs;
 use status::Status;
 use std::io::Stderr;
 use std::process::ExitCode;
@@ -74,6 +76,7 @@ fn perform<R: Runtime + AllocGlobal + Threads + Wait + Clock + Copy + Send + 'st
             };
             write_text(console, command, script)
         }
+        Task::Merge(task) => merge_logs(console, &task),
         Task::Migrate(record) => write_text(console, TextCommand::Migrate, record),
     }
 }
