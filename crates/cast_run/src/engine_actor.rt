@@ -74,6 +74,7 @@ impl<G: Gate> Actor for EngineActor<G> {
     ghost from = { IsSameEngine };
 
     // Takes a turn, unless the run was given up.
+    #[tactic(auto, using(cast_engine::proofs::Again::engine_again))]
     fn step<R: Wait>(&mut self, rt: &R, board: &Board) -> Step
         requires { ComesFrom IsSameEngine self.old }
         ensures same { StaysFrom IsSameEngine self.old self.new }
@@ -82,9 +83,7 @@ impl<G: Gate> Actor for EngineActor<G> {
             self.quiet.end(board, false);
             return Step::Ended;
         }
-        let turn = self
-            .engine
-            .turn(rt, &mut self.gate, board, &mut self.quiet);
+        let turn = self.engine.turn(rt, &mut self.gate, board, &mut self.quiet);
         match turn {
             Turn::Moved => Step::Moved,
             Turn::Idle => Step::Idle,

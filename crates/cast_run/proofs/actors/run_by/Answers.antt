@@ -8,7 +8,7 @@ pub loop-init : goal.loop-init
 loop-init g c = record {
   engines = still_self IsSameEngine engine_self c.args.actors.engines.items;
   carriers = still_self IsSameCarrier carrier_self c.args.actors.carriers.items;
-  jobs_are = (refl, λ p s at. (s, at, c.requires p s at));
+  jobs_are = (refl, λ p s at. (s, at, c.requires.begun p s at));
 }
 
 pub step-requires : goal.step-requires

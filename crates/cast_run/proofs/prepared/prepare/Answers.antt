@@ -71,7 +71,7 @@ returns-clause-ready g c =
             (λ q k at. let here = (are.1 q k at).0 in let as_many = same_count q seats ∙ ap (λ l. length (of q l)) made.ensures.jobs in omega arith),
       );
       room_is = (
-        let H : ℕ → ℕ → Type 0 = λ n k. HasRoom n k c.in_ok-room.room in
-        subst (λ n. H n (length jobs)) (are.0 ∙ c.nodes-nodes.ensures) (subst (H (length counts)) (c.len-2.ensures ∙ sym many) c.in_ok-room.ensures.room)
-      );
+          let H : ℕ → ℕ → Type 0 = λ n k. HasRoom n k c.in_ok-room.room in
+          subst (λ n. H n (length jobs)) (are.0 ∙ c.nodes-nodes.ensures) (subst (H (length counts)) (c.len-2.ensures ∙ sym many) c.in_ok-room.ensures.room)
+          );
     }
