@@ -12,10 +12,10 @@ pub returns-in-Moved : goal.returns-in-Moved
 returns-in-Moved g c =
     let actors = c.args.actors.now.items in
     let within : c.args.place < length actors = search rules in
-    stay_at g.A.Actor.from actors c.args.place c.index_mut-actor.result.now c.step.new.actor within c.index_mut-actor.ensures.value c.step.ensures.same
+    stay_at g.A.Actor.from actors c.args.place c.index_mut-actor.result.now c.step.new.self within c.index_mut-actor.ensures.value c.step.ensures.same
 
 pub returns-in-Ended : goal.returns-in-Ended
 returns-in-Ended g c =
     let actors = c.args.actors.now.items in
     let within : c.args.place < length actors = search rules in
-    stay_at g.A.Actor.from actors c.args.place c.index_mut-actor.result.now c.step.new.actor within c.index_mut-actor.ensures.value c.step.ensures.same
+    stay_at g.A.Actor.from actors c.args.place c.index_mut-actor.result.now c.step.new.self within c.index_mut-actor.ensures.value c.step.ensures.same

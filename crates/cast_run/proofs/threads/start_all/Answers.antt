@@ -2,8 +2,8 @@ use Rattle.std.proofs.Common.{◌∙◌, ◌++◌, ap, length, slice_get}
 use Rattle.cast_box.proofs.Closing.{get_middle}
 use Rattle.cast_run.proofs.threads.start_all.Goals as goal
 
-pub start-requires : goal.start-requires
-start-requires g c =
+pub start-requires-after_bounds : goal.start-requires-after_bounds
+start-requires-after_bounds g c =
     let l = c.loop-actor in
     let actor = c.in-Some.actor in
     let whole = l.invariant.2.0 ∙ ap (λ rest. l.yielded ++ rest) c.in-Some.ensures.steps.0 in
