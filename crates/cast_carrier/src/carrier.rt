@@ -6,19 +6,18 @@ ghost use Rattle.cast_box.specs.Lists.{HasTakenOfEnded};
 ghost use Rattle.cast_carrier.specs.Copies.{IsByPlan};
 ghost use Rattle.cast_carrier.specs.Carriers.{IsSameCarrier, CarriesOne, AreUnused, Brings, IsKeptOrLost, WaitsBy, counted_down, is_early, is_due, waiting_on, due_by, PutsOne, PutsCopy, HandsOn, HandsOnAll, HandsOver};
 
-use crate::board::Board;
 use crate::fate::{Fate, Ordinals, fate_of};
 use crate::faults::CarrierFaults;
 use crate::parcel::Parcel;
-use crate::waiting::{Pause, SHORT_NAP, Waiting};
+use crate::waiting::{Pause, SHORT_NAP};
 use cast_box::{Putter, Taker};
 use cast_message::{Fault, NodeId};
 use std::alloc::{AllocError, Global};
 use std::marker::Model;
 use std::sync::Wait;
 
-// A carrier that finds nothing sleeps soon: its engine has put nothing, and what it puts can wait for so long.
-const PAUSE: Pause = Pause {
+/// How a carrier waits that finds nothing. It sleeps soon: its engine has put nothing, and what it puts can wait for so long.
+pub const CARRIER_PAUSE: Pause = Pause {
     patience: 8,
     nap: SHORT_NAP,
 };
@@ -34,6 +33,7 @@ pub struct Delayed {
 /// Carries the parcels of one engine.
 #[derive(Drop)]
 pub struct Carrier {
+    node: NodeId,
     outbox: Taker<Parcel>,
     // By target.
     inboxes: Vec<Putter<Parcel>>,
@@ -61,9 +61,10 @@ impl Model for Carrier {
 }
 
 impl Carrier {
-    /// The carrier of these ends, of which none was used. It acts on these faults of a plan.
+    /// The carrier of a node with these ends, of which none was used. It acts on these faults of a plan.
     pub fn new(
         alloc: Global,
+        node: NodeId,
         outbox: Taker<Parcel>,
         inboxes: Vec<Putter<Parcel>>,
         faults: Vec<Fault>,
@@ -80,12 +81,18 @@ impl Carrier {
         let faults = CarrierFaults::new(alloc, faults, inboxes.len())?;
         let ordinals = vec![in alloc; Ordinals { carry: 0, took: 0 }; inboxes.len()]?;
         Ok(Carrier {
+            node,
             outbox,
             inboxes,
             faults,
             ordinals,
             delayed: Vec::new(alloc),
         })
+    }
+
+    /// The node whose frames it carries.
+    pub fn node(&self) -> NodeId {
+        self.node
     }
 
     /// Carries one parcel: what is due by it is handed on, in the order in which it came, and waits no longer; and then the
@@ -123,27 +130,6 @@ impl Carrier {
         } = self;
         (outbox, inboxes)
     }
-}
-
-/// Runs a carrier until its engine has ended, or the run was given up, and the outbox is empty, and says so on the board.
-pub fn run_carrier<R: Wait>(rt: &R, mut carrier: Carrier, board: &Board, node: usize) -> Carrier
-    ensures same { IsSameCarrier carrier result }
-    ensures empty { HasTakenOfEnded result.outbox.ended result.outbox.taken }
-{
-    let mut waiting = Waiting::new();
-    for _ in rt.forever() {
-        let last = board.has_ended(node);
-        if carrier.carry(rt) {
-            waiting.found();
-            continue;
-        }
-        if last {
-            break;
-        }
-        waiting.wait(rt, PAUSE);
-    }
-    board.settle(node);
-    carrier
 }
 
 // Hands on what is due by one more frame for the target, and then loses, keeps or hands on the parcel.

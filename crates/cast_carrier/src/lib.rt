@@ -12,7 +12,7 @@ mod plan;
 mod waiting;
 
 pub use board::{Board, QuietWord};
-pub use carrier::{Carrier, run_carrier};
+pub use carrier::{CARRIER_PAUSE, Carrier};
 pub use parcel::Parcel;
 pub use plan::{crash_of, faults_from, is_planned};
 pub use waiting::{Pause, SHORT_NAP, Waiting};

@@ -10,7 +10,7 @@ use crate::journal::Journal;
 use crate::quiet::Quiet;
 use crate::resend::Resend;
 use cast_box::{Full, Putter, Taker};
-use cast_carrier::{Board, Parcel, Waiting};
+use cast_carrier::{Board, Parcel, Pause};
 use cast_desk::{Desk, OrderIn};
 use cast_log::{EntryKind, KindRef, Log, OpenLog};
 use cast_message::{Config, Frame, FrameBody, FrameKind, NodeId};
@@ -175,6 +175,11 @@ impl Engine {
             return Turn::Stopped;
         }
         if moved { Turn::Moved } else { Turn::Idle }
+    }
+
+    /// How its thread waits after a turn in which it found nothing to do.
+    pub fn pause(&self) -> Pause {
+        self.resend.pause()
     }
 
     /// Ends the next putter of the inbox.
@@ -459,36 +464,6 @@ impl Engine {
         }
         true
     }
-}
-
-/// Runs an engine until it ends, or the run is given up, and says so on the board.
-pub fn run_engine<G: Gate + Drop, R: Wait>(
-    rt: &R,
-    mut engine: Engine,
-    mut gate: G,
-    board: &Board,
-    mut quiet: Quiet,
-) -> Engine
-    ensures { IsSameEngine engine result }
-{
-    let mut waiting = Waiting::new();
-    let mut all_quiet = false;
-    for _ in rt.forever() {
-        if board.is_abandoned() {
-            break;
-        }
-        match engine.turn(rt, &mut gate, board, &mut quiet) {
-            Turn::Moved => waiting.found(),
-            Turn::Idle => waiting.wait(rt, engine.resend.pause()),
-            Turn::Stopped => {
-                all_quiet = true;
-                break;
-            }
-            Turn::Ended => break,
-        }
-    }
-    quiet.end(board, all_quiet);
-    engine
 }
 
 // Tells the gate how many messages were delivered in the entries from this place on, where there are any.

@@ -11,7 +11,7 @@ mod progress;
 mod quiet;
 mod resend;
 
-pub use engine::{Engine, EngineBoxes, EngineParts, Turn, run_engine};
+pub use engine::{Engine, EngineBoxes, EngineParts, Turn};
 pub use gate::{Gate, OpenGate};
 pub use progress::{CountingGate, Progress};
 pub use quiet::Quiet;

@@ -1,8 +1,9 @@
 //! The lists that the end of a run fills, whose room is made before the threads start: once they have ended, nothing wants memory.
-ghost use Rattle.std.specs.Prelude.{IfOk};
+ghost use Rattle.std.specs.Prelude.{IfOk, length};
+ghost use Rattle.cast_run.specs.Reports.{AreNewRows};
 ghost use Rattle.cast_run.specs.Rooms.{HasEndRoom, HasRoom};
 
-use crate::reports::{ClientReport, Draft, LeftCounts};
+use crate::reports::{ClientReport, Draft, LeftCounts, Row, make_rows};
 use cast_box::Taker;
 use cast_carrier::Parcel;
 use cast_desk::Desk;
@@ -17,6 +18,8 @@ pub struct Room<J> {
     pub drafts: Vec<Draft>,
     pub left: Vec<LeftCounts>,
     pub clients: Vec<ClientReport>,
+    /// By node.
+    pub rows: Vec<Row>,
 }
 
 /// Lists with room for what engines leave, and for each node whether all jobs of its clients are done.
@@ -47,16 +50,19 @@ impl EndRoom {
 }
 
 impl<J: Drop> Room<J> {
-    /// Room for the reports of so many nodes and clients.
-    pub fn new(alloc: Global, nodes: usize, clients: usize) -> Result<Room<J>, AllocError>
-        ensures { IfOk result (HasRoom nodes clients) }
+    /// Room for the reports of nodes with so many clients each, and of so many clients in all.
+    pub fn new(alloc: Global, counts: &[u64], clients: usize) -> Result<Room<J>, AllocError>
+        ensures room { IfOk result (HasRoom (length counts.now) clients) }
+        ensures rows { IfOk result (λ room. AreNewRows counts.now room.rows.items) }
     {
+        let nodes = counts.len();
         Ok(Room {
             ends: EndRoom::new(alloc, nodes)?,
             jobs: Vec::with_capacity(alloc, clients)?,
             drafts: Vec::with_capacity(alloc, clients)?,
             left: Vec::with_capacity(alloc, nodes)?,
             clients: Vec::with_capacity(alloc, clients)?,
+            rows: make_rows(alloc, counts)?,
         })
     }
 }

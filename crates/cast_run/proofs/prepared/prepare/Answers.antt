@@ -1,31 +1,77 @@
-use Rattle.std.proofs.Common.{◌∙◌, subst, arith}
+use Rattle.std.proofs.Common.{◌≡◌, ◌∙◌, ap, sym, subst, ℕ, List, map, take, length, vec_len, rules, arith}
+use Rattle.std.proofs.lemmas.List.{length-take}
+use Rattle.cast_box.specs.Lists.{of}
+use Rattle.cast_engine.specs.Engines.{EngineState}
+use Rattle.cast_run.specs.Faults.{Fits}
 use Rattle.cast_run.specs.Fresh.{HaveDesksOf}
-use Rattle.cast_run.proofs.Outer.{all_seated, enough_clients, new_fresh, desks_unused, desks_of}
+use Rattle.cast_run.specs.Group.{IsGroup, AreSetUp}
+use Rattle.cast_run.specs.Jobs.{IsCount}
+use Rattle.cast_run.specs.Planned.{faults_of, HaveFaults}
+use Rattle.cast_run.specs.Reports.{AreSeated}
+use Rattle.cast_run.specs.Rooms.{HasRoom}
+use Rattle.cast_run.specs.Seats.{seat_client}
+use Rattle.cast_run.proofs.Causes.{still_fits}
+use Rattle.cast_run.proofs.Counted.{new_rows}
+use Rattle.cast_run.proofs.Numbered.{first_counts}
+use Rattle.cast_run.proofs.Seating.{same_count}
 use Rattle.cast_run.proofs.prepared.prepare.Goals as goal
+use Rattle.cast_run.proofs.prepared.prepare.Goals.{In_ok-counts}
 
-pub seat_jobs-seats-requires-clause-fresh : goal.seat_jobs-seats-requires-clause-fresh
-seat_jobs-seats-requires-clause-fresh g c = let d = c.in_ok-desks in new_fresh c.box_size.result _ d.desks.items d.waiting.items d.ensures
+fits : (g : _) (c : In_ok-counts g) → Fits c.args.config.now.nodes c.args.jobs.items (vec_len c.args.gates) c.args.plan.now.faults
+fits g c = still_fits c.args.config.now.nodes c.args.plan.now.faults c.as_slice.result.now c.args.jobs.items c.len.result (vec_len c.args.gates) c.as_slice.ensures.value c.len.ensures c.in_ok-counts.ensures.fits
 
-pub seat_jobs-seats-requires-clause-enough : goal.seat_jobs-seats-requires-clause-enough
-seat_jobs-seats-requires-clause-enough g c = let d = c.in_ok-desks in enough_clients c.args.config.now.nodes c.box_size.result c.args.jobs.items c.args.counts.now d.desks.items d.waiting.items c.requires.fit c.requires.counted d.ensures
+counted : (g : _) (c : In_ok-counts g) → IsCount c.nodes-nodes.result c.args.jobs.items (take c.nodes-nodes.result c.in_ok-counts.counts)
+counted g c =
+    let most = c.args.config.now.nodes_in_range in
+    let same = c.nodes-nodes.ensures in
+    let C : List (ℕ × g.row.J.Denot) → Type 0 = λ l. IsCount 64 l c.in_ok-counts.counts in
+    first_counts c.nodes-nodes.result c.args.jobs.items c.in_ok-counts.counts (omega arith) (subst C c.as_slice.ensures.value c.in_ok-counts.ensures.counts)
 
-pub make_desks-requires : goal.make_desks-requires
-make_desks-requires g c = record {
-  size = (let e = c.box_size.ensures in let some = c.args.config.now.some_place in let most = c.args.config.now.box_in_range in (omega arith, omega arith));
-  few = λ p k at. (c.requires.counted.1 p k at).1;
-}
+pub make_actors-requires : goal.make_actors-requires
+make_actors-requires g c =
+    let here = (goal.at.make_actors-requires g c).In_ok-counts in
+    let N : ℕ → Type 0 = λ m. IsCount m c.args.jobs.items (take c.nodes-nodes.result c.in_ok-counts.counts) in
+    record { fit = (fits g here).jobs_fit; counted = subst N c.nodes-nodes.ensures (counted g here) }
 
-pub make_group-requires : goal.make_group-requires
-make_group-requires g c = let d = c.in_ok-desks in record { many = d.ensures.0 ∙ c.requires.counted.0; desks = desks_unused c.box_size.result _ d.desks.items d.waiting.items d.ensures }
+pub returns-clause-fits : goal.returns-clause-fits
+returns-clause-fits g c = fits g (goal.at.returns-clause-fits g c).In_ok-counts
 
-pub returns-clause-seated : goal.returns-clause-seated
-returns-clause-seated g c =
-    let d = c.in_ok-desks in
-    all_seated c.args.config.now.nodes c.box_size.result c.args.jobs.items c.args.counts.now d.desks.items d.waiting.items c.seat_jobs-seats.result.items c.in_ok-group.group.engines.items
-    (let e = c.box_size.ensures in let some = c.args.config.now.some_place in let most = c.args.config.now.box_in_range in (omega arith, omega arith)) c.requires.counted d.ensures c.seat_jobs-seats.ensures c.in_ok-group.ensures.desks
-
-pub returns-clause-boxes : goal.returns-clause-boxes
-returns-clause-boxes g c =
-    let d = c.in_ok-desks in
-    let engines = c.in_ok-group.group.engines.items in
-    (c.in_ok-group.ensures.boxes, subst (λ n. HaveDesksOf n engines) c.box_size.ensures (desks_of c.box_size.result _ d.desks.items d.waiting.items engines d.ensures c.in_ok-group.ensures.desks))
+pub returns-clause-ready : goal.returns-clause-ready
+returns-clause-ready g c =
+    let here = (goal.at.returns-clause-ready g c).In_ok-counts in
+    let config = c.args.config.now in
+    let faults = c.args.plan.now.faults in
+    let jobs = c.args.jobs.items in
+    let made = c.in_ok-group in
+    let seats = made.jobs.items in
+    let carriers = made.group.carriers.items in
+    let gated = sym c.in_ok-engines.ensures in
+    let engines = c.in_ok-engines.engines.items in
+    let counts = take c.nodes-nodes.result c.in_ok-counts.counts in
+    let are = counted g here in
+    let many : length jobs ≡ vec_len c.args.jobs = search rules in
+    let C : List EngineState → Type 0 = λ es. length es ≡ config.nodes in
+    let G : List EngineState → Type 0 = λ es. IsGroup es carriers in
+    let S : List EngineState → Type 0 = λ es. AreSetUp config faults es in
+    let D : List EngineState → Type 0 = λ es. HaveDesksOf config.box_size es in
+    let T : List EngineState → Type 0 = λ es. AreSeated es (map seat_client seats) in
+    record {
+      many = (subst C gated made.ensures.group.1, made.ensures.group.2);
+      group = subst G gated made.ensures.group.0;
+      set = subst S gated (subst (λ l. AreSetUp config l made.group.engines.items) c.as_slice-2.ensures made.ensures.set);
+      plan = subst (λ l. HaveFaults (faults_of l) carriers) c.as_slice-2.ensures made.ensures.plan;
+      desks = subst D gated made.ensures.desks;
+      seated = subst T gated made.ensures.seated;
+      jobs_are = made.ensures.jobs;
+      fresh = made.ensures.fresh;
+      fit = (fits g here).jobs_fit;
+      rows = (
+        c.in_ok-room.ensures.rows.0 ∙ are.0 ∙ c.nodes-nodes.ensures,
+        new_rows counts c.in_ok-room.room.rows.items (map seat_client seats) c.in_ok-room.ensures.rows
+            (λ q k at. let here = (are.1 q k at).0 in let as_many = same_count q seats ∙ ap (λ l. length (of q l)) made.ensures.jobs in omega arith),
+      );
+      room_is = (
+          let H : ℕ → ℕ → Type 0 = λ n k. HasRoom n k c.in_ok-room.room in
+          subst (λ n. H n (length jobs)) (are.0 ∙ c.nodes-nodes.ensures) (subst (H (length counts)) (c.len-2.ensures ∙ sym many) c.in_ok-room.ensures.room)
+          );
+    }
