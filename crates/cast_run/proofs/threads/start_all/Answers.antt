@@ -7,4 +7,4 @@ start-requires-after_bounds g c =
     let l = c.loop-actor in
     let actor = c.in-Some.actor in
     let whole = l.invariant.2.0 ∙ ap (λ rest. l.yielded ++ rest) c.in-Some.ensures.steps.0 in
-    c.requires.begun (length l.yielded) actor (ap (λ all. slice_get all (length l.yielded)) whole ∙ get_middle l.yielded actor _)
+    λ bounds outlives. c.requires.begun (length l.yielded) actor (ap (λ all. slice_get all (length l.yielded)) whole ∙ get_middle l.yielded actor _)
