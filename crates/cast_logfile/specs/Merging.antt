@@ -2,12 +2,14 @@
 --     step_at logs x                    the step in this place
 --     row logs p order                  the steps of node p, in this order
 --     IsWhole logs order                the steps of each node are its log
+--     AreAt order results               a frame that arrived is for the node whose log has the step
 --     Tells logs order events results   the events are these steps, each is accepted, and delivers and decides what was logged
-use Rattle.std.specs.Prelude.{◌≡◌, ℕ, ◌==◌, if◌then◌else◌, List, [], ◌∷◌, length, map, flat_map, slice_index_or, Result, IsOk}
+use Rattle.std.specs.Prelude.{◌≡◌, ℕ, ◌==◌, if◌then◌else◌, List, [], ◌∷◌, length, map, flat_map, slice_get, slice_index_or, Some, Result, Ok, IsOk}
 use Rattle.std.specs.List.{All}
 use Rattle.cast_message.specs.declared.event.Event.{Event}
 use Rattle.cast_message.specs.declared.event.Event.TheVariants.{Crash}
 use Rattle.cast_message.specs.declared.event.Answer.{Answer}
+use Rattle.cast_message.specs.declared.event.Answer.TheVariants.{Arrived}
 use Rattle.cast_message.specs.declared.event.StepFault.{StepFault}
 use Rattle.cast_message.specs.declared.event.Outcome.{Outcome}
 use Rattle.cast_model.specs.OwnSteps.{nothing}
@@ -45,6 +47,15 @@ row logs p order = flat_map (step_of logs p) order
 abbrev pub IsWhole : Logs → List StepPlace → Type 0
 IsWhole logs order = (p : ℕ) → row logs p order ≡ log_of logs p
 
+-- a frame that arrived is for node p
+abbrev pub IsAt : ℕ → Result Answer StepFault → Type 0
+IsAt p (Ok (Arrived node outcome)) = node ≡ p
+IsAt p result = Unit {0}
+
+abbrev pub AreAt : List StepPlace → List (Result Answer StepFault) → Type 0
+AreAt order results = (i : ℕ) (x : StepPlace) (result : Result Answer StepFault) → slice_get order i ≡ Some x
+    → slice_get results i ≡ Some result → IsAt x.node result
+
 -- the events are the steps of the logs in this order; the group accepts each, and delivers and decides there what was logged
 pub record Tells (logs : Logs) (order : List StepPlace) (events : List Event)
     (results : List (Result Answer StepFault)) : Type 0 where
@@ -52,3 +63,4 @@ pub record Tells (logs : Logs) (order : List StepPlace) (events : List Event)
   pub in_order : events ≡ map (event_at logs) order
   pub accepted : All IsOk results
   pub outcomes : map outcome_in results ≡ map (outcome_at logs) order
+  pub places : AreAt order results

@@ -1,14 +1,14 @@
 //! Where the group doesn't agree with the logs.
-ghost use Rattle.std.specs.Prelude.{◌≡◌, ◌<◌, IfNone, IsOk, length, map, slice_index_or};
+ghost use Rattle.std.specs.Prelude.{◌≡◌, ◌<◌, IfNone, IsOk, IsTrue, Ok, length, map, slice_index_or};
 ghost use Rattle.std.specs.List.{All};
 ghost use Rattle.cast_node.specs.Linked.{outcome_in};
-ghost use Rattle.cast_logfile.specs.Merging.{outcome_at};
+ghost use Rattle.cast_logfile.specs.Merging.{outcome_at, IsAt, AreAt};
 ghost use Rattle.cast_logfile.specs.declared.merging.StepPlace.{StepPlace as Place};
 
 use crate::file_log::LoggedStep;
 use crate::merging::StepPlace;
 use crate::same::has_outcome;
-use cast_message::{List, Reply, StepFault};
+use cast_message::{Answer, List, Reply, StepFault};
 use std::alloc::AllocError;
 
 /// Why logs don't merge into a run of the group.
@@ -16,7 +16,7 @@ use std::alloc::AllocError;
 pub enum Misfit {
     /// The group refuses the step in this place.
     Refused { at: StepPlace, fault: StepFault },
-    /// It delivers or decides something else there.
+    /// It delivers or decides something else there, or the frame is for another node.
     Differs { at: StepPlace },
     /// Memory was wanted.
     Memory,
@@ -28,7 +28,8 @@ impl From<AllocError> for Misfit {
     }
 }
 
-/// The first step that is refused, or by which something else is delivered or decided than was logged.
+/// The first step that is refused, by which a frame arrives at another node than that of the log, or by which something else is
+/// delivered or decided than was logged.
 pub fn find_misfit(
     logs: &[List<LoggedStep>],
     order: &[StepPlace],
@@ -37,6 +38,7 @@ pub fn find_misfit(
     ensures accepted { IfNone result (All IsOk replies.now) }
     ensures outcomes { IfNone result
         (map outcome_in replies.now ≡ map (outcome_at logs.now) order.now) }
+    ensures places { IfNone result (AreAt order.now replies.now) }
 {
     if order.len() != replies.len() {
         return Some(Misfit::Memory);
@@ -54,6 +56,7 @@ pub fn find_misfit(
 fn misfit_at(logs: &[List<LoggedStep>], at: StepPlace, reply: &Reply) -> Option<Misfit>
     ensures accepted { IfNone result (IsOk reply.now) }
     ensures outcome { IfNone result (outcome_in reply.now ≡ outcome_at logs.now at) }
+    ensures place { IfNone result (IsAt at.node reply.now) }
 {
     match reply {
         Ok(answer) => {
@@ -63,13 +66,23 @@ fn misfit_at(logs: &[List<LoggedStep>], at: StepPlace, reply: &Reply) -> Option<
             let Some(step) = log.as_slice().get(at.place) else {
                 return Some(Misfit::Differs { at });
             };
-            if has_outcome(answer, &step.outcome) {
+            if is_at(answer, at.node) && has_outcome(answer, &step.outcome) {
                 None
             } else {
                 Some(Misfit::Differs { at })
             }
         }
         Err(fault) => Some(Misfit::Refused { at, fault: *fault }),
+    }
+}
+
+// Whether the step is one of this node: a frame that arrived is for it.
+fn is_at(answer: &Answer, node: usize) -> bool
+    ensures { IsTrue result → IsAt node (Ok answer.now) }
+{
+    match answer {
+        Answer::Arrived { node: target, .. } => usize::from(target.0) == node,
+        _ => true,
     }
 }
 
