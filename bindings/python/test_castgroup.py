@@ -202,18 +202,18 @@ class Groups(unittest.TestCase):
 class Threads(unittest.TestCase):
     def test_long_calls_let_go_of_the_lock(self):
         """While a call runs in one thread, another goes on."""
-        items = 400
         world, judge = castgroup.World(16, 0), castgroup.Judge()
         for node in range(16):
-            for number in range(items):
+            for _ in range(200):
                 world.order(node, b"a")
-        record = b"cast/1 1 0 1\n" + b"".join(b"b 0 %d data:%s\nd 0 0 %d data:%s\n" % (n, b"61" * 1000, n, b"61" * 1000)
-                                               for n in range(4_000))
+        lines = (b"b %d %d data:61\n" % (node, number) for number in range(4_000) for node in range(64))
+        record = b"cast/2 64 0 1 basic\n" + b"".join(lines) + b"end\n"
         for call in (world.round, lambda: judge.feed(record), lambda: castgroup.judge(record)):
             self.assertGreater(self.turns_during(call), 0)
+        self.assertTrue(judge.finish())
 
     def turns_during(self, call):
-        """How often this thread had a turn while another was in the call, which takes a tenth of a second about."""
+        """How often this thread had a turn while another was in the call, which takes some hundredths of a second."""
         began, ended = threading.Event(), threading.Event()
 
         def run():
