@@ -1,3 +1,0 @@
-mod Knowing
-mod Linking
-mod Receiving

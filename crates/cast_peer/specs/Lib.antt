@@ -1,3 +1,0 @@
--- What the contracts of a peer speak of.
-pub mod Peers
-pub mod Law
