@@ -1,3 +1,5 @@
+pub mod Journaling
+pub mod Running
 pub mod Fed
 pub mod Staying
 pub mod EndedLogs

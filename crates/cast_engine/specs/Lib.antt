@@ -1,4 +1,6 @@
+pub mod Runs
 pub mod Clocks
+pub mod Journals
 pub mod Feeding
 pub mod Engines
 pub mod Serving

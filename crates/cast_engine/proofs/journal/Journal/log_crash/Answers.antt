@@ -1,6 +1,6 @@
 use Rattle.std.proofs.Common.{refl, arith}
-use Rattle.cast_journal.proofs.Journaling.{crashed}
-use Rattle.cast_journal.proofs.journal.Journal.log_crash.Goals as goal
+use Rattle.cast_engine.proofs.Journaling.{crashed}
+use Rattle.cast_engine.proofs.journal.Journal.log_crash.Goals as goal
 
 pub invariant_of-self : goal.invariant_of-self
 invariant_of-self c =

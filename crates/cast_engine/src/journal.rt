@@ -1,4 +1,4 @@
-//! A node with its log and its clock.
+//! The node of an engine, with its log and its clock.
 ghost use Rattle.std.specs.Prelude.{◌≡◌, ◌+◌, ◌-◌, ◌<◌, ◌^◌, ◌⊎◌, [], length, true, Some, None, Err, IfOk, IfErr, OnOk, OnErr, IsTrue, IsFalse, IsSome, is_some};
 ghost use Rattle.cast_message.specs.declared.message.FrameKind.TheVariants.{Took};
 ghost use Rattle.cast_model.specs.Steps.{Acknowledged, Arrived, Stopped, making};
@@ -7,7 +7,7 @@ ghost use Rattle.cast_node.specs.Calls.{sent_reply};
 ghost use Rattle.cast_node.specs.Kept.{nothing_kept};
 ghost use Rattle.cast_node.specs.Turns.{Gives, kept_fault, frame_made, may_want};
 ghost use Rattle.cast_node.specs.declared.report.EngineEnd.TheVariants.{Crashed, TurnLimit, ClockFull};
-ghost use Rattle.cast_journal.specs.Journals.{MayLog, LogsStep, LogsOrder, Halts, HaltsBy, Rises, EndsAs, AsksOrder, MayEnd};
+ghost use Rattle.cast_engine.specs.Journals.{MayLog, LogsStep, LogsOrder, Halts, HaltsBy, Rises, EndsAs, AsksOrder, MayEnd};
 
 use cast_carrier::Parcel;
 use cast_desk::OrderIn;
@@ -17,7 +17,7 @@ use cast_node::{EngineEnd, Node, no_news};
 use std::alloc::{AllocError, Global};
 use std::marker::Model;
 
-/// A node, its log and its clock. The log's room is made when the journal is.
+/// The node of an engine, its log and its clock. The log's room is made when the journal is.
 #[derive(Drop)]
 pub struct Journal {
     alloc: Global,
@@ -33,7 +33,7 @@ pub struct Journal {
 }
 
 impl Model for Journal {
-    ghost use Rattle.cast_journal.specs.Journals.{JournalState, JournalKeeps, journal_code};
+    ghost use Rattle.cast_engine.specs.Journals.{JournalState, JournalKeeps, journal_code};
     ghost use Rattle.cast_message.specs.contracts.config.Config as configs;
     ghost use Rattle.cast_node.specs.contracts.node.Node as nodes;
     ghost use Rattle.cast_log.specs.contracts.entry.Entry as entries;

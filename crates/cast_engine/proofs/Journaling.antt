@@ -22,7 +22,7 @@ use Rattle.cast_node.specs.declared.report.EngineEnd.TheVariants.{Crashed, LogFu
 use Rattle.cast_node.specs.Linked.{event_of}
 use Rattle.cast_message.specs.declared.message.FrameKind.{FrameKind}
 use Rattle.cast_message.specs.declared.message.FrameKind.TheVariants as kinds
-use Rattle.cast_journal.specs.Journals.{Rises, IsStampedAfter, is_crash, is_crash_event, EndsAs, JournalKeeps, JournalState, MayLog}
+use Rattle.cast_engine.specs.Journals.{Rises, IsStampedAfter, is_crash, is_crash_event, EndsAs, JournalKeeps, JournalState, MayLog}
 
 abbrev pub entry : ℕ → EntryKind → Entry
 entry stamp kind = record { stamp = stamp; kind = kind }

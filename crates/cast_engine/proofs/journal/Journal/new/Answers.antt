@@ -1,7 +1,7 @@
 use Rattle.std.proofs.Common.{ap, arith}
 use Rattle.cast_node.specs.Kept.{Kept}
-use Rattle.cast_journal.proofs.Journaling.{begun}
-use Rattle.cast_journal.proofs.journal.Journal.new.Goals as goal
+use Rattle.cast_engine.proofs.Journaling.{begun}
+use Rattle.cast_engine.proofs.journal.Journal.new.Goals as goal
 
 pub invariant_of-result : goal.invariant_of-result
 invariant_of-result c =

@@ -22,10 +22,11 @@ use Rattle.cast_desk.specs.declared.desk.OrderIn.{OrderIn}
 use Rattle.cast_carrier.specs.declared.parcel.Parcel.{Parcel}
 use Rattle.cast_carrier.specs.Lists.{Has}
 use Rattle.cast_node.specs.Linked.{StampedStep, Trail, event_of, outcome_in, steps_in, made_in, kept_in, stamped, IsFor}
-use Rattle.cast_journal.specs.Runs.{Read, Moved, Served, Denied, Run, mark, trail_of, log_of, orders_of, IsRun, clock_after, AreReceived, IsReceived, IsReceivedBy, HasTakenEach, MayDrop, AreTakenIn, arrived_by, arrivals_in, made_of, parcel, is_order, origin_of, EngineKeeps, Handed}
-use Rattle.cast_journal.specs.Journals.{JournalState, LogsStep, LogsRefusal, LogsOrder, OnlyEnds, Halts, KeepsOf}
+use Rattle.cast_engine.specs.Runs.{Read, Moved, Served, Denied, Run, mark, trail_of, log_of, orders_of, IsRun, clock_after, AreReceived, IsReceived, IsReceivedBy, HasTakenEach, MayDrop, AreTakenIn, arrived_by, arrivals_in, made_of, parcel, is_order, origin_of, EngineKeeps}
+use Rattle.cast_engine.specs.Journals.{JournalState, LogsStep, LogsRefusal, LogsOrder, OnlyEnds, Halts}
 use Rattle.cast_message.specs.declared.message.FrameKind.{FrameKind}
 use Rattle.cast_message.specs.declared.message.FrameKind.TheVariants.{Carry, Took}
+use Rattle.cast_engine.specs.Engines.{KeepsOf, Handed}
 use Rattle.cast_carrier.proofs.Lists.{has_left, has_right, has_last, has_snoc}
 
 -- what was put and what waits, where a parcel was handed on while none waited

@@ -1,7 +1,7 @@
 use Rattle.std.proofs.Common.{refl, arith, ap}
 use Rattle.cast_node.specs.Kept.{Kept}
-use Rattle.cast_journal.proofs.Journaling.{logged, gives_live}
-use Rattle.cast_journal.proofs.journal.Journal.order.Goals as goal
+use Rattle.cast_engine.proofs.Journaling.{logged, gives_live}
+use Rattle.cast_engine.proofs.journal.Journal.order.Goals as goal
 
 pub invariant_of-self : goal.invariant_of-self
 invariant_of-self c =

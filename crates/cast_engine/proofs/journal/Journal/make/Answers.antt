@@ -1,7 +1,7 @@
 use Rattle.std.proofs.Common.{◌∙◌, ap, arith}
-use Rattle.cast_journal.specs.Journals.{is_crash_event}
-use Rattle.cast_journal.proofs.Journaling.{logged, gives_live, making_goes_on}
-use Rattle.cast_journal.proofs.journal.Journal.make.Goals as goal
+use Rattle.cast_engine.specs.Journals.{is_crash_event}
+use Rattle.cast_engine.proofs.Journaling.{logged, gives_live, making_goes_on}
+use Rattle.cast_engine.proofs.journal.Journal.make.Goals as goal
 
 pub invariant_of-self-2 : goal.invariant_of-self-2
 invariant_of-self-2 c =

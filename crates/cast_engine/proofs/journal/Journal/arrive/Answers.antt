@@ -1,6 +1,6 @@
 use Rattle.std.proofs.Common.{refl, arith}
-use Rattle.cast_journal.proofs.Journaling.{logged, gives_live}
-use Rattle.cast_journal.proofs.journal.Journal.arrive.Goals as goal
+use Rattle.cast_engine.proofs.Journaling.{logged, gives_live}
+use Rattle.cast_engine.proofs.journal.Journal.arrive.Goals as goal
 
 pub invariant_of-self-2 : goal.invariant_of-self-2
 invariant_of-self-2 c =

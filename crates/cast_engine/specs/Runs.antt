@@ -11,7 +11,7 @@
 --     MayDrop config p trail x         why a parcel may be dropped
 --     AreTakenIn config p trail taken  each parcel that was taken is logged as an arrival, or may be dropped
 --     made_of x                        the frame of a parcel, with the stamp of the step that made it
-use Rattle.std.specs.Prelude.{◌≡◌, ◌≢◌, ◌⊎◌, ℕ, ◌+◌, ◌<◌, ◌≤◌, ◌^◌, max, Bool, true, false, List, [], ◌∷◌, ◌++◌, map, Option, Some, None}
+use Rattle.std.specs.Prelude.{◌≡◌, ◌≢◌, ◌⊎◌, ℕ, ◌+◌, ◌≤◌, ◌^◌, max, Bool, true, false, List, [], ◌∷◌, ◌++◌, map, Option, Some, None}
 use Rattle.std.specs.List.{count_by}
 use Rattle.std.specs.Option.{option_to_list}
 use Rattle.cast_message.specs.declared.config.Config.{Config}
@@ -185,12 +185,3 @@ pub record EngineKeeps (config : Config) (p : ℕ) (kept : Kept) (log : List Ent
   pub taken_in : AreTakenIn config p (trail_of run) arrived
   -- the orders, one for one, are those taken from the desk
   pub ordered : orders_of run ≡ map (λ m. m.1) orders
-
--- a parcel was put into the outbox, or waits
-abbrev pub Handed : List Parcel → List Parcel → Option Parcel → Parcel → Type 0
-Handed put put' held' x = ((put' ≡ put ++ x ∷ []) × (held' ≡ None)) ⊎ ((put' ≡ put) × (held' ≡ Some x))
-
--- a frame came in a parcel with a smaller stamp
-abbrev pub CameBefore : List (ℕ × Parcel) → ℕ → Frame → Type 0
-CameBefore taken stamp frame =
-    (number : ℕ) × (sent : ℕ) × Has taken (number, parcel sent frame) × (sent < stamp)

@@ -1,4 +1,4 @@
--- A node, its log and its clock, and what a call changes of them.
+-- The node, the log and the clock of an engine, and what a call changes of them.
 use Rattle.std.specs.Prelude.{◌≡◌, ◌≢◌, ℕ, suc, ◌+◌, ◌<◌, ◌≤◌, ◌^◌, max, Bool, true, false, List, [], ◌∷◌, ◌++◌, length, slice_get, Option, Some, None, Result, Ok, Err, ◌⊎◌, refl}
 use Rattle.std.specs.Coded.{Coded, code_by, coded×, coded_ℕ, coded_list, coded_option}
 use Rattle.cast_message.specs.declared.config.Config.{Config}
@@ -20,8 +20,7 @@ use Rattle.cast_desk.specs.declared.desk.OrderIn.{OrderIn}
 use Rattle.cast_node.specs.declared.report.EngineEnd.{EngineEnd}
 use Rattle.cast_node.specs.declared.report.EngineEnd.TheVariants.{Stopped as AllStopped, Crashed, TurnLimit, LogFull, ClockFull}
 use Rattle.cast_node.specs.Linked.{event_of, outcome_in_answer}
-use Rattle.cast_carrier.specs.declared.parcel.Parcel.{Parcel}
-use Rattle.cast_journal.specs.Runs.{EngineKeeps, origin_of}
+use Rattle.cast_engine.specs.Runs.{origin_of}
 
 pub record JournalState : Type 0 where
   pub config : Config
@@ -153,9 +152,3 @@ journal_code config kept entry end =
     (λ j. (j.config, (j.node, (j.log, (j.clock, (j.crash, (j.ended, j.turns)))))))
     (λ p. record { config = p.0; node = p.1.0; log = p.1.1.0; clock = p.1.1.1.0; crash = p.1.1.1.1.0; ended = p.1.1.1.1.1.0; turns = p.1.1.1.1.1.1 })
     (λ _. refl)
-
--- what is kept of a journal, and of the parcels and orders that it put, keeps to be put, and took
-abbrev pub KeepsOf : JournalState → List Parcel → Option Parcel → List (ℕ × Parcel)
-    → List (ℕ × OrderIn) → Type 0
-KeepsOf j put held arrived orders =
-    EngineKeeps j.config j.node.me j.node j.log j.clock put held arrived orders

@@ -1,3 +1,0 @@
-pub mod Journaling
-pub mod Running
-pub mod RunLogs
