@@ -37,9 +37,9 @@ enum Halt<'a> {
 }
 
 /// Merges the logs, and writes what is wanted of the run.
-pub fn merge_logs<R: Runtime + AllocGlobal>(
-    console: &Console<'_, R>,
-    task: &MergeTask<'_>,
+pub fn merge_logs<'a, R: Runtime + AllocGlobal>(
+    console: &Console<'a, R>,
+    task: &MergeTask<'a>,
 ) -> Status {
     let halt = match read_logs(console, task.logs.as_slice()) {
         Ok(gathered) => match merge_gathered(console, task, &gathered) {
