@@ -19,8 +19,8 @@ use Rattle.cast_desk.specs.declared.desk.OrderIn.{OrderIn}
 use Rattle.cast_box.specs.Lists.{of}
 use Rattle.cast_node.specs.Linked.{StampedStep, Trail, steps_in, event_of, outcome_in}
 use Rattle.cast_carrier.specs.Lists.{Has}
-use Rattle.cast_engine.specs.Runs.{Read, Moved, Served, Denied, Run, mark, trail_of, log_of, orders_of, order_by, entry_by, IsRead, IsRun, is_order, origin_of}
-use Rattle.cast_engine.specs.Journals.{Rises, IsStampedAfter}
+use Rattle.cast_journal.specs.Runs.{Read, Moved, Served, Denied, Run, mark, trail_of, log_of, orders_of, order_by, entry_by, IsRead, IsRun, is_order, origin_of}
+use Rattle.cast_journal.specs.Journals.{Rises, IsStampedAfter}
 use Rattle.cast_engine.specs.Serving.{is_of, origin_in, entries_of, orders_by, before, HasOriginOf, IsOriginIn, IsAnswered, IsAnsweredBy, Matches}
 use Rattle.cast_carrier.proofs.Lists.{has_left, has_last, has_snoc, has_none, has_filter}
 

@@ -1,5 +1,3 @@
-pub mod Journaling
-pub mod Running
 pub mod Fed
 pub mod Staying
 pub mod EndedLogs

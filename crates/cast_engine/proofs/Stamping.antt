@@ -12,9 +12,9 @@ use Rattle.cast_log.specs.declared.entry.EntryKind.{EntryKind}
 use Rattle.cast_log.specs.declared.entry.EntryKind.TheVariants.{Step as StepEntry, Refused}
 use Rattle.cast_carrier.specs.declared.parcel.Parcel.{Parcel}
 use Rattle.cast_node.specs.Linked.{Made, event_of, outcome_in, steps_in, made_in, stamped}
-use Rattle.cast_engine.specs.Runs.{Read, Moved, Served, Denied, Run, trail_of, log_of, entry_by, clock_after, AreReceived, IsReceived, IsReceivedBy}
+use Rattle.cast_journal.specs.Runs.{Read, Moved, Served, Denied, Run, trail_of, log_of, entry_by, clock_after, AreReceived, IsReceived, IsReceivedBy}
 use Rattle.cast_engine.specs.Clocks.{makes, stamps_made, IsStampedAs, IsStampedBy, Follows}
-use Rattle.cast_engine.specs.Journals.{Rises, IsStampedAfter}
+use Rattle.cast_journal.specs.Journals.{Rises, IsStampedAfter}
 use Rattle.cast_engine.specs.Engines.{CameIn}
 use Rattle.cast_engine.proofs.Answering.{filter_snoc, rises_front}
 

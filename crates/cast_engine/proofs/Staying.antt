@@ -16,14 +16,15 @@ use Rattle.cast_desk.specs.declared.notice.Notice.{Notice}
 use Rattle.cast_carrier.specs.declared.parcel.Parcel.{Parcel}
 use Rattle.cast_engine.specs.declared.feeding.Place.{Place}
 use Rattle.cast_node.specs.Linked.{steps_in, kept_in, made_in}
-use Rattle.cast_engine.specs.Runs.{EngineKeeps, arrivals_in, trail_of, log_of, orders_of, IsRun, clock_after, AreReceived, MayCome, MayDrop}
-use Rattle.cast_engine.specs.Journals.{JournalState, LogsStep, LogsRefusal, LogsOrder, OnlyEnds, Halts, MayLog, Rises, EndsAs}
+use Rattle.cast_journal.specs.Runs.{EngineKeeps, arrivals_in, trail_of, log_of, orders_of, IsRun, clock_after, AreReceived, MayCome, MayDrop, Handed}
+use Rattle.cast_journal.specs.Journals.{JournalState, LogsStep, LogsRefusal, LogsOrder, OnlyEnds, Halts, MayLog, Rises, EndsAs, KeepsOf}
 use Rattle.cast_message.specs.declared.message.FrameKind.{FrameKind}
 use Rattle.cast_engine.specs.Feeding.{AreFed, IsFed, first_place}
-use Rattle.cast_engine.specs.Engines.{taken_at, trays_at, KeepsOf, EngineStays, Handed, TakesOrder, IsDropped, TakesIn, IsUnused, EngineState, Leaves}
+use Rattle.cast_engine.specs.Engines.{taken_at, trays_at, EngineStays, TakesOrder, IsDropped, TakesIn, IsUnused, EngineState, Leaves}
 use Rattle.cast_carrier.proofs.Lists.{has_none}
 use Rattle.cast_node.specs.declared.report.EngineEnd.{EngineEnd}
-use Rattle.cast_engine.proofs.Running.{taken_kept, ends_kept, arrival_kept, halt_kept, same_me, order_kept, flush_kept, made_kept}
+use Rattle.cast_journal.proofs.RunLogs.{keeps_new}
+use Rattle.cast_journal.proofs.Running.{taken_kept, ends_kept, arrival_kept, halt_kept, same_me, order_kept, flush_kept, made_kept}
 use Rattle.cast_engine.proofs.Fed.{fed_more}
 
 abbrev pub IsSameJournal : JournalState → JournalState → Type 0
@@ -166,24 +167,13 @@ get_replicate (suc n) a x (suc i) e = get_replicate n a x i e
 pub stays_new : (j : JournalState) (config : Config) (me : ℕ) (crash : Option ℕ) (put : List Parcel) (arrived : List (ℕ × Parcel)) (desk : Option Desk) (places : List Place)
     → me < config.nodes → (turns : ℕ) → j ≡ record { config = config; node = nothing_kept config me; log = []; clock = config.first_stamp; crash = crash; ended = None; turns = turns }
     → put ≡ [] → arrived ≡ [] → IsUnused desk → places ≡ replicate (length (trays_at desk)) first_place → EngineStays j put None arrived desk places
-unfolding trail_of log_of orders_of IsRun clock_after AreReceived steps_in kept_in made_in arrivals_in
 stays_new j config me crash put arrived desk places lt turns is p a u l =
     let P : JournalState → List Parcel → List (ℕ × Parcel) → Type 0 = λ j p a. EngineStays j p None a desk places in
     let base : JournalState = record { config = config; node = nothing_kept config me; log = []; clock = config.first_stamp; crash = crash; ended = None; turns = turns } in
     subst (λ j. P j put arrived) (sym is) (subst (λ p. P base p arrived) (sym p) (subst (P base []) (sym a) (record {
-      keeps = record {
-        run = [];
-        runs = tt;
-        is_log = refl;
-        stands = stands_for_nothing config me lt;
-        reached = refl;
-        handed = refl;
-        time = refl;
-        received = tt;
-        each_taken = λ test. omega arith;
-        taken_in = λ m h. absurd (has_none m h);
-        ordered = sym (ap (map (λ (m : ℕ × OrderIn). m.1)) u.0);
-      };
+      keeps =
+          let O : List (ℕ × OrderIn) → Type 0 = λ o. EngineKeeps config me (nothing_kept config me) [] config.first_stamp [] None [] o in
+          subst O (sym u.0) (keeps_new config me lt);
       fed = (
         ap length l ∙ length-replicate (length (trays_at desk)) first_place,
         λ c tray place s t.

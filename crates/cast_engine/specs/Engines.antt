@@ -13,12 +13,12 @@ use Rattle.cast_engine.specs.declared.engine.Turn.{Turn}
 use Rattle.cast_engine.specs.declared.engine.Turn.TheVariants.{Idle}
 use Rattle.cast_carrier.specs.Lists.{Has}
 use Rattle.cast_engine.specs.Clocks.{Follows, stamps_made}
-use Rattle.cast_engine.specs.Runs.{EngineKeeps, HasTakenEach, AreTakenIn, MayCome, parcel, made_of}
+use Rattle.cast_journal.specs.Runs.{EngineKeeps, HasTakenEach, AreTakenIn, MayCome, CameBefore, parcel, made_of}
 use Rattle.cast_node.specs.Linked.{Trail, IsLogOf, made_in, stamped, EachArrival}
 use Rattle.cast_box.specs.Lists.{StartsWith, HasTakenOfEnded}
 use Rattle.cast_desk.specs.Feed.{feed}
 use Rattle.cast_engine.specs.Serving.{Serves}
-use Rattle.cast_engine.specs.Journals.{JournalState, LogsStep, Rises, EndsAs}
+use Rattle.cast_journal.specs.Journals.{JournalState, LogsStep, KeepsOf, Rises, EndsAs}
 use Rattle.cast_node.specs.declared.report.EngineEnd.{EngineEnd}
 use Rattle.cast_node.specs.declared.report.EngineEnd.TheVariants.{ClockFull}
 use Rattle.cast_node.specs.Kept.{Kept}
@@ -81,20 +81,11 @@ abbrev pub IsIdleRightly : Turn → EngineState → EngineState → Type 0
 IsIdleRightly Idle old new = HasSameBoxes old new
 IsIdleRightly _ old new = ⊤
 
-abbrev pub KeepsOf : JournalState → List Parcel → Option Parcel → List (ℕ × Parcel)
-    → List (ℕ × OrderIn) → Type 0
-KeepsOf j put held arrived orders =
-    EngineKeeps j.config j.node.me j.node j.log j.clock put held arrived orders
-
 -- what an engine keeps of its journal and its boxes
 pub record EngineStays (j : JournalState) (put : List Parcel) (held : Option Parcel)
     (arrived : List (ℕ × Parcel)) (desk : Option Desk) (places : List Place) : Type 0 where
   pub keeps : KeepsOf j put held arrived (taken_at desk)
   pub fed : AreFed j.log (trays_at desk) places
-
--- a parcel was put into the outbox, or waits
-abbrev pub Handed : List Parcel → List Parcel → Option Parcel → Parcel → Type 0
-Handed put put' held' x = ((put' ≡ put ++ x ∷ []) × (held' ≡ None)) ⊎ ((put' ≡ put) × (held' ≡ Some x))
 
 -- an order was taken from the desk, if there is one
 abbrev pub TakesOrder : Option Desk → Option OrderIn → Option Desk → Type 0
@@ -141,11 +132,6 @@ abbrev pub CameIn : List (ℕ × Parcel) → ℕ → ℕ → ℕ → Type 0
 CameIn taken from seq sent =
     (number : ℕ) × (frame : Frame) × Has taken (number, parcel sent frame) × (frame.from ≡ from)
     × (frame.seq ≡ seq)
-
--- a frame came in a parcel with a smaller stamp
-abbrev pub CameBefore : List (ℕ × Parcel) → ℕ → Frame → Type 0
-CameBefore taken stamp frame =
-    (number : ℕ) × (sent : ℕ) × Has taken (number, parcel sent frame) × (sent < stamp)
 
 -- the log tells of the node's steps; what was put into the outbox is the first of the frames that they made, in order, with their
 -- stamps; each frame that arrived came out of the inbox in a parcel of its own, whose stamp is smaller than the arrival's; no

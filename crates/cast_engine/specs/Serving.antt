@@ -18,7 +18,7 @@ use Rattle.cast_log.specs.declared.entry.EntryKind.TheVariants.{Step as StepEntr
 use Rattle.cast_desk.specs.declared.desk.OrderIn.{OrderIn}
 use Rattle.cast_node.specs.Linked.{Trail, steps_in}
 use Rattle.cast_carrier.specs.Lists.{Has}
-use Rattle.cast_engine.specs.Runs.{origin_of}
+use Rattle.cast_journal.specs.Runs.{origin_of}
 
 abbrev pub is_of : ℕ → Option Origin → Bool
 is_of c None = false

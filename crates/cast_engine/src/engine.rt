@@ -1,17 +1,18 @@
 //! An engine: the owner of a node, its log and its clock, with the ends of its boxes.
 ghost use Rattle.std.specs.Prelude.{◌≡◌, ◌<◌, [], length, IfOk, IfNone, IsFalse, Some, None};
 ghost use Rattle.cast_box.specs.Ends.{IsSamePutter, IsNextToEnd};
-ghost use Rattle.cast_engine.specs.Engines.{EngineState, IsSameEngine, HasSameBoxes, DoesFew, IsIdleRightly, IsSameDesk, TakesOrder, HadNoOrder, TakesIn, Handed, Leaves, Tells, WereTold, IsUnused, trays_at, with_ended};
-ghost use Rattle.cast_engine.specs.Journals.{MayLog};
+ghost use Rattle.cast_engine.specs.Engines.{EngineState, IsSameEngine, HasSameBoxes, DoesFew, IsIdleRightly, IsSameDesk, TakesOrder, HadNoOrder, TakesIn, Leaves, Tells, WereTold, IsUnused, trays_at, with_ended};
+ghost use Rattle.cast_journal.specs.Runs.{Handed};
+ghost use Rattle.cast_journal.specs.Journals.{MayLog};
 
 use crate::feeding::{Place, first_places, notify_all};
 use crate::gate::Gate;
-use crate::journal::Journal;
 use crate::quiet::Quiet;
 use crate::resend::Resend;
 use cast_box::{Full, Putter, Taker};
 use cast_carrier::{Board, Parcel, Pause};
 use cast_desk::{Desk, OrderIn};
+use cast_journal::Journal;
 use cast_log::{EntryKind, KindRef, Log, OpenLog};
 use cast_message::{Config, Frame, FrameBody, FrameKind, NodeId};
 use cast_node::{EngineEnd, Node};

@@ -6,7 +6,6 @@ mod engine;
 mod feeding;
 mod gate;
 mod haste;
-mod journal;
 mod progress;
 mod quiet;
 mod resend;

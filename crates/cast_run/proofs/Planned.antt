@@ -16,7 +16,7 @@ use Rattle.cast_node.proofs.Logging.{choose, each_arrival, made_numbered}
 use Rattle.cast_carrier.specs.declared.parcel.Parcel.{Parcel}
 use Rattle.cast_carrier.specs.declared.fate.Ordinals.{Ordinals}
 use Rattle.cast_carrier.specs.Lists.{Has}
-use Rattle.cast_engine.specs.Runs.{HasTakenEach, parcel, made_of}
+use Rattle.cast_journal.specs.Runs.{HasTakenEach, parcel, made_of}
 use Rattle.cast_carrier.specs.Fates.{fate_in, counted_in}
 use Rattle.cast_carrier.specs.Copies.{none_taken, copies, is_for, frames_for, counted_all, due}
 use Rattle.cast_engine.specs.Engines.{EngineState}

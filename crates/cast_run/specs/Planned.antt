@@ -22,7 +22,7 @@ use Rattle.cast_carrier.specs.Carriers.{CarrierState}
 use Rattle.cast_carrier.specs.Copies.{none_taken, copies}
 use Rattle.cast_carrier.specs.Fates.{fate_in, counted_in}
 use Rattle.cast_carrier.specs.Plans.{is_from}
-use Rattle.cast_engine.specs.Runs.{arrivals_in}
+use Rattle.cast_journal.specs.Runs.{arrivals_in}
 
 abbrev pub faults_of : List Fault → ℕ → List Fault
 faults_of faults p = filter (is_from p) faults

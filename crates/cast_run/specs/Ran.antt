@@ -7,7 +7,7 @@ use Rattle.cast_message.specs.declared.plan.Fault.{Fault}
 use Rattle.cast_carrier.specs.Plans.{crash_from}
 use Rattle.cast_desk.specs.declared.desk.OrderIn.{OrderIn}
 use Rattle.cast_desk.specs.declared.notice.Notice.{Notice}
-use Rattle.cast_engine.specs.Journals.{EndsAs}
+use Rattle.cast_journal.specs.Journals.{EndsAs}
 use Rattle.cast_node.specs.Linked.{Linked}
 use Rattle.cast_node.specs.declared.report.NodeReport.{NodeReport}
 use Rattle.cast_run.specs.Planned.{faults_of, KeepsTo}

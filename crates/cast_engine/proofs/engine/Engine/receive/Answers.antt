@@ -1,6 +1,6 @@
 use Rattle.std.proofs.Common.{refl, ap, subst, ◌∙◌}
 use Rattle.cast_engine.specs.Engines.{EngineState, IsSameEngine}
-use Rattle.cast_engine.specs.Journals.{JournalState}
+use Rattle.cast_journal.specs.Journals.{JournalState}
 use Rattle.cast_engine.proofs.Again.{desk_same}
 use Rattle.cast_engine.proofs.Staying.{stays_same, stays_halt, stays_taken, same_taken}
 use Rattle.cast_engine.proofs.engine.Engine.receive.Goals as goal

@@ -1,0 +1,3 @@
+pub mod Journaling
+pub mod Running
+pub mod RunLogs

@@ -1,0 +1,196 @@
+-- What an engine did, entry by entry: its log as a function of it, and what ties it to its boxes.
+--     Read, Run                        an entry with the step or the order that it came of; all of them, the newest first
+--     trail_of run                     the steps
+--     log_of config p run              the log
+--     orders_of run                    the orders, accepted or refused, in order
+--     IsRun config p run               each was taken or refused where it stands
+--     clock_after first run            the clock, which began so
+--     AreReceived taken first run      each arrival's frame came in a parcel, and its stamp is one above the greater of the
+--                                      clock's and the parcel's
+--     arrivals_in trail                the frames that arrived
+--     MayDrop config p trail x         why a parcel may be dropped
+--     AreTakenIn config p trail taken  each parcel that was taken is logged as an arrival, or may be dropped
+--     made_of x                        the frame of a parcel, with the stamp of the step that made it
+use Rattle.std.specs.Prelude.{◌≡◌, ◌≢◌, ◌⊎◌, ℕ, ◌+◌, ◌<◌, ◌≤◌, ◌^◌, max, Bool, true, false, List, [], ◌∷◌, ◌++◌, map, Option, Some, None}
+use Rattle.std.specs.List.{count_by}
+use Rattle.std.specs.Option.{option_to_list}
+use Rattle.cast_message.specs.declared.config.Config.{Config}
+use Rattle.cast_message.specs.declared.event.StepFault.{StepFault}
+use Rattle.cast_message.specs.declared.message.Frame.{Frame}
+use Rattle.cast_model.specs.Replies.{IsRefused}
+use Rattle.cast_model.specs.Steps.{Step, Ordered, Arrived, Steps}
+use Rattle.cast_model.specs.OwnSteps.{own_fault, node_reply}
+use Rattle.cast_log.specs.declared.entry.Origin.{Origin}
+use Rattle.cast_log.specs.declared.entry.Entry.{Entry}
+use Rattle.cast_log.specs.declared.entry.EntryKind.TheVariants.{Step as StepEntry, Refused}
+use Rattle.cast_node.specs.Kept.{Kept}
+use Rattle.cast_node.specs.Stands.{Stands}
+use Rattle.cast_node.specs.Turns.{may_want}
+use Rattle.cast_box.specs.Lists.{EndsWith}
+use Rattle.cast_desk.specs.declared.desk.OrderIn.{OrderIn}
+use Rattle.cast_carrier.specs.declared.parcel.Parcel.{Parcel}
+use Rattle.cast_carrier.specs.Lists.{Has}
+use Rattle.cast_node.specs.Linked.{StampedStep, Made, Trail, event_of, outcome_in, steps_in, made_in, kept_in, stamped, IsFor}
+
+-- An entry, and what it came of.
+pub data Read : Type 0 where
+  Moved : (stamp : ℕ) (step : Step) → Read
+  Served : (stamp : ℕ) (order : OrderIn) → Read
+  Denied : (stamp : ℕ) (order : OrderIn) (fault : StepFault) → Read
+
+-- what an engine did, the newest first
+abbrev pub Run : Type 0
+Run = List Read
+
+abbrev pub mark : ℕ → Step → StampedStep
+mark stamp step = record { stamp = stamp; step = step }
+
+abbrev pub with_mark : Read → Trail → Trail
+with_mark (Moved stamp step) trail = mark stamp step ∷ trail
+with_mark (Served stamp order) trail = mark stamp (Ordered order.item) ∷ trail
+with_mark (Denied stamp order fault) trail = trail
+
+-- the steps, the newest first
+unfoldable pub trail_of : Run → Trail
+trail_of [] = []
+trail_of (r ∷ rs) = with_mark r (trail_of rs)
+
+abbrev pub origin_of : OrderIn → Origin
+origin_of order = record { client = order.client; ticket = order.ticket }
+
+abbrev pub step_entry : Config → ℕ → Steps → ℕ → Step → Option Origin → Entry
+step_entry config p steps stamp step origin = record {
+  stamp = stamp;
+  kind = StepEntry (event_of p step) origin (outcome_in (node_reply config p steps step));
+}
+
+abbrev pub entry_by : Config → ℕ → Steps → Read → Entry
+entry_by config p steps (Moved stamp step) = step_entry config p steps stamp step None
+entry_by config p steps (Served stamp order) =
+    step_entry config p steps stamp (Ordered order.item) (Some (origin_of order))
+entry_by config p steps (Denied stamp order fault) =
+    record { stamp = stamp; kind = Refused (origin_of order) fault }
+
+-- the log
+unfoldable pub log_of : Config → ℕ → Run → List Entry
+log_of config p [] = []
+log_of config p (r ∷ rs) = log_of config p rs ++ entry_by config p (steps_in config p (trail_of rs)) r ∷ []
+
+abbrev pub order_by : Read → List OrderIn
+order_by (Moved stamp step) = []
+order_by (Served stamp order) = order ∷ []
+order_by (Denied stamp order fault) = order ∷ []
+
+-- the orders, in order
+unfoldable pub orders_of : Run → List OrderIn
+orders_of [] = []
+orders_of (r ∷ rs) = orders_of rs ++ order_by r
+
+abbrev pub is_order : Step → Bool
+is_order (Ordered item) = true
+is_order _ = false
+
+abbrev pub IsRead : Config → ℕ → Steps → Read → Type 0
+IsRead config p steps (Moved stamp step) =
+    (own_fault config p steps step ≡ None) × IsFor p step × (is_order step ≡ false)
+IsRead config p steps (Served stamp order) = own_fault config p steps (Ordered order.item) ≡ None
+IsRead config p steps (Denied stamp order fault) =
+    IsRefused (own_fault config p steps (Ordered order.item)) fault
+
+-- each step was taken, and each order refused that was refused, where it stands
+unfoldable pub IsRun : Config → ℕ → Run → Type 0
+IsRun config p [] = Unit {0}
+IsRun config p (r ∷ rs) = IsRun config p rs × IsRead config p (steps_in config p (trail_of rs)) r
+
+abbrev pub parcel : ℕ → Frame → Parcel
+parcel stamp frame = record { stamp = stamp; frame = frame }
+
+abbrev pub stamp_of : Read → ℕ
+stamp_of (Moved stamp step) = stamp
+stamp_of (Served stamp order) = stamp
+stamp_of (Denied stamp order fault) = stamp
+
+-- the clock has the stamp of the last entry
+unfoldable pub clock_after : ℕ → Run → ℕ
+clock_after first [] = first
+clock_after first (r ∷ rs) = stamp_of r
+
+abbrev pub IsReceivedBy : List (ℕ × Parcel) → ℕ → ℕ → Step → Type 0
+IsReceivedBy taken clock stamp (Arrived frame) =
+    (number : ℕ) × (sent : ℕ) × Has taken (number, parcel sent frame) × (stamp ≡ max clock sent + 1)
+IsReceivedBy taken clock stamp _ = Unit {0}
+
+abbrev pub IsReceived : List (ℕ × Parcel) → ℕ → Read → Type 0
+IsReceived taken clock (Moved stamp step) = IsReceivedBy taken clock stamp step
+IsReceived taken clock (Served stamp order) = Unit {0}
+IsReceived taken clock (Denied stamp order fault) = Unit {0}
+
+-- the frame of each arrival came in a parcel, and its stamp is one above the greater of the clock's and the parcel's
+unfoldable pub AreReceived : List (ℕ × Parcel) → ℕ → Run → Type 0
+AreReceived taken first [] = Unit {0}
+AreReceived taken first (r ∷ rs) = AreReceived taken first rs × IsReceived taken (clock_after first rs) r
+
+abbrev pub made_of : Parcel → Made
+made_of x = stamped x.stamp x.frame
+
+abbrev pub arrived_by : Step → List Frame
+arrived_by (Arrived frame) = frame ∷ []
+arrived_by _ = []
+
+-- the frames that arrived by these steps, the newest first
+unfoldable pub arrivals_in : Trail → List Frame
+arrivals_in [] = []
+arrivals_in (mark ∷ trail) = arrived_by mark.step ++ arrivals_in trail
+
+-- however frames are told apart, no more of them arrived than were in the parcels that were taken
+abbrev pub HasTakenEach : List (ℕ × Parcel) → Trail → Type 0
+HasTakenEach taken trail =
+    (test : Frame → Bool) → count_by test (arrivals_in trail) ≤ count_by (λ m. test m.1.frame) taken
+
+-- some node could have made the frame for this one, and something may come of it
+abbrev pub MayCome : Kept → Frame → Type 0
+MayCome kept frame = may_want kept frame ≡ true
+
+-- why a parcel may be dropped: it is for another node, it has the last stamp, by which the clock is full, or something might have come
+-- of it when it was taken, for which memory may have been wanting
+abbrev pub MayDrop : Config → ℕ → Trail → Parcel → Type 0
+MayDrop config p trail x =
+    (x.frame.to ≢ p)
+    ⊎ ((x.stamp + 1 ≡ 2 ^ 64) ⊎ ((past : Trail) × EndsWith trail past × MayCome (kept_in config p past) x.frame))
+
+-- each parcel that was taken is logged as an arrival, or was dropped for its cause
+abbrev pub AreTakenIn : Config → ℕ → Trail → List (ℕ × Parcel) → Type 0
+AreTakenIn config p trail taken =
+    (m : ℕ × Parcel) → Has taken m → Has (arrivals_in trail) m.1.frame ⊎ MayDrop config p trail m.1
+
+-- what a log, a node and boxes show of an engine
+pub record EngineKeeps (config : Config) (p : ℕ) (kept : Kept) (log : List Entry) (clock : ℕ)
+    (put : List Parcel) (held : Option Parcel) (arrived : List (ℕ × Parcel))
+    (orders : List (ℕ × OrderIn)) : Type 0 where
+  pub run : Run
+  pub runs : IsRun config p run
+  pub is_log : log ≡ log_of config p run
+  pub stands : Stands config p (steps_in config p (trail_of run)) kept
+  pub reached : kept ≡ kept_in config p (trail_of run)
+  -- what was put into the outbox, and then what it refused last, are the frames that the node made, in order, with the stamps
+  -- of their steps
+  pub handed : map made_of (put ++ option_to_list held) ≡ made_in config p (trail_of run)
+  pub time : clock ≡ clock_after config.first_stamp run
+  -- the frame of each arrival came in a parcel taken from the inbox, and its stamp is one above the greater of the clock's and
+  -- the parcel's
+  pub received : AreReceived arrived config.first_stamp run
+  -- each in a parcel of its own
+  pub each_taken : HasTakenEach arrived (trail_of run)
+  -- and none is dropped without its cause
+  pub taken_in : AreTakenIn config p (trail_of run) arrived
+  -- the orders, one for one, are those taken from the desk
+  pub ordered : orders_of run ≡ map (λ m. m.1) orders
+
+-- a parcel was put into the outbox, or waits
+abbrev pub Handed : List Parcel → List Parcel → Option Parcel → Parcel → Type 0
+Handed put put' held' x = ((put' ≡ put ++ x ∷ []) × (held' ≡ None)) ⊎ ((put' ≡ put) × (held' ≡ Some x))
+
+-- a frame came in a parcel with a smaller stamp
+abbrev pub CameBefore : List (ℕ × Parcel) → ℕ → Frame → Type 0
+CameBefore taken stamp frame =
+    (number : ℕ) × (sent : ℕ) × Has taken (number, parcel sent frame) × (sent < stamp)

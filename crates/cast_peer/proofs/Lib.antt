@@ -1,0 +1,3 @@
+mod Knowing
+mod Linking
+mod Receiving

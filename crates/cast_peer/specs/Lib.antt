@@ -1,0 +1,3 @@
+-- What the contracts of a peer speak of.
+pub mod Peers
+pub mod Law
