@@ -306,7 +306,7 @@ fn kind_ref<'a>(brief: Brief, number: u32, whole: &'a [EntryKind]) -> KindRef<'a
 }
 
 impl<'a> KindRef<'a> {
-    /// A copy of the step's event, where it tells a step, or want of memory, which only the bytes of an item take.
+    /// A copy of the step's event if it is a step, or out of memory, which only the bytes of an item cause.
     pub fn copy_event(&self) -> Result<Option<Event>, AllocError>
         ensures { IfOk result (λ copy. copy ≡ step_event (shown_kind self.now)) }
     {
@@ -325,34 +325,8 @@ impl<'a> KindRef<'a> {
                 from: *from,
                 seq: *seq,
             })),
-            KindRef::Whole(EntryKind::Step { event, .. }) => Ok(Some(copy_event(event)?)),
+            KindRef::Whole(EntryKind::Step { event, .. }) => Ok(Some(event.copy()?)),
             KindRef::Whole(EntryKind::Refused { .. }) => Ok(None),
         }
-    }
-}
-
-fn copy_event(event: &Event) -> Result<Event, AllocError>
-    ensures { IfOk result (λ copy. copy ≡ event.now) }
-{
-    match event {
-        Event::Order { node, item } => Ok(Event::Order {
-            node: *node,
-            item: item.copy()?,
-        }),
-        Event::Send { from, to, slot } => Ok(Event::Send {
-            from: *from,
-            to: *to,
-            slot: *slot,
-        }),
-        Event::Ack { from, to, slot } => Ok(Event::Ack {
-            from: *from,
-            to: *to,
-            slot: *slot,
-        }),
-        Event::Arrive { from, seq } => Ok(Event::Arrive {
-            from: *from,
-            seq: *seq,
-        }),
-        Event::Crash { node } => Ok(Event::Crash { node: *node }),
     }
 }

@@ -2,7 +2,6 @@
 //! the group accepts with what the nodes logged.
 #![tactic(auto)]
 
-mod copies;
 mod fault;
 mod file_log;
 mod gathered;

@@ -5,7 +5,6 @@ ghost use Rattle.cast_model.specs.Headline.{DeliversPrefixes, DeliversNothingAft
 ghost use Rattle.cast_logfile.specs.Fronts.{taken_of, HasStep};
 ghost use Rattle.cast_logfile.specs.Merging.{IsWhole, Tells, event_at, log_of};
 
-use crate::copies::copy_event;
 use crate::file_log::LoggedStep;
 use crate::misfit::{Misfit, find_misfit};
 use cast_message::{Config, Event, List, Reply};
@@ -159,5 +158,5 @@ fn event_of(logs: &[List<LoggedStep>], place: StepPlace) -> Result<Event, AllocE
     let Some(step) = log.as_slice().get(place.place) else {
         return Err(AllocError);
     };
-    copy_event(&step.event)
+    step.event.copy()
 }

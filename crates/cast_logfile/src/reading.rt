@@ -2,14 +2,9 @@
 use crate::fault::{LogCause, LogFault};
 use crate::file_log::{FileLog, LoggedStep};
 use crate::log_words::LogWords;
-use cast_message::{Config, Decision, Event, Item, List, Message, NodeId, Outcome};
+use cast_message::{Config, Decision, Event, Item, List, Message, NodeId, Outcome, Settings};
 use cast_record::mode_named;
 use std::alloc::{AllocError, Global};
-
-// The entries of a log, the places of a box and the first stamp say nothing of the steps.
-const ENTRIES: u64 = 65_536;
-
-const PLACES: u64 = 64;
 
 // The first line of a log.
 #[derive(Drop)]
@@ -177,7 +172,13 @@ fn head_of(line: &[u8]) -> Option<LogHead> {
     let items = words.number()?;
     let group = words.number()?;
     let me = words.node()?;
-    let config = Config::check(nodes, faults, choices, items, ENTRIES, PLACES, 0, mode).ok()?;
+    let settings = Settings {
+        choices,
+        item_limit: items,
+        mode,
+        ..Settings::of(nodes, faults)
+    };
+    let config = settings.check().ok()?;
     if !words.is_empty() || u64::from(me.0) >= config.nodes() {
         return None;
     }

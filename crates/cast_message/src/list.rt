@@ -28,7 +28,7 @@ impl<T> List<T> {
         }
     }
 
-    /// The empty list, or want of memory. Room for so many elements is made at once, which no contract shows.
+    /// The empty list with room for as many elements as given, which no contract shows; or out of memory.
     pub fn with_capacity(alloc: Global, capacity: usize) -> Result<List<T>, AllocError>
         ensures { IfOk result (λ list. list ≡ []) }
     {
@@ -60,7 +60,7 @@ impl<T> List<T> {
 }
 
 impl<T: Drop> List<T> {
-    /// Puts the element at the end, or answers want of memory and leaves the list as it was.
+    /// Puts the element at the end, or reports out of memory and leaves the list as it was.
     pub fn push(&mut self, element: T) -> Result<(), AllocError>
         ensures ok { OnOk result (self.new ≡ self.old ++ element ∷ []) }
         ensures err { OnErr result (self.new ≡ self.old) }

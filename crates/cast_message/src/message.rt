@@ -36,7 +36,7 @@ impl NodeId {
 /// What a node puts into its stream.
 #[derive(Debug, Drop, PartialEq)]
 pub enum Item {
-    /// Bytes for whoever uses the group, at most 1,024 where they are ordered.
+    /// Bytes for the user of the group, at most 1,024 in an order.
     Data(Payload),
     /// A value that the node proposes in an instance of agreement, at most once per instance.
     Propose { instance: u64, value: u64 },
@@ -52,7 +52,7 @@ impl Item {
         matches!(self, Item::Close)
     }
 
-    /// An equal item, or want of memory, which only bytes take: they are shared, not copied, and counted.
+    /// An equal item, or out of memory, which only bytes cause: they are shared and counted, not copied.
     pub fn copy(&self) -> Result<Item, AllocError>
         ensures ok { IfOk result (λ copy. copy ≡ self.now) }
         ensures err { OnErr result (has_bytes self.now ≡ true) }
@@ -77,7 +77,7 @@ pub struct Message {
 }
 
 impl Message {
-    /// An equal message, or want of memory, which only bytes take.
+    /// An equal message, or out of memory, which only bytes cause.
     pub fn copy(&self) -> Result<Message, AllocError>
         ensures ok { IfOk result (λ copy. copy ≡ self.now) }
         ensures err { OnErr result (has_bytes self.now.item ≡ true) }
@@ -139,7 +139,7 @@ pub enum FrameKind {
 }
 
 impl Frame {
-    /// An equal frame, or want of memory, which only bytes take.
+    /// An equal frame, or out of memory, which only bytes cause.
     pub fn copy(&self) -> Result<Frame, AllocError>
         ensures ok { IfOk result (λ copy. copy ≡ self.now) }
         ensures err { OnErr result (carries_bytes self.now.body ≡ true) }

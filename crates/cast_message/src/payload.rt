@@ -36,7 +36,7 @@ impl Payload {
         self.bytes.as_slice()
     }
 
-    /// An equal payload over the same bytes, or want of memory, which comes only where there are bytes.
+    /// An equal payload over the same bytes, or out of memory, which only bytes cause.
     pub fn copy(&self) -> Result<Payload, AllocError>
         ensures ok { IfOk result (λ copy. copy ≡ self.now) }
         ensures err { OnErr result (0 < length self.now) }

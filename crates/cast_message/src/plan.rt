@@ -30,6 +30,6 @@ pub enum Fault {
     /// These frames are kept until `count` more frames of either kind were taken for their target, if no other fault loses
     /// them. Of several delays of a frame the longest holds.
     Delay { frames: Frames, count: u64 },
-    /// The engine of the node crashes once its log has so many entries.
+    /// The engine of the node crashes once its log has this many entries.
     Crash { node: NodeId, entries: u64 },
 }

@@ -21,7 +21,7 @@ use Rattle.cast_script.specs.declared.element.Unread.{Unread}
 use Rattle.cast_script.specs.declared.script.ScriptEvent.{ScriptEvent}
 use Rattle.cast_script.specs.Element.{event_at, event_of}
 use Rattle.cast_script.specs.Faults.{elements_from}
-use Rattle.cast_script.specs.declared.script.Settings.{Settings}
+use Rattle.cast_script.specs.declared.script.RunSettings.{RunSettings}
 use Rattle.cast_script.specs.Members.{has_known_members, list_of}
 use Rattle.cast_script.specs.Script.{script_of}
 
@@ -72,7 +72,7 @@ SaysMembers old shown events rest =
     × (members_depth ms ≤ 2) × (value.of_members ms no_members ≡ Some found)
     × IsLike found shown events
 
-abbrev pub SaysPlain : Data → Settings → Type 0
+abbrev pub SaysPlain : Data → RunSettings → Type 0
 SaysPlain shown settings =
     (found : Members) (events : List ScriptEvent) → IsLike found shown events
     → script_of (object found)

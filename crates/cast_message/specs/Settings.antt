@@ -4,7 +4,7 @@
 use Rattle.std.specs.Prelude.{◌≡◌, List}
 use Rattle.cast_message.specs.Limits.{ConfigCause, config_causes}
 use Rattle.cast_message.specs.declared.config.Config.{Config}
-use Rattle.cast.specs.declared.settings.Settings.{Settings}
+use Rattle.cast_message.specs.declared.settings.Settings.{Settings}
 
 abbrev pub IsConfigOf : Settings → Config → Type 0
 IsConfigOf settings config =
