@@ -1,28 +1,23 @@
 //! The commands with their arguments and texts.
 use crate::version::VERSION;
+use cast_message::REFUSALS;
 use clap::{Arg, ArgAction, Command};
 use std::alloc::{AllocError, Global};
+use std::fmt::Write;
 
-/// What the lines `r EVENT CODE` of a record mean.
-const REFUSALS: &str = "Refused events (r EVENT CODE):
-   1  a node that does not exist
-   2  a link from a node to itself
-   3  a node that has crashed
-   4  a stream that is closed
-   5  a payload of more than 1,024 bytes
-   6  a second proposal in an instance
-   7  a stream that is full: its last place is kept for the close
-   8  a slot that was not given
-   9  a slot that was acknowledged
-  10  a slot that was not taken
-  11  a frame that was not made
-  12  a node that has made all its frames";
+/// What the lines `r EVENT CODE` of a record mean, for the help of `run`.
+pub fn refusals_help(alloc: Global) -> Result<String, AllocError> {
+    let mut text = String::from_str(alloc, "Refused events (r EVENT CODE):")?;
+    for fault in REFUSALS.iter() {
+        write!(text, "\n  {:2}  {}", fault.code(), fault.words())?;
+    }
+    Ok(text)
+}
 
 /// What a refusal with this code means.
 pub fn refusal_meaning(code: u64) -> Option<&'static str> {
-    let line = REFUSALS.lines().nth(code as usize)?;
-    let (_code, meaning) = line.trim_start().split_once("  ")?;
-    Some(meaning)
+    let fault = REFUSALS.iter().find(|fault| fault.code() == code)?;
+    Some(fault.words())
 }
 
 /// What the lines of a summary mean.
@@ -54,12 +49,13 @@ const MARKS: &str = "A line for each node, time to the right, a column for each 
   cross    a crash
 A pale mark below the lines is a refused event with its code, a pale ground a settle.";
 
-/// The command line of the program. The rules of records stand below the help of `judge`.
+/// The command line of the program. The help of `run` ends with `refusals`, and that of `judge` with `rules`.
 pub fn castgroup_command<'a>(
     alloc: Global,
+    refusals: &'a str,
     rules: &'static str,
 ) -> Result<Command<'a>, AllocError> {
-    let command = with_command(program(alloc)?, run_command(alloc))?;
+    let command = with_command(program(alloc)?, run_command(alloc, refusals))?;
     let command = with_command(command, judge_command(alloc, rules))?;
     let command = with_command(command, live_command(alloc))?;
     let command = with_command(command, merge_command(alloc))?;
@@ -122,10 +118,10 @@ fn records<'a>(alloc: Global) -> Arg<'a> {
     )
 }
 
-fn run_command<'a>(alloc: Global) -> Result<Command<'a>, AllocError> {
+fn run_command<'a>(alloc: Global, refusals: &'a str) -> Result<Command<'a>, AllocError> {
     Command::new(alloc, "run")
         .about("Writes the record of a script's events")
-        .after_help(REFUSALS)
+        .after_help(refusals)
         .arg(script(alloc))
 }
 

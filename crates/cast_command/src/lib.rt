@@ -7,6 +7,7 @@ mod explain;
 mod request;
 mod version;
 
+pub use commands::refusals_help;
 pub use explain::{
     RULES, Refusals, Taken, aside_words, group_words, head_words, refused_words, script_words,
     twice_words, verdict_words,

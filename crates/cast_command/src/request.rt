@@ -199,20 +199,25 @@ impl From<Error> for Refusal {
     }
 }
 
-/// What these words ask for, of which the first names the program. The rules of records stand below the help of `judge`.
+/// What these words ask for. The first of them names the program. The help of `run` ends with `refusals`, and that of
+/// `judge` with `rules`.
 pub fn parse<'a>(
     alloc: Global,
     words: &'a [String],
+    refusals: &'a str,
     rules: &'static str,
 ) -> Result<Request<'a>, Refusal> {
-    let matches = castgroup_command(alloc, rules)?.try_get_matches_from(words)?;
+    let matches = castgroup_command(alloc, refusals, rules)?.try_get_matches_from(words)?;
     match matches.subcommand() {
         Some((command, inner)) => Ok(Request {
             task: task_of(alloc, command, inner)?,
             detail: detail_of(inner),
         }),
         // (a command line that names none was refused before)
-        None => Err(fault(castgroup_command(alloc, rules)?, "a command is wanted")),
+        None => Err(fault(
+            castgroup_command(alloc, refusals, rules)?,
+            "a command is wanted",
+        )),
     }
 }
 
