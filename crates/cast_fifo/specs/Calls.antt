@@ -1,6 +1,6 @@
--- What a hold-back does, said of the calls so far, the newest first.
+-- What a hold-back does, by the calls so far, the newest first.
 --     is_ready calls s i         the pair was offered, or held and marked
---     item_of calls s i          the item of the pair: of two of one pair the first counts
+--     item_of calls s i          the item of the pair: of two, the first counts
 --     IsNext calls s n           n is the least number of s that wasn't offered and wasn't both held and marked
 --     between calls s n m        the messages of s from n up to m
 --     held_by nodes calls        what the calls leave, of each sender
@@ -43,7 +43,7 @@ is_ready calls s i =
     list_any (is_offer_of s i) calls
     || (list_any (is_hold_of s i) calls && list_any (is_mark_of s i) calls)
 
--- the item that a call brings for a pair
+-- the item of a call for a pair
 abbrev pub brought : Call → ℕ → ℕ → Option Item
 brought (Hold message) s i = if is_pair message s i then Some message.item else None
 brought (Known sender number) s i = None
@@ -61,7 +61,7 @@ pub record IsNext (calls : List Call) (s n : ℕ) : Type 0 where
   pub all_below : (i : ℕ) → i < n → is_ready calls s i ≡ true
   pub not_itself : is_ready calls s n ≡ false
 
--- the default stands where the pair never came, and no pair between is such
+-- the default is for a pair that never came, and no pair between is such
 abbrev pub message_of : List Call → ℕ → ℕ → Message
 message_of calls s i = record { sender = s; number = i; item = unwrap_or (item_of calls s i) Close }
 
@@ -111,7 +111,6 @@ abbrev pub MayBeCalled : ℕ → List Call → Type 0
 MayBeCalled nodes [] = Unit {0}
 MayBeCalled nodes (call ∷ past) = MayBeCalled nodes past × MayCall nodes past call
 
--- what the calls leave of a sender
 pub record ShowsOf (nodes : ℕ) (calls : List Call) (s : ℕ) : Type 0 where
   pub next : IsNext calls s (held_of (held_by nodes calls) s).next
   pub closed : (held_of (held_by nodes calls) s).closed

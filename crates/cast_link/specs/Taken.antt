@@ -24,7 +24,6 @@ abbrev pub SetsBit : List ℕ → ℕ → List ℕ → Type 0
 SetsBit before bit after =
     (other : ℕ) → is_set after other ≡ (nat_eq other bit || is_set before other)
 
--- all bits of a word are set
 abbrev pub IsFullWord : List ℕ → ℕ → Type 0
 IsFullWord words place = (k : ℕ) → k < 64 → is_set words (64 * place + k) ≡ true
 
@@ -56,8 +55,8 @@ inward_code =
 abbrev pub has_room : Inward → ℕ → Bool
 has_room inward slot = inward.settled && nat_lt slot inward.reach
 
--- the reach is the first slot that has no bit; it is settled that the base may move on where nothing is far that would
--- come within reach, or where there is memory for all words
+-- the reach is the first slot that has no bit; the base may move on if no far slot would come within reach, or if there is room
+-- for all words
 abbrev pub inward_of : ℕ → List ℕ → ℕ → List ℕ → Inward
 inward_of base words capacity far =
     record {

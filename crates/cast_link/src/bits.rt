@@ -1,5 +1,4 @@
-//! Bits in words, one for each slot of a link from the word of its base on: those that were taken, or acknowledged. The words at
-//! the front can go.
+//! Bits in words, one for each slot of a link from the word of its base on: set for those that were taken, or acknowledged.
 ghost use Rattle.std.specs.Prelude.{◌≡◌, ◌+◌, ◌-◌, ◌≤◌, ◌<◌, ◌/◌, ◌%◌, ℕ, ◌^◌, true, false, drop, length, slice_index, OnOk};
 ghost use Rattle.std.specs.VecDeque.{deque_capacity};
 ghost use Rattle.cast_message.specs.Bits.{is_set};
@@ -25,7 +24,7 @@ pub fn has_bit(words: &VecDeque<u64>, bit: u64) -> bool
     }
 }
 
-/// How many bits there are from this one on in its word, where all of the word's bits are set; else none.
+/// How many bits its word has from this one on, if all of the word's bits are set; else none.
 pub fn full_word(words: &VecDeque<u64>, bit: u64) -> u64
     ensures set { (k : ℕ) → k < result → is_set words.now.items (bit + k) ≡ true }
     ensures full { IsFullWord words.now.items (bit / 64) → result ≡ 64 - bit % 64 }
@@ -45,7 +44,7 @@ fn has_all_bits(word: u64) -> bool
     word == u64::MAX
 }
 
-/// Makes words up to a bit, the new ones with no bit set.
+/// Adds words with no bit set up to that of a bit.
 pub fn make_room(words: &mut VecDeque<u64>, bit: u64) -> Result<(), AllocError>
     ensures ok { OnOk result (bit / 64 < length words.new.items) }
     ensures more { length words.old.items ≤ length words.new.items }

@@ -1,4 +1,4 @@
-//! The slots taken from a peer, as a base, bits for the slots from the base on, and an ordered set for those farther away.
+//! The slots taken from a peer: those below a base, bits from the base on, and an ordered set of those farther away.
 ghost use Rattle.std.specs.Prelude.{◌≡◌, ◌<◌, true, not, IfOk, OnOk, OnErr};
 ghost use Rattle.std.specs.FinSet as set;
 ghost use Rattle.cast_link.specs.Taken.{has_room};
@@ -16,7 +16,7 @@ pub struct LinkIn {
     base: u64,
     // The bits of the slots from the first one in the base's word on.
     words: VecDeque<u64>,
-    // The slots taken that the bits don't reach.
+    // The slots taken beyond the bits.
     far: BTreeSet<u64>,
 }
 
@@ -91,7 +91,7 @@ impl LinkIn {
         Ok(first)
     }
 
-    /// Whether the slot was taken, so that it may be acknowledged. It takes no memory.
+    /// Whether the slot was taken, so it may be acknowledged. It takes no memory.
     #[inline(always)]
     pub fn may_ack(&self, slot: u64) -> bool
         ensures { result ≡ set.contains self.now.slots slot }

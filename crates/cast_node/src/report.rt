@@ -10,19 +10,18 @@ use std::marker::Model;
 /// Why a node's engine ended.
 #[derive(Clone, Copy, Debug, PartialEq, Eq)]
 pub enum EngineEnd {
-    /// All engines were quiet or had ended, and its clients were done. That is no evidence of rest.
+    /// All engines were quiet or had ended, and its clients were done. That does not show rest.
     Stopped,
     /// The plan crashed the node.
     Crashed,
     /// Its turns were used up, or it stopped with a client that was not done.
     TurnLimit,
-    /// The log had as many entries as it may have.
+    /// The log was full.
     LogFull,
     /// No greater stamp was left: its clock had the last, or a frame came with it.
     ClockFull,
 }
 
-/// What comes back of one node.
 #[derive(Drop)]
 pub struct NodeReport {
     pub log: Log,
@@ -30,8 +29,7 @@ pub struct NodeReport {
     pub node: Node,
 }
 
-/// What comes back of a group: a report of each node. Each log tells the steps of its node, and each frame that arrived was
-/// made by its maker with a smaller stamp.
+/// A report of each node. Each log has the steps of its node, and each frame that arrived was made with a smaller stamp.
 #[derive(Drop)]
 pub struct GroupReport {
     config: Config,
@@ -54,7 +52,7 @@ impl Model for GroupReport {
 }
 
 impl GroupReport {
-    /// The report of a group whose nodes reported this, in the order of their numbers. It takes no memory.
+    /// The report of a group, by the reports of its nodes in order. It takes no memory.
     pub fn link(config: Config, reports: Vec<NodeReport>) -> GroupReport
         requires { Linked config reports.items }
         ensures { result ≡ record { config = config; reports = reports.items } }

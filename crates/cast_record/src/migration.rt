@@ -14,13 +14,13 @@ pub enum MigrateFault {
     /// It does not begin with a `cast/1` head within its ranges and its line feed.
     #[error("the text is no record cast/1")]
     NotV1,
-    /// A growth was refused.
+    /// It is out of memory.
     #[error("out of memory")]
     Memory,
 }
 
-/// The text with its head `cast/1 N F K` changed to `cast/2 N F K basic`, and no other byte. The verdict on it is that on
-/// the text before. Memory is wanting only where there is such a head.
+/// The text with its head `cast/1 N F K` changed to `cast/2 N F K basic`, and no other byte. The verdict on it is that on the text
+/// before. It can be out of memory only if there is such a head.
 pub fn migrate(alloc: Global, text: &[u8]) -> Result<Vec<u8>, MigrateFault>
     ensures exact { Migrates text.now result }
     ensures law { IfOk result (λ new. verdict new.items ≡ verdict text.now) }
@@ -47,7 +47,7 @@ fn is_head(bytes: &[u8]) -> bool
     }
 }
 
-// What stands under the new head.
+// The text under the new head.
 fn with_new_head(alloc: Global, first: &[u8], rest: &[u8]) -> Result<Vec<u8>, AllocError>
     requires { 6 ≤ length first.now }
     ensures { IfOk result (λ new. new.items ≡ new_text first.now rest.now) }

@@ -1,6 +1,6 @@
-//! The pairs of sender and number that a node holds, and to whom they go on. This is the diffusion of reliable
-//! broadcast (after Hadzilacos and Toueg, TR 94-1425): on the first receipt a node holds a message and sends it on to all
-//! but its sender and the peer that brought it.
+//! The pairs of sender and number that a node holds, and to whom they go on. This is the diffusion of reliable broadcast (after
+//! Hadzilacos and Toueg, TR 94-1425). A node sends a message that it did not hold on to all but its sender and the peer that passed
+//! it on.
 #![tactic(auto)]
 
 ghost use Rattle.std.specs.Prelude.{◌≡◌, ◌≢◌, ◌+◌, ◌<◌, ◌≤◌, ◌^◌, length, replicate, IfOk, OnOk, OnErr};
@@ -46,7 +46,7 @@ impl Model for Relay {
 }
 
 impl Relay {
-    /// The node `me` of a group of this many nodes, which holds nothing. The group has the node: `me` is below `nodes`.
+    /// The node `me` of a group of this many nodes, which holds nothing. `me` is below `nodes`.
     pub fn new(alloc: Global, me: NodeId, nodes: u64) -> Result<Relay, AllocError>
         requires { me < nodes }
         ensures { IfOk result (λ relay.
@@ -64,8 +64,8 @@ impl Relay {
         })
     }
 
-    /// Holds an item of the node's own under its next number, from 0 on, and answers it as a message. Fewer than `u64::MAX`
-    /// items of its own are held before.
+    /// Holds an item of the node's own under its next number, from 0 on, and returns it as a message. Fewer than `u64::MAX` items
+    /// of its own were held before.
     pub fn own(&mut self, item: Item) -> Result<Message, AllocError>
         requires { self.old.own + 1 < 2 ^ 64 }
         ensures message { IfOk result
@@ -85,8 +85,7 @@ impl Relay {
         })
     }
 
-    /// Holds the pair of another node's message that arrived from a peer, and says whether it was held before, by whichever
-    /// peer.
+    /// Holds the pair of another node's message that arrived from a peer, and says whether it was held before.
     pub fn arrive(&mut self, message: &Message, _from: NodeId) -> Result<Taken, AllocError>
         requires { message.now.sender ≢ self.old.me }
         ensures taken { IfOk result
@@ -122,15 +121,15 @@ impl Relay {
     }
 }
 
-/// Whether a message of `sender` that came to the node `me` from the peer `from` goes on from there to `to`: to all but
-/// itself, the sender, and the peer that brought it. It takes no memory.
+/// Whether a message of `sender` that came to the node `me` from the peer `from` goes on to `to`: to all but these three. It takes
+/// no memory.
 pub fn goes_on(me: NodeId, sender: NodeId, from: NodeId, to: NodeId) -> bool
     ensures { result ≡ goes_on me sender from to }
 {
     to.0 != me.0 && to.0 != sender.0 && to.0 != from.0
 }
 
-// Where a node stands in a list of all nodes.
+// The place of a node in a list of all nodes.
 fn place_of(node: NodeId) -> usize
     ensures value { result ≡ node }
     ensures within { result < 256 }
@@ -138,7 +137,7 @@ fn place_of(node: NodeId) -> usize
     usize::from(node.0)
 }
 
-// Places up to this one, the new ones with no number.
+// Adds places with no number up to this one.
 fn make_places(alloc: Global, numbers: &mut Vec<NumberSet>, place: usize) -> Result<(), AllocError>
     requires place { place < 256 }
     requires few { length numbers.old.items ≤ 256 }

@@ -1,4 +1,4 @@
-//! Slots in succession. (The type stands in a file of its own, since the definitions that its calls cite name it.)
+//! Slots in succession. The type has a file of its own, since the definitions that its calls cite name it.
 ghost use Rattle.std.specs.Prelude.{◌+◌, ◌<◌, ◌^◌};
 
 use cast_message::NodeId;

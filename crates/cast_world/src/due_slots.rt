@@ -1,4 +1,4 @@
-//! The slots of a round, kept as runs: what a node owes a peer are mostly slots in succession, of which there may be millions.
+//! The slots of a round, kept as runs: a node mostly owes a peer slots in succession, and there may be millions.
 ghost use Rattle.std.specs.Prelude.{◌≡◌, ◌+◌, ◌<◌, ◌≤◌, ◌^◌, ◌++◌, ◌∷◌, [], length, IsTrue, IfSome, IfNone, OnOk, OnErr};
 ghost use Rattle.cast_world.specs.DueRuns.{slots_of, rest_of, slots_from};
 
@@ -28,7 +28,7 @@ impl Model for DueSlot {
     ghost inverse = { λ d. record { from = d.from; to = d.to; slot = d.slot } };
 }
 
-/// Slots that are due, to be taken one after another. Contracts see the list of them.
+/// Slots that are due. Contracts see the list of them.
 #[derive(Drop)]
 pub struct DueSlots {
     runs: Vec<Run>,
@@ -71,7 +71,7 @@ impl DueSlots {
         self.len
     }
 
-    /// One slot more, behind the others, or want of memory.
+    /// Appends a slot.
     pub fn push(&mut self, due: DueSlot) -> Result<(), AllocError>
         ensures ok { OnOk result (self.new ≡ self.old ++ due ∷ []) }
         ensures err { OnErr result (self.new ≡ self.old) }
@@ -84,7 +84,7 @@ impl DueSlots {
         Ok(())
     }
 
-    /// Takes the first slot, where there is one.
+    /// Takes the first slot, if there is one.
     pub fn pop_front(&mut self) -> Option<DueSlot>
         ensures some { IfSome result (λ due. self.old ≡ due ∷ self.new) }
         ensures none { IfNone result (self.old ≡ []) }
@@ -124,7 +124,7 @@ impl Run {
         }
     }
 
-    // The slots behind the first, if there are any.
+    // The slots after the first, if there are any.
     fn rest(self) -> Option<Run>
         ensures some { IfSome result (λ rest. slots_of rest ≡ rest_of self) }
         ensures none { IfNone result (rest_of self ≡ []) }
@@ -168,7 +168,7 @@ impl Run {
     }
 }
 
-// One slot more behind those of the runs from this place on.
+// Appends a slot to those of the runs from this place on.
 fn add_slot(runs: &mut Vec<Run>, place: usize, due: DueSlot) -> Result<(), AllocError>
     requires { place ≤ length runs.old.items }
     ensures ok { OnOk result (slots_from place runs.new.items
