@@ -1,17 +1,19 @@
 #!/usr/bin/env python3
 """A process of a group over UDP: a peer that the test driver plays, with a socket, a clock and a log file around it.
 
-usage: udp_node.py DRIVER CONFIG GROUP ME FOLDER SOCKET PORTS SEED ITEMS LOSS
+usage: udp_node.py DRIVER CONFIG GROUP ME FOLDER SOCKET PORTS SEED ITEMS LOSS END
 
 CONFIG is as the driver reads it, SOCKET the number of a bound socket, and PORTS those of all nodes, with commas. It orders ITEMS items.
-Of each hundred packets LOSS get lost here; some go out twice or late. FOLDER/ME.log is the node's log, and FOLDER/ME.out has what
-is delivered and decided, as it is told. Standard input has a line `gone NODE` for each node that was killed, and `stop`.
-Standard output has a line with the node and `ready`, `quiet`, `busy` or `gone`.
+Of each hundred packets LOSS get lost here; some go out twice or late. It kills itself by SIGKILL when it has sent END packets, if that
+is above 0. FOLDER/ME.log is the node's log, and FOLDER/ME.out has what the peer delivers and decides. Standard input has a line
+`gone NODE` for each node that was killed, and `stop`. Standard output has a line with the node and `ready`, `quiet`, `busy`, `gone`
+or `dying`.
 """
 import heapq
 import os
 import random
 import selectors
+import signal
 import socket
 import sys
 import time
@@ -20,7 +22,7 @@ from peers import Driver, packet_of
 
 TICK = 0.01
 LONGEST_DELAY = 0.03
-# So many packets are taken in a turn, and so many items are ordered before they are delivered.
+# The most packets that are taken in a turn, and the most items that are ordered and not yet delivered.
 AT_ONCE = 64
 AHEAD = 8
 
@@ -36,11 +38,11 @@ def items_of(draw, count):
 class Network:
     """The socket, which loses, repeats and delays packets."""
 
-    def __init__(self, number, ports, draw, loss):
+    def __init__(self, number, ports, draw, loss, die):
         self.socket = socket.socket(fileno=number)
         self.socket.setblocking(False)
         self.addresses = [("127.0.0.1", port) for port in ports]
-        self.draw, self.loss, self.late, self.gone = draw, loss, [], set()
+        self.draw, self.loss, self.late, self.gone, self.left, self.die = draw, loss, [], set(), 0, die
 
     def send(self, to, packet):
         if self.draw.randrange(100) < self.loss:
@@ -58,6 +60,9 @@ class Network:
                 self.socket.sendto(packet, self.addresses[to])
             except OSError:
                 pass  # it is lost
+            self.left -= 1
+            if self.left == 0:
+                self.die()
 
     def received(self):
         for _packet in range(AT_ONCE):
@@ -71,14 +76,15 @@ class Network:
 
 class Node:
     def __init__(self, words):
-        driver, config, group, self.me, folder, number, ports, seed, count, loss = words
+        driver, config, group, self.me, folder, number, ports, seed, count, loss, end = words
         self.draw = random.Random(f"{seed} {self.me}")
         # A process that starts again finds the log of the first, and ends.
         self.log = open_new(f"{folder}/{self.me}.log")
         self.told = open_new(f"{folder}/{self.me}.out")
         self.peer = Driver(driver, config, int(group), int(self.me))
         self.save(self.peer.lines)
-        self.network = Network(int(number), [int(port) for port in ports.split(",")], self.draw, int(loss))
+        self.network = Network(int(number), [int(port) for port in ports.split(",")], self.draw, int(loss), self.die)
+        self.network.left = int(end)
         self.items = items_of(self.draw, int(count))
         self.delivered = self.ordered = 0
         self.is_quiet, self.next_tick = False, time.monotonic() + TICK
@@ -88,6 +94,10 @@ class Node:
 
     def report(self, word):
         os.write(1, f"{self.me} {word}\n".encode())
+
+    def die(self):
+        self.report("dying")
+        os.killpg(0, signal.SIGKILL)
 
     def orders(self):
         while self.ordered < len(self.items) and self.ordered < self.delivered + AHEAD:
