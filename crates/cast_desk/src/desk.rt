@@ -24,7 +24,7 @@ pub struct OrderIn {
 pub struct Desk {
     /// The taker of the desk, where every client has a putter.
     pub orders: Taker<OrderIn>,
-    /// Each client's putter of its tray, by the client's number.
+    /// The putter of each client's tray, by client.
     pub trays: Vec<Putter<Notice>>,
 }
 
