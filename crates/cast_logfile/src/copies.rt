@@ -4,7 +4,7 @@ ghost use Rattle.std.specs.Prelude.{◌≡◌, IfOk};
 use cast_message::Event;
 use std::alloc::AllocError;
 
-/// An equal event, or want of memory, which only bytes take.
+/// An equal event. Only its bytes can run out of memory.
 pub fn copy_event(event: &Event) -> Result<Event, AllocError>
     ensures { IfOk result (λ copy. copy ≡ event.now) }
 {
