@@ -1,6 +1,6 @@
 //! Defines what a group does, and proves the laws that follow from the definitions alone, whatever the program.
 //! `specs/` has the definitions, and `specs/Headline` the words of the main promise. Each function below does nothing;
-//! its contract is a law, for every configuration and every list of events.
+//! its contract is a law, for every configuration and list of events.
 #![tactic(auto)]
 
 ghost use Rattle.cast_model.specs.RunLaws.{AllRunsDeliverPrefixes, AllRunsCloseStreams, AllRunsDecideProposals, AllRunsDecideFewValues, AllRunsDecideWithinFaults};
@@ -40,10 +40,9 @@ pub fn rests_after_two_rounds()
 {}
 
 /// Nothing is due exactly when the group is at rest. Then all live nodes have delivered the same, with the whole stream
-/// of each live sender. They have decided the same instances, including each that enough senders proposed in what they
+/// of each live sender, and decided the same instances, including each that enough senders proposed in what they
 /// delivered. In uniform mode this needs that no more nodes have crashed than are tolerated, or that none is tolerated.
-/// There each live node has also delivered what any node delivered, even a crashed one, if no more have crashed than
-/// are tolerated.
+/// In the first case, each live node has also delivered what any node did, even a crashed one.
 pub fn agrees_at_rest()
     ensures rests { RestsWhereNothingIsDue }
     ensures nothing_due { NothingIsDueAtRest }
