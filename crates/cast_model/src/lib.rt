@@ -40,9 +40,9 @@ pub fn rests_after_two_rounds()
 {}
 
 /// Nothing is due exactly when the group is at rest. Then all live nodes have delivered the same, with the whole stream
-/// of each live sender, and decided the same instances, including each that enough senders proposed in what they
-/// delivered. In uniform mode this needs that no more nodes have crashed than are tolerated, or that none is tolerated.
-/// In the first case, each live node has also delivered what any node did, even a crashed one.
+/// of each live sender. They have decided the same instances, including each that enough senders proposed in what they
+/// delivered. In uniform mode this needs that no more nodes have crashed than are tolerated, or none is tolerated. In
+/// the first case, each live node has also delivered what any node did, even a crashed one.
 pub fn agrees_at_rest()
     ensures rests { RestsWhereNothingIsDue }
     ensures nothing_due { NothingIsDueAtRest }
