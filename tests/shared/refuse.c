@@ -19,9 +19,9 @@
 #include <sys/uio.h>
 #include <unistd.h>
 
-static long *allocations = NULL; /* in the file, where there is one */
+static long *allocations = NULL; /* in the file, if there is one */
 
-/* Counts down to the one that is refused, and stays there where all after it are; at first the variable wasn't read. */
+/* Counts down to the one that is refused, and stays there if all after it are. At first the variable was not read. */
 static int counts_down(const char *variable, long *left, int stays) {
     const long unread = -1;
     long now = __atomic_load_n(left, __ATOMIC_SEQ_CST);
@@ -105,8 +105,8 @@ int posix_memalign(void **block, size_t align, size_t size) {
     return refused() ? ENOMEM : next(block, align, size);
 }
 
-/* The sanitizer's functions begin with a jump to where they are done, by NEAR bytes. It is made one to a jump by FAR bytes, which stands
-   within its reach and leads here. Answers where it led before. */
+/* The sanitizer's functions begin with a jump of NEAR bytes to their code. It is changed to lead to a jump of FAR bytes within
+   its reach, which leads here. Returns where it led before. */
 enum { PAGE = 4096, NEAR = 5, FAR = 14, REACH = 1 << 28 };
 
 static void *led(const char *name, void *here) {
@@ -142,7 +142,7 @@ static int read_fails(void) {
     return 1;
 }
 
-/* What comes of this write: -1 where it fails, 0 or 1 where it takes no more bytes, 2 where it takes all. */
+/* The result of this write: -1 if it fails, 0 or 1 if it takes at most that many bytes, 2 if it takes all. */
 static int write_takes(void) {
     static long failing = -1, empty = -1, shorter = -1;
     int fails = counts_down("FAIL_WRITE", &failing, 0);
@@ -176,7 +176,7 @@ ssize_t write(int file, const void *from, size_t size) { return write_some(file,
 /* Programs call the C library's write by this name too. */
 ssize_t __write(int file, const void *from, size_t size) { return write_some(file, from, size); }
 
-/* As many writes as there are parts with bytes: one that is taken short ends them. */
+/* One write for each part with bytes; one that is cut short ends them. */
 ssize_t writev(int file, const struct iovec *parts, int count) {
     ssize_t written = 0;
     for (int part = 0; part < count; part++) {

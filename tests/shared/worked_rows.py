@@ -44,7 +44,7 @@ class Row:
     sections: dict
 
     def text(self, heading, absent=""):
-        """The text of a section, with such lines as often as they stand for."""
+        """The text of a section, with the lines of a '{for X: ..}' repeated."""
         return REPEATED.sub(repeated, self.sections.get(heading, absent))
 
     @property
@@ -93,7 +93,7 @@ class Row:
 
 
 def is_as(wanted, got):
-    """Whether some bytes are what a row wants."""
+    """Whether some bytes are what a test case expects."""
     return bool(wanted.fullmatch(got)) if isinstance(wanted, re.Pattern) else wanted == got
 
 
@@ -110,7 +110,7 @@ def sections_of(text):
 
 
 def values_of(words):
-    """Words, with all numbers of a range in the place of 0..30, or of 30..0."""
+    """Words, with all numbers of a range in place of 0..30, or of 30..0."""
     for word in words:
         ends = re.fullmatch(r"(\d+)\.\.(\d+)", word)
         if ends:
@@ -122,7 +122,7 @@ def values_of(words):
 
 
 def members(heading, lines):
-    """What the variables of a family stand for, in one row after another."""
+    """The values of a family's variables, one test case after another."""
     variables, colon, values = heading.removeprefix("each ").partition(":")
     if colon:
         return [{variables: value} for value in values_of(values.split())]
@@ -136,7 +136,7 @@ def filled(text, values):
 
 
 def rows_in(path):
-    """The rows of a file."""
+    """The test cases in a file."""
     folder, name, sections = path.parent.name, path.stem, sections_of(path.read_text())
     each = next((heading for heading in sections if heading.startswith("each ")), None)
     if each is None:
@@ -150,7 +150,7 @@ def rows_in(path):
 
 @functools.cache
 def rows_of(folder="*"):
-    """The rows of a folder, or of all."""
+    """The test cases of a folder, or all of them."""
     found = [row for path in sorted(ROWS.glob("*/*.row")) for row in rows_in(path)]
     judged = [
         Row("judge", f"judge-good-{row.name}", {"input": row.text("stdout"), "stdout": "good\n"})
@@ -161,10 +161,10 @@ def rows_of(folder="*"):
 
 
 def row_named(name):
-    """The row of this name, or none. One of the driver is named with its folder, as driver-parts/small-parts."""
+    """The test case with this name, or None. One of the driver is named with its folder, as driver-parts/small-parts."""
     return next((row for row in rows_of() if name == (row.path if row.is_of_the_driver else row.name)), None)
 
 
 def scripts_that_run():
-    """The rows of `run` that are not refused."""
+    """The test cases of `run` that are not refused."""
     return [row for row in rows_of("run") if row.statuses == [0]]
