@@ -6,8 +6,8 @@ usage: broadcast.py RECORD               the record is good
        broadcast.py --judge [--faulty] RECORD      each line is also judged as it is logged, and the verdict is written; this takes the
                                          module castgroup (bindings/python)
 
-Each member is a thread with a UDP socket. It sends its items to the others, and again what they don't acknowledge. The first
-datagrams of one item are lost on purpose, as those of the loopback seldom are: so later items arrive before it.
+Each member is a thread with a UDP socket. It sends its items to the others, and repeats what they don't acknowledge. The first
+datagrams of one item are lost on purpose, since the loopback seldom loses any; so later items arrive before it.
 """
 import socket
 import sys

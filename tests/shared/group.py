@@ -1,4 +1,4 @@
-"""What a group holds, gives and makes, for tests that follow it by accepted events, each told by its words in a script."""
+"""What a group holds, gives and makes, for tests that follow it by accepted events, each given by its words in a script."""
 
 
 class Group:

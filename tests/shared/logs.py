@@ -1,4 +1,4 @@
-"""Logs of a group's nodes, as `merge` reads them, and a model of the group in basic mode that says what comes of each step."""
+"""Logs of a group's nodes, as `merge` reads them, and a model of the group in basic mode that says what each step does."""
 from .group import Group
 
 

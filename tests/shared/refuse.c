@@ -1,13 +1,13 @@
-/* Loaded before a program, this library refuses one allocation: the one whose number, from 1 on, the variable REFUSE_NTH
-   names. All others go to the C library. In the same way it refuses the thread that REFUSE_THREAD names, and the one that
-   REFUSE_THREADS names with all after it. Threads may allocate at the same time: each allocation has a number of its own. How
-   many there were stands as a long in the file that COUNT_ALLOCATIONS names, in whatever way the program ends.
+/* Loaded before a program, this library refuses one allocation: the one whose number, from 1 on, is in the variable REFUSE_NTH.
+   All others go to the C library. It likewise refuses the thread that REFUSE_THREAD names, and the one that REFUSE_THREADS
+   names with all after it. Threads may allocate at the same time: each allocation has its own number. The file that
+   COUNT_ALLOCATIONS names has their number as a long, however the program ends.
 
-   A program with the address sanitizer has an allocator of its own, before which no library comes: its functions are led here. What
-   the C library allocates is given then, since the sanitizer ends where it isn't.
+   A program with the address sanitizer has its own allocator, which no library can precede: its functions are led here. What
+   the C library allocates is given then, since the sanitizer ends without it.
 
-   The read that FAIL_READ names fails with EIO, and so does the write that FAIL_WRITE names; of the write that SHORT_WRITE
-   names one byte is taken, and of the one that EMPTY_WRITE names none. Reads and writes of all files count. */
+   The read that FAIL_READ names fails with EIO, and so does the write that FAIL_WRITE names. The write that SHORT_WRITE names
+   takes one byte, and the one that EMPTY_WRITE names takes none. Reads and writes of all files count. */
 #define _GNU_SOURCE
 #include <dlfcn.h>
 #include <errno.h>

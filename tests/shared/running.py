@@ -1,5 +1,5 @@
-"""How tests are called, how they run a program and refuse it memory and threads, how they read the summary of a group in threads,
-and how they tell their counts."""
+"""How tests are called, run a program and refuse it memory and threads, read the summary of a group in threads, and report
+their counts."""
 import os
 import re
 import resource

@@ -1,28 +1,28 @@
-"""Worked rows: a run of a program, with its input and what must come of it.
+"""Test cases: a run of a program, with its input and the required result.
 
-A row is a file rows/COMMAND/NAME.row. Its first lines, up to a line that begins with '==', say what it is about, or nothing. Then
-come its sections, each headed by such a line; what is left out is empty, or status 0:
+A test case is a file rows/COMMAND/NAME.row. Its first lines, up to a line that begins with '==', say what it is about, or
+nothing. Then come its sections, each headed by such a line; what is left out is empty, or status 0:
 
     == words                words between the command and its input
     == input                its input
     == input escaped        the same, with \\xNN for a byte that no text has
     == input parts          the same, as a JSON list of [text, times]
-    == input of NAME        the input of another row
+    == input of NAME        the input of another test case
     == stdout               what it must write on standard output
     == stdout pattern       a regular expression for all of that
-    == stderr, == stderr pattern      the same of standard error
-    == calls                input and standard output in turn: a line '> CALL' is one of input, all others are of output
+    == stderr, == stderr pattern      the same for standard error
+    == calls                input and standard output in turn: a line '> CALL' is input, all others are output
     == status               the status that it must end with; of several, any one
 
-One file may hold a family of rows, NAME-V for each value V of a variable X, with V for {X} in all sections:
+One file may hold a family of test cases, NAME-V for each value V of a variable X, with V for {X} in all sections:
 
-    == each X: 0..30 64     one row for each of these words; 0..30 stands for all numbers from 0 to 30
-    == each X Y Z           one row for each line of the section, which has a word for each variable, and the rest for the last
+    == each X: 0..30 64     one test case for each of these words; 0..30 stands for all numbers from 0 to 30
+    == each X Y Z           one test case for each line of the section, which has a word for each variable, and the rest for the last
 
-Lines of a section between '{for X: 5..1}' and '{end}' stand there once for each of these words, here those from 5 down to 1.
+Lines of a section between '{for X: 5..1}' and '{end}' are repeated for each of these words, here those from 5 down to 1.
 
-The rows of folders driver-COMMAND are those of the program test_driver, all others those of castgroup. The record of each row of
-`run` that is not refused must be good: so there is a row judge-good-NAME for each, without a file.
+The test cases in folders driver-COMMAND are those of the program test_driver, all others those of castgroup. The record of each
+test case of `run` that is not refused must be good: so there is a test case judge-good-NAME for each, without a file.
 """
 import functools
 import json
