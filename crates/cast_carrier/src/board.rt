@@ -124,8 +124,8 @@ impl Board {
         }
     }
 
-    /// Notes that an ended engine's carrier has put all that it took. Quiet engines must check their inboxes for that
-    /// before they count as quiet.
+    /// Notes that an ended engine's carrier has put all that it took. First all inboxes are marked as unread, since it
+    /// may lie in them; only then does the engine count as quiet.
     pub fn settle(&self, node: usize) {
         let Some(own) = self.signals.get(node) else {
             return;

@@ -3,7 +3,7 @@ use cast_message::Frame;
 use std::alloc::AllocError;
 use thiserror::Error;
 
-/// The most bytes of a packet: 47, and then at most 1,024 bytes of data.
+/// The most bytes of a packet: 47, and up to 1,024 of data.
 pub const MOST_BYTES: usize = 1_071;
 
 /// A frame with the stamp of the step that made it, and the number of its group.

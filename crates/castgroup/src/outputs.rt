@@ -193,7 +193,7 @@ fn draw_replay<'a, R: Runtime + AllocGlobal>(
 }
 
 /// Warns if a text is longer than this program reads. This comes after all other writing, since nobody may read it. It
-/// comes after the files are closed, since without a standard error from the start, a file has its place.
+/// also comes after the files are closed: if the program began without standard error, one of them has its place.
 pub fn warn_of_lengths<R>(console: &Console<'_, R>, kept: Kept<'_>) {
     let limit = INPUT_LIMIT as u64;
     if kept.record > limit {

@@ -30,7 +30,7 @@ pub fn by_seed<R: Wait + Print>(rt: &R, alloc: Global, seed: u64) -> Result<()> 
     show(rt, &run)
 }
 
-/// Threads take turns differently in each run, but the output is the same: at rest all have delivered all items.
+/// Threads run differently each time, but the output is the same: at rest all have delivered all items.
 pub fn in_threads<R: Threads + Wait + Print + Copy + Send + 'static>(
     rt: R,
     alloc: Global,

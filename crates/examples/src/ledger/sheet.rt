@@ -1,4 +1,4 @@
-//! The sheet of a node: what each account has received and sent in the transfers that the node delivered.
+//! A node's sheet: what each account has received and sent in the transfers that the node delivered.
 ghost use Rattle.std.specs.Prelude.{◌≡◌, ◌<◌, []};
 ghost use Rattle.examples.specs.Sheets.{account_count, added};
 
