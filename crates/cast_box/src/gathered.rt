@@ -9,7 +9,7 @@ use std::alloc::Global;
 use std::marker::Model;
 use std::sync::{Arc, Wait};
 
-/// What is left in a box that has ended. Contracts see all that was put, by putter, and all that was taken and is left,
+/// What is left in a box that has ended. Contracts see what was put, by putter, and what was taken and what is left,
 /// with the putters' numbers.
 #[derive(Drop)]
 pub struct Gathered<T> {

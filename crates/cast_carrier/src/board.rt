@@ -68,7 +68,7 @@ impl Board {
         })
     }
 
-    /// Gives the run up: everything is to end.
+    /// Gives the run up: everything must end.
     pub fn abandon(&self) {
         self.abandoned.store(true, Ordering::SeqCst);
     }
@@ -124,8 +124,8 @@ impl Board {
         }
     }
 
-    /// Notes that an ended engine's carrier has put all that it took. First all inboxes are marked as unread, since it
-    /// may lie in them; only then does the engine count as quiet.
+    /// Notes that an ended engine's carrier has put all that it took. All inboxes are marked unread first; only then
+    /// does the engine count as quiet.
     pub fn settle(&self, node: usize) {
         let Some(own) = self.signals.get(node) else {
             return;

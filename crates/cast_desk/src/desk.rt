@@ -9,7 +9,6 @@ use cast_box::{Full, Putter, Taker};
 use cast_message::Item;
 use std::sync::Wait;
 
-/// An order as it reaches the desk.
 #[derive(Drop)]
 pub struct OrderIn {
     /// The client's number at its node, from 0.

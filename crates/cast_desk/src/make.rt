@@ -16,8 +16,8 @@ use std::sync::Wait;
 pub const MOST_CLIENTS: u64 = 4;
 
 /// A desk with `clients` clients, 1 to 4, by number from 0, each with a tray. Each box has `size` places, 1 to 4,096,
-/// and tickets count up from `first_ticket`. All memory that the boxes ever need is allocated here. A refusal is that
-/// of a box: `Size` comes before `Putters`, a wrong number of clients.
+/// and tickets count up from `first_ticket`. All memory that the boxes ever need is allocated here. Refusals are those
+/// of a box: first `Size`, then `Putters` for a wrong number of clients.
 pub fn make_desk(
     alloc: Global,
     size: u64,
@@ -100,9 +100,9 @@ fn sole(mut all: Vec<Putter<Notice>>) -> Putter<Notice>
     all.swap_remove(0)
 }
 
-/// Ends all boxes of a desk, given all their ends, the clients by number. For each client, what the desk took and then
-/// what is left is what it submitted; and it took a prefix of what was put into its tray. No more is left than the desk
-/// has places. It allocates nothing.
+/// Ends all boxes of a desk, given all their ends, the clients by number. What the desk took from a client, followed by
+/// what is left, is what the client submitted. The client took a prefix of what was put into its tray. No more is left
+/// than the desk has places. It allocates nothing.
 pub fn end_desk<R: Wait>(rt: &R, clients: Vec<Client>, desk: Desk) -> Gathered<OrderIn>
     requires { IsDeskOf clients.items desk.orders desk.trays.items }
     ensures orders { (c : ℕ) (client : ClientState) → slice_get clients.items c ≡ Some client →

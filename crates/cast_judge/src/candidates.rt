@@ -29,7 +29,7 @@ impl Model for Candidates {
 }
 
 impl Candidates {
-    /// No values. It allocates nothing.
+    /// Creates an empty list without allocating.
     pub fn new(alloc: Global) -> Candidates
         ensures { result ≡ [] }
     {

@@ -31,7 +31,7 @@ pub enum Addition {
 }
 
 impl Instance {
-    /// An instance without proposals. It allocates nothing.
+    /// Creates an instance without proposals; allocates nothing.
     pub fn new(alloc: Global) -> Instance
         ensures { result ≡ no_instance }
     {
@@ -103,7 +103,7 @@ pub struct Instances {
 }
 
 impl Instances {
-    /// No instances. It allocates nothing.
+    /// Creates an empty collection without allocating.
     pub fn new(alloc: Global) -> Instances
         ensures { (q : ℕ) → instance_at result q ≡ no_instance }
     {

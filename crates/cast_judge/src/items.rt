@@ -29,7 +29,7 @@ impl Model for Items {
 }
 
 impl Items {
-    /// No items. It allocates nothing.
+    /// Creates an empty list without allocating.
     pub fn new(alloc: Global) -> Items
         ensures { result ≡ [] }
     {

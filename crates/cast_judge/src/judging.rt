@@ -56,7 +56,7 @@ pub fn judge(alloc: Global, text: &[u8]) -> Result<Verdict, AllocError>
 impl Judging {
     ghost use Rattle.cast_judge.specs.Judged.{Stands, IsSkipped, TakesDelivery, TakesLine, lines_with, state_with, is_reading, is_offended, is_refused, WantedMemory};
 
-    /// A text of which nothing was fed. It allocates nothing.
+    /// Begins to judge a text; allocates nothing.
     pub fn new(alloc: Global) -> Judging
         ensures fed { result.fed ≡ 0 }
         ensures stands { Stands [] result }

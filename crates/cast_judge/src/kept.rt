@@ -34,7 +34,7 @@ pub struct Kept {
 }
 
 impl Kept {
-    /// Nothing was read. It allocates nothing.
+    /// Begins before the first line; allocates nothing.
     pub fn new(alloc: Global) -> Kept
         ensures { IsNew result }
     {

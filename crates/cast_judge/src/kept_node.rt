@@ -20,7 +20,7 @@ pub struct KeptNode {
 }
 
 impl KeptNode {
-    /// A node about which no line said anything. It allocates nothing.
+    /// A node that no line has mentioned. It allocates nothing.
     pub fn new(alloc: Global) -> KeptNode
         ensures { result ≡ nobody }
     {
@@ -85,7 +85,7 @@ impl KeptNode {
     }
 }
 
-/// This many nodes, about which no line said anything.
+/// This many nodes that no line has mentioned.
 pub fn new_nodes(alloc: Global, count: u64) -> Result<Vec<KeptNode>, AllocError>
     ensures { IfOk result (λ nodes. nodes.items ≡ replicate count nobody) }
 {

@@ -1,5 +1,5 @@
-//! Logs of a group's nodes as files. It has the text of a log, and merges the logs into one run, which the group
-//! accepts with the outcomes that the nodes logged.
+//! Logs of a group's nodes as files: reads and writes the text of a log, and merges the logs into one run. The group
+//! accepts that run with the outcomes that the nodes logged.
 #![tactic(auto)]
 
 mod copies;

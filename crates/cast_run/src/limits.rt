@@ -11,7 +11,7 @@ pub struct Limits {
     pub calls: u64,
 }
 
-/// One number for both limits.
+/// One number for both.
 impl From<u64> for Limits {
     fn from(limit: u64) -> Limits {
         Limits {

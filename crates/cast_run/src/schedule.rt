@@ -15,7 +15,7 @@ pub trait Schedule {
 }
 
 /// The schedule of a seed; its choices never change. They are numbers of xoshiro256++ (Blackman and Vigna 2019), modulo
-/// the number of choices; SplitMix64 fills its state from the seed. After each comes a number that says how long it
+/// the number of choices; SplitMix64 fills its state from the seed. Each is followed by a number that says how long it
 /// stays.
 #[derive(Drop)]
 pub struct Seeded {

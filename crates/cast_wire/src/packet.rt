@@ -6,7 +6,7 @@ use thiserror::Error;
 /// The most bytes of a packet: 47, and up to 1,024 of data.
 pub const MOST_BYTES: usize = 1_071;
 
-/// A frame with the stamp of the step that made it, and the number of its group.
+/// A frame with its step's stamp and its group's number.
 #[derive(Debug, Drop, PartialEq)]
 pub struct Packet {
     pub group: u64,
@@ -14,8 +14,8 @@ pub struct Packet {
     pub frame: Frame,
 }
 
-/// Why bytes are not a packet: the first of these causes that holds, except that fewer than four bytes are `Short`
-/// first of all.
+/// Why bytes are not a packet: the first of these causes that holds, except that fewer than four bytes are always
+/// `Short`; or out of memory.
 #[derive(Clone, Copy, Debug, PartialEq, Eq, Error)]
 pub enum WireFault {
     #[error("the bytes don't begin as a packet does")]
