@@ -53,7 +53,7 @@ module _ {T : Type 0} where
       MatchOption item (new.taken ≡ old.taken)
       (λ item. (from : ℕ) × (from < old.putters) × (new.taken ≡ old.taken ++ (from, item) ∷ []))
 
-  -- each putter is still in its place
+  -- each putter is the same as the one in its place before
   abbrev pub AreSamePutters : List (PutterEnd T) → List (PutterEnd T) → Type 0
   AreSamePutters old new =
       (length new ≡ length old)

@@ -100,8 +100,7 @@ module _ {T : Type 0} where
     pub fits : (pass : ℕ) (v : Known T) → get_elem? views pass ≡ some v
         → Fits reader seat put taken items size putters pass v
 
-  -- what a step shows about the end's knowledge before it, the item with its putter's number, and the knowledge after
-  -- it
+  -- how a step relates what the end knew before, the item with its putter's number, and what the end knows after
   abbrev pub Puts : Known T → ℕ × T → Known T → Type 0
   Puts v m w = w ≡ putter v.size v.putters v.number (v.put ++ m.1 ∷ [])
 

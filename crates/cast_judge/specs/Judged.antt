@@ -59,7 +59,7 @@ pub record IsReading (text : List ℕ) (kept : Kept) (tail : List ℕ) (lines : 
   pub clean : HasNone 10 tail
   pub cut : IsCutAfter text past tail
 
--- whatever comes next, the text breaks this rule in the line after `lines`
+-- whatever comes next, the text breaks this rule in the line after the first `lines` lines
 abbrev pub Offends : List ℕ → ℕ → ℕ → Type 0
 Offends text lines rule = (more : List ℕ) → verdict (text ++ more) ≡ Bad (lines + 1) rule
 

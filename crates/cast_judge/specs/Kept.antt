@@ -1,6 +1,6 @@
 -- What is kept about the lines read so far, what it says about the next line, and what is kept after that line.
 --     rule_by kept line     the least rule that the line breaks, by what is kept
---     Keeps old line new    after the line, the new is kept
+--     Keeps old line new    `new` is kept after the line
 use Rattle.std.specs.Prelude.{◌≡◌, ℕ, ◌+◌, min, ◌==◌, ◌&&◌, ◌||◌, not, nat_lt, if◌then◌else◌, Bool, true, false, List, [], ◌∷◌, ◌++◌, length, slice_get, slice_set, slice_index, slice_index_or, replicate, Option, Some, None, unwrap_or}
 use Rattle.std.specs.List.{list_any}
 use Rattle.std.specs.Map.{lookup}

@@ -40,8 +40,7 @@ abbrev pub record_of_accepted : Config → List Event → List Line
 record_of_accepted config events = run_record config events (replies config events)
 
 pub record RecordsReplay (config : Config) (events : List Event) : Type 0 where
-  -- if the text of that script is run, and is written to its end, that record is written (a text too long for an input
-  -- is not run)
+  -- running the text of that script to its end writes that record (a text too long for an input is not run)
   pub replays : (old new : Option (List ℕ))
       → WritesRecord (Some (script_text config events)) old new
       → Appends old new (record_text (record_of_accepted config events))

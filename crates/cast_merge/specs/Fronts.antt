@@ -16,7 +16,7 @@ use Rattle.cast_merge.specs.declared.merge.First.{First}
 use Rattle.cast_merge.specs.declared.merge.Front.{Front}
 use Rattle.cast_merge.specs.ByStamp.{LoggedStep, merge, stamp_of, event_at, logged_steps}
 
--- the event of a step; if there is no step, the default, though no front is there
+-- the event of a step; the default if there is none, but no front is at such a place
 abbrev pub event_or : Option Event → Event
 event_or (Some event) = event
 event_or None = Crash 0

@@ -1,10 +1,10 @@
--- What clients are notified of, against what a group broadcasts and decides.
+-- What clients are notified of, compared with what a group broadcasts and decides.
 --     HasGot config world p c got  client c of node p got these notices, a prefix of the feed of that node's log in the world
 --     told notices                the deliveries in these notices, in order
 --     of_sender s messages        those of these messages that s sent
 --     values_told j notices       the values decided in instance j by these notices, in order
 --     ordered_in log              the items of the orders that a log took, in order
---     TellsOrders                 a client's deliveries from a sender begin the items that the sender's log took
+--     TellsOrders                 a client's deliveries from a sender are a prefix of the items that the sender's log took
 --     TellsPrefixes               a client's deliveries from each sender are a prefix of what that sender broadcast
 --     TellsNumbers                if a client's order got a number, its item has that number in its node's stream
 --     TellsDecisions              a client sees nothing of an instance, or the value that the node decided, once
