@@ -14,8 +14,7 @@ use cast_node::Node;
 use std::alloc::{AllocError, Global};
 
 impl World {
-    /// The slots that live nodes owe live nodes, by the giver, then the taker, ascending: what a round settles. Or want of
-    /// memory.
+    /// The slots that live nodes owe live nodes, by giver, then taker, ascending. A round settles exactly these.
     pub fn due(&self) -> Result<DueSlots, AllocError>
         ensures found { StandingFor self.now (λ config past.
             IfOk result (λ found. found ≡ due config past)) }
@@ -25,8 +24,8 @@ impl World {
 }
 
 impl DueSlot {
-    /// The events that settle the slot, whose two frames are to have these numbers: it is sent, the frame arrives, the slot is
-    /// acknowledged, and that arrives. It takes no memory.
+    /// The events that settle the slot, whose two frames get the numbers `carry` and `took`: a send, its arrival, an
+    /// acknowledgement, its arrival. It allocates nothing.
     pub fn events(&self, carry: u64, took: u64) -> [Event; 4]
         ensures { result ≡ events_of self.now carry took }
     {
@@ -47,7 +46,6 @@ impl DueSlot {
     }
 }
 
-// The slots that live nodes owe live nodes, by the giver, then the taker, ascending.
 fn find_due(alloc: Global, world: &World) -> Result<DueSlots, AllocError>
     ensures { IsBounded world.now → IfOk result (λ due. due ≡ due_at world.now) }
 {
