@@ -5,8 +5,8 @@ ghost use Rattle.cast_message.specs.declared.message.Message.{Message};
 use cast_message::Message;
 
 /// A state machine, which takes one message after another. A node delivers the messages of one sender in the order of
-/// its broadcast. Messages of different senders come in an order that may differ at another node. So what machines
-/// should agree on must not depend on the order between senders.
+/// its broadcast. Between senders, the order may differ at another node. So what machines should agree on must not
+/// depend on it.
 ///
 /// A machine may say how its state relates to the messages that it took, in order (`stands`); each step is then proved
 /// to keep that. Without it, nothing is known about its state.
