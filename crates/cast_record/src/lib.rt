@@ -1,6 +1,7 @@
-//! The record of a run: its lines, and their one text. `specs/Text` says what a line is written as, `specs/Lines` which
-//! lines an event and its reply leave. And the words that records, scripts and pictures share: numbers as decimal digits, bytes as
-//! two digits each, which are written, without memory, to a writer that may fail, and read back; and the words of modes.
+//! The record of a run: its lines, each with exactly one text. `specs/Text` says how a line is written, `specs/Lines`
+//! which lines an event and its reply have. Records, scripts and pictures share words: modes, numbers in decimal
+//! digits, and bytes as two digits each. These are read back, and written without allocation, to a writer that may
+//! fail.
 #![tactic(auto)]
 
 mod event_lines;
