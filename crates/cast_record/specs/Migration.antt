@@ -1,6 +1,6 @@
 -- A record with the new head.
---     Migrates text result     the text with its head changed, or a refusal if it has no `cast/1` head; if it has one, only memory
---                              can be lacking
+--     Migrates text result     the text with its head changed, or a refusal if it has no `cast/1` head; if it has one,
+--                              only memory can be lacking
 use Rattle.std.specs.Prelude.{◌≡◌, ℕ, List, ◌∷◌, ◌++◌, codes, drop, Result, Ok, Err}
 use Rattle.std.specs.Global.{Vec}
 use Rattle.cast_message.specs.declared.config.Mode.TheVariants.{Basic}

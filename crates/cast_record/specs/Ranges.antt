@@ -18,7 +18,7 @@ IsItemWithin Close = Unit {0}
 abbrev pub IsMessageWithin : Message → Type 0
 IsMessageWithin m = (m.sender < 256) × (m.number < 2 ^ 64) × IsItemWithin m.item
 
--- 1 to `most` nodes, of which fewer than all may crash, and 1 to that many values
+-- 1 to `most` nodes, fewer faults than nodes, and 1 to as many choices as nodes
 abbrev pub IsGroupWithin : ℕ → ℕ → ℕ → ℕ → Type 0
 IsGroupWithin most nodes faults choices =
     (1 ≤ nodes) × (nodes ≤ most) × (faults < nodes) × (1 ≤ choices) × (choices ≤ nodes)

@@ -1,4 +1,5 @@
--- Which rule a line breaks, given all lines before it. The newest line is first: `line ∷ past` is `past` followed by `line`.
+-- Which rule a line breaks, given all lines before it. The newest line comes first: `line ∷ past` is `past` and then
+-- `line`.
 --     broken past line     the least rule that the line breaks after those lines, if it breaks one
 use Rattle.std.specs.Prelude.{ℕ, ◌+◌, ◌==◌, ◌&&◌, ◌||◌, not, nat_lt, if◌then◌else◌, Bool, true, false, List, [], ◌∷◌, length, Option, Some, None}
 use Rattle.std.specs.List.{filter, list_any, filter_map}

@@ -1,8 +1,8 @@
 -- What may happen next and yields something new, apart from orders and crashes.
 --     is_possible config past event     the group would not refuse the event
 --     makings d                  the frames of a due slot: one carries its message, one says that it was taken
---     arrivals_new past p        the arrivals of p's frames that yield something new: the target lives, and has not taken
---                                the slot that the frame carries, or owes the one that it acknowledges
+--     arrivals_new past p        the arrivals of p's frames that yield something new: the target lives, and has not
+--                                taken the slot that the frame carries, or owes the one that it acknowledges
 --     offers config past         the frames of the due slots, then the arrivals that yield something new
 --     enabled config past        those of them that are possible
 --     HasFullNode config past    a live node has made all its frames
