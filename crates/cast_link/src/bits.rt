@@ -1,5 +1,5 @@
-//! Bits in words, one for each slot of a link from the word of its base on: those that were taken, or acknowledged. The words at
-//! the front can go.
+//! Bits in words, one for each slot of a link, from the word of its base on: the slots that were taken, or
+//! acknowledged. Words can be dropped at the front.
 ghost use Rattle.std.specs.Prelude.{◌≡◌, ◌+◌, ◌-◌, ◌≤◌, ◌<◌, ◌/◌, ◌%◌, ℕ, ◌^◌, true, false, drop, length, slice_index, OnOk};
 ghost use Rattle.std.specs.VecDeque.{deque_capacity};
 ghost use Rattle.cast_message.specs.Bits.{is_set};
@@ -8,14 +8,13 @@ ghost use Rattle.cast_link.specs.Taken.{bit_of, SetsBit, IsFullWord};
 use std::alloc::AllocError;
 use std::collections::VecDeque;
 
-/// The place of a slot among the bits, which begin with the word of the base.
+/// The place of a slot among the bits, which begin with the base's word.
 pub fn bit_of(base: u64, slot: u64) -> u64
     ensures { result ≡ bit_of base slot }
 {
     slot.saturating_sub(base / 64 * 64)
 }
 
-/// Whether the bit is set.
 pub fn has_bit(words: &VecDeque<u64>, bit: u64) -> bool
     ensures { result ≡ is_set words.now.items bit }
 {
@@ -25,7 +24,7 @@ pub fn has_bit(words: &VecDeque<u64>, bit: u64) -> bool
     }
 }
 
-/// How many bits there are from this one on in its word, where all of the word's bits are set; else none.
+/// If all bits in the word of this bit are set, how many there are from this one on; otherwise 0.
 pub fn full_word(words: &VecDeque<u64>, bit: u64) -> u64
     ensures set { (k : ℕ) → k < result → is_set words.now.items (bit + k) ≡ true }
     ensures full { IsFullWord words.now.items (bit / 64) → result ≡ 64 - bit % 64 }
@@ -37,7 +36,6 @@ pub fn full_word(words: &VecDeque<u64>, bit: u64) -> u64
     }
 }
 
-// Whether all bits of a word are set.
 fn has_all_bits(word: u64) -> bool
     ensures all { result ≡ true → word ≡ 2 ^ 64 - 1 }
     ensures not_all { result ≡ false → word < 2 ^ 64 - 1 }
@@ -45,7 +43,7 @@ fn has_all_bits(word: u64) -> bool
     word == u64::MAX
 }
 
-/// Makes words up to a bit, the new ones with no bit set.
+/// Adds words up to this bit; no new bit is set.
 pub fn make_room(words: &mut VecDeque<u64>, bit: u64) -> Result<(), AllocError>
     ensures ok { OnOk result (bit / 64 < length words.new.items) }
     ensures more { length words.old.items ≤ length words.new.items }
@@ -59,7 +57,6 @@ pub fn make_room(words: &mut VecDeque<u64>, bit: u64) -> Result<(), AllocError>
     Ok(())
 }
 
-/// Sets a bit.
 pub fn set_bit(words: &mut VecDeque<u64>, bit: u64)
     requires { bit / 64 < length words.old.items }
     ensures len { length words.new.items ≡ length words.old.items }
