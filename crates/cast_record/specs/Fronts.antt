@@ -1,5 +1,5 @@
 -- What the front of a text says.
---     BeginsWithDelivery bytes d  the bytes are `d`, words of these nodes and this number, and the rest, each after a blank
+--     BeginsWithDelivery bytes d  the bytes are `d`, words of these nodes and number, and the rest, each after a blank
 --     SaysDelivery bytes d        the bytes begin with this line `d`, if a word at the front of its rest spells an item
 use Rattle.std.specs.Prelude.{◌≡◌, ℕ, ◌^◌, ◌<◌, ◌≤◌, true, List, ◌∷◌, ◌++◌, length, take, Some}
 use Rattle.std.specs.Str.{all_ascii_digits}
