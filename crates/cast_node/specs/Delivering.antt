@@ -5,7 +5,7 @@
 --     first_members me s r           those of a new pair: the node, the sender, and where it came from
 --     is_enough config members       enough nodes that what they hold may be delivered
 --     noted ds s i members           these are known to hold the pair
---     heard_news, heard_by           the messages whose turn comes by a mark of the pair, or by the item offered for it,
+--     heard_news, heard_by           messages whose turn comes by a mark of the pair, or by the item offered for it,
 --                                    and what is then held back
 --     let_go ds s i                  the messages whose turn comes by a mark of the pair are delivered
 --     told_in config ds s i members  these are known to hold the pair; if they are enough, messages are let go
