@@ -17,7 +17,7 @@ use std::alloc::Global;
 use std::io::{Read, Write};
 
 /// Reads a script to its end, and writes the picture of the events in the window. It writes only after all events were
-/// taken. After `Write` a prefix of the picture was written, maybe empty; after any other fault nothing.
+/// taken. After `Write` only a prefix was written; after any other fault nothing.
 pub fn draw_text<R: Read, W: Write>(
     alloc: Global,
     window: Window,

@@ -11,7 +11,7 @@ use std::alloc::Global;
 use std::io::{Read, Write};
 
 /// Reads a text to its end, judges it as a record, and writes the verdict as a line. It keeps the broadcast items, and
-/// an unfinished line. After `Write` a prefix of the line was written, maybe empty; after any other fault nothing.
+/// an unfinished line. After `Write` only a prefix was written; after any other fault nothing.
 pub fn judge_text<R: Read, W: Write>(
     alloc: Global,
     reader: &mut Meter<R>,

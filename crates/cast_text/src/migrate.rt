@@ -9,8 +9,8 @@ use cast_record::{Meter, MigrateFault, migrate, write_bytes};
 use std::alloc::Global;
 use std::io::{Read, Write};
 
-/// Reads a `cast/1` record to its end, and writes it with a `cast/2` head. After `Write` a prefix of the text was
-/// written, maybe empty; after any other fault nothing.
+/// Reads a `cast/1` record to its end, and writes it with a `cast/2` head. After `Write` only a prefix was written;
+/// after any other fault nothing.
 pub fn migrate_text<R: Read, W: Write>(
     alloc: Global,
     reader: &mut Meter<R>,

@@ -17,8 +17,8 @@ use std::alloc::Global;
 use std::io::{Read, Write};
 
 /// Reads a script to its end, and writes one HTML page, which has the picture of the events in the window and steps
-/// through them. It writes only after all events were taken. After `Write` a prefix of the page was written, maybe
-/// empty; after any other fault nothing.
+/// through them. It writes only after all events were taken. After `Write` only a prefix was written; after any other
+/// fault nothing.
 pub fn page_text<R: Read, W: Write>(
     alloc: Global,
     window: Window,

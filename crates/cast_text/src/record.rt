@@ -33,8 +33,7 @@ pub fn write_script_record<W: Write>(
     put_line(&Line::End, writer)
 }
 
-/// Writes the head of a record of this group. It allocates nothing. After a fault a prefix of the line was written,
-/// maybe empty.
+/// Writes the head of a record of this group. It allocates nothing. After a fault only a prefix was written.
 pub fn put_head<W: Write>(config: &Config, writer: &mut Meter<W>) -> Result<(), TextFault>
     requires { writer.old.failed ≡ false }
     ensures text { Puts W.contents writer.old writer.new result
@@ -45,7 +44,7 @@ pub fn put_head<W: Write>(config: &Config, writer: &mut Meter<W>) -> Result<(), 
     put_line(&head, writer)
 }
 
-/// Writes the line, and a line feed. It allocates nothing. After a fault a prefix of that was written, maybe empty.
+/// Writes the line, and a line feed. It allocates nothing. After a fault only a prefix was written.
 pub fn put_line<W: Write>(line: &Line, writer: &mut Meter<W>) -> Result<(), TextFault>
     requires { writer.old.failed ≡ false }
     ensures text { Puts W.contents writer.old writer.new result (line_text line.now ++ 10 ∷ []) }

@@ -11,8 +11,8 @@ use cast_script::{Script, ScriptFault, read_script};
 use std::alloc::Global;
 use std::io::{Read, Write};
 
-/// Reads a script to its end, and writes the record of its events. After `Write` a prefix of the record was written,
-/// maybe empty; after `Memory` too, but without the last line; after any other fault nothing.
+/// Reads a script to its end, and writes the record of its events. After `Write` only a prefix was written; after
+/// `Memory` too, but without the last line; after any other fault nothing.
 pub fn run_text<R: Read, W: Write>(
     alloc: Global,
     reader: &mut Meter<R>,
