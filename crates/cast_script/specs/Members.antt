@@ -1,7 +1,7 @@
 -- The members of a script's object.
 --     has_known_members d     d is an object, and has no other members than a script's
 --     settings_of d           what the members say that aren't lists
---     list_of name d          the values in the list of this name, which is empty where it is absent
+--     list_of name d          the values in the list with this name; empty if it is absent
 use Rattle.std.specs.Prelude.{ℕ, List, [], codes, ◌||◌, ◌&&◌, Bool, true, false, Option, Some, None, option_and_then}
 use Rattle.std.specs.Str.{bytes_eq}
 use Rattle.serde_json.specs.Data.{Data, Members, no_members, member}
@@ -33,7 +33,7 @@ known_in (Some members) = all_known members
 abbrev pub has_known_members : Data → Bool
 has_known_members d = known_in (as_object d)
 
--- a number that has to be there
+-- a number that must be there
 abbrev pub needed : List ℕ → Data → Option ℕ
 needed name d = option_and_then number_of (get name d)
 
@@ -41,7 +41,7 @@ abbrev pub or_number : ℕ → Option Data → Option ℕ
 or_number absent None = Some absent
 or_number absent (Some d) = number_of d
 
--- a number with what stands for it where it is absent
+-- a number, or its default if it is absent
 abbrev pub number_else : List ℕ → ℕ → Data → Option ℕ
 number_else name absent d = or_number absent (get name d)
 

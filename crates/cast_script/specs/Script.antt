@@ -53,20 +53,20 @@ abbrev pub unless : Option ConfigFault → Settings → Result Settings ScriptFa
 unless None settings = Ok settings
 unless (Some fault) settings = Err (Config fault)
 
--- the settings, where they are within the limits of a configuration
+-- the settings, if they are within the limits of a configuration
 abbrev pub checked : Settings → Result Settings ScriptFault
 checked s =
     let causes =
     config_causes s.nodes s.faults s.choices s.item_limit s.log_limit s.box_size s.mode in
     unless (first_config_fault causes) s
 
--- a member that is of the wrong kind, or absent where it is needed
+-- a member of the wrong kind, or absent though it is needed
 abbrev pub or_whole : {A : Type 0} → Option A → Result A ScriptFault
 or_whole None = Err (Shape 0)
 or_whole (Some x) = Ok x
 
--- What the settings and the values in the three lists say. The elements are counted on from 1, and all of them are tried
--- before the limits of the configuration.
+-- What the settings and the values in the three lists say. Elements are counted from 1 across the lists. All of them
+-- are read before the limits of the configuration are checked.
 unfoldable pub script_in : Settings → List Data → List Data → List Data → Result Said ScriptFault
 script_in settings events plan jobs = do
   happens ← elements_from event_of 1 events
@@ -88,7 +88,7 @@ script_of d = if has_known_members d then (do
 abbrev pub IsValue : List ℕ → Data → Type 0
 IsValue bytes d = IsUtf8 bytes × (read bytes ≡ Some d)
 
--- what the bytes say; want of memory may come whatever they say, where there are any
+-- what the bytes say; memory may run out for any bytes, if there are some
 abbrev pub Reads : Result Script ScriptFault → List ℕ → Type 0
 Reads (Ok script) bytes = (d : Data) × IsValue bytes d × (script_of d ≡ Ok (said script))
 Reads (Err NotJson) bytes = (d : Data) → IsValue bytes d → ⊥
