@@ -10,7 +10,6 @@ const KEPT: usize = 128;
 struct Acknowledgement {
     slot: u64,
     entry: usize,
-    // It should be sent again.
     due: bool,
     bytes: Vec<u8>,
 }

@@ -23,7 +23,6 @@ struct Flying {
     bytes: Vec<u8>,
 }
 
-/// What is under way to a peer.
 #[derive(Drop)]
 pub struct Flight {
     // No slot from this one on was sent.
