@@ -212,7 +212,7 @@ static inline uint32_t cast_judge_new(struct cast_judging *judge) {
     if (judge == NULL) return CAST_MISUSED;
     return cast_c_judge_new(judge);
 }
-/* CAST_DONE; CAST_MISUSED: the handle holds no judge; CAST_REFUSED: the pieces would have 2^63 bytes;
+/* CAST_DONE; CAST_MISUSED: the handle holds no judge; CAST_REFUSED: the pieces would reach 2^63 bytes;
  * CAST_OUT_OF_MEMORY. */
 static inline uint32_t cast_judge_feed(struct cast_judging *judge, const void *piece, size_t count) {
     if (judge == NULL || !cast_has(piece, count)) return CAST_MISUSED;

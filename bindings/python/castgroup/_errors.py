@@ -85,7 +85,7 @@ class Closed(Error, ValueError):
 
 
 class TooLong(Error, ValueError):
-    """With this piece a record would have 2^63 bytes."""
+    """With this piece a record would reach 2^63 bytes."""
 
     def __str__(self) -> str:
         return "the record has 2^63 bytes"

@@ -69,7 +69,7 @@ pub enum StepError {
 /// A piece of a record was not judged.
 #[derive(Clone, Copy, Debug, PartialEq, Eq, PartialOrd, Ord, Hash)]
 pub enum JudgeError {
-    /// All pieces together have 2^63 bytes.
+    /// All pieces together would reach 2^63 bytes.
     TooLong,
     /// The library ran out of memory, for this piece or an earlier one.
     OutOfMemory,

@@ -38,11 +38,11 @@ pub struct Followed<M> {
 
 /// Runs a group of followers in threads, as `run_group` does, and merges what its nodes logged. A follower passes what
 /// it hears to its machine while the group runs. After all threads have ended, the machine takes what its node
-/// delivered after the follower was done.
+/// delivered after the follower was done. The run is refused as `run_group` is.
 ///
 /// So each machine has taken exactly what its node delivered, in order: from each sender a prefix of its broadcast,
 /// each item once. At rest live nodes have delivered the same from each sender. In uniform mode, that needs `faults` to
-/// be 0, or at most `faults` crashed nodes. It is refused as `run_group` is.
+/// be 0, or at most `faults` crashed nodes.
 pub fn run_followers<M: Machine + Send + Drop + 'static, R: Threads + Wait + Copy + Send + 'static>(
     rt: R,
     alloc: Global,

@@ -58,8 +58,8 @@ pub extern "C" fn cast_c_judge_new(alloc: Global, judge: &mut JudgeHandle) -> u3
     }
 }
 
-/// Takes the next piece of a record. 0: done; 1: the handle holds no judge; 2: the pieces would have 2^63 bytes; 5: out
-/// of memory, and so is each later piece.
+/// Takes the next piece of a record. 0: done; 1: the handle holds no judge; 2: the pieces would reach 2^63 bytes; 5:
+/// out of memory, and so is each later piece.
 #[unsafe(no_mangle)]
 pub extern "C" fn cast_c_judge_feed(alloc: Global, judge: &mut JudgeHandle, piece: &[u8]) -> u32
     ensures fed { IfSome judge.old.loose.judging (λ old.

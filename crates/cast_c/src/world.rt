@@ -49,8 +49,8 @@ pub extern "C" fn cast_c_world_new(
     }
 }
 
-/// Takes the events of one round. 0: done, or refused with code 12; 1: the handle holds no group; 5: out of memory. The
-/// events before a refused one remain.
+/// Takes the events of one round. 0: done, or refused with code 12; 1: the handle holds no group; 5: out of memory. If
+/// it stops early, the events before remain.
 #[unsafe(no_mangle)]
 pub extern "C" fn cast_c_world_round(
     alloc: Global,

@@ -1,7 +1,7 @@
 -- How a log's stamps follow the clocks from which they are read.
 --     makes kind                   an entry that makes a frame
 --     stamps_made log              the stamps of the frames made, in order: that of frame q at place q
---     IsStampedBy Came clock e     the clock gives the entry its stamp; Came from seq sent: the frame came with this stamp
+--     IsStampedBy Came clock e     the clock gives the entry its stamp; Came from seq sent: that frame's stamp is sent
 --     Follows Came clock log       the clock gives each entry its stamp, one after another
 use Rattle.std.specs.Prelude.{◌≡◌, ℕ, ◌+◌, max, Bool, true, false, List, [], ◌∷◌, map}
 use Rattle.std.specs.List.{filter}

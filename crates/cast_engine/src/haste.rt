@@ -36,8 +36,8 @@ const PERIOD: u64 = TURNS_UNTIL_AGAIN as u64;
 // After this many periods without haste it sleeps half as long.
 const CALM_PERIODS: u64 = 4;
 
-// An engine is in haste if at least 16 words of a period, and at least half of them, are of slots acknowledged before.
-// Lost frames hardly ever cause such words.
+// An engine is in haste if at least this many words of a period, and one in `SHARE_AGAIN`, are of slots acknowledged
+// before. Lost frames hardly ever cause such words.
 const LEAST_AGAIN: u64 = 16;
 
 const SHARE_AGAIN: u64 = 2;
@@ -46,7 +46,7 @@ const SHARE_AGAIN: u64 = 2;
 const NAP_IN_SILENCE: u64 = 4 * SHORT_NAP;
 
 // A peer is silent if this many slots, and no fewer than a whole window, were sent again to it since its last frame. At
-// four times that number it no longer counts as silent.
+// `LONG_SILENCE` times that number it no longer counts as silent.
 const LEAST_UNANSWERED: u64 = 16;
 
 const LONG_SILENCE: u64 = 4;
@@ -110,8 +110,8 @@ impl Haste {
         }
     }
 
-    /// Notes word of a slot; `again` says whether the slot was acknowledged before. In the period after the sleep grew,
-    /// such words change nothing: they are of slots that were sent again earlier.
+    /// Notes word of a slot; `again` says whether the slot was acknowledged before. In the period after the sleep
+    /// changed, such words change nothing: after a longer sleep, they are of slots sent again earlier.
     pub fn note(&mut self, again: bool) {
         self.heard = self.heard.saturating_add(1);
         self.again = self.again.saturating_add(u64::from(again));

@@ -38,7 +38,7 @@ impl Acknowledged {
         false
     }
 
-    /// Keeps an acknowledgement, in place of the oldest if there are 128, unless memory runs out.
+    /// Keeps an acknowledgement, unless memory runs out. If `KEPT` are kept, the oldest goes.
     pub fn keep(&mut self, slot: u64, entry: usize, bytes: Vec<u8>) {
         if self.kept.len() >= KEPT {
             self.kept.pop_front();

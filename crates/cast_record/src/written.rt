@@ -9,7 +9,7 @@ use itoa::Buffer;
 use std::io::Write;
 use thiserror::Error;
 
-// Enough that the writer is called seldom, but so few that a short text pays for the room.
+// Enough that the writer is called seldom, but so few that the room costs a short text little.
 const BYTES_AT_ONCE: usize = 128;
 
 /// Why a text was not written: in this call the writer failed, or took no byte.

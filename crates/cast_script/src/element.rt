@@ -15,7 +15,7 @@ use std::alloc::{AllocError, AllocFailed, Global};
 /// Why an element wasn't read.
 #[derive(Clone, Copy, PartialEq, Eq)]
 pub enum Unread {
-    /// It doesn't have its form.
+    /// It has the wrong form.
     Shape,
     Memory,
 }
@@ -44,7 +44,7 @@ impl<T: Drop> From<AllocFailed<T>> for Unread {
     }
 }
 
-/// What a script's list has.
+/// An element of a script's list.
 pub trait Element: Sized {
     ghost element: { Data → Option Self };
 

@@ -28,7 +28,7 @@ pub fn draw_text<R: Read, W: Write>(
     // The writer has the picture of the script that was read, and nothing else, or a fault has its cause.
     ensures exact { Draws window (R.remaining reader.old.inner) reader.new.failed
         (W.contents writer.old.inner) (W.contents writer.new.inner) writer.new.failed result }
-    // Exactly what failed is reported. No more is read than shows that there is too much.
+    // Exactly what failed is reported. At most one byte past the limit is read.
     ensures streams { UsesStreams R.remaining reader.old reader.new writer.new.failed result }
 {
     let script = read_script_text(alloc, reader)?;

@@ -21,7 +21,7 @@ pub fn judge_text<R: Read, W: Write>(
     // The verdict is that on the bytes, and the writer has its line and nothing else, or a fault has its cause.
     ensures exact { Judges (R.remaining reader.old.inner) reader.new.failed
         (W.contents writer.old.inner) (W.contents writer.new.inner) writer.new.failed result }
-    // Exactly what failed is reported. No more is read than shows that there is too much.
+    // Exactly what failed is reported. At most one byte past the limit is read.
     ensures streams { UsesStreams R.remaining reader.old reader.new writer.new.failed result }
 {
     let verdict = judge_input(alloc, reader)?;

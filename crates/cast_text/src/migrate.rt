@@ -20,7 +20,7 @@ pub fn migrate_text<R: Read, W: Write>(
     // The writer has the bytes with their head changed, and nothing else, or a fault has its cause.
     ensures exact { Migrates (R.remaining reader.old.inner) reader.new.failed
         (W.contents writer.old.inner) (W.contents writer.new.inner) writer.new.failed result }
-    // Exactly what failed is reported. No more is read than shows that there is too much.
+    // Exactly what failed is reported. At most one byte past the limit is read.
     ensures streams { UsesStreams R.remaining reader.old reader.new writer.new.failed result }
 {
     let input = read_input(alloc, reader)?;

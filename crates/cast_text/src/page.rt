@@ -26,7 +26,7 @@ pub fn page_text<R: Read, W: Write>(
     writer: &mut Meter<W>,
 ) -> Result<(), TextFault>
     requires { (reader.old.failed ≡ false) × (writer.old.failed ≡ false) }
-    // Exactly what failed is reported. No more is read than shows that there is too much.
+    // Exactly what failed is reported. At most one byte past the limit is read.
     ensures streams { UsesStreams R.remaining reader.old reader.new writer.new.failed result }
 {
     let script = read_script_text(alloc, reader)?;

@@ -15,7 +15,7 @@ use cast_world::{DueSlot, World, is_want_of_memory};
 /// shown before, and a failed observer sees nothing more. So `play` promises for every observer that it saw everything
 /// played, unless it failed or memory ran out.
 pub trait Observer {
-    /// How calls that showed this went.
+    /// The outcome of calls that showed this.
     ghost saw: { Self → Self → Result (Unit {0}) AnyFault → List Played → Type 0 };
 
     /// It has not failed, and can see more.

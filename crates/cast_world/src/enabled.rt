@@ -44,8 +44,8 @@ impl World {
 
     /// The events that are possible next and yield something new, apart from orders and crashes. First come the slots
     /// that live nodes owe live nodes, by giver, then taker, ascending: the send, and the acknowledgement if the slot
-    /// was taken. Then come arrivals, by maker and number. A frame's target must live, and must not have taken its
-    /// slot, or must still owe the slot that it acknowledges.
+    /// was taken. Then come arrivals at live nodes, by maker and number: of messages in slots not yet taken, and of
+    /// acknowledgements of slots still owed.
     ///
     /// What the group would refuse is left out, such as a frame of a node that has made all its frames. A call visits
     /// every due slot and every frame made. The list is empty only at rest, or if a live node has made all its frames.
@@ -109,7 +109,7 @@ impl World {
         Ok(())
     }
 
-    // Whether a frame's target lives, and has not taken its slot or still owes the slot that it acknowledges.
+    // Whether a frame's target lives, and the slot is not yet taken or, for an acknowledgement, still owed.
     fn brings_news(&self, from: NodeId, seq: u64) -> bool
         ensures { StandingFor self.now (λ config past.
             result ≡ brings_news past from (slice_get (frames past from) seq)) }
@@ -136,14 +136,14 @@ fn actor(event: &Event) -> NodeId
     }
 }
 
-// Whether the slot is owed, if its send would be refused for this cause.
+// Whether a slot is owed, given why its send would be refused.
 fn is_owed(refusal: Option<StepFault>) -> bool
     ensures { result ≡ is_owed refusal }
 {
     matches!(refusal, None | Some(StepFault::FramesFull))
 }
 
-// Whether the slot was not taken, if its acknowledgement would be refused for this cause.
+// Whether a slot was not taken, given why its acknowledgement would be refused.
 fn is_untaken(refusal: Option<StepFault>) -> bool
     ensures { result ≡ is_untaken refusal }
 {

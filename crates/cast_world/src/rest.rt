@@ -13,11 +13,10 @@ impl World {
     /// Whether no live node owes a live node a slot. It allocates nothing, and reads nodes alone, no links.
     ///
     /// At rest all live nodes have delivered the same from each sender, and the whole stream of a live one. They have
-    /// all decided an instance if one of them has. They have decided it too if they delivered proposals of at least n -
-    /// f senders, where n is `nodes` and f is `faults`.
+    /// all decided an instance if one of them has, or if they delivered proposals of all but at most `faults` senders.
     ///
-    /// In uniform mode, this needs f to be 0, or at most f crashed nodes. With at most f crashed nodes, each live node
-    /// has also delivered what any node delivered, even a crashed one.
+    /// In uniform mode, this needs `faults` to be 0, or at most `faults` crashed nodes. With at most `faults` crashed
+    /// nodes, each live node has also delivered what any node delivered, even a crashed one.
     pub fn at_rest(&self) -> bool
         ensures rest { StandingFor self.now (λ config past. IsTrue result ↔ Rest config past) }
         ensures agrees { StandingFor self.now (λ config past.

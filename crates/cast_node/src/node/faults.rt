@@ -1,5 +1,5 @@
-//! Why a node refuses a step, as the first cause in the order of the definitions; out of memory doesn't count. Also,
-//! which frames some node could have made for it. None of these calls allocates.
+//! Why a node refuses a step: the first cause, in the order of the definitions. Also, which frames some node could have
+//! made for it. None of these calls allocates.
 ghost use Rattle.std.specs.Prelude.{◌≡◌, ◌<◌, ◌∷◌, [], None, Some, IfOk, IfErr, OnOk};
 ghost use Rattle.cast_message.specs.declared.message.Frame.{Frame as Arriving};
 ghost use Rattle.cast_model.specs.Steps.{Ordered, Sent, Acknowledged, Arrived};
@@ -13,7 +13,7 @@ use cast_message::{
 };
 
 impl Node {
-    /// Why an order of this item would be refused, if it would.
+    /// Why an order of this item would be refused, if it would; out of memory doesn't count.
     #[tactic(auto, using(std::proofs::lemmas::Bool::Decides::nat_tests), unfolding(cast_model::specs::Refusals::first_fault, crate::specs::Turns::kept_fault))]
     pub fn order_fault(&self, item: &Item) -> Option<StepFault>
         ensures { result ≡ kept_fault self.now (Ordered item.now) }
@@ -36,14 +36,14 @@ impl Node {
         None
     }
 
-    /// Why a send of this slot to a peer would be refused, if it would.
+    /// Why a send of this slot to a peer would be refused, if it would; out of memory doesn't count.
     pub fn send_fault(&self, to: NodeId, slot: u64) -> Option<StepFault>
         ensures { result ≡ kept_fault self.now (Sent to slot) }
     {
         self.message_to_send(to, slot).err()
     }
 
-    /// Why an acknowledgement of this slot of a peer would be refused, if it would.
+    /// Why an acknowledgement of this slot of a peer would be refused, if it would; out of memory doesn't count.
     #[tactic(auto, using(std::proofs::lemmas::Bool::Decides::nat_tests), unfolding(cast_model::specs::Refusals::first_fault, crate::specs::Turns::kept_fault))]
     pub fn ack_fault(&self, to: NodeId, slot: u64) -> Option<StepFault>
         ensures { result ≡ kept_fault self.now (Acknowledged to slot) }
@@ -60,7 +60,7 @@ impl Node {
         None
     }
 
-    /// Why the arrival of a frame would be refused, if it would.
+    /// Why the arrival of a frame would be refused, if it would; out of memory doesn't count.
     #[tactic(auto, using(std::proofs::lemmas::Bool::Decides::nat_tests), unfolding(cast_model::specs::Refusals::first_fault, crate::specs::Turns::kept_fault))]
     pub fn arrive_fault(&self) -> Option<StepFault>
         ensures { (frame : Arriving) → result ≡ kept_fault self.now (Arrived frame) }
