@@ -1,4 +1,4 @@
--- What the numbers mean that cross to C.
+-- The meaning of the numbers that cross to C.
 --     mode_in, first_fault, first_code    a mode; the first fault of a configuration; its number
 --     IsOf numbers config                 the configuration of the numbers
 --     item_in, event_in                   an item and an event, with the bytes, or None if no kind has this number

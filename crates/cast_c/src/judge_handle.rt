@@ -1,5 +1,5 @@
-//! A judge that C holds by a pointer. C makes the handle of zeros and passes its address. It never copies the handle,
-//! or reads or writes what is in it.
+//! A judge that C holds by a pointer. C makes the handle of zeros and passes its address. It neither copies the
+//! handle nor touches what is in it.
 ghost use Rattle.std.specs.Prelude.{◌≡◌, true, Option, None, Some, is_some, option_map};
 ghost use Rattle.cast_judge.specs.declared.judging.Judging.{Judging as State};
 ghost use Rattle.cast_c.specs.JudgeOwning.{judge_owns, judge_coded};

@@ -5,7 +5,7 @@
 //! status with the numbers of docs/FORMATS.md:
 //!
 //! - 0: done.
-//! - 1: no such call. A handle holds nothing, or something where it shouldn't, or no kind has a number.
+//! - 1: no such call. A handle holds nothing, or something where it shouldn't, or a number names no kind.
 //! - 2: refused. 3: a bad record. 5: out of memory. 6: a buffer is too short.
 //!
 //! What else C must keep to at each call is in `bindings/c/castgroup.h`.

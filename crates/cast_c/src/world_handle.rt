@@ -1,5 +1,5 @@
-//! A group that C holds by a pointer. C makes the handle of zeros and passes its address. It never copies the handle,
-//! or reads or writes what is in it.
+//! A group that C holds by a pointer. C makes the handle of zeros and passes its address. It neither copies the
+//! handle nor touches what is in it.
 ghost use Rattle.std.specs.Prelude.{◌≡◌, true, Option, None, Some, is_some, option_map};
 ghost use Rattle.cast_world.specs.Group.{State};
 ghost use Rattle.cast_c.specs.WorldOwning.{world_owns, world_coded};

@@ -18,7 +18,7 @@ pub fn reserve_all(links: &mut [LinkOut<u32>]) -> Result<(), AllocError>
     let Some((link, rest)) = links.split_first_mut() else {
         return Ok(());
     };
-    // Never reached: a held message takes at most one slot, and there are fewer than a `u64` counts.
+    // Never reached: each held message takes at most one slot, and a `u64` counts more than a node can hold.
     if link.given() == u64::MAX {
         return Err(AllocError);
     }
