@@ -25,7 +25,7 @@ use std::thread::Threads;
 /// What a group of followers gives back.
 #[derive(Drop)]
 pub struct Followed<M> {
-    /// The machines, in the order in which their followers were added. Each has taken all that its node delivered.
+    /// The machines, in the order their followers were added. Each has taken all that its node delivered.
     pub machines: Vec<M>,
     /// The node of each follower and what happened to its items, in the same order.
     pub clients: Vec<ClientReport>,

@@ -47,7 +47,7 @@ impl<M: Machine + Drop> Followers<M> {
         Ok(())
     }
 
-    /// The followers as jobs, in the order in which they were added.
+    /// The followers as jobs, in the order they were added.
     pub fn into_jobs(self) -> Vec<(NodeId, Follower<M>)>
         ensures jobs { result.items ≡ self }
         ensures new { AreNewFollowers M.stands result.items }
