@@ -39,7 +39,7 @@ const MERGED_ENDS: &str =
 rest: whether all that live nodes gave live nodes was acknowledged
 verdict: what the judge says of the record of what happened";
 
-/// What the marks of a picture mean.
+/// What the marks in a picture mean.
 const MARKS: &str = "A line for each node, time to the right, a column for each event. Marks:
   dot      a broadcast, with the item
   arrow    a frame that arrives, in the colour of the message's sender; dotted and grey an acknowledgement
@@ -79,10 +79,10 @@ fn program<'a>(alloc: Global) -> Result<Command<'a>, AllocError> {
         .arg(terse_flag(alloc))
 }
 
-// Where the flags that each command takes stand in its help: behind its own, and before that for help.
+// The place in a command's help of the flags that every command takes: after its own, and before the help flag.
 const LAST: usize = 900;
 
-// Flags that each command takes.
+// Flags that every command takes.
 fn explain_flag<'a>(alloc: Global) -> Result<Arg<'a>, AllocError> {
     let help =
         "Say in one more line on standard error where a fault is, and why, as on a terminal, or where the environment has CASTGROUP_EXPLAIN=1";
@@ -154,7 +154,7 @@ pub fn merge_command<'a>(alloc: Global) -> Result<Command<'a>, AllocError> {
     with_outputs(alloc, command)?.arg(logs)
 }
 
-// The options that say by which seeds a group runs in place of threads.
+// The options that choose seeds, by which a group runs in place of threads.
 fn with_seeds<'a>(alloc: Global, command: Command<'a>) -> Result<Command<'a>, AllocError> {
     let seed = "Run in one thread, by the schedule of seed N: the same run each time";
     let times = "Run M seeds from N on, and tell of those runs that are not as one hopes";
@@ -174,7 +174,6 @@ fn with_outputs<'a>(alloc: Global, command: Command<'a>) -> Result<Command<'a>, 
         .arg(option(alloc, "draw", "FILE", picture))
 }
 
-// An option that takes a value.
 fn option<'a>(
     alloc: Global,
     name: &'static str,
@@ -193,7 +192,7 @@ fn migrate_command<'a>(alloc: Global) -> Result<Command<'a>, AllocError> {
         .arg(record(alloc))
 }
 
-/// The command that draws the run of a script.
+/// The command that draws a script's run.
 pub fn draw_command<'a>(alloc: Global) -> Result<Command<'a>, AllocError> {
     let from = "The first event that is drawn, counted from 0; the first of all if absent";
     let to = "The last event that is drawn; the last of all if absent";
@@ -207,7 +206,8 @@ pub fn draw_command<'a>(alloc: Global) -> Result<Command<'a>, AllocError> {
         .arg(script(alloc))
 }
 
-// An option that takes a number. One below 0 is taken here, and refused in words of its own with all else that is none.
+// An option that takes a number. A number below 0 passes here; like anything else that is not one, it is refused later
+// with a message of this program.
 fn number<'a>(
     alloc: Global,
     name: &'static str,

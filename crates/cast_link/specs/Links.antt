@@ -1,8 +1,8 @@
 -- What a node gave another, as callers see it. A slot keeps the message itself, or whatever its user finds it by.
 --     Link X                     how many slots were given, and the owed ones with what they keep
---     Outward X                  a link, and whether there is room for one slot more
---     with_given link kept       a slot more is given
---     with_acknowledged link slot      a slot is owed no more
+--     Outward X                  a link, and whether there is room for one more slot
+--     with_given link kept       one more slot is given
+--     with_acknowledged link slot      a slot is no longer owed
 --     IsLeastFrom owed from slot the least slot owed from `from` on
 --     owed_map base places       the owed slots, if these are the places of the slots from base on
 --     link_of base places        the same as a link
@@ -60,7 +60,7 @@ module _ {X : Type 0} where
         room = nat_lt (length places) capacity && nat_lt (bit_of base (base + length places) / 64) (length marks);
       }
 
-  -- the first place, if any, is owed
+  -- the first place, if there is one, is owed
   abbrev pub StartsOwed : List (Option X) → Type 0
   StartsOwed [] = Unit {0}
   StartsOwed (None ∷ places) = ⊥

@@ -7,14 +7,13 @@ ghost use Rattle.cast_link.specs.Taken.{bit_of, SetsBit, IsFullWord};
 use std::alloc::AllocError;
 use std::collections::VecDeque;
 
-/// The place of a slot among the bits, which begin with the word of the base.
+/// The place of a slot among the bits, which begin with the base's word.
 pub fn bit_of(base: u64, slot: u64) -> u64
     ensures { result ≡ bit_of base slot }
 {
     slot.saturating_sub(base / 64 * 64)
 }
 
-/// Whether the bit is set.
 pub fn has_bit(words: &VecDeque<u64>, bit: u64) -> bool
     ensures { result ≡ is_set words.now.items bit }
 {
@@ -36,7 +35,6 @@ pub fn full_word(words: &VecDeque<u64>, bit: u64) -> u64
     }
 }
 
-// Whether all bits of a word are set.
 fn has_all_bits(word: u64) -> bool
     ensures all { result ≡ true → word ≡ 2 ^ 64 - 1 }
     ensures not_all { result ≡ false → word < 2 ^ 64 - 1 }
@@ -58,7 +56,6 @@ pub fn make_room(words: &mut VecDeque<u64>, bit: u64) -> Result<(), AllocError>
     Ok(())
 }
 
-/// Sets a bit.
 pub fn set_bit(words: &mut VecDeque<u64>, bit: u64)
     requires { bit / 64 < length words.old.items }
     ensures len { length words.new.items ≡ length words.old.items }
@@ -68,7 +65,6 @@ pub fn set_bit(words: &mut VecDeque<u64>, bit: u64)
     words[(bit / 64) as usize] |= 1 << (bit % 64);
 }
 
-/// Drops words at the front.
 pub fn drop_front(words: &mut VecDeque<u64>, count: u64)
     ensures words { words.new.items ≡ drop count words.old.items }
     ensures room { deque_capacity words.new ≡ deque_capacity words.old }

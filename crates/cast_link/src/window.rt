@@ -11,7 +11,7 @@ use crate::bits::{bit_of, drop_front, has_bit, make_room, set_bit};
 use std::alloc::AllocError;
 use std::collections::{BTreeSet, VecDeque};
 
-/// How many slots from the base on have bits.
+/// The number of slots from the base on that have bits.
 pub const REACH: u64 = 262_144;
 
 // Words for as many bits, wherever in its word the base is.
@@ -72,7 +72,7 @@ fn first_free(base: u64, words: &VecDeque<u64>, far: &BTreeSet<u64>, from: u64) 
     u64::MAX
 }
 
-// Gives bits to the far slots that a base reaches.
+// Gives bits to the far slots within reach of a base.
 fn gather(base: u64, words: &mut VecDeque<u64>, far: &mut BTreeSet<u64>)
     requires short { length words.old.items ≤ 4097 }
     requires room { 0 < length far.old.keys → 4097 ≤ deque_capacity words.old }

@@ -10,7 +10,7 @@ use cast_message::{GroupSet, NodeId};
 use cast_relay::goes_on;
 use std::alloc::AllocError;
 
-/// Makes room for one slot more at each of these links.
+/// Makes room for one more slot at each of these links.
 pub fn reserve_all(links: &mut [LinkOut<u32>]) -> Result<(), AllocError>
     ensures same { bare links.new ≡ bare links.old }
     ensures room { OnOk result (All HasRoom links.new) }

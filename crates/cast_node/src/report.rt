@@ -7,18 +7,17 @@ use cast_log::Log;
 use cast_message::Config;
 use std::marker::Model;
 
-/// Why a node's engine ended.
 #[derive(Clone, Copy, Debug, PartialEq, Eq)]
 pub enum EngineEnd {
     /// All engines were quiet or had ended, and its clients were done. That does not show rest.
     Stopped,
     /// The plan crashed the node.
     Crashed,
-    /// Its turns were used up, or it stopped with a client that was not done.
+    /// Its turns were used up, or it stopped while a client was not done.
     TurnLimit,
     /// The log was full.
     LogFull,
-    /// No greater stamp was left: its clock had the last, or a frame came with it.
+    /// There was no greater stamp: its clock had the last one, or a frame came with it.
     ClockFull,
 }
 
@@ -60,7 +59,7 @@ impl GroupReport {
         GroupReport { config, reports }
     }
 
-    /// The reports, in the order of the nodes. It takes no memory.
+    /// The reports, by number of the node. It allocates nothing.
     pub fn reports(&self) -> &[NodeReport]
         ensures shown { result.now ≡ self.now.reports }
         ensures linked { Linked self.now.config self.now.reports }
@@ -68,7 +67,6 @@ impl GroupReport {
         self.reports.as_slice()
     }
 
-    /// The configuration of the group. It takes no memory.
     pub fn config(&self) -> &Config
         ensures { result.now ≡ self.now.config }
     {

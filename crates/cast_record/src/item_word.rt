@@ -50,7 +50,7 @@ impl<'a> Model for ItemWord<'a> {
 }
 
 impl<'a> ItemWord<'a> {
-    /// The item within its ranges whose word this is, if there is one. It takes no memory.
+    /// The item within its ranges whose word this is, if there is one. It allocates nothing.
     pub fn read(word: &'a [u8]) -> Option<ItemWord<'a>>
         ensures { result ≡ item_of word.now }
     {
@@ -60,7 +60,6 @@ impl<'a> ItemWord<'a> {
         })
     }
 
-    /// The word.
     pub fn as_slice(&self) -> &[u8]
         ensures { item_of result.now ≡ Some self.now }
     {

@@ -9,10 +9,9 @@ pub const FIRST_MOST_NODES: u64 = 16;
 /// The greatest code of a refusal in a record. That of out of memory is greater: it ends a record, and has no line.
 pub const MOST_CODE: u64 = 12;
 
-/// A line of a record.
 #[derive(Debug, Drop, PartialEq)]
 pub enum Line {
-    /// The first line of a record `cast/1`: a group in basic mode of at most 16 nodes.
+    /// The first line of a record `cast/1`: a group in basic mode with at most 16 nodes.
     Head {
         nodes: u64,
         faults: u64,
@@ -25,7 +24,7 @@ pub enum Line {
         choices: u64,
         mode: Mode,
     },
-    /// The message's sender has put it into its stream.
+    /// The message's sender appended it to its stream.
     Broadcast(Message),
     Delivered {
         node: NodeId,

@@ -37,7 +37,6 @@ impl<S> Meter<S> {
         self.failed
     }
 
-    /// The reader or writer itself.
     pub fn into_inner(self) -> S
         ensures { result ≡ self.inner }
     {

@@ -1,4 +1,4 @@
-//! Giving an old record the new head.
+//! Gives an old record the new head.
 ghost use Rattle.std.specs.Prelude.{◌≡◌, ◌≤◌, length, true, false, IfOk};
 ghost use Rattle.cast_record.specs.Migration.{Migrates, IsHeadIn, IsNoHead, new_text};
 ghost use Rattle.cast_record.specs.Verdicts.{verdict};
@@ -11,7 +11,7 @@ use thiserror::Error;
 /// Why a text was not migrated.
 #[derive(Clone, Copy, Debug, PartialEq, Eq, Error)]
 pub enum MigrateFault {
-    /// It does not begin with a `cast/1` head within its ranges and its line feed.
+    /// It doesn't begin with a `cast/1` head within its ranges and its line feed.
     #[error("the text is no record cast/1")]
     NotV1,
     /// It is out of memory.
@@ -35,7 +35,7 @@ pub fn migrate(alloc: Global, text: &[u8]) -> Result<Vec<u8>, MigrateFault>
     with_new_head(alloc, first, rest).map_err(|_| MigrateFault::Memory)
 }
 
-// Whether the bytes spell a head `cast/1` within its ranges.
+// Whether the bytes spell a `cast/1` head within its ranges.
 fn is_head(bytes: &[u8]) -> bool
     ensures yes { result ≡ true → IsHeadIn bytes.now }
     ensures no { result ≡ false → IsNoHead bytes.now }

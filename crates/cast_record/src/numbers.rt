@@ -1,4 +1,4 @@
-//! Words that spell numbers, read.
+//! Reads words that spell numbers.
 ghost use Rattle.std.specs.Prelude.{◌≡◌, ◌+◌, ◌*◌, ◌^◌, ◌<◌};
 ghost use Rattle.std.specs.Option.{SomeIff};
 ghost use Rattle.cast_record.specs.Numbers.{number_of, value_of, IsWordOf};

@@ -7,7 +7,7 @@ ghost use Rattle.cast_record.specs.Reading.{one_of, two_of, three_of, four_of};
 /// The byte between words.
 pub const BLANK: u8 = b' ';
 
-/// The place of the first byte that is this one, if there is one.
+/// The place of the first such byte, if there is one.
 pub fn find_byte(bytes: &[u8], byte: u8) -> Option<usize>
     ensures { result ≡ position (λ b. b == byte) bytes.now }
 {

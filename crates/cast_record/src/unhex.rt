@@ -1,4 +1,4 @@
-//! Bytes that are written as two digits each.
+//! Reads bytes that are written as two digits each.
 ghost use Rattle.std.specs.Prelude.{◌≡◌, ◌*◌, ◌%◌, ◌<◌, if◌then◌else◌, length, IfOk, OnErr, Some, None, option_map, unwrap_or};
 ghost use Rattle.cast_record.specs.Unhex.{unhex, digit_of, AreDigitsOf};
 

@@ -9,7 +9,7 @@ use crate::writing::write_words;
 use crate::written::Written;
 use std::io::Write;
 
-/// What a judge says of a text.
+/// What a judge says about a text.
 #[derive(Clone, Copy, Debug, PartialEq, Eq)]
 pub enum Verdict {
     /// It is a record, and no line breaks a rule.

@@ -1,4 +1,4 @@
-//! Writing lines: without memory, each text whole or a prefix of it.
+//! Writes lines without allocation, each text whole or a prefix of it.
 ghost use Rattle.std.specs.Prelude.{◌≡◌, ◌++◌, [], ◌∷◌, false, map};
 ghost use Rattle.std.specs.List.{join_with_byte};
 ghost use Rattle.cast_record.specs.Written.{Puts};

@@ -1,4 +1,4 @@
-//! Writing words: without memory, each whole or a prefix of it.
+//! Writes words without allocation, each whole or a prefix of it.
 ghost use Rattle.std.specs.Prelude.{◌≡◌, false, decimal};
 ghost use Rattle.cast_record.specs.Hex.{hex};
 ghost use Rattle.cast_record.specs.Written.{Puts};
@@ -12,7 +12,7 @@ use thiserror::Error;
 // Enough that the writer is seldom called, and not so many that a short text pays for the room.
 const BYTES_AT_ONCE: usize = 128;
 
-/// Why a text was not written: the writer failed, or took no byte, in this call.
+/// Why a text was not written: in this call the writer failed, or took no byte.
 #[derive(Clone, Copy, Debug, PartialEq, Eq, Error)]
 pub enum WriteFault {
     #[error("the writer failed or took no byte")]

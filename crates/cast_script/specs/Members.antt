@@ -35,7 +35,7 @@ known_in (Some members) = all_known members
 abbrev pub has_known_members : Data → Bool
 has_known_members d = known_in (as_object d)
 
--- a number that has to be there
+-- a number that must be there
 abbrev pub needed : List ℕ → Data → Option ℕ
 needed name d = option_and_then number_of (get name d)
 
@@ -43,7 +43,7 @@ abbrev pub or_number : ℕ → Option Data → Option ℕ
 or_number absent None = Some absent
 or_number absent (Some d) = number_of d
 
--- a number with what stands for it where it is absent
+-- a number, or its default if it is absent
 abbrev pub number_else : List ℕ → ℕ → Data → Option ℕ
 number_else name absent d = or_number absent (get name d)
 

@@ -62,7 +62,7 @@ unless (Some fault) settings = Err (Config fault)
 abbrev pub checked : RunSettings → Result RunSettings ScriptFault
 checked settings = unless (first_config_fault (causes_of settings.group)) settings
 
--- a member that is of the wrong kind, or absent where it is needed
+-- a member of the wrong kind, or absent though it is needed
 abbrev pub or_whole : {A : Type 0} → Option A → Result A ScriptFault
 or_whole None = Err (Shape 0)
 or_whole (Some x) = Ok x
@@ -90,7 +90,7 @@ script_of d = if has_known_members d then (do
 abbrev pub IsValue : List ℕ → Data → Type 0
 IsValue bytes d = IsUtf8 bytes × (read bytes ≡ Some d)
 
--- what the bytes say; want of memory may come whatever they say, where there are any
+-- what the bytes say; memory may run out for any bytes, if there are some
 abbrev pub Reads : Result Script ScriptFault → List ℕ → Type 0
 Reads (Ok script) bytes = (d : Data) × IsValue bytes d × (script_of d ≡ Ok (said script))
 Reads (Err NotJson) bytes = (d : Data) → IsValue bytes d → ⊥

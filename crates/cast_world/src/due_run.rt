@@ -3,7 +3,7 @@ ghost use Rattle.std.specs.Prelude.{◌+◌, ◌<◌, ◌^◌};
 
 use cast_message::NodeId;
 
-/// Slots in succession that a node owes a peer: the first, and how many more.
+/// Slots in succession that a node owes a peer: the first, and how many follow it.
 #[derive(Clone, Copy)]
 pub struct Run {
     pub from: NodeId,

@@ -7,7 +7,7 @@ use cast_message::NodeId;
 use std::alloc::{AllocError, Global};
 use std::marker::Model;
 
-// More slots than a list could have.
+// More slots than a list can have.
 const TOO_MANY: u64 = 1 << 61;
 
 /// A slot that a live node owes another live node.
@@ -32,9 +32,9 @@ impl Model for DueSlot {
 #[derive(Drop)]
 pub struct DueSlots {
     runs: Vec<Run>,
-    // The run whose turn it is; those before it were taken.
+    // The run at the front; those before it were taken.
     place: usize,
-    // How many slots there are.
+    // The number of slots.
     len: u64,
 }
 
@@ -52,7 +52,7 @@ impl Model for DueSlots {
 }
 
 impl DueSlots {
-    /// There are none. It takes no memory.
+    /// No slots. It allocates nothing.
     pub fn new(alloc: Global) -> DueSlots
         ensures { result ≡ [] }
     {
@@ -63,7 +63,6 @@ impl DueSlots {
         }
     }
 
-    /// How many slots there are.
     pub fn len(&self) -> u64
         ensures len { result ≡ length self.now }
         ensures few { result ≤ 2 ^ 61 }
@@ -101,7 +100,6 @@ impl DueSlots {
 }
 
 impl Run {
-    // This slot alone.
     fn new(due: DueSlot) -> Run
         ensures { slots_of result ≡ due ∷ [] }
     {
@@ -113,7 +111,6 @@ impl Run {
         }
     }
 
-    // The first slot.
     fn slot(self) -> DueSlot
         ensures { slots_of self ≡ result ∷ rest_of self }
     {
@@ -140,7 +137,7 @@ impl Run {
         })
     }
 
-    // These slots and this one, if it is the next.
+    // The run with this slot too, if the slot is the next.
     fn with(&self, due: &DueSlot) -> Option<Run>
         ensures { IfSome result (λ longer. slots_of longer ≡ slots_of self.now ++ due.now ∷ []) }
     {
@@ -155,7 +152,7 @@ impl Run {
         })
     }
 
-    // Whether a slot is the next.
+    // Whether this slot comes right after the run.
     fn is_before(&self, due: &DueSlot) -> bool
         ensures from { IsTrue result → due.now.from ≡ self.now.from }
         ensures to { IsTrue result → due.now.to ≡ self.now.to }

@@ -31,7 +31,7 @@ impl World {
         }
     }
 
-    // Why the arrival of a frame of a node would be refused.
+    // Why the arrival of a node's frame would be refused.
     fn arrival_fault(&self, from: NodeId, seq: u64) -> Option<StepFault>
         ensures { StandingFor self.now (λ config past.
             result ≡ fault config past (Event.Arrive from seq)) }
@@ -108,7 +108,7 @@ impl World {
         Ok(())
     }
 
-    // Whether a frame's target lives and has not taken the slot that it carries, or owes the one that it acknowledges.
+    // Whether a frame's target lives, and the slot is not yet taken or, for an acknowledgement, still owed.
     fn brings_news(&self, from: NodeId, seq: u64) -> bool
         ensures { StandingFor self.now (λ config past.
             result ≡ brings_news past from (slice_get (frames past from) seq)) }
@@ -135,14 +135,14 @@ fn actor(event: &Event) -> NodeId
     }
 }
 
-// Whether a slot is owed whose send has this cause of refusal, if any.
+// Whether a slot is owed, given why its send would be refused.
 fn is_owed(refusal: Option<StepFault>) -> bool
     ensures { result ≡ is_owed refusal }
 {
     matches!(refusal, None | Some(StepFault::FramesFull))
 }
 
-// Whether a slot was not taken whose acknowledgement has this cause of refusal, if any.
+// Whether a slot was not taken, given why its acknowledgement would be refused.
 fn is_untaken(refusal: Option<StepFault>) -> bool
     ensures { result ≡ is_untaken refusal }
 {

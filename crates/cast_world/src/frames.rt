@@ -14,7 +14,7 @@ use cast_message::{Answer, Frame, FrameBody, FrameKind, Item, Message, NodeId, R
 use cast_node::{Node, Numbers};
 use std::alloc::AllocError;
 
-// The sender of an acknowledgement's mark, which is no node's number.
+// The sender in an acknowledgement's mark; no node has this number.
 const NOBODY: u8 = 255;
 
 // The greatest slot of a mark. No link gives as many.
@@ -67,7 +67,7 @@ pub fn make(
     Ok(sent.seq)
 }
 
-/// The mark of the frame of this number that a node made, or why there is none.
+/// The mark of a node's frame with this number, or why there is none.
 pub fn find(marks: &Vec<Vec<Mark>>, from: NodeId, seq: u64) -> Result<Mark, StepFault>
     ensures { FindsMark (map (λ row. row.items) marks.now.items) from seq result }
 {
@@ -76,7 +76,7 @@ pub fn find(marks: &Vec<Vec<Mark>>, from: NodeId, seq: u64) -> Result<Mark, Step
     Ok(*mark)
 }
 
-/// The frame of a mark, from its maker and its number.
+/// The frame of a mark, given its maker and its number.
 pub fn rebuild(nodes: &Vec<Node>, from: NodeId, seq: u64, mark: Mark) -> Result<Frame, AllocError>
     ensures { (config : Settings) →
         IfOk result (λ frame. frame ≡ frame_in config nodes.now.items from seq mark) }
@@ -91,7 +91,7 @@ pub fn rebuild(nodes: &Vec<Node>, from: NodeId, seq: u64, mark: Mark) -> Result<
     })
 }
 
-// What a marked frame says, with the item from the stream of its message's sender.
+// The body of a marked frame, with the item from the stream of the message's sender.
 fn body_of(nodes: &Vec<Node>, mark: Mark) -> Result<FrameBody, AllocError>
     ensures { (config : Settings) →
         IfOk result (λ body. body ≡ body_in config nodes.now.items mark) }
@@ -112,7 +112,7 @@ fn body_of(nodes: &Vec<Node>, mark: Mark) -> Result<FrameBody, AllocError>
     })
 }
 
-// The item of a number in a node's stream.
+// The item with this number in a node's stream.
 fn item_of(nodes: &Vec<Node>, sender: NodeId, number: u64) -> Result<Item, AllocError>
     ensures { (config : Settings) →
         IfOk result (λ item. item ≡ item_in config nodes.now.items sender number) }
@@ -150,7 +150,6 @@ pub fn is_acknowledgement(mark: &Mark) -> bool
     mark.sender.0 == NOBODY
 }
 
-/// A frame arrives at its target.
 pub fn arrive(node: &mut Node, frame: &Frame) -> Reply
     requires { frame.now.to ≡ node.old.me }
     ensures { Gives node.old (Arrived frame.now) result node.new }

@@ -27,7 +27,7 @@ impl World {
         self.first_giver().is_none()
     }
 
-    /// The least live node that owes a live node a slot. It takes no memory.
+    /// The least live node that owes a live node a slot.
     pub(crate) fn first_giver(&self) -> Option<NodeId>
         ensures { StandingFor self.now (λ config past. IsFirstGiver config past result) }
     {
@@ -40,7 +40,7 @@ impl World {
         None
     }
 
-    /// The nodes that have not crashed. It takes no memory.
+    /// The nodes that have not crashed.
     pub(crate) fn live_nodes(&self) -> GroupSet
         ensures { AreLive self.now result }
     {
@@ -53,7 +53,7 @@ impl World {
         live
     }
 
-    // Whether a node is not live, or owes no live node a slot.
+    // Whether a node has crashed, or owes no live node a slot.
     fn owes_nobody(&self, giver: NodeId, live: &GroupSet) -> bool
         requires giver { giver < length self.now.nodes }
         requires live { AreLive self.now live.now }

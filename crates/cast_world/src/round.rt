@@ -14,7 +14,7 @@ use crate::world::World;
 use cast_message::{Event, FRAME_LIMIT, List, StepFault};
 use std::alloc::AllocError;
 
-// How many numbers a `NodeId` can have.
+// The number of values of a `NodeId`.
 const NODE_IDS: usize = 256;
 
 impl World {
@@ -93,7 +93,7 @@ impl World {
         }
     }
 
-    // Takes these events up to the first that is refused.
+    // Takes these events, up to the first that is refused.
     fn take_all(&mut self, events: &[Event]) -> Result<(), StepFault>
         ensures { StandingFor self.old (λ config past.
             TakesAll config past events.now result self.new) }

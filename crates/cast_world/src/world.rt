@@ -19,7 +19,8 @@ use cast_node::{Node, no_news};
 use std::alloc::{AllocError, Global};
 use std::marker::Model;
 
-/// All nodes of a group, and marks of the frames that they made.
+/// All nodes of a group, and marks of the frames that they made. Calls that only show
+/// something and can't fail allocate nothing.
 #[derive(Drop)]
 pub struct World {
     alloc: Global,
@@ -246,7 +247,7 @@ impl World {
         Some(self.node(node)?.stream())
     }
 
-    /// The value that node `node` decided in the instance, if it did. It takes no memory.
+    /// The value that node `node` decided in the instance, if it did.
     pub fn decision(&self, node: NodeId, instance: u64) -> Option<u64>
         ensures { StandingFor self.now (λ config past.
             result ≡ decision config past node instance) }
@@ -279,7 +280,6 @@ impl World {
         }
     }
 
-    /// The allocator that the world was made with.
     pub(crate) fn allocator(&self) -> Global {
         self.alloc
     }
@@ -295,7 +295,7 @@ impl World {
         }
     }
 
-    /// How many nodes there are, 1 to 64.
+    /// The number of nodes, 1 to 64.
     pub(crate) fn node_count(&self) -> u8
         ensures value { result ≡ length self.now.nodes }
         ensures config { result ≡ self.now.config.nodes }
@@ -303,7 +303,6 @@ impl World {
         self.nodes.len() as u8
     }
 
-    /// Whether a node has not crashed.
     pub(crate) fn is_live(&self, node: NodeId) -> bool
         requires { node < length self.now.nodes }
         ensures { result ≡ (node_at self.now node).live }
@@ -322,7 +321,6 @@ impl World {
         &self.nodes[usize::from(node.0)]
     }
 
-    /// The mark of the frame of this number that a node made, or why there is none.
     pub(crate) fn mark(&self, from: NodeId, seq: u64) -> Result<Mark, StepFault>
         ensures found { FindsMark self.now.marks from seq result }
         ensures target { IfOk result (λ mark. mark.to < length self.now.nodes) }

@@ -1,5 +1,5 @@
-//! The program `castgroup`: asks `cast_command` what the words of its call want, opens what they name, and has it done by one call
-//! of the library. What came of it is its exit status.
+//! The program `castgroup`. It asks `cast_command` what the words of its call want, opens what they name, and calls the
+//! library once to do it. The result is its exit status.
 #![tactic(auto)]
 
 mod command_line;
@@ -94,7 +94,7 @@ fn perform<R: Runtime + AllocGlobal + Threads + Wait + Clock + Copy + Send + 'st
     }
 }
 
-// The events from one place to another; all before or behind, where none is named.
+// The events from one place to another; without one, all before or after.
 fn window(from: Option<u64>, to: Option<u64>) -> Window {
     let all = Window::all();
     Window {

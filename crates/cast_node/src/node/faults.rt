@@ -94,7 +94,7 @@ impl Node {
         Ok(message)
     }
 
-    // Why any frame for a peer is refused, if it is.
+    // Why any frame for a peer would be refused, if it would.
     #[tactic(auto, using(std::proofs::lemmas::Bool::Decides::nat_tests), unfolding(cast_model::specs::Refusals::first_fault))]
     fn peer_fault(&self, to: NodeId) -> Option<StepFault>
         ensures { result
@@ -125,7 +125,7 @@ impl Node {
         }
     }
 
-    // Whether a number is another node's.
+    // Whether this is the number of another node.
     pub(super) fn is_peer(&self, node: NodeId) -> bool
         ensures { result ≡ is_peer self.now node }
     {
@@ -159,7 +159,6 @@ impl Node {
     }
 }
 
-// Whether an item is of too many bytes.
 fn is_too_long(item: &Item) -> bool
     ensures { result ≡ is_too_long item.now }
 {
