@@ -14,7 +14,7 @@ use Rattle.cast_carrier.specs.declared.parcel.Parcel.{Parcel}
 use Rattle.cast_carrier.specs.Lists.{Has}
 use Rattle.cast_carrier.proofs.Lists.{has_left, has_right}
 use Rattle.cast_node.specs.Linked.{Made, event_of, outcome_in, steps_in, made_in, stamped}
-use Rattle.cast_journal.specs.Runs.{Read, Moved, Came, Served, Denied, Run, trail_of, log_of, parcels_of, parcel_by, entry_by, IsRead, IsRun, is_own, clock_after, AreStamped, IsStamped}
+use Rattle.cast_journal.specs.Runs.{Read, Moved, Came as Arrival, Served, Denied, Run, trail_of, log_of, parcels_of, parcel_by, entry_by, IsRead, IsRun, is_own, clock_after, AreStamped, IsStamped}
 use Rattle.cast_engine.specs.Clocks.{makes, stamps_made, IsStampedAs, IsStampedBy, Follows}
 use Rattle.cast_journal.specs.Journals.{Rises, IsStampedAfter}
 use Rattle.cast_engine.specs.Engines.{CameIn}
@@ -45,7 +45,7 @@ clock_is : (config : Config) (p : ℕ) (run : Run) (first clock : ℕ) → Rises
 unfolding Rises log_of clock_after
 clock_is config p [] first clock r = r
 clock_is config p (Moved stamp step ∷ rs) first clock r = (rises_front (log_of config p rs) first clock _ r).3
-clock_is config p (Came stamp x ∷ rs) first clock r = (rises_front (log_of config p rs) first clock _ r).3
+clock_is config p (Arrival stamp x ∷ rs) first clock r = (rises_front (log_of config p rs) first clock _ r).3
 clock_is config p (Served stamp order ∷ rs) first clock r = (rises_front (log_of config p rs) first clock _ r).3
 clock_is config p (Denied stamp order fault ∷ rs) first clock r = (rises_front (log_of config p rs) first clock _ r).3
 
@@ -61,7 +61,7 @@ module _ (config : Config) (p : ℕ) (taken : List (ℕ × Parcel)) (steps : Ste
   by_read : (r : Read) → IsRead config p steps r → IsStampedAfter clock (entry_by config p steps r) → IsStamped clock r → ((x : Parcel) → Has (parcel_by r) x → (n : ℕ) × Has taken (n, x))
       → IsStampedBy (CameIn taken) clock (entry_by config p steps r)
   by_read (Moved stamp step) is after h was = by_step stamp step (outcome_in (node_reply config p steps step)) is.2 after
-  by_read (Came stamp x) is after h was = let it = was x (0, refl) in (x.stamp, (it.0, x.frame, it.1, refl, refl), h)
+  by_read (Arrival stamp x) is after h was = let it = was x (0, refl) in (x.stamp, (it.0, x.frame, it.1, refl, refl), h)
   by_read (Served stamp order) is after h was = after.1 refl
   by_read (Denied stamp order fault) is after h was = after.1 refl
 
@@ -115,9 +115,9 @@ run_made config p (Moved stamp step ∷ rs) =
     let e = entry_by config p steps (Moved stamp step) in
     map-append stamp_in (made_in config p (trail_of rs)) _ ∙ (λ i. run_made config p rs i ++ makes_one p steps stamp step None (outcome_in (node_reply config p steps step)) i)
     ∙ sym (stamps_snoc (log_of config p rs) e (makes e.kind) refl)
-run_made config p (Came stamp x ∷ rs) =
+run_made config p (Arrival stamp x ∷ rs) =
     let steps = steps_in config p (trail_of rs) in
-    let e = entry_by config p steps (Came stamp x) in
+    let e = entry_by config p steps (Arrival stamp x) in
     map-append stamp_in (made_in config p (trail_of rs)) _ ∙ (λ i. run_made config p rs i ++ makes_one p steps stamp (Arrived x.frame) None (outcome_in (node_reply config p steps (Arrived x.frame))) i)
     ∙ sym (stamps_snoc (log_of config p rs) e (makes e.kind) refl)
 run_made config p (Served stamp order ∷ rs) =

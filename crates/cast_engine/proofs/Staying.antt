@@ -252,4 +252,4 @@ leaves i put held taken waiting desk places e stays c0 m0 cr0 tu en0 p a w d log
   where
     elim_ended : {P : Type 0} (o : Option EngineEnd) → (IsSome o → P) → (o ≡ None → P) → P
     elim_ended None some none = none refl
-    elim_ended (Some x) some none = some tt
+    elim_ended (Some x) some none = some refl

@@ -363,7 +363,9 @@ impl Engine {
         };
         if parcel.frame.to == self.journal.id() {
             self.resend.meet(self.journal.node(), &parcel.frame);
-            self.waiting = Some(parcel);
+            set(&mut self.waiting, Some(parcel));
+        } else {
+            let_go(parcel);
         }
         true
     }
@@ -390,7 +392,7 @@ impl Engine {
         };
         let received = brought_by(&parcel.frame);
         self.delivered = self.delivered.saturating_add(delivered);
-        self.waiting = None;
+        set(&mut self.waiting, None);
         received
     }
 
@@ -539,6 +541,15 @@ fn count_clients(desk: &Option<Desk>) -> usize
         None => 0,
     }
 }
+
+fn set(waiting: &mut Option<Parcel>, next: Option<Parcel>)
+    ensures { waiting.new ≡ next }
+{
+    *waiting = next;
+}
+
+// A parcel for another node.
+fn let_go(_parcel: Parcel) {}
 
 // What a frame that arrived has brought.
 fn brought_by(frame: &Frame) -> Received {

@@ -21,5 +21,5 @@ pub invariant_of-self-2 : goal.invariant_of-self-2
 invariant_of-self-2 g c =
     let i = c.self.inside in
     let j = c.may_log.new.self in
-    stays_ordered j c.order.new.self i.outbox.put i.held i.inbox.taken i.waiting _ i.places.items (stays_same i.journal j i.outbox.put i.held i.inbox.taken i.waiting _ i.places.items c.self.invariant (c.if-not-may_log.ensures.may refl).0)
-    (still_runs (c.if-not-may_log.ensures.may refl)) c.order.ensures.ended c.in-Some.order _ c.in-Some.ensures.taken c.order.ensures.logs
+    stays_ordered j c.order-delivered.new.self i.outbox.put i.held i.inbox.taken i.waiting _ i.places.items (stays_same i.journal j i.outbox.put i.held i.inbox.taken i.waiting _ i.places.items c.self.invariant (c.if-not-may_log.ensures.may refl).0)
+    (still_runs (c.if-not-may_log.ensures.may refl)) c.order-delivered.ensures.ended c.in-Some.order _ c.in-Some.ensures.taken c.order-delivered.ensures.logs
