@@ -1,5 +1,5 @@
 -- A node, its log and its clock, and what a call changes of them.
-use Rattle.std.specs.Prelude.{◌≡◌, ◌≢◌, ℕ, suc, ◌+◌, ◌<◌, ◌≤◌, ◌^◌, max, Bool, true, false, List, [], ◌∷◌, ◌++◌, length, slice_get, Option, Some, None, Result, Ok, Err, ◌⊎◌, refl}
+use Rattle.std.specs.Prelude.{◌≡◌, ◌≢◌, ℕ, suc, ◌+◌, ◌<◌, ◌≤◌, ◌^◌, max, Bool, true, false, List, [], ◌∷◌, ◌++◌, length, slice_get, Option, Some, None, Result, Ok, Err, IsSome, ◌⊎◌, refl}
 use Rattle.std.specs.Coded.{Coded, code_by, coded×, coded_ℕ, coded_list, coded_option}
 use Rattle.cast_message.specs.declared.config.Config.{Config}
 use Rattle.cast_message.specs.declared.event.Event.{Event}
@@ -8,6 +8,7 @@ use Rattle.cast_message.specs.declared.event.Answer.{Answer}
 use Rattle.cast_message.specs.declared.event.Answer.TheVariants.{Ordered as AnswerOrdered}
 use Rattle.cast_message.specs.declared.event.Outcome.{Outcome}
 use Rattle.cast_message.specs.declared.message.Item.{Item}
+use Rattle.cast_message.specs.declared.message.Message.{Message}
 use Rattle.cast_message.specs.declared.event.StepFault.{StepFault}
 use Rattle.cast_model.specs.Steps.{Step, Ordered, Stopped}
 use Rattle.cast_log.specs.declared.entry.Origin.{Origin}
@@ -66,6 +67,15 @@ abbrev pub LogsOrder : JournalState → JournalState → OrderIn → Type 0
 LogsOrder old new order =
     LogsStep old new (Ordered order.item) (Some (origin_of order)) old.clock ⊎ LogsRefusal old new order
 
+abbrev pub delivered_in : EntryKind → List Message
+delivered_in (StepEntry event origin outcome) = outcome.deliveries
+delivered_in (Refused origin fault) = []
+
+-- by the last entry so many messages were delivered
+abbrev pub IsDeliveredLast : List Entry → ℕ → Type 0
+IsDeliveredLast log count =
+    (before : List Entry) × (e : Entry) × (log ≡ before ++ e ∷ []) × (count ≡ length (delivered_in e.kind))
+
 -- a node was asked to take up an item, which it did or refused
 abbrev pub AsksOrder : Kept → Kept → Item → Result (Item × Outcome) StepFault → Type 0
 AsksOrder old new item (Ok told) =
@@ -92,6 +102,11 @@ HaltsBy j (Some LogFull) = j.config.log_limit ≤ length j.log
 HaltsBy j (Some ClockFull) = (length j.log < j.config.log_limit) × (j.clock + 1 ≡ 2 ^ 64)
 HaltsBy j (Some Crashed) = j.crash ≡ Some (length j.log)
 HaltsBy j _ = ⊥
+
+-- a clock is full where it shows the last stamp, or if it was full before
+abbrev pub EndsLate : JournalState → JournalState → Type 0
+EndsLate old new = new.ended ≡ Some ClockFull
+    → ((old.ended ≡ Some ClockFull) × (new.clock ≡ old.clock)) ⊎ (new.clock + 1 ≡ 2 ^ 64)
 
 abbrev pub is_arrival_event : Event → Bool
 is_arrival_event (Arrive from seq) = true
@@ -136,6 +151,18 @@ pub record EndsAs (limit : ℕ) (crash : Option ℕ) (ended : Option EngineEnd) 
   pub crashed : ended ≡ Some Crashed
       → (i : ℕ) × (e : Entry) × (slice_get log i ≡ Some e) × (is_crash e.kind ≡ true)
 
+-- what a journal leaves, which ended here where it had not: as its log says, or else as if no turn were left
+pub record IsClosed (j : JournalState) (log : List Entry) (node : Kept) (ended : EngineEnd) : Type 0 where
+  pub new : JournalState
+  pub halts : Halts j new
+  pub kept : IsSome j.ended → new ≡ j
+  pub cause : j.ended ≡ None → (ended ≡ TurnLimit) ⊎ HaltsBy j (Some ended)
+  pub late : EndsLate j new
+  pub parts : (log ≡ new.log) × (node ≡ new.node) × (new.ended ≡ Some ended)
+  pub rises : Rises new.config.first_stamp new.log new.clock
+  pub ends : EndsAs new.config.log_limit new.crash new.ended new.log
+  pub spent : ended ≡ TurnLimit → new.turns ≡ 0
+
 -- what a journal keeps: room for its whole log, rising stamps, how the log may end, a live node before a crash, and that an end for
 -- want of turns comes only where none is left
 pub record JournalKeeps (config : Config) (room : ℕ) (node : Kept) (log : List Entry) (clock : ℕ)
@@ -156,6 +183,6 @@ journal_code config kept entry end =
 
 -- what is kept of a journal, and of the parcels and orders that it put, keeps to be put, and took
 abbrev pub KeepsOf : JournalState → List Parcel → Option Parcel → List (ℕ × Parcel)
-    → List (ℕ × OrderIn) → Type 0
-KeepsOf j put held arrived orders =
-    EngineKeeps j.config j.node.me j.node j.log j.clock put held arrived orders
+    → Option Parcel → List (ℕ × OrderIn) → Type 0
+KeepsOf j put held taken waiting orders =
+    EngineKeeps j.config j.node.me j.node j.log j.clock put held taken waiting orders

@@ -1,12 +1,13 @@
 //! The log of a node. Most entries bring no news: the node made a frame, or one arrived by which nothing was delivered or decided.
 //! Such an entry is kept in 16 bytes, and any other beside it, whole.
-ghost use Rattle.std.specs.Prelude.{◌≡◌, ◌+◌, ◌<◌, ◌≤◌, ◌^◌, ◌++◌, ◌∷◌, [], List as Entries, length, vec_len, vec_capacity, slice_get, Some, IsTrue, IfOk, IfSome, OnOk, OnErr};
+ghost use Rattle.std.specs.Prelude.{◌≡◌, ◌+◌, ◌<◌, ◌≤◌, ◌^◌, ◌++◌, ◌∷◌, [], length, slice_get, Some, None, IsTrue, IfOk, IfSome, OnOk, OnErr};
 ghost use Rattle.cast_model.specs.OwnSteps.{nothing};
-ghost use Rattle.cast_log.specs.declared.entry.EntryKind.{EntryKind as Kind};
-ghost use Rattle.cast_log.specs.Logged.{silent, kind_of, IsShort, IsPlaced, StartsWith, shown_kind, shown_entry, step_event};
+ghost use Rattle.cast_message.specs.declared.event.Event.TheVariants.{Send, Ack, Arrive};
+ghost use Rattle.cast_log.specs.declared.entry.EntryKind.TheVariants.{Step};
+ghost use Rattle.cast_log.specs.Logged.{entry_with, silent, kind_of, IsShort, IsPlaced, shown_kind, shown_entry, step_event};
 
 use crate::entry::{Entry, EntryKind};
-use cast_message::{Event, NodeId, Outcome};
+use cast_message::{Event, List, NodeId, Outcome};
 use std::alloc::{AllocError, Global};
 use std::marker::Model;
 
@@ -55,6 +56,7 @@ pub struct EntryRef<'a> {
 /// A log to which entries are put. Contracts see its entries, and for how many there is room: no more are put.
 #[derive(Drop)]
 pub struct OpenLog {
+    alloc: Global,
     rows: Vec<Row>,
     // What the rows name by place.
     whole: Vec<EntryKind>,
@@ -107,7 +109,7 @@ impl OpenLog {
         rows.reserve(entries)?;
         let mut whole = Vec::new(alloc);
         whole.reserve(entries)?;
-        Ok(OpenLog { rows, whole })
+        Ok(OpenLog { alloc, rows, whole })
     }
 
     /// Makes room for an entry more, or answers want of memory, as it does where it has 2^32 of them. No entry changes.
@@ -124,15 +126,87 @@ impl OpenLog {
         Ok(())
     }
 
-    /// Puts an entry at the end. It takes no memory.
-    #[inline(always)]
+    /// Puts an entry at the end, whole. It takes no memory.
     pub fn push(&mut self, entry: Entry)
         requires { length self.old.entries < self.old.room }
         ensures entries { self.new.entries ≡ self.old.entries ++ entry ∷ [] }
         ensures room { self.new.room ≡ self.old.room }
     {
         let Entry { stamp, kind } = entry;
-        let (brief, number) = keep(&mut self.whole, kind);
+        let number = self.whole.len() as u32;
+        self.whole.push_reserved(kind);
+        self.rows.push_reserved(Row {
+            stamp,
+            number,
+            brief: Brief::Whole,
+        });
+    }
+
+    /// Puts at the end that `from` made a frame which carries the message in this slot to `to`. It takes no memory.
+    #[inline(always)]
+    pub fn push_sent(&mut self, stamp: u64, from: NodeId, to: NodeId, slot: u64)
+        requires { length self.old.entries < self.old.room }
+        ensures entries { self.new.entries
+            ≡ self.old.entries ++ entry_with stamp (silent (Send from to slot)) ∷ [] }
+        ensures room { self.new.room ≡ self.old.room }
+    {
+        match small(slot) {
+            Some(number) => self.push_short(stamp, Brief::Sent { from, to }, number),
+            None => {
+                let kind = without_news(self.alloc, Event::Send { from, to, slot });
+                self.push(Entry { stamp, kind });
+            }
+        }
+    }
+
+    /// Puts at the end that `from` made a frame which acknowledges this slot to `to`. It takes no memory.
+    #[inline(always)]
+    pub fn push_acknowledged(&mut self, stamp: u64, from: NodeId, to: NodeId, slot: u64)
+        requires { length self.old.entries < self.old.room }
+        ensures entries { self.new.entries
+            ≡ self.old.entries ++ entry_with stamp (silent (Ack from to slot)) ∷ [] }
+        ensures room { self.new.room ≡ self.old.room }
+    {
+        match small(slot) {
+            Some(number) => self.push_short(stamp, Brief::Acked { from, to }, number),
+            None => {
+                let kind = without_news(self.alloc, Event::Ack { from, to, slot });
+                self.push(Entry { stamp, kind });
+            }
+        }
+    }
+
+    /// Puts at the end that the frame number `seq` of `from` arrived, and what came of it. It takes no memory.
+    #[inline(always)]
+    pub fn push_arrived(&mut self, stamp: u64, from: NodeId, seq: u64, outcome: Outcome)
+        requires { length self.old.entries < self.old.room }
+        ensures entries { self.new.entries
+            ≡ self.old.entries ++ entry_with stamp (Step (Arrive from seq) None outcome) ∷ [] }
+        ensures room { self.new.room ≡ self.old.room }
+    {
+        match small(seq) {
+            Some(number) if is_nothing(&outcome) => {
+                self.push_short(stamp, Brief::Arrived { from }, number);
+            }
+            _ => self.push(Entry {
+                stamp,
+                kind: EntryKind::Step {
+                    event: Event::Arrive { from, seq },
+                    origin: None,
+                    outcome,
+                },
+            }),
+        }
+    }
+
+    // Puts an entry at the end that names none of those kept whole.
+    fn push_short(&mut self, stamp: u64, brief: Brief, number: u32)
+        requires room { length self.old.entries < self.old.room }
+        requires short { IsShort brief }
+        ensures entries { self.new.entries
+            ≡ self.old.entries ++ entry_with stamp (kind_of [] brief number) ∷ [] }
+        ensures room { self.new.room ≡ self.old.room }
+    {
         self.rows.push_reserved(Row {
             stamp,
             number,
@@ -174,6 +248,7 @@ impl Log {
     {
         Log {
             open: OpenLog {
+                alloc,
                 rows: Vec::new(alloc),
                 whole: Vec::new(alloc),
             },
@@ -206,45 +281,17 @@ impl Log {
     }
 }
 
-// What an entry tells, short where it can be, or else kept whole, for which there is room.
-fn keep(whole: &mut Vec<EntryKind>, kind: EntryKind) -> (Brief, u32)
-    requires room { vec_len whole.old < vec_capacity whole.old }
-    requires few { vec_len whole.old < 2 ^ 32 }
-    ensures kind { kind_of whole.new.items result.0 result.1 ≡ kind }
-    ensures placed { IsPlaced (length whole.new.items) result.0 result.1 }
-    ensures keeps { StartsWith whole.new.items whole.old.items }
-    ensures more { length whole.new.items ≤ length whole.old.items + 1 }
-    ensures capacity { vec_capacity whole.new ≡ vec_capacity whole.old }
+// The step of this event, by which nothing was delivered or decided.
+fn without_news(alloc: Global, event: Event) -> EntryKind
+    ensures { result ≡ silent event }
 {
-    match brief_of(&kind) {
-        Some(short) => short,
-        None => {
-            let number = whole.len() as u32;
-            whole.push_reserved(kind);
-            (Brief::Whole, number)
-        }
-    }
-}
-
-// The short form of what an entry tells, where it has one.
-fn brief_of(kind: &EntryKind) -> Option<(Brief, u32)>
-    ensures short { IfSome result (λ short. IsShort short.0) }
-    ensures kind { IfSome result (λ short. (whole : Entries Kind) →
-        kind_of whole short.0 short.1 ≡ kind.now) }
-{
-    match kind {
-        EntryKind::Step {
-            event,
-            origin: None,
-            outcome,
-        } => {
-            if is_nothing(outcome) {
-                brief_event(event)
-            } else {
-                None
-            }
-        }
-        _ => None,
+    EntryKind::Step {
+        event,
+        origin: None,
+        outcome: Outcome {
+            deliveries: List::new(alloc),
+            decisions: List::new(alloc),
+        },
     }
 }
 
@@ -252,32 +299,6 @@ fn is_nothing(outcome: &Outcome) -> bool
     ensures { IsTrue result → outcome.now ≡ nothing }
 {
     outcome.deliveries.as_slice().is_empty() && outcome.decisions.as_slice().is_empty()
-}
-
-// The short form of a step without news, where it has one.
-fn brief_event(event: &Event) -> Option<(Brief, u32)>
-    ensures short { IfSome result (λ short. IsShort short.0) }
-    ensures event { IfSome result (λ short. (whole : Entries Kind) →
-        kind_of whole short.0 short.1 ≡ silent event.now) }
-{
-    match event {
-        Event::Send { from, to, slot } => {
-            let number = small(*slot)?;
-            let (from, to) = (*from, *to);
-            Some((Brief::Sent { from, to }, number))
-        }
-        Event::Ack { from, to, slot } => {
-            let number = small(*slot)?;
-            let (from, to) = (*from, *to);
-            Some((Brief::Acked { from, to }, number))
-        }
-        Event::Arrive { from, seq } => {
-            let number = small(*seq)?;
-            let from = *from;
-            Some((Brief::Arrived { from }, number))
-        }
-        _ => None,
-    }
 }
 
 // The number in four bytes, where they have room for it.

@@ -1,5 +1,5 @@
 //! Schedules, which choose who takes the next step of a run.
-ghost use Rattle.std.specs.Prelude.{◌<◌};
+ghost use Rattle.std.specs.Prelude.{◌≡◌, ◌<◌, ◌%◌, ◌++◌, ◌∷◌, [], ℕ, List, false, true, IfOk, OnErr};
 
 use rand_core::{Rng, SeedableRng};
 use rand_xoshiro::Xoshiro256PlusPlus;
@@ -85,7 +85,10 @@ impl<S> Recorded<S> {
 
 impl<S: Drop> Recorded<S> {
     /// The choices made; `Listed` repeats the run from them. Out of memory if some could not be kept.
-    pub fn into_choices(self) -> Result<Vec<u64>, AllocError> {
+    pub fn into_choices(self) -> Result<Vec<u64>, AllocError>
+        ensures ok { IfOk result (λ choices. (self.is_cut ≡ false) × (choices ≡ self.choices)) }
+        ensures cut { OnErr result (self.is_cut ≡ true) }
+    {
         if self.is_cut {
             return Err(AllocError);
         }
@@ -94,7 +97,12 @@ impl<S: Drop> Recorded<S> {
 }
 
 impl<S: Schedule> Schedule for Recorded<S> {
-    fn next(&mut self, choices: u64) -> u64 {
+    fn next(&mut self, choices: u64) -> u64
+        requires { 0 < choices }
+        ensures { result < choices }
+        ensures kept { self.new.is_cut ≡ false → (self.old.is_cut ≡ false)
+            × (self.new.choices.items ≡ self.old.choices.items ++ result ∷ []) }
+    {
         let choice = self.inner.next(choices);
         self.is_cut = self.is_cut || self.choices.push(choice).is_err();
         choice
@@ -121,7 +129,12 @@ impl Listed {
 }
 
 impl Schedule for Listed {
-    fn next(&mut self, choices: u64) -> u64 {
+    fn next(&mut self, choices: u64) -> u64
+        requires { 0 < choices }
+        ensures { result < choices }
+        ensures listed { (number : ℕ) (rest : List ℕ) → self.old.numbers.rest.items ≡ number ∷ rest →
+            (result ≡ number % choices) × (self.new.numbers.rest.items ≡ rest) }
+    {
         let number = match self.numbers.next() {
             Some(number) => number,
             None => {
