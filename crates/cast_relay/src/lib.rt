@@ -121,7 +121,7 @@ impl Relay {
     }
 }
 
-/// Whether a message of `sender` that came to the node `me` from the peer `from` goes on to `to`, which must be none of
+/// Whether a message of `sender` that came to the node `me` from the peer `from` goes on to `to`. It goes on to all but
 /// these three. It allocates nothing.
 pub fn goes_on(me: NodeId, sender: NodeId, from: NodeId, to: NodeId) -> bool
     ensures { result ≡ goes_on me sender from to }
