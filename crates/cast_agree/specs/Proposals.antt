@@ -1,4 +1,4 @@
--- What is decided, by the items delivered so far, the newest first, with their senders.
+-- What is decided by the items delivered so far. The items come with their senders, newest first.
 --     proposals j past        the first proposal of each sender in instance j, in order
 --     counted_of quorum past  what is counted of them
 --     DecidesLeast            a quorum of senders decides, by the least of their values

@@ -1,13 +1,13 @@
 -- What is held back of one sender, and what a call changes.
 --     HeldBack                      the number whose turn is next, whether a Close had its turn, and what waits, by number
 --     came held i                   the number had its turn or waits
---     with_item held i item         a message is kept: of two with the same number, the first
+--     with_item held i item         a message is kept; if two have the same number, the first counts
 --     with_mark held i              a message that waits is marked
---     run_from i waiting            the items marked from a number on, without a gap
---     advanced held                 they had their turn
+--     run_from i waiting            the items marked from a number, without a gap
+--     advanced held                 these items had their turn
 --     known_items, known_after      the items that a mark releases, and what is held then
 --     offered_items, offered_after  the same, if the message is kept first
---     heard_items, heard_after      the same of a mark, or of an item that is offered
+--     heard_items, heard_after      the same for a mark, or for an item that is offered
 use Rattle.std.specs.Prelude.{ℕ, ◌+◌, ◌==◌, nat_lt, Bool, true, false, ◌&&◌, ◌||◌, if◌then◌else◌, List, [], ◌∷◌, length, slice_index_or, Option, Some, None, is_some}
 use Rattle.std.specs.List.{list_any}
 use Rattle.std.specs.Ordering.{nat_cmp}
@@ -48,7 +48,7 @@ abbrev pub item_due : Option Waiting → Option Item
 item_due None = None
 item_due (Some w) = if w.known then Some w.item else None
 
--- the item of a message that waits, or else the one that is offered
+-- the item of the message that waits, or else the offered one
 abbrev pub item_first : Option Waiting → Option Item → Option Item
 item_first None offered = offered
 item_first (Some w) offered = Some w.item

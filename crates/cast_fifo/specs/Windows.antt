@@ -1,4 +1,4 @@
--- What waits: a ring of places from the next number on, and the entries of the numbers farther away.
+-- What waits: a ring of places from the next number, and the entries of numbers farther away.
 use Rattle.std.specs.Prelude.{◌≡◌, ℕ, ◌+◌, ◌^◌, ◌≤◌, ◌<◌, Bool, false, List, [], ◌∷◌, ◌++◌, length, Option, Some, None}
 use Rattle.std.specs.List.{All}
 use Rattle.std.specs.Map.{keys_of}
@@ -25,7 +25,7 @@ StartsUnmarked [] = Unit {0}
 StartsUnmarked (None ∷ places) = Unit {0}
 StartsUnmarked (Some w ∷ places) = w.known ≡ false
 
--- a ring of up to 4,096 places, and farther away only numbers beyond it, for which it has room
+-- a ring of up to 4,096 places, and an entry farther away only for numbers beyond it, for which it has room
 pub record IsWindow (next : ℕ) (ring : List (Option Waiting)) (far : List (ℕ × Waiting)) (room : ℕ)
     : Type 0 where
   pub short : length ring ≤ 4096

@@ -16,7 +16,7 @@ pub fn mark_far(far: &mut BTreeMap<u64, Waiting>, number: u64)
     }
 }
 
-/// Takes the first entry out.
+/// Removes and returns the first entry.
 pub fn take_first(far: &mut BTreeMap<u64, Waiting>) -> (u64, Waiting)
     requires { 0 < length far.old.entries }
     ensures first { far.old.entries ≡ result ∷ far.new.entries }

@@ -1,6 +1,6 @@
-//! FIFO order (after Hadzilacos and Toueg, TR 94-1425). Messages come in any order, and leave in the order of their sender's
-//! numbers: what comes before its turn is held back. A message can be held first and marked later. It then leaves only when
-//! its node knows enough of it.
+//! FIFO order (after Hadzilacos and Toueg, TR 94-1425). Messages arrive in any order, and leave in the order of their
+//! sender's numbers; a message is held back until its turn. It can be held first and marked later. It then leaves only
+//! when its node knows enough about it.
 #![tactic(auto)]
 
 ghost use Rattle.std.specs.Prelude.{[], ◌≡◌, ◌≢◌, ◌+◌, ◌<◌, ◌≤◌, ◌^◌, ◌++◌, true, length, replicate, slice_set, vec_len, vec_capacity, nat_lt, IsTrue, IsSome, IfOk, OnOk, OnErr};
@@ -19,7 +19,7 @@ use queue::Queue;
 use std::alloc::{AllocError, Global};
 use std::marker::Model;
 
-/// What is held back of each sender.
+/// What is held back, by sender.
 #[derive(Drop)]
 pub struct HoldBack {
     alloc: Global,
@@ -36,7 +36,7 @@ impl Model for HoldBack {
 }
 
 impl HoldBack {
-    /// Nothing is held of this many senders.
+    /// A hold-back for as many senders as given. It holds nothing.
     pub fn new(alloc: Global, nodes: u64) -> Result<HoldBack, AllocError>
         ensures { IfOk result (λ h. h ≡ replicate nodes nothing_held) }
     {
@@ -47,8 +47,8 @@ impl HoldBack {
         Ok(HoldBack { alloc, senders })
     }
 
-    /// The sender's next number: the least that was neither offered nor both held and marked. The sender is below the number
-    /// of nodes. It takes no memory.
+    /// The sender's next number: the least that was neither offered nor both held and marked. The sender is below the
+    /// number of nodes. It allocates nothing.
     pub fn next(&self, sender: NodeId) -> u64
         requires { sender < length self.now }
         ensures { result ≡ (held_of self.now sender).next }
@@ -56,7 +56,7 @@ impl HoldBack {
         self.senders[usize::from(sender.0)].next()
     }
 
-    /// Whether a Close of the sender had its turn. The sender is below the number of nodes. It takes no memory.
+    /// Whether a Close of the sender had its turn. The sender is below the number of nodes. It allocates nothing.
     pub fn closed(&self, sender: NodeId) -> bool
         requires { sender < length self.now }
         ensures { result ≡ (held_of self.now sender).closed }
@@ -64,8 +64,8 @@ impl HoldBack {
         self.senders[usize::from(sender.0)].closed()
     }
 
-    /// Keeps a message: of two with the same pair, the first. The sender is below the number of nodes, and the number below
-    /// `u64::MAX`.
+    /// Keeps a message; if two have the same pair, the first counts. The sender is below the number of nodes, and the
+    /// number below `u64::MAX`.
     pub fn hold(&mut self, message: Message) -> Result<(), AllocError>
         requires sender { message.sender < length self.old }
         requires number { message.number + 1 < 2 ^ 64 }
@@ -81,8 +81,8 @@ impl HoldBack {
         Ok(())
     }
 
-    /// Marks a pair that was held or offered, and returns the messages whose turn has come, in order. The sender is below the
-    /// number of nodes.
+    /// Marks a pair that was held or offered, and returns the messages whose turn has come, in order. The sender is
+    /// below the number of nodes.
     pub fn known(&mut self, sender: NodeId, number: u64) -> Result<Vec<Message>, AllocError>
         requires sender { sender < length self.old }
         requires came { came (held_of self.old sender) number ≡ true }
@@ -94,8 +94,8 @@ impl HoldBack {
         self.turn(sender, number, None)
     }
 
-    /// Keeps a message, marks its pair, and returns the messages whose turn has come, in order: none if the pair was offered
-    /// before. The sender is below the number of nodes, and the number below `u64::MAX`.
+    /// Keeps a message, marks its pair, and returns the messages whose turn has come, in order: none if the pair was
+    /// offered before. The sender is below the number of nodes, and the number below `u64::MAX`.
     pub fn offer(&mut self, message: Message) -> Result<Vec<Message>, AllocError>
         requires sender { message.sender < length self.old }
         requires number { message.number + 1 < 2 ^ 64 }
@@ -120,7 +120,7 @@ impl HoldBack {
         Ok(Vec::new(self.alloc))
     }
 
-    /// Whether a pair was held or offered. The sender is below the number of nodes. It takes no memory.
+    /// Whether a pair was held or offered. The sender is below the number of nodes. It allocates nothing.
     pub fn came(&self, sender: NodeId, number: u64) -> bool
         requires { sender < length self.now }
         ensures { result ≡ came (held_of self.now sender) number }
@@ -128,8 +128,8 @@ impl HoldBack {
         self.senders[usize::from(sender.0)].came(number)
     }
 
-    /// Whether a pair had its turn, so that marking it changes nothing. The sender is below the number of nodes. It takes no
-    /// memory.
+    /// Whether a pair had its turn, so that marking it changes nothing. The sender is below the number of nodes. It
+    /// allocates nothing.
     pub fn had_turn(&self, sender: NodeId, number: u64) -> bool
         requires { sender < length self.now }
         ensures test { result ≡ nat_lt number (held_of self.now sender).next }
@@ -140,8 +140,8 @@ impl HoldBack {
         self.senders[usize::from(sender.0)].had_turn(number)
     }
 
-    /// Copies of the messages whose turn comes when the pair is marked, or when an item is offered for it. An item is offered
-    /// only for the sender's next number. The sender is below the number of nodes.
+    /// Copies of the messages whose turn comes if the pair is marked, or if this item is offered for it. An item is
+    /// offered only for the sender's next number. The sender is below the number of nodes.
     pub fn ready(
         &self,
         sender: NodeId,
@@ -157,8 +157,8 @@ impl HoldBack {
         self.senders[usize::from(sender.0)].ready(self.alloc, sender, number, offered)
     }
 
-    /// Marks a pair, or takes the item that is offered for the next one, and appends the items whose turn has come to `items`,
-    /// which has room for them. The sender is below the number of nodes. It takes no memory.
+    /// Marks a pair, or takes the item offered for the next one, and appends the items whose turn has come to `items`,
+    /// which has room for them. The sender is below the number of nodes. It allocates nothing.
     pub fn release(
         &mut self,
         sender: NodeId,
@@ -179,7 +179,7 @@ impl HoldBack {
         self.senders[usize::from(sender.0)].release(number, offered, items);
     }
 
-    // Returns what is ready, and releases it.
+    // Returns the messages that are ready, and releases them.
     fn turn(
         &mut self,
         sender: NodeId,
@@ -203,9 +203,9 @@ impl HoldBack {
     }
 }
 
-/// A law of every list of calls of `hold`, `known` and `offer`. `next` is the least number that was neither offered nor both held
-/// and marked. `closed` says whether a Close is among the messages before it. Each call returns the messages from `next` before it
-/// up to `next` after it. Of two messages with the same pair, the first counts.
+/// A law of every list of calls of `hold`, `known` and `offer`. `next` is the least number that was neither offered nor
+/// both held and marked. `closed` says whether a Close is among the messages before it. Each call returns the messages
+/// from `next` before it up to `next` after it. Of two messages with the same pair, the first counts.
 pub fn gives_in_order()
     ensures { GivesInOrder }
 {}

@@ -1,5 +1,6 @@
-//! What is held back of one sender: a ring of places for the numbers from the next on (`ring`), and an ordered map of those
-//! farther away (`far`). When a number is farther away, the ring has room for all its places, so a turn takes no memory.
+//! What is held back of one sender: a ring of places for the numbers from the next (`ring`), and an ordered map of
+//! those farther away (`far`). While the map has a number, the ring has room for all its places, so a turn allocates
+//! nothing.
 ghost use Rattle.std.specs.Prelude.{◌≡◌, ◌≢◌, ◌+◌, ◌<◌, ◌≤◌, ◌^◌, ◌∷◌, ◌++◌, ◌==◌, ◌&&◌, ◌||◌, length, drop, [], None, false, nat_lt, IsTrue, IsSome, IfOk, OnOk, OnErr, vec_len, vec_capacity};
 ghost use Rattle.std.specs.Option.{option_copied};
 ghost use Rattle.std.specs.VecDeque.{deque_capacity};
@@ -21,7 +22,7 @@ use std::marker::Model;
 pub struct Queue {
     // The number whose turn is next.
     next: u64,
-    // A Close had its turn.
+    // Whether a Close had its turn.
     closed: bool,
     // The numbers from `next` on.
     ring: VecDeque<Option<Waiting>>,
@@ -43,7 +44,7 @@ impl Model for Queue {
 }
 
 impl Queue {
-    /// Nothing is held.
+    /// A queue that holds nothing.
     pub fn new(alloc: Global) -> Queue
         ensures { result ≡ nothing_held }
     {
@@ -69,7 +70,7 @@ impl Queue {
         self.closed
     }
 
-    /// Keeps an item: of two with the same number, the first.
+    /// Keeps an item; if two have the same number, the first counts.
     pub fn hold(&mut self, number: u64, item: Item) -> Result<(), AllocError>
         requires { number + 1 < 2 ^ 64 }
         ensures ok { OnOk result (self.new ≡ with_item self.old number item) }
@@ -97,7 +98,7 @@ impl Queue {
         number < self.next
     }
 
-    /// Copies of the messages whose turn comes when the number is marked, or when an item is offered for it, the next.
+    /// Copies of the messages whose turn comes if the number is marked, or if this item is offered for it, the next.
     pub fn ready(
         &self,
         alloc: Global,
@@ -119,8 +120,8 @@ impl Queue {
         copies(alloc, sender, number, first, &self.ring, &self.far)
     }
 
-    /// Marks a number, or takes the item that is offered for the next one, and appends the items whose turn has come to `items`,
-    /// which has room for them.
+    /// Marks a number, or takes the item offered for the next one, and appends the items whose turn has come to
+    /// `items`, which has room for them.
     pub fn release(&mut self, number: u64, offered: Option<Item>, items: &mut Vec<Item>)
         requires number { IsSome offered → number + 1 < 2 ^ 64 }
         requires offered { IsSome offered → number ≡ self.old.next }
@@ -135,7 +136,7 @@ impl Queue {
         }
     }
 
-    // The next number has its turn. Its item waits, or else is this one.
+    // Gives the next number its turn. Its item is the one that waits, or else this one.
     fn take(&mut self, item: Item, items: &mut Vec<Item>)
         requires number { self.old.next + 1 < 2 ^ 64 }
         requires room { vec_len items.old + length (offered_items self.old self.old.next item)
@@ -227,7 +228,7 @@ impl Queue {
     }
 }
 
-// Copies of the message of the next number, which has this item, and of the marked ones right after it.
+// Copies of the message of the next number, which has this item, and of the marked messages right after it.
 fn copies(
     alloc: Global,
     sender: NodeId,
@@ -305,7 +306,7 @@ fn mark_at(
     }
 }
 
-// The marked messages from the next number on have their turn.
+// Gives the marked messages from the next number on their turn.
 fn advance(
     next: &mut u64,
     closed: &mut bool,
@@ -329,7 +330,7 @@ fn advance(
     }
 }
 
-// The next number, whose place is gone, has its turn.
+// Gives the next number, whose place is gone, its turn.
 fn pass(
     next: &mut u64,
     closed: &mut bool,
@@ -356,7 +357,7 @@ fn pass(
     *next += 1;
 }
 
-// Moves the number that the ring reaches when this one has passed from the map to the ring.
+// Moves the number that the ring reaches, after this one has passed, from the map to the ring.
 fn reach(passed: u64, ring: &mut VecDeque<Option<Waiting>>, far: &mut BTreeMap<u64, Waiting>)
     requires { IsWindow passed (None ∷ ring.old.items) far.old.entries (deque_capacity ring.old) }
     ensures window { IsWindow (passed + 1) ring.new.items far.new.entries

@@ -57,7 +57,7 @@ pub fn due(place: &Option<Waiting>) -> Option<&Item>
     }
 }
 
-/// Takes the first place out, if it is marked: its item.
+/// Removes the first place if it is marked, and returns its item.
 pub fn take_marked(ring: &mut VecDeque<Option<Waiting>>) -> Option<Item>
     ensures item { result ≡ due_front ring.old.items }
     ensures ring { ring.new.items
@@ -69,7 +69,7 @@ pub fn take_marked(ring: &mut VecDeque<Option<Waiting>>) -> Option<Item>
     Some(waiting.item)
 }
 
-/// Takes the first place out: its item, or else this one.
+/// Removes the first place, and returns its item, or else this one.
 pub fn take_front(ring: &mut VecDeque<Option<Waiting>>, item: Item) -> Item
     ensures item { result ≡ front_item ring.old.items item }
     ensures ring { ring.new.items ≡ drop 1 ring.old.items }

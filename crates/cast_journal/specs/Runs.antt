@@ -1,15 +1,15 @@
--- What an engine did, entry by entry: its log as a function of it, and what ties it to its boxes.
---     Read, Run                        an entry with the step or the order that it came of; all of them, the newest first
+-- What an engine did, entry by entry: its log as a function of it, and how it relates to its boxes.
+--     Read, Run                        an entry with its step or order; all of them, newest first
 --     trail_of run                     the steps
 --     log_of config p run              the log
 --     orders_of run                    the orders, accepted or refused, in order
---     IsRun config p run               each was taken or refused where it stands
---     clock_after first run            the clock, which began so
+--     IsRun config p run               each step was taken, and each order refused, at its place
+--     clock_after first run            the clock, which began at `first`
 --     AreStamped first run             each arrival's stamp is one above the greater of the clock's and its parcel's
 --     parcels_of run                   the parcels that arrived, in order
 --     parcels_for p taken              those of the parcels taken that are for this node
 --     AreArrivals trail xs             the frames that arrived came in these parcels, in order, each sent before
---     arrivals_in trail                the frames that arrived, the newest first
+--     arrivals_in trail                the frames that arrived, newest first
 --     made_of x                        the frame of a parcel, with the stamp of the step that made it
 use Rattle.std.specs.Prelude.{◌≡◌, ◌⊎◌, ℕ, ◌+◌, ◌<◌, ◌==◌, max, Bool, true, false, List, [], ◌∷◌, ◌++◌, map, Option, Some, None}
 use Rattle.std.specs.List.{filter}
@@ -31,14 +31,14 @@ use Rattle.cast_carrier.specs.declared.parcel.Parcel.{Parcel}
 use Rattle.cast_carrier.specs.Lists.{Has}
 use Rattle.cast_node.specs.Linked.{StampedStep, Made, Trail, event_of, outcome_in, steps_in, made_in, kept_in, stamped, IsFor}
 
--- An entry, and what it came of.
+-- an entry, and its step or order
 pub data Read : Type 0 where
   Moved : (stamp : ℕ) (step : Step) → Read  -- a step by which no order and no parcel was taken
   Came : (stamp : ℕ) (x : Parcel) → Read
   Served : (stamp : ℕ) (order : OrderIn) → Read
   Denied : (stamp : ℕ) (order : OrderIn) (fault : StepFault) → Read
 
--- what an engine did, the newest first
+-- what an engine did, newest first
 abbrev pub Run : Type 0
 Run = List Read
 
@@ -51,7 +51,7 @@ with_mark (Came stamp x) trail = mark stamp (Arrived x.frame) ∷ trail
 with_mark (Served stamp order) trail = mark stamp (Ordered order.item) ∷ trail
 with_mark (Denied stamp order fault) trail = trail
 
--- the steps, the newest first
+-- the steps, newest first
 unfoldable pub trail_of : Run → Trail
 trail_of [] = []
 trail_of (r ∷ rs) = with_mark r (trail_of rs)
@@ -89,7 +89,7 @@ unfoldable pub orders_of : Run → List OrderIn
 orders_of [] = []
 orders_of (r ∷ rs) = orders_of rs ++ order_by r
 
--- it takes no order and no frame
+-- the step takes no order and no frame
 abbrev pub is_own : Step → Bool
 is_own (Ordered item) = false
 is_own (Arrived frame) = false
@@ -104,7 +104,7 @@ IsRead config p steps (Served stamp order) = own_fault config p steps (Ordered o
 IsRead config p steps (Denied stamp order fault) =
     IsRefused (own_fault config p steps (Ordered order.item)) fault
 
--- each step was taken, and each order refused that was refused, where it stands
+-- each step was taken, and each refused order refused, at its place
 unfoldable pub IsRun : Config → ℕ → Run → Type 0
 IsRun config p [] = Unit {0}
 IsRun config p (r ∷ rs) = IsRun config p rs × IsRead config p (steps_in config p (trail_of rs)) r
@@ -118,7 +118,7 @@ stamp_of (Came stamp x) = stamp
 stamp_of (Served stamp order) = stamp
 stamp_of (Denied stamp order fault) = stamp
 
--- the clock has the stamp of the last entry
+-- the clock is the stamp of the last entry
 unfoldable pub clock_after : ℕ → Run → ℕ
 clock_after first [] = first
 clock_after first (r ∷ rs) = stamp_of r
@@ -141,7 +141,7 @@ unfoldable pub parcels_of : Run → List Parcel
 parcels_of [] = []
 parcels_of (r ∷ rs) = parcels_of rs ++ parcel_by r
 
--- those of the parcels taken that are for this node
+-- those of the taken parcels that are for this node
 abbrev pub parcels_for : ℕ → List (ℕ × Parcel) → List Parcel
 parcels_for p taken = filter (λ x. x.frame.to == p) (map (λ m. m.1) taken)
 
@@ -152,7 +152,7 @@ abbrev pub arrived_by : Step → List Frame
 arrived_by (Arrived frame) = frame ∷ []
 arrived_by _ = []
 
--- the frames that arrived by these steps, the newest first
+-- the frames that arrived in these steps, newest first
 unfoldable pub arrivals_in : Trail → List Frame
 arrivals_in [] = []
 arrivals_in (mark ∷ trail) = arrived_by mark.step ++ arrivals_in trail
@@ -163,17 +163,17 @@ Adds stamp (Arrived frame) before xs =
     (x : Parcel) × (xs ≡ before ++ x ∷ []) × (x.frame ≡ frame) × (x.stamp < stamp)
 Adds stamp _ before xs = xs ≡ before
 
--- the frames that arrived by these steps came in these parcels, in order, each with a smaller stamp than the arrival's
+-- the frames that arrived in these steps came in these parcels, in order, each with a smaller stamp than its arrival
 unfoldable pub AreArrivals : Trail → List Parcel → Type 0
 AreArrivals [] xs = xs ≡ []
 AreArrivals (mark ∷ trail) xs =
     (before : List Parcel) × AreArrivals trail before × Adds mark.stamp mark.step before xs
 
--- some node could have made the frame for this one, and something may come of it
+-- some node could have made the frame for this one, and it may have an effect
 abbrev pub MayCome : Kept → Frame → Type 0
 MayCome kept frame = may_want kept frame ≡ true
 
--- what a log, a node and boxes show of an engine
+-- what a log, a node and boxes say about an engine
 pub record EngineKeeps (config : Config) (p : ℕ) (kept : Kept) (log : List Entry) (clock : ℕ)
     (put : List Parcel) (held : Option Parcel) (taken : List (ℕ × Parcel)) (waiting : Option Parcel)
     (orders : List (ℕ × OrderIn)) : Type 0 where
@@ -182,14 +182,14 @@ pub record EngineKeeps (config : Config) (p : ℕ) (kept : Kept) (log : List Ent
   pub is_log : log ≡ log_of config p run
   pub stands : Stands config p (steps_in config p (trail_of run)) kept
   pub reached : kept ≡ kept_in config p (trail_of run)
-  -- what was put into the outbox, and then what it refused last, are the frames that the node made, in order, with the stamps
-  -- of their steps
+  -- what was put into the outbox, followed by what it refused last, are the node's frames, in order, with the stamps of
+  -- their steps
   pub handed : map made_of (put ++ option_to_list held) ≡ made_in config p (trail_of run)
   pub time : clock ≡ clock_after config.first_stamp run
   pub stamped : AreStamped config.first_stamp run
-  -- of what was taken, the parcels for this node arrived, in order, but for the one that waits
+  -- the taken parcels for this node arrived, in order, except the one that waits
   pub taken_in : parcels_for p taken ≡ parcels_of run ++ option_to_list waiting
-  -- the orders, one for one, are those taken from the desk
+  -- the orders are those taken from the desk, one for one
   pub ordered : orders_of run ≡ map (λ m. m.1) orders
 
 -- a parcel was put into the outbox, or waits

@@ -18,7 +18,7 @@ use cast_node::{EngineEnd, Node, no_news};
 use std::alloc::{AllocError, Global};
 use std::marker::Model;
 
-/// A node, its log and its clock. The log's room is made when the journal is.
+/// A node, its log and its clock. The journal allocates the whole log's room when it is made.
 #[derive(Drop)]
 pub struct Journal {
     alloc: Global,
@@ -26,7 +26,7 @@ pub struct Journal {
     node: Node,
     log: OpenLog,
     clock: u64,
-    // After so many entries the engine crashes.
+    // The engine crashes after this many entries.
     crash: Option<u64>,
     ended: Option<EngineEnd>,
     // How many turns are left.
@@ -60,7 +60,8 @@ impl Model for Journal {
 }
 
 impl Journal {
-    /// The journal of a new node of the group, with room for its whole log, for so many turns. Only memory can be wanting.
+    /// The journal of a new node of the group, with room for its whole log, for as many turns as given; or out of
+    /// memory.
     pub fn new(
         alloc: Global,
         config: &Config,
@@ -96,7 +97,7 @@ impl Journal {
         })
     }
 
-    /// Whether an entry may be logged. Where none may, the engine has ended: its log or its clock is full, or it crashes now.
+    /// Whether an entry may be logged. If not, the engine has ended: its log or its clock is full, or it crashes now.
     #[inline(always)]
     pub fn may_log(&mut self) -> bool
         ensures may { IsTrue result → (self.new ≡ self.old) × MayLog self.old }
@@ -149,8 +150,9 @@ impl Journal {
         self.ended = Some(EngineEnd::Crashed);
     }
 
-    /// Takes a frame that arrives, logs it, and answers how many messages were delivered by it. The only refusal is out of memory, and
-    /// only where some node could have made the frame for this one, and something may come of it. A refusal changes nothing.
+    /// Takes a frame that arrives, logs it, and returns how many messages it delivered. The only refusal is out of
+    /// memory, and only if some node could have made the frame for this one, and it may have an effect. A refusal
+    /// changes nothing.
     pub fn arrive(&mut self, parcel: &Parcel) -> Result<usize, StepFault>
         requires may { MayLog self.old }
         requires to { parcel.now.frame.to ≡ self.old.node.me }
@@ -171,8 +173,8 @@ impl Journal {
         Ok(delivered)
     }
 
-    /// Makes a frame of this kind for a slot, and logs it, or answers why the node makes none: want of memory only for one that
-    /// carries a message. A refusal changes nothing.
+    /// Makes a frame of this kind for a slot, and logs it, or returns why the node makes none. Only a frame with a
+    /// message can be out of memory. A refusal changes nothing.
     #[inline(always)]
     pub fn make(&mut self, kind: FrameKind, to: NodeId, slot: u64) -> Result<Parcel, StepFault>
         requires { MayLog self.old }
@@ -196,7 +198,7 @@ impl Journal {
         Ok(Parcel { stamp, frame })
     }
 
-    /// Takes up a client's order, and logs it, or logs that it was refused. Answers how many messages were delivered by it.
+    /// Takes a client's order, and logs it or its refusal. Returns how many messages it delivered.
     pub fn order(&mut self, order: OrderIn) -> usize
         requires { MayLog self.old }
         ensures logs { LogsOrder self.old self.new order }
@@ -236,7 +238,7 @@ impl Journal {
         }
     }
 
-    /// Notes how the engine ends: it stops, as all are quiet, or no turn is left.
+    /// Notes how the engine ends: it stops because all are quiet, or no turn is left.
     pub fn end(&mut self, end: EngineEnd)
         requires { MayEnd self.old end }
         ensures { self.new ≡ record self.old { ended = Some end } }
@@ -244,7 +246,7 @@ impl Journal {
         self.ended = Some(end);
     }
 
-    /// Ends the engine, whose clock is full, as this parcel came with the last stamp.
+    /// Ends the engine: its clock is full, because this parcel has the last stamp.
     pub fn end_by_last_stamp(&mut self, parcel: &Parcel)
         requires may { MayLog self.old }
         requires last { parcel.now.stamp + 1 ≡ 2 ^ 64 }
@@ -254,7 +256,8 @@ impl Journal {
         self.ended = Some(EngineEnd::ClockFull);
     }
 
-    /// Counts a turn. Where none is left the engine has ended, or ends here: as its log says, or else for that.
+    /// Counts a turn, and returns whether one was left. If none was, the engine has ended or ends here: as its log
+    /// says, or else because no turn is left.
     pub fn count_turn(&mut self) -> bool
         ensures halts { Halts self.old self.new }
         ensures counted { IsTrue result → self.new ≡ record self.old { turns = self.old.turns - 1 } }
@@ -271,7 +274,7 @@ impl Journal {
         true
     }
 
-    // Ends the engine, where it has not ended: as its log says, or else as if no turn were left.
+    // Ends the engine, if it has not ended: as its log says, or else as if no turn were left.
     fn close(&mut self)
         ensures kept { IsSome self.old.ended → self.new ≡ self.old }
         ensures halts { Halts self.old self.new }
@@ -314,7 +317,8 @@ impl Journal {
         &self.log
     }
 
-    /// The log, the node and the end. A journal that has not ended ends here: as its log says, or else as if no turn were left.
+    /// The log, the node and the end. If the engine has not ended, it ends here: as its log says, or else as if no turn
+    /// were left.
     pub fn into_parts(mut self) -> (Log, Node, EngineEnd)
         ensures { IsClosed self result.0 result.1 result.2 }
     {
@@ -329,7 +333,7 @@ impl Journal {
     }
 }
 
-// Has a node make a frame of this kind.
+// Makes a frame of this kind for a slot.
 fn frame_by(node: &mut Node, kind: FrameKind, to: NodeId, slot: u64) -> Result<Frame, StepFault>
     ensures gives { Gives node.old (making kind to slot) (sent_reply result) node.new }
     ensures made { IfOk result (λ frame. frame ≡ frame_made kind node.old to slot) }
@@ -356,7 +360,7 @@ fn log_frame(log: &mut OpenLog, stamp: u64, kind: FrameKind, from: NodeId, to: N
     }
 }
 
-// Asks the node to take up an item, of which a copy is kept for the log. Why it refuses is asked once.
+// Asks the node to take an item, and returns a copy of it for the log. The node checks only once whether it refuses.
 fn ask(node: &mut Node, item: Item) -> Result<(Item, Outcome), StepFault>
     ensures gives { AsksOrder node.old node.new item result }
     ensures copy { IfOk result (λ told. told.0 ≡ item) }

@@ -1,5 +1,5 @@
-//! The log of a node. Most entries bring no news: the node made a frame, or one arrived by which nothing was delivered or decided.
-//! Such an entry is kept in 16 bytes, and any other beside it, whole.
+//! The log of a node. Most entries have no news: the node made a frame, or a frame arrived and nothing was delivered or
+//! decided. The log keeps such an entry in 16 bytes, and any other one whole, in a second list.
 ghost use Rattle.std.specs.Prelude.{◌≡◌, ◌+◌, ◌<◌, ◌≤◌, ◌^◌, ◌++◌, ◌∷◌, [], length, slice_get, Some, None, IsTrue, IfOk, IfSome, OnOk, OnErr};
 ghost use Rattle.cast_model.specs.OwnSteps.{nothing};
 ghost use Rattle.cast_message.specs.declared.event.Event.TheVariants.{Send, Ack, Arrive};
@@ -11,20 +11,20 @@ use cast_message::{Event, List, NodeId, Outcome};
 use std::alloc::{AllocError, Global};
 use std::marker::Model;
 
-// What an entry tells, beside a number.
+// What an entry says, together with a number.
 #[derive(Clone, Copy)]
 enum Brief {
-    // The node made a frame that carries the message of the slot of this number.
+    // The node made a frame that carries the message in the slot with this number.
     Sent { from: NodeId, to: NodeId },
-    // The node made a frame that tells that the slot of this number was taken.
+    // The node made a frame that says: the slot with this number was taken.
     Acked { from: NodeId, to: NodeId },
-    // The frame of this number arrived, and nothing was delivered or decided.
+    // The frame with this number arrived, and nothing was delivered or decided.
     Arrived { from: NodeId },
-    // What stands at the place of this number among those that are kept whole.
+    // The entry is kept whole, at the place with this number.
     Whole,
 }
 
-// An entry, as a log keeps it.
+// An entry as a log keeps it.
 #[derive(Clone, Copy)]
 struct Row {
     stamp: u64,
@@ -32,16 +32,16 @@ struct Row {
     brief: Brief,
 }
 
-/// What an entry tells, as a log lends it.
+/// What an entry says, as a log lends it.
 #[derive(Clone, Copy)]
 pub enum KindRef<'a> {
     /// `from` made a frame that carries to `to` the message in this slot.
     Sent { from: NodeId, to: NodeId, slot: u64 },
-    /// `from` made a frame that tells `to` that this slot was taken.
+    /// `from` made a frame that tells `to`: this slot was taken.
     Acked { from: NodeId, to: NodeId, slot: u64 },
-    /// The frame number `seq` of `from` arrived, and nothing was delivered or decided.
+    /// Frame number `seq` of `from` arrived, and nothing was delivered or decided.
     Arrived { from: NodeId, seq: u64 },
-    /// Any other, and such a step where its number has no room in four bytes.
+    /// Any other entry, or such a step whose number does not fit into four bytes.
     Whole(&'a EntryKind),
 }
 
@@ -53,12 +53,12 @@ pub struct EntryRef<'a> {
     pub kind: KindRef<'a>,
 }
 
-/// A log to which entries are put. Contracts see its entries, and for how many there is room: no more are put.
+/// A log that takes entries. Contracts see its entries, and how many it has room for. It takes no more than these.
 #[derive(Drop)]
 pub struct OpenLog {
     alloc: Global,
     rows: Vec<Row>,
-    // What the rows name by place.
+    // The kinds that rows refer to by place.
     whole: Vec<EntryKind>,
 }
 
@@ -99,7 +99,7 @@ impl Model for Log {
 }
 
 impl OpenLog {
-    /// The empty log, with room for so many entries, or want of memory.
+    /// The empty log with room for as many entries as given, or out of memory.
     pub fn with_room(alloc: Global, entries: usize) -> Result<OpenLog, AllocError>
         requires { entries ≤ 2 ^ 32 }
         ensures entries { IfOk result (λ log. log.entries ≡ []) }
@@ -112,7 +112,7 @@ impl OpenLog {
         Ok(OpenLog { alloc, rows, whole })
     }
 
-    /// Makes room for an entry more, or answers want of memory, as it does where it has 2^32 of them. No entry changes.
+    /// Makes room for one more entry, or reports out of memory, as it also does after 2^32 entries. No entry changes.
     pub fn make_room(&mut self) -> Result<(), AllocError>
         ensures entries { self.new.entries ≡ self.old.entries }
         ensures room { OnOk result (length self.new.entries < self.new.room) }
@@ -126,7 +126,7 @@ impl OpenLog {
         Ok(())
     }
 
-    /// Puts an entry at the end, whole. It takes no memory.
+    /// Appends an entry, kept whole. It allocates nothing.
     pub fn push(&mut self, entry: Entry)
         requires { length self.old.entries < self.old.room }
         ensures entries { self.new.entries ≡ self.old.entries ++ entry ∷ [] }
@@ -142,7 +142,7 @@ impl OpenLog {
         });
     }
 
-    /// Puts at the end that `from` made a frame which carries the message in this slot to `to`. It takes no memory.
+    /// Appends an entry: `from` made a frame that carries the message in this slot to `to`. It allocates nothing.
     #[inline(always)]
     pub fn push_sent(&mut self, stamp: u64, from: NodeId, to: NodeId, slot: u64)
         requires { length self.old.entries < self.old.room }
@@ -159,7 +159,7 @@ impl OpenLog {
         }
     }
 
-    /// Puts at the end that `from` made a frame which acknowledges this slot to `to`. It takes no memory.
+    /// Appends an entry: `from` made a frame that acknowledges this slot to `to`. It allocates nothing.
     #[inline(always)]
     pub fn push_acknowledged(&mut self, stamp: u64, from: NodeId, to: NodeId, slot: u64)
         requires { length self.old.entries < self.old.room }
@@ -176,7 +176,7 @@ impl OpenLog {
         }
     }
 
-    /// Puts at the end that the frame number `seq` of `from` arrived, and what came of it. It takes no memory.
+    /// Appends the arrival of frame number `seq` of `from`, with its outcome. It allocates nothing.
     #[inline(always)]
     pub fn push_arrived(&mut self, stamp: u64, from: NodeId, seq: u64, outcome: Outcome)
         requires { length self.old.entries < self.old.room }
@@ -199,7 +199,7 @@ impl OpenLog {
         }
     }
 
-    // Puts an entry at the end that names none of those kept whole.
+    // Appends an entry that refers to nothing kept whole.
     fn push_short(&mut self, stamp: u64, brief: Brief, number: u32)
         requires room { length self.old.entries < self.old.room }
         requires short { IsShort brief }
@@ -214,7 +214,7 @@ impl OpenLog {
         });
     }
 
-    /// How many entries it has.
+    /// How many entries the log has.
     pub fn len(&self) -> usize
         ensures { result ≡ length self.now.entries }
     {
@@ -233,7 +233,7 @@ impl OpenLog {
         }
     }
 
-    /// The log, to which no more is put.
+    /// The log, which takes no more entries.
     pub fn close(self) -> Log
         ensures { result ≡ self.entries }
     {
@@ -242,7 +242,7 @@ impl OpenLog {
 }
 
 impl Log {
-    /// The empty log, which takes no memory.
+    /// The empty log. It allocates nothing.
     pub fn new(alloc: Global) -> Log
         ensures { result ≡ [] }
     {
@@ -255,14 +255,14 @@ impl Log {
         }
     }
 
-    /// How many entries it has.
+    /// How many entries the log has.
     pub fn len(&self) -> usize
         ensures { result ≡ length self.now }
     {
         self.open.len()
     }
 
-    /// Puts an entry at the end, or answers want of memory and leaves the log as it was.
+    /// Appends an entry, or reports out of memory and leaves the log as it was.
     pub fn push(&mut self, entry: Entry) -> Result<(), AllocError>
         ensures ok { OnOk result (self.new ≡ self.old ++ entry ∷ []) }
         ensures err { OnErr result (self.new ≡ self.old) }
@@ -281,7 +281,7 @@ impl Log {
     }
 }
 
-// The step of this event, by which nothing was delivered or decided.
+// The step of an event that delivers and decides nothing.
 fn without_news(alloc: Global, event: Event) -> EntryKind
     ensures { result ≡ silent event }
 {
@@ -301,7 +301,7 @@ fn is_nothing(outcome: &Outcome) -> bool
     outcome.deliveries.as_slice().is_empty() && outcome.decisions.as_slice().is_empty()
 }
 
-// The number in four bytes, where they have room for it.
+// The number, if it fits into four bytes.
 fn small(number: u64) -> Option<u32>
     ensures { IfSome result (λ small. small ≡ number) }
 {
@@ -312,7 +312,6 @@ fn small(number: u64) -> Option<u32>
     }
 }
 
-// What an entry tells.
 fn kind_ref<'a>(brief: Brief, number: u32, whole: &'a [EntryKind]) -> KindRef<'a>
     requires { IsPlaced (length whole.now) brief number }
     ensures { shown_kind result ≡ kind_of whole.now brief number }
@@ -327,7 +326,7 @@ fn kind_ref<'a>(brief: Brief, number: u32, whole: &'a [EntryKind]) -> KindRef<'a
 }
 
 impl<'a> KindRef<'a> {
-    /// A copy of the step's event if it is a step, or out of memory, which only the bytes of an item cause.
+    /// A copy of the event if this is a step, or out of memory, which only the bytes of an item cause.
     pub fn copy_event(&self) -> Result<Option<Event>, AllocError>
         ensures { IfOk result (λ copy. copy ≡ step_event (shown_kind self.now)) }
     {

@@ -1,8 +1,8 @@
 -- What an item is, what a frame says, and which numbers are those of nodes.
---     byte_sized n            the number, where a byte has room for it
---     is_close item           it is the last of a stream
+--     byte_sized n            the number, if it fits into a byte
+--     is_close item           it is the last item of a stream
 --     proposes_in j item      it proposes in instance j
---     has_bytes item          it is data of some bytes; a copy takes memory for those alone, as they are shared and counted
+--     has_bytes item          it is data with bytes; only these take memory in a copy, as they are shared and counted
 --     kind_of body            the kind of a frame
 --     carries_bytes body      the frame carries a message with such an item
 --     orders_bytes event      the event orders such an item

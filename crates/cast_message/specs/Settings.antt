@@ -1,6 +1,6 @@
 -- A configuration by the names of its values.
 --     IsConfigOf settings config    it has these values
---     causes_of settings            why these values are refused, in the order in which it is tried
+--     causes_of settings            why these values are refused, in the order of trying
 use Rattle.std.specs.Prelude.{◌≡◌, List}
 use Rattle.cast_message.specs.Limits.{ConfigCause, config_causes}
 use Rattle.cast_message.specs.declared.config.Config.{Config}

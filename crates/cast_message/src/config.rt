@@ -1,4 +1,4 @@
-//! The configuration of a group, and why one is refused.
+//! The configuration of a group, and why it can be refused.
 ghost use Rattle.std.specs.Prelude.{◌≡◌, ◌<◌, ◌≤◌, ◌*◌, Some, None, IfOk, OnOk, IfErr};
 ghost use Rattle.cast_message.specs.Limits.{fault_factor, config_causes, first_config_fault, config_code};
 
@@ -10,12 +10,12 @@ use thiserror::Error;
 pub enum Mode {
     /// In the step in which the node holds it.
     Basic,
-    /// In the step in which more nodes than may crash are known to hold it, so that a delivery outlives the node that
-    /// made it (uniform agreement; Hadzilacos and Toueg, TR 94-1425, section 3).
+    /// In the step in which the node knows that more nodes than may crash hold it. So the delivery outlives the node
+    /// that made it (uniform agreement; Hadzilacos and Toueg, TR 94-1425, section 3).
     Uniform,
 }
 
-/// A configuration within the limits, each of which is a fact of the type.
+/// A configuration within its limits. The type itself states each limit.
 #[derive(Clone, Copy)]
 pub struct Config {
     /// How many nodes the group has, 1 to 64. They are numbered from 0.
@@ -48,7 +48,7 @@ pub struct Config {
     pub ghost mode_in_range: { fault_factor mode * faults < nodes },
 }
 
-/// The first value of a configuration that is outside its limits.
+/// The first value outside its limits.
 #[derive(Clone, Copy, Debug, PartialEq, Eq, Error)]
 pub enum ConfigFault {
     #[error("the number of nodes is not 1 to 64")]
@@ -68,7 +68,7 @@ pub enum ConfigFault {
 }
 
 impl ConfigFault {
-    /// The number of the refusal, from 1 on. These numbers never change.
+    /// The number of the refusal, from 1. These numbers never change.
     pub fn code(self) -> u64
         ensures { result ≡ config_code self }
     {
@@ -85,8 +85,8 @@ impl ConfigFault {
 }
 
 impl Config {
-    /// The configuration of these values if each is within its limits, or the first value that is not, in the order of the
-    /// parameters. `Settings::check` is the same by names.
+    /// The configuration with these values, or the first value outside its limits, in the order of the parameters.
+    /// `Settings::check` takes the same values by name.
     pub fn check(
         nodes: u64,
         faults: u64,
@@ -180,7 +180,7 @@ impl Config {
 }
 
 impl Mode {
-    // How many times the faults must stay below the nodes.
+    // The faults, this many times, must be fewer than the nodes.
     pub(crate) fn fault_factor(self) -> u64
         ensures { result ≡ fault_factor self }
     {

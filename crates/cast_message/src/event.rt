@@ -13,13 +13,13 @@ use std::fmt::{Display, Formatter, Write};
 /// One step of one node. A frame is lost if no `Arrive` names it, and repeated if two do.
 #[derive(Debug, Drop, PartialEq)]
 pub enum Event {
-    /// The node takes up an item of its own, at the end of its stream.
+    /// The node adds an item of its own to the end of its stream.
     Order { node: NodeId, item: Item },
     /// `from` makes a frame that carries to `to` the message in this slot of what `from` gives `to`.
     Send { from: NodeId, to: NodeId, slot: u64 },
-    /// `from` makes a frame that says to `to` that `from` took this slot of what `to` gave it.
+    /// `from` makes a frame that tells `to`: `from` took this slot of what `to` gave it.
     Ack { from: NodeId, to: NodeId, slot: u64 },
-    /// The frame number `seq` of `from` arrives at its target.
+    /// Frame number `seq` of `from` arrives at its target.
     Arrive { from: NodeId, seq: u64 },
     /// The node stops for good.
     Crash { node: NodeId },
@@ -58,18 +58,18 @@ impl Event {
 /// What a step delivers and decides at its node.
 #[derive(Drop)]
 pub struct Outcome {
-    /// The messages delivered, all of one sender, in the order of their numbers.
+    /// The delivered messages, all of one sender, in the order of their numbers.
     pub deliveries: List<Message>,
-    /// The decisions taken, in the order of the deliveries that caused them.
+    /// The decisions, in the order of the deliveries that caused them.
     pub decisions: List<Decision>,
 }
 
 /// The answer to an accepted event.
 #[derive(Drop)]
 pub enum Answer {
-    /// The item has this number in its node's stream, from 0 on.
+    /// The item has this number in its node's stream, from 0.
     Ordered { number: u64, outcome: Outcome },
-    /// The frame made has this number among its node's frames, from 0 on.
+    /// The new frame has this number among its node's frames, from 0.
     Sent { seq: u64 },
     /// The frame arrived at this node.
     Arrived { node: NodeId, outcome: Outcome },
@@ -77,8 +77,8 @@ pub enum Answer {
     Down,
 }
 
-/// Why a step is refused. The definition `causes` of `cast_model` says which refusals an event may get, and in which order
-/// they are tried.
+/// Why a step is refused. `causes` of `cast_model` defines which refusals an event may get, and the order in which they
+/// are tried.
 #[derive(Clone, Copy, Debug, PartialEq, Eq)]
 pub enum StepFault {
     NoNode,
@@ -96,7 +96,7 @@ pub enum StepFault {
     Memory,
 }
 
-/// The refusals that a record can have, by their codes from 1 on.
+/// The refusals that a record can have, by their codes from 1.
 pub const REFUSALS: [StepFault; 12] = [
     StepFault::NoNode,
     StepFault::SelfLink,
@@ -145,7 +145,7 @@ impl StepFault {
         }
     }
 
-    /// What is refused, in the words of help, pages and errors.
+    /// What is refused, as help, pages and errors say it.
     pub fn words(self) -> &'static str {
         match self {
             StepFault::NoNode => "a node that does not exist",
@@ -173,5 +173,5 @@ impl Display for StepFault {
 
 impl Error for StepFault {}
 
-/// The answer to an event, or its refusal, after which all is as it was.
+/// The answer to an event, or its refusal, which changes nothing.
 pub type Reply = Result<Answer, StepFault>;

@@ -1,5 +1,5 @@
-//! The messages of a broadcast group: items, frames, events, answers and the configuration, with their limits; the faults of a
-//! plan; and sets of nodes and of numbers, as bits, which contracts see as finite sets.
+//! The messages of a broadcast group: items, frames, events, answers and the configuration, with their limits. Also the
+//! faults of a plan, and sets of nodes and of numbers: bits, which contracts see as finite sets.
 #![tactic(auto)]
 
 mod config;

@@ -1,4 +1,4 @@
-//! The values from which a configuration is made, by name, and their check.
+//! The values of a configuration, by name, and their check.
 ghost use Rattle.std.specs.Prelude.{◌≡◌, ◌<◌, ◌≤◌, ◌+◌, ◌-◌, ◌^◌, min, List, None, Some, OnOk, IfOk, IfErr};
 ghost use Rattle.cast_message.specs.Limits.{ConfigCause, count_causes, size_causes, first_config_fault};
 ghost use Rattle.cast_message.specs.declared.config.Mode.TheVariants.{Basic};
@@ -7,7 +7,7 @@ ghost use Rattle.cast_message.specs.Settings.{IsConfigOf, causes_of};
 use crate::config::{Config, ConfigFault, Mode};
 use crate::limits::{MOST_ENTRIES, MOST_ITEMS, MOST_NODES, MOST_PLACES};
 
-/// The values of a configuration, before their check. `Settings::of` has the usual ones. Write those that are to differ:
+/// The values of a configuration, before their check. `Settings::of` has the usual ones. Write those that differ:
 /// `Settings { mode: Mode::Uniform, ..Settings::of(5, 2) }.check()?`.
 #[derive(Clone, Copy)]
 pub struct Settings {
@@ -17,7 +17,7 @@ pub struct Settings {
     pub faults: u64,
     /// How many values may be decided in an instance, 1 to `nodes`.
     pub choices: u64,
-    /// How many items a sender may broadcast, its close among them, 1 to 4,096.
+    /// How many items a sender may broadcast, with its close, 1 to 4,096.
     pub item_limit: u64,
     /// How many entries the log of a node in threads may have, 1 to 65,536.
     pub log_limit: u64,
@@ -29,13 +29,13 @@ pub struct Settings {
     pub mode: Mode,
 }
 
-// How many items a box holds.
+// The box size of `Settings::of`.
 const USUAL_PLACES: u64 = 64;
 
 impl Settings {
-    /// The usual group of as many nodes as given, of which `faults` may crash. It has basic mode, the longest streams and logs,
-    /// boxes of 64 places, and clocks from 0 on. It has one more choice than faults, so an instance has at most as many decided
-    /// values as choices.
+    /// The usual group of as many nodes as given, of which `faults` may crash. It has basic mode, the longest streams
+    /// and logs, boxes of 64 places, and clocks from 0. It has one more choice than faults, so an instance has at most
+    /// as many decided values as choices.
     pub fn of(nodes: u64, faults: u64) -> Settings
         ensures { result ≡ record {
           nodes = nodes;
@@ -60,8 +60,8 @@ impl Settings {
         }
     }
 
-    /// The configuration of these values if each is within its limits, or the first value that is not, in the order of the
-    /// fields. The mode is refused if it is uniform and twice the faults are not below the nodes.
+    /// The configuration with these values, or the first value outside its limits, in the order of the fields. Uniform
+    /// mode is refused if twice the faults are not fewer than the nodes.
     #[tactic(auto, using(std::proofs::lemmas::Bool::Decides::nat_tests), unfolding(crate::specs::Limits::first_config_fault, crate::specs::Limits::config_causes))]
     pub fn check(self) -> Result<Config, ConfigFault>
         ensures ok { IfOk result (IsConfigOf self) }
@@ -85,7 +85,7 @@ impl Settings {
         })
     }
 
-    // Refuses the first of the counts of nodes that is outside its limits.
+    // Refuses the first count of nodes outside its limits.
     #[tactic(auto, using(std::proofs::lemmas::Bool::Decides::nat_tests), unfolding(crate::specs::Limits::first_config_fault))]
     fn check_counts(self) -> Result<(), ConfigFault>
         ensures nodes { OnOk result ((1 ≤ self.nodes) × (self.nodes ≤ 64)) }
@@ -109,7 +109,7 @@ impl Settings {
         Ok(())
     }
 
-    // Refuses the first of the sizes that is outside its limits.
+    // Refuses the first size outside its limits.
     #[tactic(auto, using(std::proofs::lemmas::Bool::Decides::nat_tests), unfolding(crate::specs::Limits::first_config_fault))]
     fn check_sizes(self) -> Result<(), ConfigFault>
         ensures items { OnOk result ((1 ≤ self.item_limit) × (self.item_limit ≤ 4096)) }

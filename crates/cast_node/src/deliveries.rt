@@ -1,5 +1,5 @@
-//! Which nodes are known to hold each pair, what waits for its turn, and what was delivered and decided. A call first makes room,
-//! then asks for what can't be reserved, and after that nothing is refused.
+//! Which nodes are known to hold each pair, what waits for its turn, and what was delivered and decided. A call first
+//! makes room, then allocates what no room can be made for. After that nothing is refused.
 ghost use Rattle.std.specs.Prelude.{◌≡◌, ◌≢◌, ◌+◌, ◌-◌, ◌<◌, ◌≤◌, ◌++◌, true, suc, [], length, map, vec_len, vec_capacity, slice_get, option_map, IsSome, IsTrue, IsFalse, IfOk, OnOk, OnErr};
 ghost use Rattle.std.specs.FinSet as set;
 ghost use Rattle.cast_model.specs.OwnSteps.{nothing};
@@ -15,7 +15,6 @@ use cast_message::{Config, GroupSet, Item, List, Message, Mode, NodeId, Outcome}
 use std::alloc::{AllocError, Global};
 use std::marker::Model;
 
-/// Which nodes are known to hold each pair, what waits, and what was delivered and decided.
 #[derive(Drop)]
 pub struct Deliveries {
     alloc: Global,
@@ -50,7 +49,7 @@ impl Model for Deliveries {
 }
 
 impl Deliveries {
-    /// Nothing is held.
+    /// Deliveries in which no pair is held.
     pub fn new(alloc: Global, config: &Config) -> Result<Deliveries, AllocError>
         ensures { IfOk result (λ deliveries. deliveries ≡ nothing_delivered config.now) }
     {
@@ -113,7 +112,7 @@ impl Deliveries {
         self.agree.decision(instance)
     }
 
-    /// Notes that these nodes are known to hold a pair. If they are enough, what then has its turn is delivered.
+    /// Notes that these nodes are known to hold a pair. If they are enough, delivers what then has its turn.
     pub fn tell(
         &mut self,
         config: &Config,
@@ -149,7 +148,8 @@ impl Deliveries {
         Ok(no_news(self.alloc))
     }
 
-    /// The same as `tell`, if nothing is delivered by it. Says whether it did so. It may always return `false`: then nothing changed.
+    /// The same as `tell`, if it delivers nothing. Returns whether it did so. It may always return `false`: then
+    /// nothing changed.
     #[inline(always)]
     pub fn tell_silently(
         &mut self,
@@ -178,7 +178,7 @@ impl Deliveries {
         true
     }
 
-    /// Holds a message back, and notes that these nodes are known to hold it. If it is its turn, it is delivered at once.
+    /// Holds a message back, and notes that these nodes are known to hold it. Delivers it at once if it is its turn.
     pub fn take_up(
         &mut self,
         config: &Config,
@@ -218,7 +218,7 @@ impl Deliveries {
     }
 }
 
-// Whether a message that these nodes hold may be delivered.
+// Whether a message may be delivered that these nodes hold.
 fn is_enough(config: &Config, members: &GroupSet) -> bool
     ensures { result ≡ is_enough config.now members.now }
 {
@@ -238,7 +238,7 @@ pub fn no_news(alloc: Global) -> Outcome
     }
 }
 
-// Room for a place of this number.
+// Makes room for the place of a number.
 fn make_place(row: &mut Vec<GroupSet>, number: u64) -> Result<(), AllocError>
     requires { number < 4096 }
     ensures same { row.new.items ≡ row.old.items }
@@ -248,7 +248,7 @@ fn make_place(row: &mut Vec<GroupSet>, number: u64) -> Result<(), AllocError>
     row.reserve((number as usize + 1).saturating_sub(row.len()))
 }
 
-// Notes that these nodes are known to hold the pair of this number. There is room for its place.
+// Notes that these nodes are known to hold the pair with this number. There is room for its place.
 fn note(row: &mut Vec<GroupSet>, number: u64, members: GroupSet)
     requires number { number < 4096 }
     requires room { vec_len row.old + (suc number - vec_len row.old) ≤ vec_capacity row.old }
@@ -261,7 +261,7 @@ fn note(row: &mut Vec<GroupSet>, number: u64, members: GroupSet)
     row[place] = members;
 }
 
-// Holds a message back, and marks it if enough nodes are known to hold it. Nothing has its turn by that.
+// Holds a message back, and marks it if enough nodes are known to hold it. That gives nothing its turn.
 fn keep(hold_back: &mut HoldBack, message: Message, is_known: bool) -> Result<(), AllocError>
     requires sender { message.sender < length hold_back.old }
     requires number { message.number < 4096 }
@@ -279,7 +279,7 @@ fn keep(hold_back: &mut HoldBack, message: Message, is_known: bool) -> Result<()
     Ok(())
 }
 
-// Delivers what has its turn when the pair is marked, or when an item is offered for it, the next, and counts it.
+// Delivers and counts what has its turn if the pair is marked, or if an item is offered for it, the next.
 fn deliver(
     hold_back: &mut HoldBack,
     items: &mut Vec<Item>,

@@ -1,5 +1,5 @@
-//! What a node gives its peers. A message goes to many of them and is here once: the slots of a link keep its place, in eight bytes.
-//! No reference count changes when a slot is given, acknowledged or dropped.
+//! What a node gives its peers. A message that goes to several is kept once: the slots of a link keep its place, in
+//! eight bytes. No reference count changes when a slot is given, acknowledged or dropped.
 ghost use Rattle.std.specs.Prelude.{◌≡◌, ◌<◌, ◌≤◌, ◌↔◌, IsFalse, length, replicate, slice_set, IfOk, OnOk, OnErr};
 ghost use Rattle.std.specs.FinMap as finite;
 ghost use Rattle.std.specs.Option.{option_copied};
@@ -17,11 +17,11 @@ use std::marker::Model;
 /// What a node gives each peer.
 #[derive(Drop)]
 pub struct Outgoing {
-    // The messages that it gave, in the order in which it came to hold them.
+    // The messages given, in the order in which the node came to hold them.
     messages: Vec<Message>,
     // By peer.
     links: Vec<LinkOut<u32>>,
-    // The peers that are owed a slot, so that `owes_one_of` need not look at links.
+    // The peers that are owed a slot, so that `owes_one_of` needs no look at links.
     owed: GroupSet,
 }
 
@@ -45,7 +45,7 @@ impl Model for Outgoing {
 }
 
 impl Outgoing {
-    /// Nothing was given to any of these many peers.
+    /// The outgoing part for as many peers as given, with nothing given to any.
     pub fn new(alloc: Global, peers: u64) -> Result<Outgoing, AllocError>
         requires { peers ≤ 64 }
         ensures { IfOk result (λ outgoing. links_of outgoing
@@ -62,7 +62,7 @@ impl Outgoing {
         })
     }
 
-    /// Makes room for one message more, at each link too.
+    /// Makes room for one more message, at each link too.
     pub fn reserve(&mut self) -> Result<(), AllocError>
         ensures same { links_of self.new ≡ links_of self.old }
         ensures room { OnOk result (HasRoomFor self.new) }
@@ -75,8 +75,8 @@ impl Outgoing {
         reserve_all(self.links.as_mut_slice())
     }
 
-    /// Gives a message that came to the node `me` from the source to each peer to which it goes on. There is room for it. It takes
-    /// no memory.
+    /// Gives a message that came to the node `me` from the source to each peer to which it goes on. There is room for
+    /// it. It allocates nothing.
     pub fn give(&mut self, me: NodeId, source: NodeId, message: Message)
         requires room { HasRoomFor self.old }
         requires peers { length (links_of self.old) ≤ 256 }
@@ -89,7 +89,7 @@ impl Outgoing {
         self.owed = owed_peers(self.links.as_slice());
     }
 
-    /// The message in a slot of a peer that is owed.
+    /// The message in a slot that a peer is owed.
     pub fn message(&self, to: NodeId, slot: u64) -> Option<&Message>
         requires { to < length (links_of self.now) }
         ensures { option_copied result ≡ finite.get (link_in (links_of self.now) to).owed slot }
@@ -128,7 +128,7 @@ impl Outgoing {
         self.links[usize::from(to.0)].owed()
     }
 
-    /// The least slot from `from` on that a peer is owed.
+    /// The least slot, `from` or above, that a peer is owed.
     pub fn least_owed(&self, to: NodeId, from: u64) -> Option<u64>
         requires { to < length (links_of self.now) }
         ensures { IsLeastFrom (link_in (links_of self.now) to).owed from result }
