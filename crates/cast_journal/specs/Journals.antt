@@ -164,8 +164,8 @@ pub record IsClosed (j : JournalState) (log : List Entry) (node : Kept) (ended :
   pub ends : EndsAs new.config.log_limit new.crash new.ended new.log
   pub spent : ended ≡ TurnLimit → new.turns ≡ 0
 
--- what a journal keeps: room for its whole log, rising stamps, how the log may end, and a live node before a crash; the
--- end TurnLimit comes only if no turn is left
+-- What a journal keeps: room for its whole log, rising stamps, how the log may end, and a live node before a crash. The
+-- end TurnLimit comes only if no turn is left.
 pub record JournalKeeps (config : Config) (room : ℕ) (node : Kept) (log : List Entry) (clock : ℕ)
     (crash : Option ℕ) (ended : Option EngineEnd) (turns : ℕ) : Type 0 where
   pub has_room : config.log_limit ≤ room

@@ -107,8 +107,8 @@ impl Node {
 
     /// Adds an item to the node's stream, and returns its number there, and what is delivered and decided. An order is
     /// refused at a crashed node, after a close, for a payload that is too long, for a second proposal in an instance,
-    /// or if the stream is full; else only if it is out of memory. The first cause is returned. A refusal changes
-    /// nothing.
+    /// or if the stream is full. Else it is refused only if it is out of memory. The first cause is returned. A refusal
+    /// changes nothing.
     pub fn order(&mut self, item: Item) -> Result<(u64, Outcome), StepFault>
         ensures exact { Gives self.old (Ordered item) (ordered_reply result) self.new }
     {
@@ -174,8 +174,8 @@ impl Node {
     }
 
     /// Makes a frame that tells a peer that the node took a slot, and returns the frame's number. It is refused if the
-    /// peer is no node, or this node, if this node has crashed, if it did not take the slot, or if it has made all its
-    /// frames. It allocates nothing. A refusal changes nothing.
+    /// peer is no node, or this node, or if this node has crashed. It is also refused if this node did not take the
+    /// slot, or has made all its frames. It allocates nothing. A refusal changes nothing.
     pub fn ack_number(&mut self, to: NodeId, slot: u64) -> Result<u64, StepFault>
         ensures exact { Gives self.old (Acknowledged to slot) (number_reply result) self.new }
         ensures refused { IfErr result (λ fault.
