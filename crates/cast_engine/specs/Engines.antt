@@ -1,4 +1,4 @@
--- An engine, as contracts see it, and what it keeps.
+-- An engine as contracts see it, and what it keeps.
 use Rattle.std.specs.Prelude.{◌≡◌, ℕ, ◌+◌, ◌<◌, ◌≤◌, ◌^◌, length, List, [], ◌∷◌, ◌++◌, map, slice_get, Option, Some, None, IsSome, ◌⊎◌, ⊤}
 use Rattle.std.specs.Option.{option_to_list}
 use Rattle.cast_message.specs.declared.config.Config.{Config}
@@ -37,7 +37,7 @@ pub record EngineState : Type 0 where
   pub turns : ℕ  -- how many are left
   pub ended : Option EngineEnd
 
--- the engine has ended one putter more of its inbox
+-- the engine has ended one more putter of its inbox
 abbrev pub with_ended : EngineState → List Parcel → EngineState
 with_ended e put = record e { inbox = record e.inbox { ended = e.inbox.ended ++ put ∷ [] } }
 
@@ -50,7 +50,7 @@ abbrev pub trays_at : Option Desk → List (PutterEnd Notice)
 trays_at None = []
 trays_at (Some desk) = desk.trays.items
 
--- the same ends of the same desk and trays, or none as before
+-- the same ends of the same desk and trays, or no desk before and after
 pub record IsSameDesk (old new : Option Desk) : Type 0 where
   pub none : new ≡ None → old ≡ None
   pub some : (d : Desk) → new ≡ Some d
@@ -72,29 +72,29 @@ HasSameBoxes old new =
     (new.outbox ≡ old.outbox) × (new.held ≡ old.held) × (new.inbox ≡ old.inbox)
     × (taken_at new.desk ≡ taken_at old.desk) × (trays_at new.desk ≡ trays_at old.desk)
 
--- so many parcels were taken, orders taken, parcels put, and notices put for each client, at most
+-- at most this many parcels and orders were taken, parcels put, and notices put for each client
 pub record DoesFew (takes orders puts tells : ℕ) (old new : EngineState) : Type 0 where
   pub taken : length new.inbox.taken ≤ length old.inbox.taken + takes
   pub ordered : length (taken_at new.desk) ≤ length (taken_at old.desk) + orders
   pub put : length new.outbox.put ≤ length old.outbox.put + puts
   pub told : TellEach tells (trays_at old.desk) (trays_at new.desk)
 
--- in an idle turn nothing of that was done
+-- in an idle turn none of that was done
 abbrev pub IsIdleRightly : Turn → EngineState → EngineState → Type 0
 IsIdleRightly Idle old new = HasSameBoxes old new
 IsIdleRightly _ old new = ⊤
 
--- the engine has ended where a turn says so
+-- if a turn says that the engine has ended, it has
 abbrev pub HasEnded : Turn → Option EngineEnd → Type 0
 HasEnded Stopped ended = IsSome ended
 HasEnded Ended ended = IsSome ended
 HasEnded _ ended = ⊤
 
--- a clock can't rise over the stamp of the parcel that waits
+-- a clock can't go above the stamp of the parcel that waits
 abbrev pub HasLastStamp : Option Parcel → Type 0
 HasLastStamp waiting = (x : Parcel) × (waiting ≡ Some x) × (x.stamp + 1 ≡ 2 ^ 64)
 
--- the clock is full: by its own stamp, or by that of the parcel that waits
+-- the clock is full, by its own stamp or by that of the parcel that waits
 abbrev pub IsFull : ℕ → Option Parcel → Type 0
 IsFull clock waiting = (clock + 1 ≡ 2 ^ 64) ⊎ HasLastStamp waiting
 
@@ -112,7 +112,7 @@ TakesOrder old None new = (taken_at new ≡ taken_at old) × (trays_at new ≡ t
 TakesOrder old (Some order) new =
     (from : ℕ) × (taken_at new ≡ taken_at old ++ (from, order) ∷ []) × (trays_at new ≡ trays_at old)
 
--- the desk was empty, so that all that its ended putters have put was taken; where there is no desk, there is no order
+-- the desk was empty, so all that its ended putters put was taken; without a desk, there is no order
 abbrev pub HadNoOrder : Option Desk → Type 0
 HadNoOrder None = ⊤
 HadNoOrder (Some desk) = HasTakenOfEnded desk.orders.ended desk.orders.taken
@@ -123,7 +123,7 @@ IsUnused desk =
     (taken_at desk ≡ [])
     × ((c : ℕ) (tray : PutterEnd Notice) → slice_get (trays_at desk) c ≡ Some tray → tray.put ≡ [])
 
--- what an engine that ended leaves
+-- what an ended engine leaves
 pub record Leaves (e : EngineState) (log : List Entry) (node : Kept) (ended : EngineEnd) : Type 0 where
   pub held : Option Parcel
   pub clock : ℕ
@@ -133,8 +133,7 @@ pub record Leaves (e : EngineState) (log : List Entry) (node : Kept) (ended : En
   pub fed : AreFed log (trays_at e.desk) places
   pub rises : Rises e.config.first_stamp log clock
   pub ends : EndsAs e.config.log_limit e.crash (Some ended) log
-  -- an end that came before stays, no turn was left where the turns are said to be used up, and the clock was full where it is said
-  -- to be
+  -- an earlier end stays; no turn was left if the end is TurnLimit, and the clock was full if it is ClockFull
   pub before : IsSome e.ended → e.ended ≡ Some ended
   pub spent : ended ≡ TurnLimit → (e.turns ≡ 0) ⊎ (e.ended ≡ None)
   pub late : ended ≡ ClockFull → IsFull clock e.waiting
@@ -145,9 +144,10 @@ CameIn taken from seq sent =
     (number : ℕ) × (frame : Frame) × Has taken (number, parcel sent frame) × (frame.from ≡ from)
     × (frame.seq ≡ seq)
 
--- the log tells of the node's steps; what was put into the outbox is the first of the frames that they made, in order, with their
--- stamps; the parcels for the node that were taken out of the inbox are those whose frames arrived, in order, each with a smaller stamp
--- than its arrival's, and the one that waits; and the clock began at the first stamp and gave each entry its own
+-- The log says what the node did. The outbox got the first of the node's frames, in order, with their stamps. Of the
+-- parcels taken from the inbox, those for the node are those whose frames arrived, in order, and the one that waits.
+-- Each that arrived has a smaller stamp than its arrival. The clock began at the first stamp, and gave each entry its
+-- own.
 pub record Tells (e : EngineState) (log : List Entry) (node : Kept) : Type 0 where
   pub trail : Trail
   pub tells : IsLogOf e.config e.me trail log node
@@ -161,7 +161,7 @@ pub record Tells (e : EngineState) (log : List Entry) (node : Kept) : Type 0 whe
   pub stamps : Follows (CameIn e.inbox.taken) e.config.first_stamp log
   pub made : map (λ m. m.stamp) (made_in e.config e.me trail) ≡ stamps_made log
 
--- what was put into each tray begins its client's feed
+-- what was put into each tray is a prefix of its client's feed
 abbrev pub WereTold : List Entry → List (PutterEnd Notice) → Type 0
 WereTold log trays =
     (c : ℕ) (tray : PutterEnd Notice) → slice_get trays c ≡ Some tray → StartsWith (feed log c) tray.put

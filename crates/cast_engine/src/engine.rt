@@ -19,17 +19,18 @@ use std::alloc::{AllocError, Global};
 use std::marker::Model;
 use std::sync::Wait;
 
-/// What came of a turn.
+/// The result of a turn.
 #[derive(Clone, Copy)]
 pub enum Turn {
-    /// Something was done.
+    /// The engine did something.
     Moved,
-    /// No parcel was put, taken or kept to be put, no order taken and no notice put. A crash that was due may have been logged.
+    /// The engine put, took or kept no parcel, took no order, and put no notice. It may have logged a crash that was
+    /// due.
     Idle,
-    /// All engines are quiet, so that the engine has ended, if it had not otherwise in this turn.
+    /// All engines are quiet, so the engine has ended, if it had not ended otherwise in this turn.
     Stopped,
-    /// The engine has ended otherwise, in this turn or in one before, and not all engines are known to be quiet. Also answered
-    /// to a turn that comes after `Stopped`.
+    /// The engine has ended otherwise, in this turn or an earlier one, and not all engines are known to be quiet. Also
+    /// the result of any turn after `Stopped`.
     Ended,
 }
 
@@ -41,18 +42,18 @@ pub struct Engine {
     inbox: Taker<Parcel>,
     // The parcel that the outbox refused last.
     held: Option<Parcel>,
-    // The parcel that was taken last, where its arrival is not logged yet, for which memory may be wanting.
+    // The parcel taken last, until its arrival is logged. Out of memory may delay that.
     waiting: Option<Parcel>,
-    // Where the node has clients.
+    // Present if the node has clients.
     desk: Option<Desk>,
     // By client.
     places: Vec<Place>,
     resend: Resend,
     // How many messages were delivered in this turn.
     delivered: usize,
-    // No order is taken any more: no job was left, and the desk was empty or the engine has ended.
+    // Whether the engine takes no more orders: no job is left, and the desk was empty or the engine has ended.
     no_orders: bool,
-    // No notice is taken any more: no job was left, and each tray was full.
+    // Whether the engine puts no more notices: no job is left, and each tray was full.
     trays_full: bool,
 }
 
@@ -78,18 +79,18 @@ impl Model for Engine {
         (e.desk) e.places.items };
 }
 
-// What a parcel that was taken has brought from a peer.
+// What a taken parcel carries from a peer.
 #[derive(Clone, Copy)]
 enum Received {
-    // The message in this slot, which is to be acknowledged.
+    // The message in this slot. The engine acknowledges it.
     Carried { from: NodeId, slot: u64 },
-    // Word that the peer took this slot.
+    // The peer took this slot.
     Acknowledged { from: NodeId, slot: u64 },
-    // Nothing: its arrival was not logged.
+    // Nothing, as its arrival was not logged.
     Nothing,
 }
 
-/// What an engine that ended leaves: the log and the node, the end, and the ends of its boxes.
+/// What an ended engine leaves: the log, the node, the end, and the ends of its boxes.
 #[derive(Drop)]
 pub struct EngineParts {
     pub log: Log,
@@ -105,13 +106,13 @@ pub struct EngineParts {
 pub struct EngineBoxes {
     pub outbox: Putter<Parcel>,
     pub inbox: Taker<Parcel>,
-    /// Where the node has clients.
+    /// Present if the node has clients.
     pub desk: Option<Desk>,
 }
 
 impl Engine {
-    /// The engine of a new node, which crashes after so many entries, if it is to crash, and takes at most so many turns. All
-    /// room that its log ever takes is made here.
+    /// The engine of a new node. It crashes after `crash` entries, if given, and takes at most `turns` turns. All room
+    /// for its log is allocated here.
     pub fn new(
         alloc: Global,
         config: &Config,
@@ -156,10 +157,11 @@ impl Engine {
         })
     }
 
-    /// Takes one turn: passes the gate, puts the parcel that waits, takes one and acknowledges it, takes an order, sends a slot
-    /// that is due, and puts notices: of each no more than one, of notices one for each client, and of parcels put no more than
-    /// three (`few`). `Ended` is answered once the log or the clock is full, the node has crashed, or no turn is left, `Stopped`
-    /// where all engines are quiet; `Idle` only where nothing of that was done (`idle`).
+    /// Takes one turn: passes the gate, puts the parcel that waits, takes one and acknowledges it, takes an order,
+    /// sends a slot that is due, and puts notices. It does each at most once, but puts one notice for each client, and
+    /// up to three parcels (`few`). The result is `Ended` if the log or the clock is full, the node has crashed, or no
+    /// turn is left. It is `Stopped` if all engines are quiet, and `Idle` only if nothing of the above was done
+    /// (`idle`).
     #[tactic(auto, using(crate::proofs::Again::desk_same))]
     pub fn turn<G: Gate, R: Wait>(
         &mut self,
@@ -189,7 +191,7 @@ impl Engine {
         if moved { Turn::Moved } else { Turn::Idle }
     }
 
-    /// How its thread waits after a turn in which it found nothing to do.
+    /// How the engine's thread waits after a turn with nothing to do.
     pub fn pause(&self) -> Pause {
         self.resend.pause()
     }
@@ -203,8 +205,8 @@ impl Engine {
         self.inbox.end(putter);
     }
 
-    /// What the engine leaves. One that has not ended, as the run was given up, ends here: as its log says, or else as if no turn
-    /// were left.
+    /// What the engine leaves. If it has not ended, because the run was given up, it ends here: as its log says, or
+    /// else as if no turn were left.
     pub fn into_parts(self) -> EngineParts
         ensures ends { (result.outbox ≡ self.outbox) × (result.inbox ≡ self.inbox)
             × (result.desk ≡ self.desk) }
@@ -230,7 +232,8 @@ impl Engine {
         }
     }
 
-    // Whether the engine may go on: its log and its clock are not full, and no crash is due, which is logged here.
+    // Whether the engine may go on: its log and its clock are not full, and no crash is due. A crash that is due is
+    // logged here.
     #[tactic(auto, using(crate::proofs::Again::desk_same))]
     fn may_go_on(&mut self) -> bool
         ensures same { IsSameEngine self.old self.new }
@@ -240,7 +243,7 @@ impl Engine {
         self.journal.may_log()
     }
 
-    // Counts the turn. Answers whether there was one left; else the engine has ended.
+    // Counts the turn, and returns whether one was left. If not, the engine has ended.
     #[tactic(auto, using(crate::proofs::Again::desk_same))]
     fn count_turn(&mut self) -> bool
         ensures same { IsSameEngine self.old self.new }
@@ -250,7 +253,8 @@ impl Engine {
         self.journal.count_turn()
     }
 
-    // Ends, as all engines are quiet. The log is asked first: the slot sent last may have filled it, or made a crash due.
+    // Ends the engine because all are quiet. The log is checked first: the slot sent last may have filled it, or made a
+    // crash due.
     #[tactic(auto, using(crate::proofs::Again::desk_same))]
     fn stop(&mut self)
         ensures same { IsSameEngine self.old self.new }
@@ -262,7 +266,7 @@ impl Engine {
         }
     }
 
-    // Tells the gate how many messages were delivered in this turn, where there are any.
+    // Tells the gate how many messages were delivered in this turn, if any were.
     fn tell_gate<G: Gate>(&mut self, gate: &mut G)
         ensures { self.new ≡ self.old }
     {
@@ -272,9 +276,9 @@ impl Engine {
         }
     }
 
-    // What a turn does: exchanges parcels, takes an order, sends a slot that is due, puts notices, and tells the board whether
-    // the engine is quiet. Answers whether anything but the last was done. The jobs are asked before the desk is found empty and
-    // the trays full: once no job is left, both stay so, and are looked at no more.
+    // Does the work of a turn: exchanges parcels, takes an order, sends a slot that is due, puts notices, and tells the
+    // board whether the engine is quiet. Returns whether it did anything but the last. It looks for jobs before it
+    // finds the desk empty and the trays full. Once no job is left, both stay so, and the engine stops looking at them.
     #[tactic(auto, using(crate::proofs::Again::desk_same))]
     fn work<R: Wait>(&mut self, rt: &R, board: &Board, quiet: &mut Quiet) -> bool
         ensures same { IsSameEngine self.old self.new }
@@ -291,7 +295,7 @@ impl Engine {
         exchanged || ordered || sent || told
     }
 
-    // Puts the parcel that the outbox refused, takes one and acknowledges it. Answers whether any of this was done.
+    // Puts the parcel that the outbox refused, takes one and acknowledges it. Returns whether it did any of this.
     #[tactic(auto, using(crate::proofs::Again::desk_same))]
     fn exchange<R: Wait>(&mut self, rt: &R, board: &Board, quiet: &mut Quiet) -> bool
         ensures same { IsSameEngine self.old self.new }
@@ -303,7 +307,7 @@ impl Engine {
         put || received
     }
 
-    // Puts the parcel that the outbox refused last, where there is one. Answers whether it was put.
+    // Puts the parcel that the outbox refused last, if there is one. Returns whether it did.
     #[tactic(auto, using(crate::proofs::Again::desk_same))]
     fn flush<R: Wait>(&mut self, rt: &R) -> bool
         ensures same { IsSameEngine self.old self.new }
@@ -316,8 +320,8 @@ impl Engine {
         hand(rt, &mut self.outbox, &mut self.held, parcel)
     }
 
-    // Where no parcel waits to be put: takes one, where none waits to be logged, logs it and acknowledges what it carries. Answers
-    // whether one was taken or logged.
+    // Does nothing if a parcel waits to be put. Otherwise takes one, unless one waits to be logged, logs it and
+    // acknowledges what it carries. Returns whether it took or logged one.
     #[tactic(auto, using(crate::proofs::Again::desk_same))]
     fn receive_and_acknowledge<R: Wait>(&mut self, rt: &R, board: &Board, quiet: &mut Quiet) -> bool
         ensures same { IsSameEngine self.old self.new }
@@ -347,8 +351,8 @@ impl Engine {
         }
     }
 
-    // Takes a parcel from the inbox, where none waits to be logged. Answers whether there was one. It waits then, but for one to another
-    // node, which is dropped.
+    // Takes a parcel from the inbox, unless one waits to be logged, and returns whether there was one. The parcel then
+    // waits; but one for another node is dropped.
     #[tactic(auto, using(crate::proofs::Again::desk_same))]
     fn take_next<R: Wait>(&mut self, rt: &R) -> bool
         ensures same { IsSameEngine self.old self.new }
@@ -370,8 +374,8 @@ impl Engine {
         true
     }
 
-    // Logs the arrival of the parcel that waits, where there is one, and answers what it has brought. It waits on where memory is
-    // wanting, and where it has the last stamp, which ends the engine.
+    // Logs the arrival of the parcel that waits, if there is one, and returns what it carries. The parcel goes on
+    // waiting if memory runs out, or if it has the last stamp, which ends the engine.
     #[tactic(auto, using(crate::proofs::Again::desk_same))]
     fn log_waiting(&mut self) -> Received
         ensures same { IsSameEngine self.old self.new }
@@ -396,8 +400,8 @@ impl Engine {
         received
     }
 
-    // Makes a frame for a slot, which it carries or acknowledges, and hands it on, where none waits to be put. Answers whether it
-    // was made.
+    // Makes a frame that carries or acknowledges a slot, and hands it on, unless a parcel waits to be put. Returns
+    // whether it did.
     #[tactic(auto, using(crate::proofs::Again::desk_same))]
     #[inline(always)]
     fn make<R: Wait>(&mut self, rt: &R, kind: FrameKind, to: NodeId, slot: u64) -> bool
@@ -415,7 +419,7 @@ impl Engine {
         true
     }
 
-    // A peer took a slot, so there is room for others on the way to it.
+    // Notes that a peer took a slot, so that others may be on their way to it.
     #[tactic(auto, using(crate::proofs::Again::desk_same))]
     fn hear(&mut self, from: NodeId, slot: u64)
         ensures { self.new ≡ self.old }
@@ -423,8 +427,8 @@ impl Engine {
         self.resend.hear(from, slot);
     }
 
-    // Takes one order and logs it. Answers whether there was one. The log is asked first, so that a crash that is due comes
-    // though no order can.
+    // Takes one order and logs it. Returns whether there was one. The log is checked first, so that a due crash comes
+    // even if no order can.
     #[tactic(auto, using(crate::proofs::Again::desk_same))]
     fn take_order<R: Wait>(&mut self, rt: &R) -> bool
         ensures same { IsSameEngine self.old self.new }
@@ -443,8 +447,8 @@ impl Engine {
         true
     }
 
-    // Begins a turn of what is sent, and sends a slot that is due, to the next peer in cyclic order that has not ended and to which
-    // one is. Answers whether it did.
+    // Begins a turn of sending, and sends a slot to the next peer in cyclic order to which one is due and that has not
+    // ended. Returns whether it did.
     #[tactic(auto, using(crate::proofs::Again::desk_same))]
     fn send_next<R: Wait>(&mut self, rt: &R, board: &Board) -> bool
         ensures same { IsSameEngine self.old self.new }
@@ -455,7 +459,7 @@ impl Engine {
         self.send_due(rt, board)
     }
 
-    // What was sent long ago is due again.
+    // Makes due again what was sent long ago.
     #[tactic(auto, using(crate::proofs::Again::desk_same))]
     fn next_turn(&mut self)
         ensures { self.new ≡ self.old }
@@ -463,7 +467,7 @@ impl Engine {
         self.resend.next_turn(self.journal.node());
     }
 
-    // Sends the slot that is due next. Answers whether there was one.
+    // Sends the slot that is due next. Returns whether it did.
     #[tactic(auto, using(crate::proofs::Again::desk_same))]
     fn send_due<R: Wait>(&mut self, rt: &R, board: &Board) -> bool
         ensures same { IsSameEngine self.old self.new }
@@ -483,8 +487,8 @@ impl Engine {
         true
     }
 
-    // For each client, puts the next notice of its feed, where the tray has room; none once the engine has ended. Answers whether
-    // one was put.
+    // Puts the next notice of each client's feed, if its tray has room, and none after the engine has ended. Returns
+    // whether it put one.
     #[tactic(auto, using(crate::proofs::Again::desk_same))]
     fn notify<R: Wait>(&mut self, rt: &R) -> bool
         ensures same { IsSameEngine self.old self.new }
@@ -500,7 +504,7 @@ impl Engine {
         }
     }
 
-    // Notes, where no job is left, whether the desk was empty and each client's next notice found its tray full.
+    // Notes, if no job is left, whether the desk was empty and each client's next notice found its tray full.
     #[tactic(auto, using(crate::proofs::Again::desk_same))]
     fn note_served(&mut self, jobs_ended: bool, ordered: bool, told: bool)
         ensures { self.new ≡ self.old }
@@ -511,7 +515,7 @@ impl Engine {
             && self.places.iter().all(|place| place.waiting.is_some());
     }
 
-    // Whether no parcel waits and nothing is owed to an engine that has not ended.
+    // Whether no parcel waits, and nothing is owed to an engine that has not ended.
     fn is_settled(&self, board: &Board) -> bool {
         if self.held.is_some() || self.waiting.is_some() {
             return false;
@@ -525,7 +529,6 @@ impl Engine {
     }
 }
 
-// Whether a node owes a peer.
 fn owes(node: &Node, peer: usize) -> bool {
     match NodeId::from_number(peer as u64) {
         Some(peer) => node.owed(peer).unwrap_or(0) > 0,
@@ -548,10 +551,10 @@ fn set(waiting: &mut Option<Parcel>, next: Option<Parcel>)
     *waiting = next;
 }
 
-// A parcel for another node.
+// Drops a parcel for another node.
 fn let_go(_parcel: Parcel) {}
 
-// What a frame that arrived has brought.
+// What a frame that arrived carries.
 fn brought_by(frame: &Frame) -> Received {
     let from = frame.from;
     match &frame.body {
@@ -560,7 +563,7 @@ fn brought_by(frame: &Frame) -> Received {
     }
 }
 
-// Puts a parcel into the outbox, or keeps it where that is full. Answers whether it was put.
+// Puts a parcel into the outbox, or keeps it if that is full. Returns whether it was put.
 #[inline(always)]
 fn hand<R: Wait>(
     rt: &R,
@@ -584,8 +587,7 @@ fn hand<R: Wait>(
     }
 }
 
-// Takes an order from the desk, where there is one. It finds none only where there is no desk, or all that clients put that have
-// ended was taken.
+// Takes an order from the desk. It finds none only if there is no desk, or if all that the ended clients put was taken.
 #[tactic(auto, using(crate::proofs::Again::desk_same))]
 fn next_order<R: Wait>(rt: &R, desk: &mut Option<Desk>) -> Option<OrderIn>
     ensures same { IsSameDesk desk.old desk.new }
