@@ -1,4 +1,4 @@
-//! A peer: a node with its log and its clock, and what is under way to the others.
+//! A peer: a node with its log and its clock, and what is on its way to the others.
 ghost use Rattle.std.specs.Prelude.{◌≡◌, ◌+◌, ◌<◌, ◌^◌, ◌⊎◌, ◌≢◌, true, IfErr, IfNone, IfOk, IfSome, OnErr, OnOk};
 ghost use Rattle.cast_journal.specs.Journals.{MayLog, LogsOrder, Halts};
 ghost use Rattle.cast_peer.specs.Peers.{TakesParcel, TakesIn, Receives, Drops, MakesFrame, LogsFrameAtMost, IsSaved, may_be_made, parcel_in};
@@ -18,41 +18,42 @@ use cast_wire::{Packet, read_packet, write_packet};
 use std::alloc::{AllocError, Global};
 use std::collections::VecDeque;
 
-/// When packets are given out and news are told.
+/// When packets are given out and news is reported.
 #[derive(Clone, Copy, Debug, PartialEq, Eq)]
 pub enum Saving {
-    /// Once the entries that tell of them are saved, so that a peer that is killed leaves a log of all that anybody saw of it.
+    /// After the entries that record them are saved. So a peer that is killed leaves a log of all that anybody saw of
+    /// it.
     First,
     /// At once: for tests.
     Never,
 }
 
-/// What became of a packet that was taken in.
+/// What happened to a packet that was taken in.
 #[derive(Clone, Copy, Debug, PartialEq, Eq)]
 pub enum Received {
     /// Its arrival was logged.
     Taken,
-    /// What it brings is known, and nothing changed. A message that came before is acknowledged once more.
+    /// Its content is known, and nothing changed. A message that came before is acknowledged once more.
     Known,
 }
 
-/// What is to be sent next.
+/// What to send next.
 #[derive(Clone, Copy, Debug, PartialEq, Eq)]
 pub enum NextPacket {
-    /// A packet for this node. The entry at this place of the log tells of it.
+    /// A packet for this node. The entry at this place of the log records it.
     Packet { to: NodeId, entry: usize },
-    /// A packet was made and logged, and waits. Ask again, and save when told to.
+    /// A packet was made and logged, and waits. Ask again, and save if asked to.
     Logged,
     /// Packets wait until more of the log is saved.
     Save,
-    /// Nothing is to be sent now.
+    /// There is nothing to send now.
     Nothing,
 }
 
-// So many packets wait at most, before some are to be saved.
+// How many packets may wait before some must be saved.
 const MOST_WAITING: usize = 64;
 
-// A slot that was taken, of which its giver is to be told.
+// A slot that was taken; its giver is to hear of it.
 #[derive(Clone, Copy)]
 struct Word {
     to: NodeId,
@@ -74,15 +75,15 @@ pub struct Peer {
     config: Config,
     group: u64,
     journal: Journal,
-    // So many entries of the log are saved.
+    // How many entries of the log are saved.
     saved: usize,
     words: VecDeque<Word>,
     waiting: VecDeque<Waiting>,
     // By node.
     flights: Vec<Flight>,
-    // The peer that was looked at last.
+    // The last peer whose turn it was to be sent a slot.
     turn: u64,
-    // The peers that are not expected to answer any more, a bit each.
+    // The peers that are no longer expected to answer, a bit each.
     gone: u64,
     told: Place,
     // How many orders were given.
@@ -90,8 +91,9 @@ pub struct Peer {
 }
 
 impl Peer {
-    /// A new node of a group, with room for its whole log. The group's number stands in each packet. No peer may have been made with
-    /// the same two numbers before, by anyone. Refused is a number that is no node's, or else want of memory.
+    /// A new node of a group, with room for its whole log. Each packet has the group's number. Nobody may have made a
+    /// peer with the same two numbers before. The call is refused if the number is no node's, or else if it is out of
+    /// memory.
     pub fn new(
         alloc: Global,
         config: &Config,
@@ -142,7 +144,8 @@ impl Peer {
         })
     }
 
-    /// Broadcasts an item, or answers why not. A refusal of the node's is logged too. The item's number is told by `next_news`.
+    /// Broadcasts an item, or returns why not. If the node refuses, the refusal is logged too. `next_news` reports the
+    /// item's number.
     pub fn order(&mut self, item: Item) -> Result<(), PeerFault>
         ensures logs { Halts self.old.journal self.new.journal
             ⊎ LogsOrder self.old.journal self.new.journal (record {
@@ -167,8 +170,8 @@ impl Peer {
         }
     }
 
-    /// Takes what the network brought, or answers why it is dropped, and then nothing changed but that the log or the clock may be
-    /// found full. What no peer of the group could have made is dropped.
+    /// Takes what the network brought, or returns why it is dropped. It drops whatever no peer of the group could have
+    /// made. Then nothing changed, except that the log or the clock may be found full.
     pub fn receive(&mut self, bytes: &[u8]) -> Result<Received, PeerFault>
         ensures ok { IfOk result (λ received. Receives self.old.config self.old.group
             self.old.journal bytes.now received self.new.journal) }
@@ -184,8 +187,8 @@ impl Peer {
         }
     }
 
-    /// Appends the next packet that is to be sent, and says for whom it is; or logs one; or says what is to be done before. A call
-    /// logs one step at most.
+    /// Appends the next packet to send and returns its target; or logs one; or returns what to do first. A call logs at
+    /// most one step.
     pub fn next_packet(&mut self, out: &mut Vec<u8>) -> Result<NextPacket, AllocError>
         ensures step { LogsFrameAtMost self.old.journal self.new.journal }
         ensures saved { IfOk result (IsSaved self.new.saved) }
@@ -205,7 +208,7 @@ impl Peer {
         Ok(NextPacket::Save)
     }
 
-    /// So many entries of the log are saved. More than it has, or fewer than were said to be, are not believed.
+    /// Notes how many entries of the log are saved. The number is limited to the log's length, and never falls.
     pub fn saved(&mut self, count: usize)
         ensures { self.new.journal ≡ self.old.journal }
     {
@@ -213,8 +216,8 @@ impl Peer {
         self.saved = self.saved.max(count);
     }
 
-    /// Time has passed: what was sent before the last call, and is not acknowledged, is due again, each time after twice as many
-    /// calls.
+    /// Notes that time has passed. What was sent before the last call, and is not acknowledged, is due again, each time
+    /// after twice as many calls.
     pub fn tick(&mut self)
         ensures { self.new.journal ≡ self.old.journal }
     {
@@ -223,14 +226,15 @@ impl Peer {
         }
     }
 
-    /// A peer is not expected to answer any more, so nothing is sent to it. This may be wrong: no promise rests on it.
+    /// Sends nothing more to a peer, as it is no longer expected to answer. This may be wrong: no promise rests on it.
     pub fn give_up(&mut self, peer: NodeId)
         ensures { self.new.journal ≡ self.old.journal }
     {
         self.gone |= 1u64.checked_shl(u32::from(peer.0)).unwrap_or(0);
     }
 
-    /// Whether nothing is owed to a peer that was not given up, no packet waits, and no slot is to be acknowledged.
+    /// Whether nothing is owed to a peer that was not given up, no packet waits, and no slot is still to be
+    /// acknowledged.
     pub fn is_quiet(&self) -> bool {
         if !self.words.is_empty() || !self.waiting.is_empty() {
             return false;
@@ -246,15 +250,15 @@ impl Peer {
         true
     }
 
-    /// The number of the next item of the node's that was ordered, or what is delivered or decided next, and was not told. Of what
-    /// is not saved nothing is told, where it is to be saved first.
+    /// The next news that was not reported: the number of an item that the node ordered, or what it delivered or
+    /// decided. If entries are to be saved first, nothing is reported of an unsaved one.
     pub fn next_news(&mut self) -> Result<Option<News>, AllocError>
         ensures { self.new.journal ≡ self.old.journal }
     {
         next_news(&mut self.told, self.journal.log(), self.saved)
     }
 
-    /// The log. Its entries are to be saved in order.
+    /// The log. Save its entries in order.
     pub fn log(&self) -> &OpenLog
         ensures { result.now.entries ≡ self.now.journal.log }
     {
@@ -290,7 +294,7 @@ impl Peer {
         self.group
     }
 
-    // Takes the frame of a packet of the group for this node.
+    // Takes the frame of a packet that the group made for this node.
     fn take(&mut self, packet: Packet) -> Result<Received, PeerFault>
         requires to { packet.frame.to ≡ self.old.journal.node.me }
         requires stamp { packet.stamp + 1 < 2 ^ 64 }
@@ -345,7 +349,8 @@ impl Peer {
         None
     }
 
-    // Whether what a frame brings is known. A message that came before is then acknowledged by the same packet as before.
+    // Whether the content of a frame is known. A message that came before is then acknowledged by the same packet
+    // again.
     fn is_known(&mut self, frame: &Frame) -> bool
         ensures { self.new.journal ≡ self.old.journal }
     {
@@ -397,7 +402,7 @@ impl Peer {
         }
     }
 
-    // Gives out the packet that waits first, if its entry is saved.
+    // Gives out the first packet that waits, if its entry is saved.
     fn give_waiting(&mut self, out: &mut Vec<u8>) -> Result<Option<NextPacket>, AllocError>
         ensures journal { self.new.journal ≡ self.old.journal }
         ensures saved { IfOk result (λ next. IfSome next (IsSaved self.new.saved)) }
@@ -414,7 +419,7 @@ impl Peer {
         Ok(Some(NextPacket::Packet { to, entry }))
     }
 
-    // Gives out a packet that was given out before and is due again, if one is.
+    // Gives out again a packet that is due again, if there is one.
     fn send_again(&mut self, out: &mut Vec<u8>) -> Result<Option<NextPacket>, AllocError>
         ensures journal { self.new.journal ≡ self.old.journal }
         ensures saved { IfOk result (λ next. IfSome next (IsSaved self.new.saved)) }
@@ -435,7 +440,7 @@ impl Peer {
         Ok(None)
     }
 
-    // Makes and logs a frame, if one is to be made, whose packet waits then. Says whether it did.
+    // Makes and logs a frame, if one is to be made, and keeps its packet waiting. Returns whether it did.
     fn log_frame(&mut self) -> Result<bool, AllocError>
         ensures step { LogsFrameAtMost self.old.journal self.new.journal }
     {
@@ -458,7 +463,7 @@ impl Peer {
         Ok(true)
     }
 
-    // Keeps the packet of a frame that was made, to be given out, and to be sent again.
+    // Keeps the packet of a frame, to be given out now and sent again later.
     fn keep(&mut self, kind: FrameKind, to: NodeId, slot: u64, bytes: Vec<u8>, again: Vec<u8>)
         ensures { self.new.journal ≡ self.old.journal }
     {
@@ -472,7 +477,7 @@ impl Peer {
         }
     }
 
-    // The frame that is to be made next: an acknowledgement, or else the next slot for the next peer.
+    // The frame to make next: an acknowledgement, or else the next slot for the next peer.
     fn next_frame(&mut self) -> Option<(FrameKind, NodeId, u64)>
         ensures { self.new.journal ≡ self.old.journal }
     {
@@ -489,7 +494,7 @@ impl Peer {
         None
     }
 
-    // The slot that is to be sent next to the peer whose turn it is.
+    // The slot to send next to the peer whose turn it is.
     fn next_slot(&mut self) -> Option<(NodeId, u64)>
         ensures { self.new.journal ≡ self.old.journal }
     {
@@ -521,7 +526,6 @@ impl Peer {
     }
 }
 
-// Whether the bit of a node is set.
 fn is_in(bits: u64, node: NodeId) -> bool {
     bits.checked_shr(u32::from(node.0)).unwrap_or(0) % 2 == 1
 }
