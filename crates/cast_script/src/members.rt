@@ -11,7 +11,7 @@ use cast_message::{MOST_ENTRIES, MOST_ITEMS, Mode, Settings};
 use cast_record::mode_named;
 use serde_json::{Map, Value};
 
-/// Whether the value is an object that has no other members than a script's.
+/// Whether the value is an object with no members other than a script's.
 #[tactic(auto, using(crate::proofs::MemberLemmas::all_known_keys))]
 pub fn has_known_members_only(value: &Value) -> bool
     ensures { result ≡ has_known_members (view value.now) }
@@ -48,7 +48,7 @@ fn is_known(name: &str) -> bool
     )
 }
 
-/// What the members say that aren't lists.
+/// What the members that aren't lists say.
 #[tactic(auto, unfolding(crate::specs::Members::settings_of))]
 pub fn settings(value: &Value) -> Option<RunSettings>
     ensures { result ≡ settings_of (view value.now) }

@@ -12,14 +12,14 @@ use cast_message::{Config, FaultPlan};
 use serde_json::Value;
 use std::alloc::Global;
 
-/// The script that the bytes say, or why they say none. `NotJson` is for bytes that aren't JSON, are nested more than 127 levels
-/// deep, or have a number past the range of a float; `Shape` for a value that isn't a script's, by the first place that is
-/// wrong; `Config` for the limits of a configuration, tried once all else is of its form. `Memory` is answered where a growth is
-/// refused, before what would be found later.
+/// The script that the bytes hold, or why they hold none. `NotJson` is for bytes that aren't JSON, are nested more than
+/// 127 levels deep, or have a number beyond the range of a float. `Shape` is for a value that is no script, with the
+/// first wrong place. `Config` is for the limits of a configuration, checked last. `Memory` is the result if memory is
+/// refused before any other cause is found.
 pub fn read_script(alloc: Global, bytes: &[u8]) -> Result<Script, ScriptFault>
     ensures { Reads result bytes.now }
 {
-    // Nothing is read of an empty text, so nothing wants memory.
+    // An empty text is refused before anything is allocated.
     if bytes.is_empty() {
         return Err(ScriptFault::NotJson);
     }
@@ -30,7 +30,7 @@ pub fn read_script(alloc: Global, bytes: &[u8]) -> Result<Script, ScriptFault>
     }
 }
 
-// The same by the value that the bytes say.
+// Reads the script from the value that the bytes hold.
 fn read_value(alloc: Global, bytes: &[u8]) -> Result<Script, ScriptFault>
     requires { 0 < length bytes.now }
     ensures { Reads result bytes.now }
@@ -57,7 +57,7 @@ fn script_from(alloc: Global, value: &Value) -> Result<Script, ScriptFault>
     script_in(alloc, &settings, events, plan, jobs)
 }
 
-// The script of these settings and of the values in its lists.
+// The script with these settings, and with the values in its lists.
 #[tactic(auto, unfolding(crate::specs::Script::script_in))]
 fn script_in(
     alloc: Global,
@@ -69,7 +69,7 @@ fn script_in(
     ensures script { AnswersBy said result (script_in settings.now
         (map view event_values.now) (map view fault_values.now) (map view job_values.now)) }
 
-    // Only elements can want memory.
+    // Only elements can run out of memory.
     ensures memory { IsErrOf result ScriptFault.Memory →
         0 < length event_values.now + length fault_values.now + length job_values.now }
 {

@@ -6,7 +6,7 @@ use thiserror::Error;
 #[derive(Drop)]
 pub struct Script {
     pub config: Config,
-    /// How many turns an engine may take, and a client's job, in a run in threads or by a seed.
+    /// How many turns an engine, and a client's job, may take in a run in threads or by a seed.
     pub turns: u64,
     /// What happens, in order, in a run step by step.
     pub events: List<ScriptEvent>,
@@ -25,9 +25,9 @@ pub enum ScriptEvent {
     Settle,
 }
 
-/// Why a text is no script. The index of a shape is 0 for the value as a whole. Otherwise it is the place of the first bad
-/// element in the list of the events, the plan and the jobs, counted from 1. The limits of the configuration are checked
-/// last.
+/// Why a text is no script. The index of a shape is 0 for the value as a whole. Otherwise it is the place of the first
+/// bad element in the list of the events, the plan and the jobs, counted from 1. The limits of the configuration are
+/// checked last.
 #[derive(Clone, Copy, Debug, PartialEq, Eq, Error)]
 pub enum ScriptFault {
     #[error("the text is not JSON")]
@@ -40,11 +40,10 @@ pub enum ScriptFault {
     Memory,
 }
 
-/// What a script says besides its lists, before any limit is checked.
+/// What a script says outside its lists, before any limit is checked.
 #[derive(Clone, Copy)]
 pub struct RunSettings {
-    /// The values of the configuration.
     pub group: Settings,
-    /// How many turns an engine may take, and a client's job.
+    /// How many turns an engine, and a client's job, may take.
     pub turns: u64,
 }
