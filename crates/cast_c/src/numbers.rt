@@ -1,4 +1,4 @@
-//! What crosses as numbers, and what it stands for.
+//! What crosses the C interface as numbers, and what the numbers mean.
 ghost use Rattle.std.specs.Prelude.{◌≡◌, true, None, Some, IfOk, IfErr, OnErr, IsSomeAnd};
 ghost use Rattle.cast_message.specs.declared.message.Item.TheVariants.{Data};
 ghost use Rattle.cast_c.specs.Numbers.{orders_bytes, IsOf, event_in, first_fault, item_in, says, status_of};
@@ -23,8 +23,8 @@ pub struct ConfigNumbers {
     pub mode: u64,
 }
 
-/// An event but for the bytes of its item. Kind 0 is an order, 1 a send, 2 an acknowledgement, 3 an arrival, 4 a crash. `node` is
-/// the node that takes the step, of an arrival the maker of the frame, and `to` the target of a frame that is made. `number` is a
+/// An event without the bytes of its item. Kind 0 is an order, 1 a send, 2 an acknowledgement, 3 an arrival, 4 a crash.
+/// `node` takes the step; for an arrival, it made the frame. `to` is the target of a frame that is made. `number` is a
 /// slot, the number of a frame, or an instance. Item 0 of an order is bytes, 1 a proposal of `value`, 2 a close.
 #[repr(C)]
 #[derive(Clone, Copy)]
@@ -37,7 +37,8 @@ pub struct EventNumbers {
     pub value: u64,
 }
 
-/// A verdict: the first line that offends, counted from 1, and the least rule that it breaks. Of a good record both are 0.
+/// A verdict: the first line that offends, counted from 1, and the least rule that it breaks. Both are 0 for a good
+/// record.
 #[repr(C)]
 #[derive(Clone, Copy)]
 pub struct VerdictNumbers {
@@ -45,9 +46,9 @@ pub struct VerdictNumbers {
     pub rule: u64,
 }
 
-/// The reply to an event, and to a round. `code` is 0, or the number of its refusal. `number` is that of an item or a frame that was
-/// made, the node at which a frame arrived, or how many frames a round made. Delivered were `deliveries` items of `sender`, in the
-/// order of their numbers, from `first` on; and `decisions` were taken.
+/// The reply to an event, or to a round. `code` is 0, or the number of its refusal. `number` is that of an item or a
+/// frame that was made, the node at which a frame arrived, or how many frames a round made. The event delivered
+/// `deliveries` items of `sender`, in the order of their numbers, from `first`, and took `decisions` decisions.
 #[repr(C)]
 #[derive(Clone, Copy)]
 pub struct ReplyNumbers {
@@ -59,7 +60,7 @@ pub struct ReplyNumbers {
     pub decisions: u64,
 }
 
-/// An item but for its bytes. Kind 0 is bytes, so many as `length` says, 1 a proposal of `value` in `instance`, 2 a close.
+/// An item without its bytes. Kind 0 is `length` bytes, 1 a proposal of `value` in `instance`, 2 a close.
 #[repr(C)]
 #[derive(Clone, Copy)]
 pub struct ItemNumbers {
@@ -69,8 +70,9 @@ pub struct ItemNumbers {
     pub value: u64,
 }
 
-/// How long a text is; or why there is none: 1 the script has more than 67,108,864 bytes, 2 it is no JSON, 3 the element `place` is
-/// not of its form, counted from 1 on, or 0 the whole, 4 the configuration is refused with the code `place`.
+/// How long a text is, or why there is none. Cause 1: the script has more than 67,108,864 bytes. Cause 2: it is no
+/// JSON. Cause 3: the element `place` is malformed, counted from 1, or 0 for the whole. Cause 4: the configuration is
+/// refused with the code `place`.
 #[repr(C)]
 #[derive(Clone, Copy)]
 pub struct TextNumbers {
@@ -80,7 +82,7 @@ pub struct TextNumbers {
 }
 
 impl ConfigNumbers {
-    /// The configuration of these numbers, or why there is none.
+    /// The configuration with these numbers, or why there is none.
     pub(crate) fn check(&self) -> Result<Config, ConfigFault>
         ensures ok { IfOk result (IsOf self.now) }
         ensures fit { IfOk result (λ _. first_fault self.now ≡ None) }
@@ -106,7 +108,7 @@ impl ConfigNumbers {
 }
 
 impl EventNumbers {
-    /// The event of these numbers, with the bytes of its item, where each kind has one. The bytes are copied.
+    /// The event with these numbers and these item bytes, or nothing if a kind is unknown. The bytes are copied.
     pub(crate) fn event(&self, alloc: Global, bytes: &[u8]) -> Result<Option<Event>, AllocError>
         ensures ok { IfOk result (λ event. event ≡ event_in self.now bytes.now) }
         ensures err { OnErr result (IsSomeAnd (event_in self.now bytes.now) (λ event. orders_bytes event ≡ true)) }
@@ -158,7 +160,6 @@ impl EventNumbers {
 }
 
 impl VerdictNumbers {
-    /// The numbers of a verdict.
     pub(crate) fn of(said: Verdict) -> VerdictNumbers
         ensures { result ≡ says said }
     {
@@ -169,7 +170,6 @@ impl VerdictNumbers {
     }
 }
 
-/// The status of a verdict.
 pub(crate) fn status_of(said: Verdict) -> u32
     ensures { result ≡ status_of said }
 {
