@@ -1,6 +1,6 @@
-//! The kit by one name: what a user of it needs, in groups, in the order of need. Your crate's line in `crates.txt` says
-//! `NAME: cast anyhow`, and its code `use cast::{..}`. Beside the names of the crates below stand a few conveniences, and the
-//! state machine that a group follows (`Machine`, `Followers`, `run_followers`).
+//! The kit by one name: what its users need, in groups, in the order of need. Your crate's line in `crates.txt` says
+//! `NAME: cast anyhow`, and its code `use cast::{..}`. Besides the names of the crates below, it has a few
+//! conveniences, and the state machine that a group follows (`Machine`, `Followers`, `run_followers`).
 #![tactic(auto)]
 
 mod followed;
@@ -10,7 +10,7 @@ mod group;
 mod items;
 mod machine;
 
-// Types, which every use wants: what is broadcast, to whom, within which limits. `Settings::of` has the usual configuration,
+// Types for every use: what is broadcast, to whom, within which limits. `Settings::of` has the usual configuration, and
 // `data` makes an item of bytes.
 pub use cast_message::{
     Answer, Config, ConfigFault, Decision, Event, Frame, FrameBody, FrameKind, Item, List, Message,
@@ -18,18 +18,19 @@ pub use cast_message::{
 };
 pub use items::data;
 
-// The group as one value, if you say yourself what happens when: a test bed, or a run that is read step by step. No thread and
-// no time is in it.
+// The group as one value, if you decide yourself what happens when: a test bed, or a run that is read step by step. It
+// uses no thread and no time.
 pub use cast_world::{World, run_events};
 
-// A group that follows a state machine, in threads or by a seed: the service is the machine, and all else is proved once.
+// A group that follows a state machine, in threads or by a seed. The machine is the service, and all else is proved
+// once.
 pub use followed::{Followed, run_followers, run_followers_by_seed};
 pub use follower::Follower;
 pub use followers::Followers;
 pub use machine::Machine;
 
-// A group of jobs of your own, in threads or by a seed, if a client does more than submit a list and follow. `run_group` has the
-// usual gates and limits, `run_live` and `run_scheduled` take them from you.
+// A group of your own jobs, in threads or by a seed, if a client does more than submit a list and follow. `run_group`
+// has the usual gates and limits; `run_live` and `run_scheduled` take them from you.
 pub use cast_desk::{Client, DeskFault, Notice};
 pub use cast_run::{
     ClientJob, ClientReport, CountingGate, Gate, Limits, Listed, LiveFault, LiveRun, OpenGate,
@@ -40,10 +41,10 @@ pub use cast_script::{Fault, FaultPlan, Frames};
 pub use group::{USUAL_LIMITS, USUAL_STEPS, run_group, run_group_by_seed};
 pub use items::no_faults;
 
-// What a group in threads has come to: its logs, and the one history that they make.
+// The outcome of a group in threads: its logs, and the one history that they make.
 pub use cast_merge::{Assembly, EngineEnd, GroupReport, NodeReport, assemble};
 
-// One node, if you carry its frames yourself, by a network of your own.
+// One node, if you carry its frames yourself, over your own network.
 pub use cast_node::{Entry, EntryKind, Log, Node, Origin};
 
 // Records and their judge, which checks a trace of any system, and scripts.
@@ -55,8 +56,8 @@ pub use cast_record::{
 };
 pub use cast_script::{Script, ScriptEvent, ScriptFault, read_script, write_script};
 
-/// A law of lists of messages: whatever number each message counts for, lists that have the same messages of each sender come to
-/// the same sum. So machines that keep sums agree wherever their nodes have delivered the same of each sender.
+/// A law of lists of messages: whatever number each message counts for, two lists with the same messages of each sender
+/// have the same sum. So machines that keep sums agree if their nodes have delivered the same of each sender.
 pub fn sums_agree()
     ensures { SumsAgree }
 {}
