@@ -1,5 +1,5 @@
-/* What libcastgroup has beside the proved exports: its version, and a call that takes many events, for languages in which each call is
- * dear. */
+/* What libcastgroup has besides the proved exports: its version, and a call that takes many events, for languages in
+ * which each call is costly. */
 #include "castgroup.h"
 
 uint32_t cast_c_version(void) { return CAST_VERSION_NUMBER; }

@@ -1,22 +1,23 @@
-/* castgroup for C and C++: groups that broadcast numbered items, the judge of their records, and texts of their scripts. It is plain
- * C99, and C++98.
+/* castgroup for C and C++: groups that broadcast numbered items, the judge of their records, and texts of their
+ * scripts. It is plain C99, and C++98.
  *
- * Link libcastgroup, which `bindings/library FOLDER` makes. Each function of this header looks for null pointers, and then makes the
- * call of the library that has the same name with cast_c_ for cast_. What it answers is proved: the clauses stand with the crate
- * cast_c, in crates/cast_c/src. Plain C are the texts of codes, and cast_c_version and cast_c_world_steps in castgroup.c, which makes a
- * call of cast_c_world_step for each event.
+ * Link libcastgroup, which `bindings/library FOLDER` makes. Each function of this header checks for null pointers, and
+ * then calls the library function with cast_c_ in place of cast_. What that returns is proved: the crate cast_c has the
+ * clauses, in crates/cast_c/src. The texts of codes are plain C. So are cast_c_version and cast_c_world_steps in
+ * castgroup.c; the latter calls cast_c_world_step for each event.
  *
- * Statuses are those of the program, and stand beside each call. Each call answers CAST_MISUSED of a null pointer too. A record that
- * is told (a verdict, a reply, a count ..) is whole where the status is 0, or 3 of a verdict, or where a function says so; else nothing
- * in it counts.
+ * Statuses are those of the program; each call says which it returns. Every call also returns CAST_MISUSED for a null
+ * pointer. A result (a verdict, a reply, a count ..) is whole if the status is 0, or 3 for a verdict, or if a function
+ * says so. Otherwise nothing in it counts.
  *
- * What a caller keeps, since no function can see it:
- * - A handle begins as zeros (CAST_EMPTY). It is passed by its address and copied nowhere, and what stands in it is the library's.
- * - A pointer leads to what its type says, and bytes to as many as their count, below 2^63. What a call writes overlaps nothing
- *   else that the call is given.
- * - A handle is used by one thread at a time; another may have it after a lock, or after a thread was started or joined.
+ * What a caller must keep to, since no function can check it:
+ * - A handle begins as zeros (CAST_EMPTY). It is passed by its address and never copied, and its content is the
+ *   library's.
+ * - A pointer leads to what its type says, and bytes to as many as their count, below 2^63. What a call writes overlaps
+ *   nothing else that the call is given.
+ * - A handle is used by one thread at a time. Another may use it after a lock, or after a thread was started or joined.
  * - No call is made in a signal handler, nor in the forked child of a process with threads.
- * - malloc, realloc and free are of one allocator, and align blocks as C says.
+ * - malloc, realloc and free belong to one allocator, and align blocks as C says.
  * A group or a judge that is not dropped is never freed. */
 #ifndef CASTGROUP_H
 #define CASTGROUP_H
@@ -25,8 +26,8 @@
 #include <stddef.h>
 #include <stdint.h>
 
-/* The version of this header, as text and as a number: 10,000 * major + 100 * minor + patch. cast_version() is that of the library. A
- * library of the same major and minor version has at least what this header declares. */
+/* The version of this header, as text and as a number: 10,000 * major + 100 * minor + patch. cast_version() is that
+ * of the library. A library with the same major and minor version has at least what this header declares. */
 #define CAST_VERSION_MAJOR 0
 #define CAST_VERSION_MINOR 2
 #define CAST_VERSION_PATCH 0
@@ -38,12 +39,12 @@ extern "C" {
 #endif
 
 enum cast_status {
-    CAST_DONE = 0,          /* done; of a judge: the record is good */
-    CAST_MISUSED = 1,       /* a null pointer, a handle that holds nothing, or one that holds something where it should not, or a
-                               kind that there is not */
-    CAST_REFUSED = 2,       /* a configuration, a script or a number of a node or an item was refused */
+    CAST_DONE = 0,          /* done; from a judge: the record is good */
+    CAST_MISUSED = 1,       /* a null pointer, a handle that holds nothing, or something where it should not, or an
+                               unknown kind */
+    CAST_REFUSED = 2,       /* a configuration, a script, or the number of a node or an item was refused */
     CAST_BAD = 3,           /* the record is bad */
-    CAST_OUT_OF_MEMORY = 5, /* what a handle holds is as it was, if a function says no more of it */
+    CAST_OUT_OF_MEMORY = 5, /* unless a function says otherwise, what a handle holds is unchanged */
     CAST_TOO_SHORT = 6      /* the buffer has no room */
 };
 
@@ -58,13 +59,14 @@ struct cast_world {
 };
 #define CAST_EMPTY {false, NULL}
 
-/* The first line that offends, counted from 1, and the least rule that it breaks (cast_rule_text); 0 and 0 of a good record. */
+/* The first line that breaks a rule, counted from 1, and the least rule that it breaks (cast_rule_text); 0 and 0 for
+ * a good record. */
 struct cast_verdict {
     uint64_t line, rule;
 };
 
-/* The eight numbers of a configuration, in the ranges of docs/FORMATS.md. Mode 0 is basic, 1 is uniform. The usual ones are
- * CAST_CONFIG(nodes, faults). */
+/* The eight numbers of a configuration, in the ranges of docs/FORMATS.md. Mode 0 is basic, 1 is uniform. The usual
+ * ones are CAST_CONFIG(nodes, faults). */
 struct cast_config {
     uint64_t nodes, faults, choices, item_limit, log_limit, box_size, first_stamp, mode;
 };
@@ -74,27 +76,30 @@ struct cast_config {
 enum cast_event_kind { CAST_ORDER = 0, CAST_SEND = 1, CAST_ACK = 2, CAST_ARRIVE = 3, CAST_CRASH = 4 };
 enum cast_item_kind { CAST_DATA = 0, CAST_PROPOSE = 1, CAST_CLOSE = 2 };
 
-/* An event. `node` takes the step; of an arrival it made the frame. `to` is the target of a frame that is made. `number` is a slot,
- * the number of a frame, or an instance in which `value` is proposed. `item` is the kind of what is ordered. */
+/* An event. `node` takes the step; for an arrival, it made the frame. `to` is the target of a frame that is made.
+ * `number` is a slot, the number of a frame, or an instance in which `value` is proposed. `item` is the kind of an
+ * ordered item. */
 struct cast_event {
     uint8_t kind, node, to, item;
     uint64_t number, value;
 };
 
-/* What came of an event: `code` 0, or that of its refusal (cast_refusal_text). `number` is that of the item or the frame that was
- * made, or the node at which a frame arrived; of a round it is how many frames were made. Node `node` (of an arrival `number`)
- * delivered the items `first` to `first + deliveries - 1` of `sender`, and took so many decisions. */
+/* The reply to an event. `code` is 0, or that of its refusal (cast_refusal_text). `number` is that of the new item
+ * or frame, or the node at which a frame arrived; for a round it is the number of frames made. Node `node` (for an
+ * arrival `number`) delivered the items `first` to `first + deliveries - 1` of `sender`, and decided `decisions`
+ * times. */
 struct cast_reply {
     uint64_t code, number, sender, first, deliveries, decisions;
 };
 
-/* An item but for its bytes, of which there are `length`. */
+/* An item without its bytes, of which there are `length`. */
 struct cast_item {
     uint64_t kind, length, instance, value;
 };
 
-/* How long a text is; or why there is none: fault 1 the script has more than 67,108,864 bytes, 2 it is no JSON, 3 the element
- * `place` is not of its form, counted from 1, or 0 the whole, 4 the configuration is refused with code `place` (cast_config_text). */
+/* The length of a text, or why there is none. Fault 1: the script has more than 67,108,864 bytes. 2: it is no JSON.
+ * 3: the element `place`, counted from 1, or 0 for the whole, does not have its form. 4: the configuration is
+ * refused with code `place` (cast_config_text). */
 struct cast_text {
     uint64_t length, fault, place;
 };
@@ -129,7 +134,7 @@ uint32_t cast_c_world_steps(struct cast_world *world, const struct cast_event *e
 /* The version of the library, as CAST_VERSION_NUMBER counts it. */
 static inline uint32_t cast_version(void) { return cast_c_version(); }
 
-/* What a code says, in English. One that there is not has the text "no such code". */
+/* What a code says, in English; "no such code" for an unknown one. */
 static inline const char *cast_status_text(uint64_t status) {
     switch (status) {
     case CAST_DONE: return "done";
@@ -160,7 +165,7 @@ static inline const char *cast_refusal_text(uint64_t code) {
     default: return "no such code";
     }
 }
-/* What a line of a record did that is bad: the `rule` of a verdict. */
+/* What a bad line of a record did: the `rule` of a verdict. */
 static inline const char *cast_rule_text(uint64_t rule) {
     switch (rule) {
     case 0: return "no line of a record, or a head or an end that is missing or stands again";
@@ -187,32 +192,34 @@ static inline const char *cast_config_text(uint64_t fault) {
     }
 }
 
-/* A buffer that is null has no bytes; where it should have some that is a misuse. */
+/* A null buffer has no bytes; it is a misuse if it should have some. */
 static inline bool cast_has(const void *bytes, size_t count) { return (bytes != NULL || count == 0) && count <= (size_t)-1 / 2; }
 static inline uint8_t *cast_some(const void *bytes) {
     static uint8_t none;
     return bytes != NULL ? (uint8_t *)bytes : &none;
 }
 
-/* The judge of a record: CAST_DONE it is good, CAST_BAD it is bad, and `verdict` says where; CAST_OUT_OF_MEMORY. */
+/* Judges a record. CAST_DONE: it is good; CAST_BAD: it is bad, and `verdict` says where; CAST_OUT_OF_MEMORY. */
 static inline uint32_t cast_judge(const void *record, size_t count, struct cast_verdict *verdict) {
     if (!cast_has(record, count) || verdict == NULL) return CAST_MISUSED;
     return cast_c_judge(cast_some(record), count, verdict);
 }
 
-/* The same of a record that comes in pieces: a judge is made, fed, and asked once, which drops it. After want of memory it answers
- * that alone.
- * CAST_DONE; CAST_MISUSED the handle holds something; CAST_OUT_OF_MEMORY. */
+/* The same for a record that comes in pieces. A judge is made and fed, and then finished once, which drops it. After it
+ * ran out of memory, it returns that alone.
+ * CAST_DONE; CAST_MISUSED: the handle holds something; CAST_OUT_OF_MEMORY. */
 static inline uint32_t cast_judge_new(struct cast_judging *judge) {
     if (judge == NULL) return CAST_MISUSED;
     return cast_c_judge_new(judge);
 }
-/* CAST_DONE; CAST_MISUSED the handle holds no judge; CAST_REFUSED with it all pieces have 2^63 bytes; CAST_OUT_OF_MEMORY. */
+/* CAST_DONE; CAST_MISUSED: the handle holds no judge; CAST_REFUSED: the pieces would reach 2^63 bytes;
+ * CAST_OUT_OF_MEMORY. */
 static inline uint32_t cast_judge_feed(struct cast_judging *judge, const void *piece, size_t count) {
     if (judge == NULL || !cast_has(piece, count)) return CAST_MISUSED;
     return cast_c_judge_feed(judge, cast_some(piece), count);
 }
-/* CAST_DONE it is good; CAST_MISUSED the handle holds no judge; CAST_BAD; CAST_OUT_OF_MEMORY a piece found no memory. */
+/* CAST_DONE: it is good; CAST_MISUSED: the handle holds no judge; CAST_BAD; CAST_OUT_OF_MEMORY: a piece ran out of
+ * memory. */
 static inline uint32_t cast_judge_finish(struct cast_judging *judge, struct cast_verdict *verdict) {
     if (judge == NULL || verdict == NULL) return CAST_MISUSED;
     return cast_c_judge_finish(judge, verdict);
@@ -221,24 +228,27 @@ static inline void cast_judge_drop(struct cast_judging *judge) {
     if (judge != NULL) cast_c_judge_drop(judge);
 }
 
-/* A group in which nothing has happened: CAST_DONE; CAST_MISUSED the handle holds something; CAST_REFUSED, and `fault` is 7 where there
- * is no such mode, or else the code of the first number that is out of range; CAST_OUT_OF_MEMORY. */
+/* Makes a group in which nothing has happened. CAST_DONE; CAST_MISUSED: the handle holds something; CAST_REFUSED:
+ * `fault` is 7 if there is no such mode, or else the code of the first number that is out of range;
+ * CAST_OUT_OF_MEMORY. */
 static inline uint32_t cast_world_new(struct cast_world *world, const struct cast_config *config, uint64_t *fault) {
     if (world == NULL || config == NULL || fault == NULL) return CAST_MISUSED;
     return cast_c_world_new(world, config, fault);
 }
 
-/* The group takes an event; the bytes are copied, and asked for only where it orders some. CAST_DONE, of a refused event too, which
- * changes nothing; CAST_MISUSED the handle holds no group, or there is no such kind; CAST_OUT_OF_MEMORY, and nothing changed. */
+/* The group takes an event. The bytes are copied, and read only if it orders some. CAST_DONE, also for a refused
+ * event, which changes nothing; CAST_MISUSED: the handle holds no group, or there is no such kind;
+ * CAST_OUT_OF_MEMORY: nothing changed. */
 static inline uint32_t cast_world_step(struct cast_world *world, const struct cast_event *event, const void *bytes, size_t count,
                                        struct cast_reply *reply) {
     if (world == NULL || event == NULL || !cast_has(bytes, count) || reply == NULL) return CAST_MISUSED;
     return cast_c_world_step(world, event, cast_some(bytes), count, reply);
 }
 
-/* Takes `count` events by cast_world_step, and writes a reply for each. Of an order of bytes `number` is where they begin in `bytes`,
- * and `value` how many there are. It stops at the first whose status is not CAST_DONE, and answers that; those that do not stand in
- * `bytes` are a misuse. `taken` is how many events have a reply; a refused one has its code there, and the next is taken. */
+/* Takes `count` events by cast_world_step, and writes a reply for each. For an order of bytes, `number` is where
+ * they begin in `bytes`, and `value` is how many there are; they must be in `bytes`. The call stops at the first
+ * event whose status is not CAST_DONE, and returns that status. `taken` is the number of events with a reply. A
+ * refused event has its code there, and the next one is taken. */
 static inline uint32_t cast_world_steps(struct cast_world *world, const struct cast_event *events, size_t count, const void *bytes,
                                         size_t size, struct cast_reply *replies, uint64_t *taken) {
     if (world == NULL || (count > 0 && (events == NULL || replies == NULL)) || !cast_has(bytes, size) || taken == NULL)
@@ -246,39 +256,40 @@ static inline uint32_t cast_world_steps(struct cast_world *world, const struct c
     return cast_c_world_steps(world, events, count, cast_some(bytes), size, replies, taken);
 }
 
-/* All that live nodes owe one another is sent, taken and acknowledged. CAST_DONE, also where `code` is 12; CAST_MISUSED the handle
- * holds no group; CAST_OUT_OF_MEMORY. Of a round that is refused, or for which memory is wanted, the events before stand. */
+/* Live nodes send, take and acknowledge all that they owe one another. CAST_DONE, also if `code` is 12;
+ * CAST_MISUSED: the handle holds no group; CAST_OUT_OF_MEMORY. If a round is refused or runs out of memory, the
+ * events before remain. */
 static inline uint32_t cast_world_round(struct cast_world *world, struct cast_reply *reply) {
     if (world == NULL || reply == NULL) return CAST_MISUSED;
     return cast_c_world_round(world, reply);
 }
 
-/* Readers, which change nothing in the group. CAST_DONE; CAST_MISUSED the handle holds no group; CAST_REFUSED there is no such node,
- * link or item.
- * How many items `node` delivered from `sender`: CAST_DONE, CAST_MISUSED, CAST_REFUSED. */
+/* Readers change nothing in the group. CAST_DONE; CAST_MISUSED: the handle holds no group; CAST_REFUSED: there is no
+ * such node, link or item.
+ * The number of items that `node` delivered from `sender`: CAST_DONE, CAST_MISUSED, CAST_REFUSED. */
 static inline uint32_t cast_world_delivered(struct cast_world *world, uint8_t node, uint8_t sender, uint64_t *count) {
     if (world == NULL || count == NULL) return CAST_MISUSED;
     return cast_c_world_delivered(world, node, sender, count);
 }
-/* One of them, by its number: CAST_DONE, CAST_MISUSED, CAST_REFUSED, CAST_TOO_SHORT. With the last `item` is whole, and no byte is
- * written. */
+/* One of them, by its number: CAST_DONE, CAST_MISUSED, CAST_REFUSED, CAST_TOO_SHORT. In the last case `item` is
+ * whole, and no byte is written. */
 static inline uint32_t cast_world_item(struct cast_world *world, uint8_t node, uint8_t sender, uint64_t number,
                                        struct cast_item *item, void *bytes, size_t room) {
     if (world == NULL || item == NULL || !cast_has(bytes, room)) return CAST_MISUSED;
     return cast_c_world_item(world, node, sender, number, item, cast_some(bytes), room);
 }
-/* The value that a node decided in an instance, if it did; a node that there is not decided none: CAST_DONE, CAST_MISUSED. */
+/* The value that a node decided in an instance, if there is such a node and it did: CAST_DONE, CAST_MISUSED. */
 static inline uint32_t cast_world_decision(struct cast_world *world, uint8_t node, uint64_t instance, bool *is_decided,
                                            uint64_t *value) {
     if (world == NULL || is_decided == NULL || value == NULL) return CAST_MISUSED;
     return cast_c_world_decision(world, node, instance, is_decided, value);
 }
-/* How many slots of what `from` gives `to` are not acknowledged: CAST_DONE, CAST_MISUSED, CAST_REFUSED. */
+/* The number of unacknowledged slots that `from` gave `to`: CAST_DONE, CAST_MISUSED, CAST_REFUSED. */
 static inline uint32_t cast_world_owed(struct cast_world *world, uint8_t from, uint8_t to, uint64_t *count) {
     if (world == NULL || count == NULL) return CAST_MISUSED;
     return cast_c_world_owed(world, from, to, count);
 }
-/* Whether it is a node that has not crashed: CAST_DONE, CAST_MISUSED. */
+/* Whether this is a node that has not crashed: CAST_DONE, CAST_MISUSED. */
 static inline uint32_t cast_world_live(struct cast_world *world, uint8_t node, bool *is_so) {
     if (world == NULL || is_so == NULL) return CAST_MISUSED;
     return cast_c_world_live(world, node, is_so);
@@ -293,9 +304,9 @@ static inline void cast_world_drop(struct cast_world *world) {
     if (world != NULL) cast_c_world_drop(world);
 }
 
-/* The record of a script, and the picture of its events `from` to `to` (0 and UINT64_MAX: all). CAST_DONE; CAST_TOO_SHORT: nothing is
- * written, and `told` says how long the text is, so a buffer of no bytes asks for that; CAST_REFUSED: `told` says why;
- * CAST_OUT_OF_MEMORY. */
+/* The record of a script, and the picture of its events `from` to `to` (0 and UINT64_MAX: all). CAST_DONE;
+ * CAST_TOO_SHORT: nothing is written, and `told` has the length of the text, so an empty buffer asks for that;
+ * CAST_REFUSED: `told` says why; CAST_OUT_OF_MEMORY. */
 static inline uint32_t cast_run(const void *script, size_t count, void *out, size_t room, struct cast_text *told) {
     if (!cast_has(script, count) || !cast_has(out, room) || told == NULL) return CAST_MISUSED;
     return cast_c_run(cast_some(script), count, cast_some(out), room, told);

@@ -1,6 +1,6 @@
-/* Calls that no caller should make, and what they answer: null pointers, handles that hold nothing or hold something where they should
- * not, buffers that are too short, numbers of no kind, events that stand nowhere; calls at their limits, and one past them; and the
- * texts of codes. Ends with the number of the first line that is wrong, or 0. */
+/* Tests calls that no caller should make: null pointers, handles that hold nothing, or something where they should
+ * not, buffers that are too short, unknown kinds, and events out of bounds. Also calls at their limits and one past
+ * them, and the texts of codes. The exit status is 0, or the number of the first wrong line modulo 251, plus 1. */
 #include "castgroup.h"
 #include <string.h>
 
@@ -33,7 +33,7 @@ static int judges(void) {
     return 0;
 }
 
-/* A handle that holds no group answers alike, one that was never made, whose making was refused, or that was dropped. */
+/* Handles without a group answer alike: one that was never made, was refused, or was dropped. */
 static int is_empty(struct cast_world *world) {
     struct cast_event event = {.kind = CAST_CRASH};
     struct cast_reply reply;
@@ -93,8 +93,8 @@ static int worlds(void) {
     return 0;
 }
 
-/* A group of 64 nodes, and none of 65; items of 1,024 bytes, and none of 1,025; a stream of 4,095 items and a close, and a round of as
- * many slots. */
+/* A group of 64 nodes, and not of 65; items of 1,024 bytes, and not of 1,025; a stream of 4,095 items and a close,
+ * and a round of as many slots. */
 static int limits(void) {
     struct cast_world world = CAST_EMPTY;
     struct cast_config many = CAST_CONFIG(65, 0), most = CAST_CONFIG(64, 0), pair = CAST_CONFIG(2, 0);
@@ -122,7 +122,7 @@ static int limits(void) {
     return 0;
 }
 
-/* Many events at once: a refused one is passed over, and the first that is none stops the call. */
+/* Many events at once: a refused one is skipped, and the first that is no event stops the call. */
 static int many(void) {
     struct cast_world world = CAST_EMPTY;
     struct cast_config config = CAST_CONFIG(2, 0);

@@ -1,5 +1,6 @@
-/* Each allocation of the library refused in turn: a call then answers CAST_OUT_OF_MEMORY, what it was given is as it says, and nothing is
- * left behind. To be linked with --wrap=malloc and --wrap=realloc. Ends with the number of the first line that is wrong, or 0. */
+/* Refuses each allocation of the library in turn. A call then returns CAST_OUT_OF_MEMORY, leaves what it was given
+ * as it says, and leaks nothing. Link with --wrap=malloc and --wrap=realloc. The exit status is 0, or the number of
+ * the first wrong line modulo 251, plus 1. */
 #include "castgroup.h"
 #include <string.h>
 
@@ -8,7 +9,7 @@
 void *__real_malloc(size_t size);
 void *__real_realloc(void *block, size_t size);
 
-/* So many allocations are still given; none is refused after the one. */
+/* The number of allocations before the one that is refused. */
 static long left;
 static bool is_refused(void) { return left-- == 0; }
 
@@ -75,7 +76,7 @@ static int texts(void) {
     return 0;
 }
 
-/* The calls, again and again, until none of their allocations is refused. */
+/* Repeats the calls until none of their allocations is refused. */
 static int each(int (*calls)(void)) {
     for (long given = 0; given < 100000; given++) {
         left = given;

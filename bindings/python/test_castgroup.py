@@ -1,8 +1,8 @@
-"""The binding for Python: what it answers, what it refuses, and that a handle that is closed answers all the same.
+"""Tests the binding for Python: what it returns, what it refuses, and that calls on a closed handle are safe.
 
 usage: python3 test_castgroup.py [PROGRAM]      with a program, `castgroup run` and `judge` must write the same
 
-Where hypothesis is installed (python3-hypothesis of Debian), groups and records are tried at random too.
+If hypothesis is installed (python3-hypothesis of Debian), groups and records are tried at random too.
 """
 import pickle
 import random
@@ -201,7 +201,7 @@ class Groups(unittest.TestCase):
 
 class Threads(unittest.TestCase):
     def test_long_calls_let_go_of_the_lock(self):
-        """While a call runs in one thread, another goes on."""
+        """While a call runs in one thread, another thread goes on."""
         world, judge = castgroup.World(16, 0), castgroup.Judge()
         for node in range(16):
             for _ in range(200):
@@ -213,7 +213,7 @@ class Threads(unittest.TestCase):
         self.assertTrue(judge.finish())
 
     def turns_during(self, call):
-        """How often this thread had a turn while another was in the call, which takes some hundredths of a second."""
+        """How many turns this thread had while another was in the call, which takes some hundredths of a second."""
         began, ended = threading.Event(), threading.Event()
 
         def run():

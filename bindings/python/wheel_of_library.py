@@ -14,10 +14,10 @@ import zipfile
 from pathlib import Path
 
 HERE = Path(__file__).resolve().parent
-# A line of pyproject.toml, and what metadata of a wheel calls it.
+# A line of pyproject.toml, and its name in a wheel's metadata.
 FIELD = re.compile(r'^([\w-]+) = "(.*)"$', re.MULTILINE)
 NAMES = {"name": "Name", "version": "Version", "description": "Summary", "requires-python": "Requires-Python"}
-# Wheels of the same files are the same.
+# The same files make the same wheel.
 EPOCH = (1980, 1, 1, 0, 0, 0)
 
 
@@ -29,7 +29,7 @@ def library():
 
 
 def build_wheel(wheel_directory, config_settings=None, metadata_directory=None):
-    """Leaves the wheel in the folder, and answers its name."""
+    """Leaves the wheel in the folder, and returns its name."""
     project = dict(FIELD.findall((HERE / "pyproject.toml").read_text().partition("[project]")[2].partition("\n[")[0]))
     tag = f"py3-none-{re.sub('[-.]', '_', sysconfig.get_platform())}"
     known = f"castgroup-{project['version']}"
@@ -49,7 +49,7 @@ def build_wheel(wheel_directory, config_settings=None, metadata_directory=None):
 
 
 def record(files, own):
-    """The list of files with their sums, which has none for itself."""
+    """The list of files with their sums; it has no sum of itself."""
     lines = []
     for name, data in files.items():
         digest = base64.urlsafe_b64encode(hashlib.sha256(data).digest()).rstrip(b"=").decode()

@@ -1,11 +1,12 @@
-//! Links libcastgroup.a, from the folder that CASTGROUP_LIB names, or `lib` beside this file, or the folder that pkg-config tells.
+//! Links libcastgroup.a. It is in the folder that CASTGROUP_LIB names, in `lib` beside this file, or in the folder that
+//! pkg-config reports.
 use std::path::PathBuf;
 use std::process::{exit, Command};
 use std::env;
 
 const ARCHIVE: &str = "libcastgroup.a";
 
-/// The folder of the library that pkg-config knows, or why there is none.
+/// The folder of the library by pkg-config, or why there is none.
 fn by_pkg_config() -> Result<PathBuf, String> {
     let program = env::var_os("PKG_CONFIG").unwrap_or_else(|| "pkg-config".into());
     let told = Command::new(program).args(["--variable=libdir", "castgroup"]).output();

@@ -6,8 +6,8 @@ usage: broadcast.py RECORD               the record is good
        broadcast.py --judge [--faulty] RECORD      each line is also judged as it is logged, and the verdict is written; this takes the
                                          module castgroup (bindings/python)
 
-Each member is a thread with a UDP socket. It sends its items to the others, and again what they don't acknowledge. The first
-datagrams of one item are lost on purpose, as those of the loopback seldom are: so later items arrive before it.
+Each member is a thread with a UDP socket. It sends its items to the others, and repeats what they don't acknowledge. The first
+datagrams of one item are lost on purpose, since the loopback seldom loses any; so later items arrive before it.
 """
 import socket
 import sys
@@ -19,7 +19,7 @@ RESEND_SECONDS, PATIENCE_SECONDS = 0.05, 30
 
 
 class Record:
-    """What happened, a line an event. One lock for all members, so that the lines have one order."""
+    """What happened, one line per event. All members share one lock, so that the lines have one order."""
 
     def __init__(self, judge=None):
         self.lock, self.judge, self.lines = threading.Lock(), judge, []
@@ -27,11 +27,11 @@ class Record:
         self.log(f"cast/1 {MEMBERS} 0 1")
 
     def broadcast(self, member, item):
-        """To be called before the item is sent."""
+        """Call this before the item is sent."""
         self.log(f"b {member} {number_in(item)} data:{item.hex()}")
 
     def deliver(self, member, sender, item):
-        """To be called where the application gets the item."""
+        """Call this where the application gets the item."""
         self.log(f"d {member} {sender} {number_in(item)} data:{item.hex()}")
 
     def log(self, line):
@@ -41,13 +41,13 @@ class Record:
                 self.judge.feed(self.lines[-1].encode())
 
     def text(self):
-        """To be called once, when no member logs any more."""
+        """Call this when no member logs any more."""
         self.log("end")
         return "".join(self.lines)
 
 
 def number_in(item):
-    """The number that an item has in its bytes, as a callback gets only these."""
+    """The item's number, from its bytes: a callback gets only these."""
     return int(item.split()[0])
 
 
@@ -59,7 +59,7 @@ class Member(threading.Thread):
         self.socket.bind(("127.0.0.1", 0))
         self.socket.settimeout(RESEND_SECONDS)
         self.items = [f"{number} of member {me}".encode() for number in range(ITEMS)]
-        self.taken = [{} for _ in range(MEMBERS)]  # by sender: its items that came, by their numbers
+        self.taken = [{} for _ in range(MEMBERS)]  # by sender: its items that arrived, by number
         self.delivered = [0] * MEMBERS  # by sender
 
     def join_group(self, members):

@@ -1,4 +1,4 @@
-"""What a group holds, gives and makes, for tests that follow it by accepted events, each told by its words in a script."""
+"""What a group holds, gives and makes, for tests that follow it by accepted events, each given by its words in a script."""
 
 
 class Group:
@@ -24,12 +24,12 @@ class Group:
                     self.given[node, other].append(pair)
 
     def make(self, kind, node, to, slot):
-        """Makes a frame by a send or an acknowledgement. Answers its number."""
+        """Makes a frame for a send or an acknowledgement. Returns its number."""
         self.made[node].append((to, slot, self.given[node, to][slot] if kind == "send" else None))
         return len(self.made[node]) - 1
 
     def arrive(self, maker, seq):
-        """Answers the node at which the frame arrives."""
+        """Returns the node at which the frame arrives."""
         to, slot, pair = self.made[maker][seq]
         if pair:
             self.taken[maker, to].add(slot)
@@ -48,7 +48,7 @@ class Group:
 
 
 def replayed(events, nodes):
-    """Of each node how many of the events are its own steps, a crash aside; and whether they leave the group at rest."""
+    """For each node, how many of the events are its own steps, except a crash; and whether they leave the group at rest."""
     group, steps = Group(nodes), [0] * nodes
     for kind, node, *rest in events:
         if kind == "crash":

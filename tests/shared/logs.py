@@ -1,9 +1,9 @@
-"""Logs of a group's nodes, as `merge` reads them, and a model of the group in basic mode that says what comes of each step."""
+"""Logs of a group's nodes, as `merge` reads them, and a model of the group in basic mode that says what each step does."""
 from .group import Group
 
 
 class Told(Group):
-    """A group that delivers and decides, and refuses what no group takes."""
+    """A group that delivers and decides, and refuses what every group refuses."""
 
     def __init__(self, nodes, faults):
         super().__init__(nodes)
@@ -13,7 +13,7 @@ class Told(Group):
         self.votes = [{} for _ in self.nodes]
 
     def step(self, node, kind, *rest):
-        """What the step delivers and decides, as the words of a log; None if it is refused."""
+        """What the step delivers and decides, in the words of a log; None if it is refused."""
         if not self.live[node] or not self.may(node, kind, *rest):
             return None
         if kind == "order":
@@ -77,7 +77,7 @@ def head(nodes, faults, group, node):
 
 
 def steps_of(lines):
-    """Of each line of a log after the first: its place, from 2 on, stamp, step, and what it says came of that."""
+    """For each line of a log after the first: its place, from 2 on, stamp, step, and the outcome it names."""
     for place, line in enumerate(lines[1:], 2):
         if line == "end":
             continue
@@ -88,8 +88,8 @@ def steps_of(lines):
 
 
 def misfit(logs, nodes, faults):
-    """The log and the line at which such logs don't merge, or None. Each is a list of lines, by node; one without an end has a crash
-    behind its last line."""
+    """The log and the line at which such logs don't merge, or None. Each is a list of lines, by node; one without an end has a
+    crash after its last line."""
     steps = []
     for node, lines in enumerate(logs):
         last = -1
@@ -108,7 +108,7 @@ def misfit(logs, nodes, faults):
 
 
 def random_logs(draw, nodes, faults, steps, group):
-    """Logs of a group that takes so many random steps, in which frames get lost, come twice and in any order; some node may crash."""
+    """Logs of a group that takes this many random steps. Frames get lost, are repeated or reordered; some node may crash."""
     told, clocks = Told(nodes, faults), [0] * nodes
     logs = [[head(nodes, faults, group, node)] for node in range(nodes)]
     stamps = [[] for _ in range(nodes)]

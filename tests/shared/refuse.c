@@ -1,13 +1,13 @@
-/* Loaded before a program, this library refuses one allocation: the one whose number, from 1 on, the variable REFUSE_NTH
-   names. All others go to the C library. In the same way it refuses the thread that REFUSE_THREAD names, and the one that
-   REFUSE_THREADS names with all after it. Threads may allocate at the same time: each allocation has a number of its own. How
-   many there were stands as a long in the file that COUNT_ALLOCATIONS names, in whatever way the program ends.
+/* Loaded before a program, this library refuses one allocation: the one whose number, from 1 on, is in the variable REFUSE_NTH.
+   All others go to the C library. It likewise refuses the thread that REFUSE_THREAD names, and the one that REFUSE_THREADS
+   names with all after it. Threads may allocate at the same time: each allocation has its own number. The file that
+   COUNT_ALLOCATIONS names has their number as a long, however the program ends.
 
-   A program with the address sanitizer has an allocator of its own, before which no library comes: its functions are led here. What
-   the C library allocates is given then, since the sanitizer ends where it isn't.
+   A program with the address sanitizer has its own allocator, which no library can precede: its functions are led here. What
+   the C library allocates is given then, since the sanitizer ends without it.
 
-   The read that FAIL_READ names fails with EIO, and so does the write that FAIL_WRITE names; of the write that SHORT_WRITE
-   names one byte is taken, and of the one that EMPTY_WRITE names none. Reads and writes of all files count. */
+   The read that FAIL_READ names fails with EIO, and so does the write that FAIL_WRITE names. The write that SHORT_WRITE names
+   takes one byte, and the one that EMPTY_WRITE names takes none. Reads and writes of all files count. */
 #define _GNU_SOURCE
 #include <dlfcn.h>
 #include <errno.h>
@@ -19,9 +19,9 @@
 #include <sys/uio.h>
 #include <unistd.h>
 
-static long *allocations = NULL; /* in the file, where there is one */
+static long *allocations = NULL; /* in the file, if there is one */
 
-/* Counts down to the one that is refused, and stays there where all after it are; at first the variable wasn't read. */
+/* Counts down to the one that is refused, and stays there if all after it are. At first the variable was not read. */
 static int counts_down(const char *variable, long *left, int stays) {
     const long unread = -1;
     long now = __atomic_load_n(left, __ATOMIC_SEQ_CST);
@@ -105,8 +105,8 @@ int posix_memalign(void **block, size_t align, size_t size) {
     return refused() ? ENOMEM : next(block, align, size);
 }
 
-/* The sanitizer's functions begin with a jump to where they are done, by NEAR bytes. It is made one to a jump by FAR bytes, which stands
-   within its reach and leads here. Answers where it led before. */
+/* The sanitizer's functions begin with a jump of NEAR bytes to their code. It is changed to lead to a jump of FAR bytes within
+   its reach, which leads here. Returns where it led before. */
 enum { PAGE = 4096, NEAR = 5, FAR = 14, REACH = 1 << 28 };
 
 static void *led(const char *name, void *here) {
@@ -142,7 +142,7 @@ static int read_fails(void) {
     return 1;
 }
 
-/* What comes of this write: -1 where it fails, 0 or 1 where it takes no more bytes, 2 where it takes all. */
+/* The result of this write: -1 if it fails, 0 or 1 if it takes at most that many bytes, 2 if it takes all. */
 static int write_takes(void) {
     static long failing = -1, empty = -1, shorter = -1;
     int fails = counts_down("FAIL_WRITE", &failing, 0);
@@ -176,7 +176,7 @@ ssize_t write(int file, const void *from, size_t size) { return write_some(file,
 /* Programs call the C library's write by this name too. */
 ssize_t __write(int file, const void *from, size_t size) { return write_some(file, from, size); }
 
-/* As many writes as there are parts with bytes: one that is taken short ends them. */
+/* One write for each part with bytes; one that is cut short ends them. */
 ssize_t writev(int file, const struct iovec *parts, int count) {
     ssize_t written = 0;
     for (int part = 0; part < count; part++) {

@@ -1,5 +1,5 @@
-"""How tests are called, how they run a program and refuse it memory and threads, how they read the summary of a group in threads,
-and how they tell their counts."""
+"""How tests are called, run a program and refuse it memory and threads, read the summary of a group in threads, and report
+their counts."""
 import os
 import re
 import resource
@@ -9,31 +9,31 @@ from pathlib import Path
 
 HERE = Path(__file__).resolve().parent
 TOP = HERE.parent.parent
-# Each allocation of a program is refused in turn, up to this one: those that are run so make some hundreds.
+# Each allocation of a program is refused in turn, up to this one: the programs that are run so make some hundreds.
 MOST_ALLOCATIONS = 5000
-# So many runs in succession that were refused nothing are past the last allocation.
+# After this many runs in succession without a refusal, the last allocation is passed.
 PAST_THE_LAST = 50
-# In so many KiB of address space each group that is run so has all that it needs.
+# With this many KiB of address space, each group that is run so has all that it needs.
 AMPLE_SPACE = 1_000_000
 NODE_LINE = re.compile(r"node (\d+) (stopped|crashed|turnlimit|logfull|clockfull)((?: \d+)+)")
 
 
 def end(usage, why):
-    """Ends a test that lacks what it needs: with its usage, and status 2."""
+    """Ends a test that lacks what it needs, with its usage and status 2."""
     print(f"{usage}\n{why}", file=sys.stderr)
     sys.exit(2)
 
 
 def program(usage, path):
-    """The whole path of a program, which must be there."""
+    """The absolute path of a program, which must exist."""
     if not Path(path).is_file():
         end(usage, f"there is no program {path}")
     return str(Path(path).resolve())
 
 
 def words(usage, least=1, most=1):
-    """The words behind the test's name, so many at the least and at most. The first names a program, and is its whole path
-    here."""
+    """The words after the test's name, within these bounds on their number. The first names a program; its absolute path is
+    returned."""
     if len(sys.argv) <= least:
         end(usage, "a word is missing")
     if len(sys.argv) - 1 > most:
@@ -42,7 +42,7 @@ def words(usage, least=1, most=1):
 
 
 def numbers(usage, words, defaults):
-    """The numbers that words name, with defaults for those that are missing."""
+    """The numbers in words, with defaults for missing ones."""
     odd = [word for word in words if not word.isdecimal()]
     if odd:
         end(usage, f"{odd[0]} is no number")
@@ -50,7 +50,7 @@ def numbers(usage, words, defaults):
 
 
 def run(command, seconds, variables={}, space=None, **options):
-    """Status, output and standard error of a program, in so many KiB of address space. One that goes on for longer has no status,
+    """Status, output and standard error of a program, in this many KiB of address space. One that runs longer has no status,
     and its error text says so."""
     options = {"stdout": subprocess.PIPE, "stderr": subprocess.PIPE} | options
     if space:
@@ -66,23 +66,23 @@ def run(command, seconds, variables={}, space=None, **options):
 
 
 def refusing(folder):
-    """The library that refuses allocations and threads (refuse.c), made in the folder: what LD_PRELOAD takes."""
+    """Compiles the library that refuses allocations and threads (refuse.c) in the folder: a path for LD_PRELOAD."""
     made = f"{folder}/refuse.so"
     subprocess.run(["gcc", "-shared", "-fPIC", "-O1", "-o", made, HERE / "refuse.c", "-ldl"], check=True)
     return made
 
 
 def allocations_of(run, library, folder):
-    """How many allocations a run makes that is refused nothing. `run` takes variables."""
+    """How many allocations a run without refusals makes. `run` takes variables."""
     count = Path(folder) / "allocations"
     run(LD_PRELOAD=library, COUNT_ALLOCATIONS=str(count))
     return int.from_bytes(count.read_bytes(), sys.byteorder)
 
 
 def each_refused(run, library, is_quiet, least=0):
-    """The outcomes of runs with allocation 1, 2, 3 .. refused, each with its number, up to the last allocation, and so many at
-    least; or up to a run that does not end. `run` takes variables, and answers a status first; `is_quiet` says of an outcome
-    that nothing was refused."""
+    """The outcomes of runs with allocation 1, 2, 3 .. refused, each with its number, up to the last allocation and at least
+    this many, or up to a run that does not end. `run` takes variables, and returns a status first. `is_quiet` says whether an
+    outcome shows no refusal."""
     quiet = 0
     for number in range(1, MOST_ALLOCATIONS + 1):
         outcome = run(LD_PRELOAD=library, REFUSE_NTH=str(number))
@@ -94,20 +94,21 @@ def each_refused(run, library, is_quiet, least=0):
 
 
 def least_space(begins):
-    """The least address space in which a program begins, in KiB, by hundreds. `begins` says of a space whether it does."""
+    """The least address space in which a program begins, in KiB, in steps of a hundred. `begins` says whether it does in a
+    given space."""
     return next((space for space in range(1000, AMPLE_SPACE, 100) if begins(space)), AMPLE_SPACE)
 
 
 def spaces_from(least):
-    """Address spaces from this one to one that is ample, in KiB, in steps of a tenth."""
+    """Address spaces from this one to an ample one, in KiB, in steps of a tenth."""
     while least < AMPLE_SPACE:
         yield least
         least += least // 10
 
 
 def read_summary(out, nodes):
-    """How each node ended, how many items it delivered of each, and the lines of rest and verdict. None where a line of a node
-    is missing or is no such line."""
+    """How each node ended, how many items it delivered from each, and the lines of rest and verdict. None if a node's line is
+    missing or malformed."""
     *told, rest, verdict, end = ["", ""] + out.decode().split("\n")
     read = [NODE_LINE.fullmatch(line) for line in told[2:]]
     if end or not all(read) or [int(found[1]) for found in read] != list(range(nodes)):
@@ -119,7 +120,7 @@ def read_summary(out, nodes):
 
 
 def told(passed, failed):
-    """Prints the last line of a test, its counts, and answers its status. Where nothing was tried, that is a failure."""
+    """Prints the last line of a test, its counts, and returns its status. If nothing was tried, that is a failure."""
     if passed + failed == 0:
         print("nothing was tried")
         failed = 1

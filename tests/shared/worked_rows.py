@@ -1,28 +1,28 @@
-"""Worked rows: a run of a program, with its input and what must come of it.
+"""Test cases: a run of a program, with its input and the required result.
 
-A row is a file rows/COMMAND/NAME.row. Its first lines, up to a line that begins with '==', say what it is about, or nothing. Then
-come its sections, each headed by such a line; what is left out is empty, or status 0:
+A test case is a file rows/COMMAND/NAME.row. Its first lines, up to a line that begins with '==', say what it is about, or
+nothing. Then come its sections, each headed by such a line; what is left out is empty, or status 0:
 
     == words                words between the command and its input
     == input                its input
     == input escaped        the same, with \\xNN for a byte that no text has
     == input parts          the same, as a JSON list of [text, times]
-    == input of NAME        the input of another row
+    == input of NAME        the input of another test case
     == stdout               what it must write on standard output
     == stdout pattern       a regular expression for all of that
-    == stderr, == stderr pattern      the same of standard error
-    == calls                input and standard output in turn: a line '> CALL' is one of input, all others are of output
+    == stderr, == stderr pattern      the same for standard error
+    == calls                input and standard output in turn: a line '> CALL' is input, all others are output
     == status               the status that it must end with; of several, any one
 
-One file may hold a family of rows, NAME-V for each value V of a variable X, with V for {X} in all sections:
+One file may hold a family of test cases, NAME-V for each value V of a variable X, with V for {X} in all sections:
 
-    == each X: 0..30 64     one row for each of these words; 0..30 stands for all numbers from 0 to 30
-    == each X Y Z           one row for each line of the section, which has a word for each variable, and the rest for the last
+    == each X: 0..30 64     one test case for each of these words; 0..30 stands for all numbers from 0 to 30
+    == each X Y Z           one test case for each line of the section, which has a word for each variable, and the rest for the last
 
-Lines of a section between '{for X: 5..1}' and '{end}' stand there once for each of these words, here those from 5 down to 1.
+Lines of a section between '{for X: 5..1}' and '{end}' are repeated for each of these words, here those from 5 down to 1.
 
-The rows of folders driver-COMMAND are those of the program test_driver, all others those of castgroup. The record of each row of
-`run` that is not refused must be good: so there is a row judge-good-NAME for each, without a file.
+The test cases in folders driver-COMMAND are those of the program test_driver, all others those of castgroup. The record of each
+test case of `run` that is not refused must be good: so there is a test case judge-good-NAME for each, without a file.
 """
 import functools
 import json
@@ -44,7 +44,7 @@ class Row:
     sections: dict
 
     def text(self, heading, absent=""):
-        """The text of a section, with such lines as often as they stand for."""
+        """The text of a section, with the lines of a '{for X: ..}' repeated."""
         return REPEATED.sub(repeated, self.sections.get(heading, absent))
 
     @property
@@ -93,7 +93,7 @@ class Row:
 
 
 def is_as(wanted, got):
-    """Whether some bytes are what a row wants."""
+    """Whether some bytes are what a test case expects."""
     return bool(wanted.fullmatch(got)) if isinstance(wanted, re.Pattern) else wanted == got
 
 
@@ -110,7 +110,7 @@ def sections_of(text):
 
 
 def values_of(words):
-    """Words, with all numbers of a range in the place of 0..30, or of 30..0."""
+    """Words, with all numbers of a range in place of 0..30, or of 30..0."""
     for word in words:
         ends = re.fullmatch(r"(\d+)\.\.(\d+)", word)
         if ends:
@@ -122,7 +122,7 @@ def values_of(words):
 
 
 def members(heading, lines):
-    """What the variables of a family stand for, in one row after another."""
+    """The values of a family's variables, one test case after another."""
     variables, colon, values = heading.removeprefix("each ").partition(":")
     if colon:
         return [{variables: value} for value in values_of(values.split())]
@@ -136,7 +136,7 @@ def filled(text, values):
 
 
 def rows_in(path):
-    """The rows of a file."""
+    """The test cases in a file."""
     folder, name, sections = path.parent.name, path.stem, sections_of(path.read_text())
     each = next((heading for heading in sections if heading.startswith("each ")), None)
     if each is None:
@@ -150,7 +150,7 @@ def rows_in(path):
 
 @functools.cache
 def rows_of(folder="*"):
-    """The rows of a folder, or of all."""
+    """The test cases of a folder, or all of them."""
     found = [row for path in sorted(ROWS.glob("*/*.row")) for row in rows_in(path)]
     judged = [
         Row("judge", f"judge-good-{row.name}", {"input": row.text("stdout"), "stdout": "good\n"})
@@ -161,10 +161,10 @@ def rows_of(folder="*"):
 
 
 def row_named(name):
-    """The row of this name, or none. One of the driver is named with its folder, as driver-parts/small-parts."""
+    """The test case with this name, or None. One of the driver is named with its folder, as driver-parts/small-parts."""
     return next((row for row in rows_of() if name == (row.path if row.is_of_the_driver else row.name)), None)
 
 
 def scripts_that_run():
-    """The rows of `run` that are not refused."""
+    """The test cases of `run` that are not refused."""
     return [row for row in rows_of("run") if row.statuses == [0]]

@@ -1,17 +1,17 @@
-//! Threads that hand every item to every other by crossbeam's bounded channels: the measure beside `castgroup live`,
-//! with no protocol. Nothing is lost, logged or acknowledged, and no node passes on what it did not make. The arguments are
-//! the number of nodes and of items a node; what is printed: deliveries, log entries (none),
-//! microseconds, and that all was delivered.
+//! Threads that pass every item to every other through crossbeam's bounded channels: the baseline beside `castgroup
+//! live`, without a protocol. Nothing is lost, logged or acknowledged, and no node passes on what it did not make. The
+//! arguments are the numbers of nodes and of items per node. It prints deliveries, log entries (none), microseconds,
+//! and that everything was delivered.
 
 use crossbeam_channel::{bounded, Receiver, Sender};
 use std::sync::Arc;
 use std::thread;
 use std::time::Instant;
 
-/// How many items a channel holds, as many as a box of a script has by itself.
+/// How many items a channel holds: as many as a script's box by default.
 const PLACES: usize = 64;
 
-/// An item with its sender and its number, a payload of one byte that all copies share.
+/// An item with its sender and its number; all copies share its payload of one byte.
 #[derive(Clone)]
 struct Message {
     sender: usize,
@@ -32,7 +32,7 @@ fn main() {
     println!("{deliveries} 0 {micros} {}", u64::from(all));
 }
 
-/// Runs a thread for each node, and answers how many messages were delivered over all nodes.
+/// Runs a thread for each node, and returns how many messages all nodes delivered.
 fn hand_all(nodes: usize, items: u64) -> u64 {
     let (senders, receivers): (Vec<Sender<Message>>, Vec<Receiver<Message>>) =
         (0..nodes).map(|_| bounded(PLACES)).unzip();
@@ -51,7 +51,8 @@ fn hand_all(nodes: usize, items: u64) -> u64 {
         .sum()
 }
 
-/// Broadcasts the items, each to all peers before the next, and delivers what comes between; answers what was delivered.
+/// Broadcasts the items, each to all peers before the next, and delivers what arrives meanwhile. Returns what was
+/// delivered.
 fn run_node(me: usize, items: u64, peers: &[Sender<Message>], inbox: &Receiver<Message>) -> Vec<Message> {
     let wanted = peers.len() as u64 * items;
     let mut delivered = Vec::new();
@@ -79,7 +80,7 @@ fn run_node(me: usize, items: u64, peers: &[Sender<Message>], inbox: &Receiver<M
     delivered
 }
 
-/// Sends once there is room, and meanwhile takes what came in, so that no two nodes wait for each other.
+/// Sends when there is room, and meanwhile takes what arrives, so that no two nodes wait for each other.
 fn send(peer: &Sender<Message>, message: Message, inbox: &Receiver<Message>, delivered: &mut Vec<Message>) {
     let mut message = message;
     while let Err(full) = peer.try_send(message) {
@@ -91,7 +92,7 @@ fn send(peer: &Sender<Message>, message: Message, inbox: &Receiver<Message>, del
     }
 }
 
-/// Whether the messages of each sender stand in the order of their numbers, and each has its payload.
+/// Whether each sender's messages are in the order of their numbers, each with its payload.
 fn in_order(delivered: &[Message]) -> bool {
     let mut next = std::collections::HashMap::new();
     delivered.iter().all(|message| {

@@ -7,8 +7,8 @@
         world.round()
         list(world.deliveries(1, 0))                                     # [b"a"]
 
-It loads libcastgroup.so, which stands in this package, or which CASTGROUP_LIBRARY names. Threads may share a group or a judge: its
-calls come one after another. Calls that may take long let go of the interpreter's lock.
+It loads libcastgroup.so from this package, or the file that CASTGROUP_LIBRARY names. Threads may share a group or a
+judge, whose calls run one after another. Calls that may take long release the interpreter's lock.
 """
 from ._errors import BadConfig, BadScript, Closed, Error, Refused, TooLong
 from ._events import Ack, Arrive, Close, Crash, Event, Item, Order, Propose, Reply, Send

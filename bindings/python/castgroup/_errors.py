@@ -1,4 +1,4 @@
-"""What can go wrong, in words. Each error can be pickled, as a pool of processes must."""
+"""What can go wrong, in words. Each error can be pickled, which a pool of processes needs."""
 from __future__ import annotations
 
 _REFUSALS = (
@@ -32,8 +32,8 @@ def _word(words: tuple[str, ...], code: int) -> str:
 
 
 class Error(Exception):
-    """The base of all errors of this package, but for want of memory, wrong types, and numbers that no call takes. As text it says
-    what is wrong."""
+    """The base of all errors of this package, except out of memory, wrong types, and numbers that no call takes.
+    Its text says what is wrong."""
 
 
 class Refused(Error):
@@ -59,8 +59,8 @@ class BadConfig(Error, ValueError):
 
 
 class BadScript(Error, ValueError):
-    """A script is refused. `fault` is 1 too long, 2 no JSON, 3 a shape, 4 a configuration; `place` is the element of the shape, from 1
-    on, 0 for the whole, or the code of the configuration."""
+    """A script is refused. `fault` is 1: too long, 2: no JSON, 3: a shape, 4: a configuration. `place` is the element of
+    the shape, from 1, or 0 for the whole, or the code of the configuration."""
 
     def __init__(self, fault: int, place: int) -> None:
         super().__init__(fault, place)
@@ -85,7 +85,7 @@ class Closed(Error, ValueError):
 
 
 class TooLong(Error, ValueError):
-    """With this piece a record would have 2^63 bytes."""
+    """With this piece a record would reach 2^63 bytes."""
 
     def __str__(self) -> str:
         return "the record has 2^63 bytes"

@@ -1,4 +1,4 @@
-"""Items, the events of a group, and what comes of them."""
+"""Items, the events of a group, and its replies."""
 from __future__ import annotations
 
 from dataclasses import dataclass
@@ -20,7 +20,7 @@ class Close:
     """The last item of a stream."""
 
 
-# What a node delivers; what it orders may be any bytes.
+# What a node delivers; it may order any bytes-like object.
 Item = Union[bytes, Propose, Close]
 
 
@@ -43,7 +43,7 @@ class Send:
 
 @dataclass(frozen=True)
 class Ack:
-    """The node makes a frame that tells another that it took this slot of the link from there."""
+    """The node makes a frame by which it acknowledges this slot of the link from another."""
 
     node: int
     to: int
@@ -52,7 +52,7 @@ class Ack:
 
 @dataclass(frozen=True)
 class Arrive:
-    """The frame with this number, made by the node, comes to its target."""
+    """The frame with this number, made by the node, arrives at its target."""
 
     node: int
     seq: int
@@ -60,7 +60,7 @@ class Arrive:
 
 @dataclass(frozen=True)
 class Crash:
-    """The node takes no step from here on."""
+    """The node crashes: it takes no more steps."""
 
     node: int
 
@@ -69,8 +69,8 @@ Event = Union[Order, Send, Ack, Arrive, Crash]
 
 
 class Reply(NamedTuple):
-    """What came of an event: the number of the item or frame that was made, or the node at which a frame arrived; and that its node
-    delivered the items `first` to `first + deliveries - 1` of `sender`, and took so many decisions."""
+    """The reply to an event. `number` is that of the new item or frame, or the node at which a frame arrived. The node
+    delivered the items `first` to `first + deliveries - 1` of `sender`, and decided `decisions` times."""
 
     number: int
     sender: int

@@ -1,4 +1,4 @@
-"""The judge: a record whole, or in pieces."""
+"""The judge, for a whole record or for its pieces."""
 from __future__ import annotations
 
 import threading
@@ -10,7 +10,7 @@ from . import _library as library
 from ._errors import TooLong
 from ._library import Readable, accept, free, held
 
-# A shorter piece is judged in a few microseconds, in which the interpreter's lock is kept.
+# A shorter piece is judged in a few microseconds, so the interpreter's lock is kept.
 _LONG = 8_192
 _RULES = (
     "what is no line of a record or out of range, a head or an end that is missing or stands twice, or bytes after the end",
@@ -33,8 +33,8 @@ _new, _feed, _feed_long, _finish, _drop = (
 
 
 class Verdict(NamedTuple):
-    """The first line that offends, counted from 1, and the least rule that it breaks; of a good record line 0. It is true of a good
-    record alone."""
+    """The first line that breaks a rule, counted from 1, and the least rule that it breaks; line 0 if the record is
+    good. The verdict is true only for a good record."""
 
     line: int
     rule: int
@@ -60,7 +60,7 @@ def judge(record: Readable) -> Verdict:
 
 
 class Judge:
-    """A judge of a record that comes in pieces, however it is cut."""
+    """A judge of a record that comes in pieces, whatever the cuts."""
 
     def __init__(self) -> None:
         self._lock, self._handle = threading.RLock(), library.Handle()
@@ -68,7 +68,7 @@ class Judge:
         accept(_new(self._at))
 
     def feed(self, piece: Readable) -> None:
-        """Takes the next piece. After MemoryError that is the answer to each later call."""
+        """Takes the next piece. After MemoryError, each later call raises it too."""
         data = library.read(piece)
         feed = _feed if len(data) < _LONG else _feed_long
         with self._lock:
@@ -77,7 +77,7 @@ class Judge:
             raise TooLong()
 
     def finish(self) -> Verdict:
-        """The verdict on all pieces joined. Afterwards the judge takes nothing more."""
+        """The verdict on all pieces joined. Afterwards the judge takes no more."""
         said = library.VerdictNumbers()
         with self._lock:
             status = _finish(self._at, addressof(said))
@@ -85,7 +85,7 @@ class Judge:
         return Verdict(said.line, said.rule)
 
     def close(self) -> None:
-        """Lets go of the judge, which then takes nothing more."""
+        """Frees the judge, which then takes no more."""
         with self._lock:
             _drop(self._at)
 

@@ -1,8 +1,8 @@
-"""The exports of libcastgroup.so, by ctypes, and what their statuses mean. Each is proved; the header bindings/c/castgroup.h says what
-a caller keeps.
+"""The exports of libcastgroup.so, by ctypes, and what their statuses mean. Each is proved; the header
+bindings/c/castgroup.h says what a caller must keep to.
 
-An export is had twice. One of `free` lets go of the interpreter's lock while it runs, one of `held` keeps it, which is quicker where
-there is little to do."""
+Each export exists twice. In `free` it releases the interpreter's lock while it runs. In `held` it keeps the lock, which
+is faster for short calls."""
 from __future__ import annotations
 
 import ctypes
@@ -16,7 +16,7 @@ from ._errors import Closed
 
 DONE, MISUSED, REFUSED, BAD, OUT_OF_MEMORY, TOO_SHORT = 0, 1, 2, 3, 5, 6
 
-# What is taken where bytes are read.
+# What a call may read bytes from.
 Readable = Union[bytes, bytearray, memoryview]
 
 
@@ -54,7 +54,7 @@ class TextNumbers(ctypes.Structure):
 _PATH = os.environ.get("CASTGROUP_LIBRARY", str(Path(__file__).with_name("libcastgroup.so")))
 _BYTES = (c_char_p, c_size_t)
 _ROOM = (c_void_p, c_size_t)
-# Of each export its arguments; a pointer to a record is an address.
+# The arguments of each export; a pointer to a record is an address.
 _EXPORTS: dict[str, tuple[Any, ...]] = {
     "judge": (*_BYTES, c_void_p),
     "judge_new": (c_void_p,),
@@ -93,7 +93,7 @@ free, held = Exports(ctypes.CDLL(_PATH)), Exports(ctypes.PyDLL(_PATH))
 
 
 def accept(status: int) -> int:
-    """A status that is no error of the caller's or of memory."""
+    """The status; misuse and out of memory are raised instead."""
     if status == MISUSED:
         raise Closed()
     if status == OUT_OF_MEMORY:
@@ -102,12 +102,12 @@ def accept(status: int) -> int:
 
 
 def read(readable: Readable) -> bytes:
-    """The bytes as they stand now: what can be written is copied, as another thread may write it while a call runs."""
+    """The bytes as they are now. Writable bytes are copied, since another thread may write them during a call."""
     return readable if isinstance(readable, bytes) else bytes(memoryview(readable))
 
 
 def within(number: SupportsIndex, bound: int, what: str) -> int:
-    """The number, which the library could not be given where it is out of range."""
+    """The number, if it is in range; the library can't be given any other."""
     whole = operator.index(number)
     if not 0 <= whole < bound:
         raise ValueError(f"{what} {whole} is not 0 to {bound - 1}")

@@ -9,7 +9,8 @@ from . import _library as library
 from ._errors import BadScript
 from ._library import Readable, accept, count, free
 
-# The room for a text. A page of it is had once it is written, so ample room costs nothing, and a text is made once.
+# The room for a text. A page takes memory only after it is written, so ample room costs nothing, and a text is made
+# once.
 _AMPLE = 2**30
 _LEAST = 2**16
 
@@ -23,19 +24,19 @@ def run(script: Readable) -> bytes:
 
 
 def draw(script: Readable, first: SupportsIndex = 0, last: SupportsIndex = 2**64 - 1) -> bytes:
-    """The picture of a script's events as SVG, of which those from one place to another are shown."""
+    """The picture of a script's events as SVG. It shows those from place `first` to place `last`."""
     data, window = library.read(script), (count(first, "place"), count(last, "place"))
     return _text(lambda out, room, told: _draw(data, len(data), *window, out, room, told))
 
 
 def _text(make: Callable[[int, int, int], int]) -> bytes:
-    """The text that a call makes, which is given an address, the room there, and the address of what it tells."""
+    """The text that a call makes. The call gets an address, the room there, and the address of its result's numbers."""
     told, room, least = library.TextNumbers(), _AMPLE, _LEAST
     while True:
         with _pages(room, least) as pages:
             out = c_char.from_buffer(pages)
             status = make(addressof(out), len(pages), addressof(told))
-            del out  # (pages that are lent are not given back)
+            del out  # (pages that are still lent can't be freed)
             text = pages[: told.length] if status == library.DONE else b""
         if accept(status) != library.TOO_SHORT:
             break
@@ -46,7 +47,7 @@ def _text(make: Callable[[int, int, int], int]) -> bytes:
 
 
 def _pages(room: int, least: int) -> mmap.mmap:
-    """So much room, or as much as can be had, but no less than the least."""
+    """This much room, or as much as there is, but no less than `least`."""
     while True:
         try:
             return mmap.mmap(-1, room, flags=mmap.MAP_PRIVATE | mmap.MAP_ANONYMOUS)

@@ -27,7 +27,7 @@ _owed, _live, _at_rest = held["world_owed"], held["world_live"], held["world_at_
 
 
 class World:
-    """A group: events go in, replies come out, and readers show what each node has delivered, decided and owes."""
+    """A group: it takes events and returns replies, and readers show what each node has delivered, decided and owes."""
 
     def __init__(
         self,
@@ -55,7 +55,7 @@ class World:
             uniform,
         )
         fault, self._handle, self._lock = c_uint64(), library.Handle(), threading.RLock()
-        # What a call is given and tells stands in these, at one place each.
+        # The calls read and write these numbers, each in its own place.
         self._event, self._reply = create_string_buffer(_EVENT.size), create_string_buffer(_REPLY.size)
         self._number, self._flag, self._told = c_uint64(), c_bool(), library.ItemNumbers()
         self._bytes = create_string_buffer(_MOST_BYTES)
@@ -90,15 +90,15 @@ class World:
         return self._take(_SEND, node, to, 0, slot, 0)
 
     def ack(self, node: SupportsIndex, to: SupportsIndex, slot: SupportsIndex) -> Reply:
-        """The node makes a frame that tells another that it took this slot of the link from there."""
+        """The node makes a frame by which it acknowledges this slot of the link from another."""
         return self._take(_ACK, node, to, 0, slot, 0)
 
     def arrive(self, node: SupportsIndex, seq: SupportsIndex) -> Reply:
-        """The frame with this number, made by the node, comes to its target."""
+        """The frame with this number, made by the node, arrives at its target."""
         return self._take(_ARRIVE, node, 0, 0, seq, 0)
 
     def crash(self, node: SupportsIndex) -> Reply:
-        """The node takes no step from here on."""
+        """The node crashes: it takes no more steps."""
         return self._take(_CRASH, node, 0, 0, 0, 0)
 
     def step(self, event: Event) -> Reply:
@@ -126,8 +126,8 @@ class World:
             return self._replied()
 
     def round(self) -> int:
-        """Takes the events of one round, and answers how many frames were made. Of a round that is refused, or for which memory is
-        wanted, the events before stand."""
+        """Takes the events of one round, and returns the number of frames made. If the round is refused or runs out of
+        memory, the events before remain."""
         with self._lock:
             accept(_round(self._at, self._at_reply))
             return self._replied().number
@@ -139,7 +139,7 @@ class World:
         return Reply(*numbers)
 
     def delivered_count(self, node: SupportsIndex, sender: SupportsIndex) -> int | None:
-        """How many items a node delivered from a sender, where both are nodes."""
+        """The number of items that a node delivered from a sender, if both are nodes."""
         who, whose = _pair(node, sender)
         with self._lock:
             status = accept(_delivered(self._at, who, whose, self._at_number))
@@ -158,15 +158,15 @@ class World:
             return Propose(told.instance, told.value) if told.kind == _PROPOSE else Close()
 
     def deliveries(self, node: SupportsIndex, sender: SupportsIndex, first: SupportsIndex = 0) -> Iterator[Item]:
-        """The items that a node delivered from a sender, in order, from this number on. It ends where there is no more; what is delivered
-        while it is asked comes too."""
+        """The items that a node delivered from a sender, in order, from this number on. It ends when there are no more;
+        items delivered in the meantime come too."""
         number = count(first)
         while (item := self.item(node, sender, number)) is not None:
             yield item
             number += 1
 
     def delivered(self, node: SupportsIndex, sender: SupportsIndex) -> list[Item] | None:
-        """The items that a node delivered from a sender, in order, where both are nodes."""
+        """The items that a node delivered from a sender, in order, if both are nodes."""
         return None if self.delivered_count(node, sender) is None else list(self.deliveries(node, sender))
 
     def decision(self, node: SupportsIndex, instance: SupportsIndex) -> int | None:
@@ -177,14 +177,14 @@ class World:
             return self._number.value if self._flag.value else None
 
     def owed(self, node: SupportsIndex, to: SupportsIndex) -> int | None:
-        """How many slots of what a node gives another are not acknowledged, where both are nodes and not the same."""
+        """The number of unacknowledged slots that a node gave another, if both are nodes and differ."""
         who, whom = _pair(node, to)
         with self._lock:
             status = accept(_owed(self._at, who, whom, self._at_number))
             return self._number.value if status == DONE else None
 
     def live(self, node: SupportsIndex) -> bool:
-        """Whether it is a node that has not crashed."""
+        """Whether this is a node that has not crashed."""
         who = library.node(node)
         with self._lock:
             accept(_live(self._at, who, self._at_flag))
@@ -197,7 +197,7 @@ class World:
             return self._flag.value
 
     def close(self) -> None:
-        """Lets go of the group, which then takes nothing more."""
+        """Frees the group, which then takes no more."""
         with self._lock:
             _drop(self._at)
 
@@ -213,7 +213,7 @@ class World:
 
 
 def _bytes_of(item: Readable) -> bytes:
-    """The bytes of an item; a number or a tuple is none, though `bytes` makes some of it."""
+    """The bytes of an item. A number or a tuple is refused, although `bytes` would accept it."""
     try:
         return library.read(item)
     except TypeError:
@@ -221,7 +221,7 @@ def _bytes_of(item: Readable) -> bytes:
 
 
 def _numbers(event: Event) -> tuple[int, int, int, int, int, int]:
-    """The event as its six numbers, where it is no order."""
+    """The event as its six numbers, if it is no order."""
     if isinstance(event, Send):
         return _SEND, event.node, event.to, 0, event.slot, 0
     if isinstance(event, Ack):

@@ -1,11 +1,11 @@
-//! How long a group takes for about a million events, each handed over from Rust, against `run`, the call of `castgroup run`, with the
-//! same events.
+//! Measures how long a group takes for about a million events that Rust hands over one by one. It compares this with
+//! `run`, the call of `castgroup run`, for the same events.
 //!
 //! usage: steps [NODES [ITEMS]]
 //!
-//! Each of the nodes (8) broadcasts so many items (640), and two rounds bring them to all. `run` is given the orders and a settle, so it
-//! reads and writes little, and of its time that of the orders alone is taken off. Prints the least of five times each, and how many
-//! times the last the first is.
+//! Each of the nodes (8) broadcasts this many items (640), and two rounds bring them to all nodes. `run` takes the
+//! orders and a settle, so it reads and writes little; the time of the orders alone is subtracted from its time. The
+//! program prints the least of five times each, and the time from Rust divided by that of `run` for the rounds alone.
 use castgroup::{run, Config, Event, Item, World};
 use std::time::{Duration, Instant};
 

@@ -1,4 +1,4 @@
-//! Each call once or more, refusals among them: what is looked at for leaks.
+//! Calls everything once or more, with refusals: the program that is checked for leaks.
 use castgroup::{draw, judge, run, Config, Event, Item, Judge, World};
 
 fn main() -> Result<(), Box<dyn std::error::Error>> {

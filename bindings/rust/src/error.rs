@@ -3,11 +3,11 @@ use std::collections::TryReserveError;
 use std::error::Error;
 use std::fmt;
 
-/// The library wanted memory, and got none.
+/// The library ran out of memory.
 #[derive(Clone, Copy, Debug, PartialEq, Eq, PartialOrd, Ord, Hash)]
 pub struct OutOfMemory;
 
-/// The first number of a configuration that is out of range, or want of memory.
+/// The first number of a configuration that is out of range, or out of memory.
 #[derive(Clone, Copy, Debug, PartialEq, Eq, PartialOrd, Ord, Hash)]
 pub enum ConfigError {
     /// The nodes are not 1 to 64.
@@ -24,11 +24,11 @@ pub enum ConfigError {
     BoxSize,
     /// The mode is uniform, and twice the faults are not below the nodes.
     Mode,
-    /// The library got no memory.
+    /// The library ran out of memory.
     OutOfMemory,
 }
 
-/// Why an event is refused, after which all is as it was.
+/// Why an event is refused. A refused event changes nothing.
 #[derive(Clone, Copy, Debug, PartialEq, Eq, PartialOrd, Ord, Hash)]
 pub enum Refusal {
     /// 1: a node that doesn't exist.
@@ -37,13 +37,13 @@ pub enum Refusal {
     SelfLink,
     /// 3: a node that has crashed.
     Crashed,
-    /// 4: an order after the stream's close.
+    /// 4: an order after the close of the stream.
     Closed,
     /// 5: a payload of more than 1,024 bytes.
     TooLong,
     /// 6: a second proposal of the node in this instance.
     AlreadyProposed,
-    /// 7: an item that finds no place in the stream.
+    /// 7: an item that finds the stream full.
     StreamFull,
     /// 8: a slot that was not given.
     NoSlot,
@@ -57,36 +57,36 @@ pub enum Refusal {
     FramesFull,
 }
 
-/// A step or a round was refused, or there was no memory for it.
+/// A step or a round was refused, or ran out of memory.
 #[derive(Clone, Copy, Debug, PartialEq, Eq, PartialOrd, Ord, Hash)]
 pub enum StepError {
     /// It was refused.
     Refused(Refusal),
-    /// The library got no memory. A step changed nothing; of a round the events before stand.
+    /// The library ran out of memory. A step changed nothing; after a round, the events before remain.
     OutOfMemory,
 }
 
 /// A piece of a record was not judged.
 #[derive(Clone, Copy, Debug, PartialEq, Eq, PartialOrd, Ord, Hash)]
 pub enum JudgeError {
-    /// All pieces together have 2^63 bytes.
+    /// All pieces together would reach 2^63 bytes.
     TooLong,
-    /// The library got no memory, for this piece or for one before.
+    /// The library ran out of memory, for this piece or an earlier one.
     OutOfMemory,
 }
 
-/// A script is refused, or there was no memory for its text.
+/// A script is refused, or memory ran out for its text.
 #[derive(Clone, Copy, Debug, PartialEq, Eq, PartialOrd, Ord, Hash)]
 pub enum TextError {
     /// The script has more than 67,108,864 bytes.
     TooLong,
     /// The script is no JSON.
     NotJson,
-    /// This element is not of its form, counted from 1; 0 is the script as a whole.
+    /// This element, counted from 1, doesn't have its form; 0 is the script as a whole.
     Shape(u64),
     /// A number of its configuration is out of range.
     Config(ConfigError),
-    /// There was no memory.
+    /// The library ran out of memory.
     OutOfMemory,
 }
 
@@ -121,19 +121,19 @@ fn by_code<T: Copy>(all: &[T], code: u64) -> Option<T> {
 }
 
 impl ConfigError {
-    /// The fault of this code, where it is one.
+    /// The fault with this code, if there is one.
     pub fn from_code(code: u64) -> Option<ConfigError> {
         by_code(&CONFIG_ERRORS, code)
     }
 
-    /// The number of the fault, 1 to 7; want of memory has none.
+    /// The number of the fault, 1 to 7; out of memory has none.
     pub fn code(self) -> Option<u64> {
         (self != ConfigError::OutOfMemory).then_some(self as u64 + 1)
     }
 }
 
 impl Refusal {
-    /// The refusal of this code, where it is one.
+    /// The refusal with this code, if there is one.
     pub fn from_code(code: u64) -> Option<Refusal> {
         by_code(&REFUSALS, code)
     }

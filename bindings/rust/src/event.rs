@@ -1,33 +1,33 @@
-//! What a group takes and answers.
+//! What a group takes and returns.
 use crate::raw;
 use std::fmt;
 
-/// When a message whose turn has come is delivered.
+/// When a message is delivered whose turn has come.
 #[derive(Clone, Copy, Debug, Default, PartialEq, Eq, PartialOrd, Ord, Hash)]
 pub enum Mode {
-    /// In the step in which the node holds it.
+    /// As soon as the node holds it.
     #[default]
     Basic,
-    /// Once more nodes than may crash hold it.
+    /// As soon as the node knows that more nodes hold it than may crash.
     Uniform,
 }
 
-/// A configuration. Its numbers are looked at where a group is made.
+/// A configuration. Its numbers are checked when a group is made.
 #[derive(Clone, Copy, Debug, PartialEq, Eq, PartialOrd, Ord, Hash)]
 pub struct Config {
-    /// How many nodes there are, 1 to 64.
+    /// The number of nodes, 1 to 64.
     pub nodes: u64,
-    /// How many of them may crash.
+    /// The number of nodes that may crash.
     pub faults: u64,
-    /// How many values an instance may decide, where `faults` is below.
+    /// The number of values that an instance may decide, if `faults` is below it.
     pub choices: u64,
-    /// How many items a stream may have, 1 to 4,096, a close among them.
+    /// The most items of a stream, 1 to 4,096, including a close.
     pub item_limit: u64,
-    /// How many entries the log of a running node may have; a group as a value has none.
+    /// The most entries in the log of a running node; a group as a value has no log.
     pub log_limit: u64,
-    /// How many items a box between threads may hold; a group as a value has none.
+    /// The most items in a box between threads; a group as a value has no boxes.
     pub box_size: u64,
-    /// Where the clocks of running nodes begin; a group as a value has none.
+    /// The first stamp of running nodes' clocks; a group as a value has no clocks.
     pub first_stamp: u64,
     /// When messages are delivered.
     pub mode: Mode,
@@ -46,7 +46,7 @@ pub enum Item {
     Data(Vec<u8>),
     /// A value that the node proposes in an instance, at most once in each.
     Propose {
-        /// The number of the agreement.
+        /// The number of the instance.
         instance: u64,
         /// The value.
         value: u64,
@@ -55,7 +55,7 @@ pub enum Item {
     Close,
 }
 
-/// One step of one node. A frame for which no arrival comes is lost. It is shown as an element of a script.
+/// One step of one node. A frame without an arrival is lost. It is shown as an element of a script.
 ///
 /// ```
 /// use castgroup::{Event, Item};
@@ -79,43 +79,43 @@ pub enum Event {
         from: u8,
         /// Its target.
         to: u8,
-        /// The slot, from 0 on.
+        /// The slot, from 0.
         slot: u64,
     },
-    /// `from` makes a frame that tells `to` that it took this slot of the link from `to`.
+    /// `from` makes a frame by which it acknowledges this slot of the link from `to`.
     Ack {
         /// The maker of the frame.
         from: u8,
         /// Its target.
         to: u8,
-        /// The slot, from 0 on.
+        /// The slot, from 0.
         slot: u64,
     },
-    /// The frame with this number, made by `from`, comes to its target.
+    /// The frame with this number, made by `from`, arrives at its target.
     Arrive {
         /// The maker of the frame.
         from: u8,
-        /// Its number, from 0 on.
+        /// Its number, from 0.
         seq: u64,
     },
-    /// The node takes no step from here on.
+    /// The node crashes: it takes no more steps.
     Crash {
         /// The node.
         node: u8,
     },
 }
 
-/// What a step delivers and decides at its node. The items are read by [`World::deliveries_of`](crate::World::deliveries_of), the
-/// decisions by [`World::decisions_of`](crate::World::decisions_of).
+/// What a step delivers and decides at its node. [`World::deliveries_of`](crate::World::deliveries_of) reads the items,
+/// [`World::decisions_of`](crate::World::decisions_of) the decisions.
 #[derive(Clone, Copy, Debug, Default, PartialEq, Eq, PartialOrd, Ord, Hash)]
 pub struct Outcome {
-    /// Whose items were delivered, where some were.
+    /// The sender of the delivered items, if there are any.
     pub sender: u8,
     /// The number of the first of them.
     pub first: u64,
-    /// How many were delivered, in the order of their numbers.
+    /// The number of delivered items, which have successive numbers.
     pub deliveries: u64,
-    /// How many decisions were taken, in the order of the deliveries that brought them.
+    /// The number of decisions.
     pub decisions: u64,
 }
 
@@ -124,21 +124,21 @@ pub struct Outcome {
 pub enum Reply {
     /// The item has this number in its node's stream.
     Ordered {
-        /// The number, from 0 on.
+        /// The number, from 0.
         number: u64,
-        /// What came of it.
+        /// What the step delivered and decided.
         outcome: Outcome,
     },
-    /// The frame has this number among those of its maker.
+    /// The frame has this number among its maker's frames.
     Sent {
-        /// The number, from 0 on.
+        /// The number, from 0.
         seq: u64,
     },
     /// The frame arrived.
     Arrived {
         /// The target.
         node: u8,
-        /// What came of it.
+        /// What the step delivered and decided.
         outcome: Outcome,
     },
     /// The node has crashed.
@@ -148,7 +148,7 @@ pub enum Reply {
 /// An item that a step delivered.
 #[derive(Clone, Debug, PartialEq, Eq, PartialOrd, Ord, Hash)]
 pub struct Delivery {
-    /// Whose item it is.
+    /// The sender of the item.
     pub sender: u8,
     /// Its number in the sender's stream.
     pub number: u64,
@@ -156,16 +156,16 @@ pub struct Delivery {
     pub item: Item,
 }
 
-/// A decision that a step took.
+/// A decision of a step.
 #[derive(Clone, Copy, Debug, PartialEq, Eq, PartialOrd, Ord, Hash)]
 pub struct Decision {
-    /// The number of the agreement.
+    /// The number of the instance.
     pub instance: u64,
     /// The value.
     pub value: u64,
 }
 
-/// The usual configuration of one node, which tolerates no crash.
+/// The usual configuration for one node, without tolerated crashes.
 impl Default for Config {
     fn default() -> Config {
         Config::of(1, 0)
@@ -256,7 +256,7 @@ impl From<&str> for Item {
 }
 
 impl Reply {
-    /// The node that took the event, and what it delivered and decided, where that can be some.
+    /// The node that took the event, and what it delivered and decided, if the event can deliver.
     pub fn outcome(&self, event: &Event) -> Option<(u8, Outcome)> {
         match (*self, event) {
             (Reply::Ordered { outcome, .. }, Event::Order { node, .. }) => Some((*node, outcome)),
@@ -267,8 +267,8 @@ impl Reply {
 }
 
 impl Config {
-    /// The usual configuration of so many nodes, of which so many may crash: one value more than these may be decided, and the mode
-    /// is basic.
+    /// The usual configuration for this many nodes, of which `faults` may crash: `faults` + 1 values may be decided,
+    /// and the mode is basic.
     pub fn of(nodes: u64, faults: u64) -> Config {
         Config {
             nodes,
@@ -315,17 +315,17 @@ impl Event {
         Event::Send { from, to, slot }
     }
 
-    /// `from` makes a frame that tells `to` that it took this slot of the link from `to`.
+    /// `from` makes a frame by which it acknowledges this slot of the link from `to`.
     pub fn ack(from: u8, to: u8, slot: u64) -> Event {
         Event::Ack { from, to, slot }
     }
 
-    /// The frame with this number, made by `from`, comes to its target.
+    /// The frame with this number, made by `from`, arrives at its target.
     pub fn arrive(from: u8, seq: u64) -> Event {
         Event::Arrive { from, seq }
     }
 
-    /// The node takes no step from here on.
+    /// The node crashes: it takes no more steps.
     pub fn crash(node: u8) -> Event {
         Event::Crash { node }
     }
@@ -349,7 +349,7 @@ impl Event {
         }
     }
 
-    /// What the numbers of a reply say of this event.
+    /// The reply to this event that the numbers give.
     pub(crate) fn reply(&self, told: &raw::Reply) -> Reply {
         let outcome = Outcome {
             sender: told.sender as u8,

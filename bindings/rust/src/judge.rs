@@ -3,12 +3,12 @@ use crate::error::{JudgeError, OutOfMemory};
 use crate::raw;
 use std::fmt;
 
-/// What a judge says of a record. It is shown as `castgroup judge` writes it: `good`, or `bad LINE RULE`.
+/// What a judge says about a record. It is shown as `castgroup judge` writes it: `good`, or `bad LINE RULE`.
 #[derive(Clone, Copy, Debug, PartialEq, Eq, PartialOrd, Ord, Hash)]
 pub enum Verdict {
     /// It is a record, and no line breaks a rule.
     Good,
-    /// This line, counted from 1, is the first that offends, and this is the least rule that it breaks, 0 to 6.
+    /// This line, counted from 1, is the first that breaks a rule, and this is the least rule that it breaks, 0 to 6.
     Bad {
         /// The line.
         line: u64,
@@ -26,7 +26,7 @@ impl fmt::Display for Verdict {
     }
 }
 
-/// What a line did that breaks this rule, where it is one.
+/// What a line did that breaks this rule, if there is such a rule.
 pub fn rule_text(rule: u64) -> Option<&'static str> {
     Some(match rule {
         0 => "no line of a record, or a head or an end that is missing or stands again",
@@ -40,7 +40,7 @@ pub fn rule_text(rule: u64) -> Option<&'static str> {
     })
 }
 
-/// The verdict on a record, or want of memory.
+/// The verdict on a record.
 ///
 /// ```
 /// use castgroup::{judge, Verdict};
@@ -62,7 +62,7 @@ fn verdict(status: u32, said: &raw::Verdict) -> Result<Verdict, OutOfMemory> {
     }
 }
 
-/// A judge of a record that comes in pieces, however it is cut.
+/// A judge of a record that comes in pieces, whatever the cuts.
 ///
 /// ```
 /// use castgroup::{Judge, Verdict};
@@ -83,11 +83,11 @@ impl fmt::Debug for Judge {
     }
 }
 
-// SAFETY: a judge owns its memory, and calls of it take `&mut` or the judge itself.
+// SAFETY: a judge owns its memory, and its calls take `&mut` or the judge itself.
 unsafe impl Send for Judge {}
 
 impl Judge {
-    /// A judge to which nothing was fed.
+    /// A judge that got nothing yet.
     pub fn new() -> Result<Judge, OutOfMemory> {
         let mut judge = Judge { handle: raw::Handle::EMPTY };
         // SAFETY: see `raw`.
@@ -97,7 +97,7 @@ impl Judge {
         }
     }
 
-    /// Takes the next piece. After `OutOfMemory` that is the answer to every later one, and to `finish`.
+    /// Takes the next piece. After `OutOfMemory`, every later call and `finish` return that too.
     pub fn feed(&mut self, piece: &[u8]) -> Result<(), JudgeError> {
         // SAFETY: see `raw`.
         match unsafe { raw::cast_c_judge_feed(&mut self.handle, piece.as_ptr(), piece.len()) } {
@@ -110,7 +110,7 @@ impl Judge {
     /// The verdict on all pieces joined.
     pub fn finish(mut self) -> Result<Verdict, OutOfMemory> {
         let mut said = raw::Verdict::default();
-        // SAFETY: see `raw`. The handle is empty afterwards, so that the drop does nothing.
+        // SAFETY: see `raw`. The handle is empty afterwards, so its drop does nothing.
         let status = unsafe { raw::cast_c_judge_finish(&mut self.handle, &mut said) };
         verdict(status, &said)
     }

@@ -1,5 +1,5 @@
-//! Groups that broadcast numbered items and settle k-set agreement, as values; the judge of records of any such system; and the texts
-//! of scripts. Safe Rust over a library that is proved.
+//! Groups that broadcast numbered items and settle k-set agreement, as values; the judge of records of any such system;
+//! and the texts of scripts. This is safe Rust over a proved library.
 //!
 //! ```
 //! use castgroup::{Config, Event, Item, World};
@@ -18,8 +18,8 @@
 //! # Ok::<(), castgroup::OutOfMemory>(())
 //! ```
 //!
-//! What is proved, and under which names, stands with the crate `cast_c` of the repository. Not proved are the few lines here between
-//! a value of Rust and the numbers that the library takes.
+//! The crate `cast_c` of the repository says what is proved. Unproved are the few lines here that turn values of Rust
+//! into the numbers of the library.
 #![warn(missing_docs)]
 #![deny(unsafe_op_in_unsafe_fn)]
 
@@ -37,7 +37,7 @@ pub use judge::{judge, rule_text, Judge, Verdict};
 pub use text::{draw, run};
 pub use world::World;
 
-/// The version of the library that is linked: 10,000 times its major number, 100 times its minor number, and its patch.
+/// The version of the linked library: 10,000 times its major number, plus 100 times its minor number, plus its patch.
 ///
 /// ```
 /// assert_eq!(castgroup::library_version() / 100, 2);

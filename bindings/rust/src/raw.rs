@@ -1,11 +1,11 @@
-//! The library's own functions, as `castgroup.h` declares them, and the records that they take.
+//! The library's functions as `castgroup.h` declares them, and the records that they take.
 
 pub(crate) const DONE: u32 = 0;
 pub(crate) const REFUSED: u32 = 2;
 pub(crate) const BAD: u32 = 3;
 pub(crate) const TOO_SHORT: u32 = 6;
 
-/// A group or a judge that the library holds, or none.
+/// A group or a judge in the library, or none.
 #[repr(C)]
 pub(crate) struct Handle {
     held: bool,
@@ -74,9 +74,9 @@ pub(crate) struct Text {
     pub place: u64,
 }
 
-// SAFETY of all calls: a pointer comes from a reference or a slice of this crate's callers, so it is not null, is not shared where it
-// is written through, and leads to as many bytes as are said. A handle begins empty, stays where its owner keeps it while a call
-// runs, and is never copied.
+// SAFETY of all calls: each pointer comes from a reference or a slice of this crate's callers. So it is not null, is
+// not shared if it is written through, and leads to as many bytes as the call says. A handle begins empty, doesn't move
+// during a call, and is never copied.
 extern "C" {
     pub(crate) fn cast_c_version() -> u32;
     pub(crate) fn cast_c_judge(record: *const u8, count: usize, verdict: *mut Verdict) -> u32;

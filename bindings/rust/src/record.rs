@@ -1,13 +1,13 @@
-//! The lines of a record, for who writes one step by step.
+//! The lines of a record, for callers that write one step by step.
 use crate::error::{OutOfMemory, StepError};
 use crate::event::{Config, Event, Mode, Reply};
 use crate::world::World;
 use std::fmt::{self, Write};
 
-/// The most nodes that a head of `cast/1` has.
+/// The most nodes of a `cast/1` head.
 const MOST_OF_FIRST: u64 = 16;
 
-/// A text that grows only where there is memory.
+/// A text that grows, unless memory runs out.
 struct Text<'a>(&'a mut String);
 
 impl Write for Text<'_> {
@@ -24,7 +24,7 @@ fn line(record: &mut String, words: fmt::Arguments<'_>) -> Result<(), OutOfMemor
 }
 
 impl Config {
-    /// Adds the head of a record of a group that is made so.
+    /// Adds the head of the record of a group with this configuration.
     pub fn write_head(&self, record: &mut String) -> Result<(), OutOfMemory> {
         let Config { nodes, faults, choices, mode, .. } = self;
         if *mode == Mode::Basic && *nodes <= MOST_OF_FIRST {
@@ -35,8 +35,9 @@ impl Config {
 }
 
 impl World {
-    /// Adds the lines of a record that `run` writes of this event, the script's element `index`, which was answered so. It is asked
-    /// before the group takes another event. A record begins by [`Config::write_head`] and ends by the line `end`.
+    /// Adds the lines of a record that `run` writes for this event, element `index` of the script, and this answer. It
+    /// must be called before the group takes another event. A record begins with [`Config::write_head`] and ends with
+    /// the line `end`.
     ///
     /// ```
     /// use castgroup::{Config, Event, World};

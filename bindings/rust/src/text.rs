@@ -3,7 +3,7 @@ use crate::error::{ConfigError, OutOfMemory, TextError};
 use crate::raw;
 use std::ops::{Bound, RangeBounds};
 
-/// So many bytes are tried first.
+/// The first buffer has this many bytes.
 const FIRST_ROOM: usize = 65_536;
 
 /// The record of a script, as `castgroup run` writes it.
@@ -20,7 +20,7 @@ pub fn run(script: &[u8]) -> Result<Vec<u8>, TextError> {
     })
 }
 
-/// The picture of a script's events, as SVG, of which those in a range of places are shown: `..` shows all.
+/// The picture of a script's events, as SVG. It shows the events whose places are in the range: `..` shows all.
 ///
 /// ```
 /// let script = br#"{"nodes":1,"faults":0,"choices":1,"events":[["crash",0]]}"#;
@@ -36,7 +36,7 @@ pub fn draw(script: &[u8], window: impl RangeBounds<u64>) -> Result<Vec<u8>, Tex
     })
 }
 
-/// Asks for a text, and once more where the first buffer was too short: the status, the text, and what was told.
+/// Calls for a text, and again if the first buffer was too short. Returns the status, the text and its numbers.
 fn asked(mut ask: impl FnMut(&mut [u8], &mut raw::Text) -> u32) -> Result<(u32, Vec<u8>, raw::Text), OutOfMemory> {
     let mut told = raw::Text::default();
     let mut out = Vec::new();
@@ -65,7 +65,7 @@ fn text(ask: impl FnMut(&mut [u8], &mut raw::Text) -> u32) -> Result<Vec<u8>, Te
     }
 }
 
-/// The first and the last place of a range. One that has none is told as 1 and 0.
+/// The first and the last place of a range. An empty range gives 1 and 0.
 fn ends(window: &impl RangeBounds<u64>) -> (u64, u64) {
     let from = match window.start_bound() {
         Bound::Included(&from) => Some(from),

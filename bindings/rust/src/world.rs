@@ -5,18 +5,19 @@ use crate::raw;
 use std::cell::UnsafeCell;
 use std::fmt;
 
-/// The longest payload that a group takes.
+/// The most bytes of a payload.
 const MOST_BYTES: usize = 1_024;
 
-/// A group: events go in, replies come out, and readers show what each node has delivered, decided and owes. It may go to another
-/// thread, and is used by one at a time: it is not `Sync`, since a reader too takes the group out of its handle and puts it back.
+/// A group: it takes events and returns replies, and readers show what each node has delivered, decided and owes. It
+/// may go to another thread, but only one may use it at a time. It is not `Sync`, since a reader too takes the group
+/// out of its handle and puts it back.
 ///
 /// ```compile_fail
 /// fn is_sync<T: Sync>() {}
 /// is_sync::<castgroup::World>();
 /// ```
 pub struct World {
-    // The library takes the group out of its handle for each call, a reader's too.
+    // For each call, even a reader's, the library takes the group out of its handle.
     handle: UnsafeCell<raw::Handle>,
     config: Config,
 }
@@ -27,7 +28,7 @@ impl fmt::Debug for World {
     }
 }
 
-// SAFETY: a group owns its memory. It is not `Sync`, so its calls come one after another.
+// SAFETY: a group owns its memory. It is not `Sync`, so its calls run one after another.
 unsafe impl Send for World {}
 
 impl World {
@@ -55,7 +56,7 @@ impl World {
         &self.config
     }
 
-    /// Takes one event. A refused one changes nothing.
+    /// Takes one event. A refused event changes nothing.
     ///
     /// ```
     /// use castgroup::{Config, Event, Refusal, StepError, World};
@@ -76,8 +77,8 @@ impl World {
         Ok(event.reply(&told))
     }
 
-    /// Takes the events of one round: all that live nodes owe one another is sent, taken and acknowledged. Answers how many frames
-    /// were made. Two rounds that are not refused bring rest.
+    /// Takes the events of one round: live nodes send, take and acknowledge all that they owe one another. Returns the
+    /// number of frames made. After two accepted rounds the group is at rest.
     pub fn round(&mut self) -> Result<u64, StepError> {
         let mut told = raw::Reply::default();
         // SAFETY: see `raw`.
@@ -86,7 +87,7 @@ impl World {
         Ok(told.number)
     }
 
-    /// How many items `node` delivered from `sender`, where both are nodes.
+    /// The number of items that `node` delivered from `sender`, if both are nodes.
     pub fn delivered_count(&self, node: u8, sender: u8) -> Option<u64> {
         let mut count = 0;
         // SAFETY: see `raw`.
@@ -94,7 +95,7 @@ impl World {
         (status == raw::DONE).then_some(count)
     }
 
-    /// The item with this number, from 0 on, of those that `node` delivered from `sender`.
+    /// The item with this number, from 0, of those that `node` delivered from `sender`.
     pub fn item(&self, node: u8, sender: u8, number: u64) -> Result<Option<Item>, OutOfMemory> {
         // SAFETY: see `raw`.
         read_item(|told, room| unsafe {
@@ -102,7 +103,7 @@ impl World {
         })
     }
 
-    /// The items that `node` delivered from `sender`, in order; none where one is no node.
+    /// The items that `node` delivered from `sender`, in order; none if one of them is no node.
     ///
     /// ```
     /// use castgroup::{Config, Event, Item, World};
@@ -117,7 +118,7 @@ impl World {
         (0..).map_while(move |number| self.item(node, sender, number).transpose())
     }
 
-    /// What a step delivered at `node`, by the outcome in its reply.
+    /// What a step delivered at `node`, given the outcome in its reply.
     pub fn deliveries_of(&self, node: u8, outcome: Outcome) -> impl Iterator<Item = Result<Delivery, OutOfMemory>> + '_ {
         let numbers = outcome.first..outcome.first + outcome.deliveries;
         numbers.map_while(move |number| {
@@ -126,8 +127,8 @@ impl World {
         })
     }
 
-    /// The decisions that a step took at `node`, by the outcome in its reply, in the order of the deliveries that brought them. It is
-    /// asked before the group takes another event.
+    /// The decisions of a step at `node`, given the outcome in its reply, in the order of the deliveries that caused
+    /// them. It must be called before the group takes another event.
     ///
     /// ```
     /// use castgroup::{Config, Decision, Event, World};
@@ -156,8 +157,8 @@ impl World {
         Ok(decisions)
     }
 
-    /// Whether a node had decided in an instance before it delivered the proposal of this sender there: the first n - f proposals
-    /// decide.
+    /// Whether a node had decided in an instance before it delivered this sender's proposal there: the first n - f
+    /// proposals decide.
     fn had_decided(&self, node: u8, instance: u64, sender: u8) -> Result<bool, OutOfMemory> {
         let mut proposals = 0;
         for other in (0..self.config.nodes as u8).filter(|&other| other != sender) {
@@ -179,7 +180,7 @@ impl World {
         is_decided.then_some(value)
     }
 
-    /// How many slots of what `from` gives `to` are not acknowledged, where both are nodes and not the same.
+    /// The number of unacknowledged slots that `from` gave `to`, if both are nodes and differ.
     pub fn owed(&self, from: u8, to: u8) -> Option<u64> {
         let mut count = 0;
         // SAFETY: see `raw`.
@@ -187,7 +188,7 @@ impl World {
         (status == raw::DONE).then_some(count)
     }
 
-    /// Whether `node` is one of the group and has not crashed.
+    /// Whether `node` belongs to the group and has not crashed.
     pub fn live(&self, node: u8) -> bool {
         let mut is_so = false;
         // SAFETY: see `raw`.
@@ -195,7 +196,7 @@ impl World {
         is_so
     }
 
-    /// Whether no live node owes a live node a slot. Then live nodes have delivered the same.
+    /// Whether no live node owes a live node a slot. If so, live nodes have delivered the same.
     pub fn at_rest(&self) -> bool {
         let mut is_so = false;
         // SAFETY: see `raw`.

@@ -1,4 +1,4 @@
-//! Records, good and spoilt, in pieces that are cut at random, against the verdict on the whole and the program's.
+//! Records, good and spoilt, in pieces cut at random, against the verdict on the whole and that of the program.
 mod common;
 
 use castgroup::{judge, Judge, Verdict};

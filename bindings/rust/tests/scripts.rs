@@ -1,4 +1,4 @@
-//! A thousand random scripts, event by event, against the record that the library's `run` makes, and the program's.
+//! A thousand random scripts, event by event, against the records that the library's `run` and the program write.
 mod common;
 
 use common::{program, random_group, Numbers};

@@ -1,12 +1,12 @@
--- What a group of followers has come to.
---     told_by reports client            what the log of its node tells a client
---     AreCaughtUp stands .. machines    each machine has taken what its follower has not heard of that
---     IsOfItem p kind item              the entry is of an order of this item, which node p took up or refused
+-- What a group of followers gives back.
+--     told_by reports client            what the log of a client's node says to the client
+--     AreCaughtUp stands .. machines    each machine has taken what its follower has not yet heard of that
+--     IsOfItem p kind item              the entry is of an order of this item, which node p took or refused
 --     HaveOrdered followers clients ..  each follower's client is at its node, which took the orders of its first items
---     HaveTaken stands config past ..   each machine stands for exactly what its node delivered, in order
---     DeliverPrefixes config past       what a node delivered of a sender is a prefix of what that sender broadcast
---     DeliverTheSameAtRest config past  at rest live nodes have delivered the same of each sender
---     IsFollowed stands config ..       all that is known of what a group of followers gives back
+--     HaveTaken stands config past ..   each machine matches exactly what its node delivered, in order
+--     DeliverPrefixes config past       what a node delivered from a sender is a prefix of what that sender broadcast
+--     DeliverTheSameAtRest config past  at rest live nodes have delivered the same from each sender
+--     IsFollowed stands config ..       all that is known about what a group of followers gives back
 use Rattle.std.specs.Prelude.{◌≡◌, ◌+◌, ℕ, List, [], ◌++◌, length, take, drop, map, slice_get, Option, Some, None}
 use Rattle.cast_message.specs.declared.config.Config.{Config}
 use Rattle.cast_message.specs.declared.event.Event.TheVariants.{Order}
@@ -45,7 +45,7 @@ abbrev pub told_by : List NodeReport → Option ClientReport → List Notice
 told_by reports None = []
 told_by reports (Some client) = told_in client.client (slice_get reports client.node)
 
--- the machine of follower i has taken the messages that its client was told and the follower has not heard
+-- the machine of follower i has taken the messages that its client was sent and the follower has not yet heard
 abbrev pub IsCaughtUp : {M : Type 0} → (M → List Message → Type 0) → List NodeReport → List ClientReport
     → ℕ → Follower M → M → Type 0
 IsCaughtUp stands reports clients i follower machine =
@@ -60,13 +60,13 @@ AreCaughtUp {M} stands reports clients followers machines =
     → (follower : Follower M) × (slice_get followers i ≡ Some follower)
     × IsCaughtUp stands reports clients i follower machine)
 
--- the entry is of an order of this item, which node p took up, or refused
+-- the entry is of an order of this item, which node p took or refused
 abbrev pub IsOfItem : ℕ → EntryKind → Item → Type 0
 IsOfItem p (StepEntry event origin outcome) item = event ≡ Order p item
 IsOfItem p (Refused origin fault) item = Unit {0}
 
--- The log of the node has, of this client, the orders of the follower's first items, one for one and in order: as many as the report
--- has tickets. Where the engine stopped, all items are among these or left in the desk.
+-- The node's log has this client's orders of the follower's first items, one for one and in order: as many as the
+-- report has tickets. If the engine stopped, each item is among these or left in the desk.
 pub record IsOrdered {M : Type 0} (follower : Follower M) (client : ClientReport) (report : NodeReport)
     : Type 0 where
   pub orders : Matches (λ e item. IsOfItem client.node e.kind item)
@@ -97,21 +97,21 @@ DeliverTheSameAtRest config past =
     → (p q s : ℕ) → Live config past p → Live config past q
     → of_sender s (delivery_log config past p) ≡ of_sender s (delivery_log config past q)
 
--- in the history that all logs make
+-- in the history that all logs together make
 abbrev pub past_of : {M : Type 0} → Config → Followed M → History
 past_of config run = history config run.assembly.events
 
 pub record IsFollowed {M : Type 0} (stands : M → List Message → Type 0) (config : Config)
     (faults : List Fault) (followers : List (ℕ × Follower M)) (run : Followed M) : Type 0 where
-  -- of the followers' items
+  -- about the followers' items
   pub ordered : HaveOrdered followers run.clients.items run.report.reports
   pub origins : HaveOrigins followers run.report.reports
-  -- of the machines
+  -- about the machines
   pub machines : length run.machines.items ≡ length followers
   pub taken : HaveTaken stands config (past_of config run) run.machines.items run.clients.items
   pub prefix : DeliverPrefixes config (past_of config run)
   pub agree : DeliverTheSameAtRest config (past_of config run)
-  -- of the group
+  -- about the group
   pub config_is : run.report.config ≡ config
   pub linked : Linked config run.report.reports
   pub planned : KeepsTo config (faults_of faults) run.report.reports

@@ -1,8 +1,8 @@
 -- What followers keep to.
 --     GoesOn old new                        the follower has the same items left, and awaits as much
 --     HearsMore stands old before new after it goes on from what it had heard to what it has heard
---     FollowerFact stands                   the fact of a follower whose machine stands for messages so
---     IsNewFollower, AreNewFollowers        it has heard nothing, and its machine stands for no message
+--     FollowerFact stands                   the fact of a follower whose machine matches messages in this way
+--     IsNewFollower, AreNewFollowers        it has heard nothing, and its machine matches no messages
 use Rattle.std.specs.Prelude.{◌≡◌, ℕ, ◌+◌, Bool, true, List, [], ◌++◌, length, slice_get, Some}
 use Rattle.cast_message.specs.declared.message.Message.{Message}
 use Rattle.cast_desk.specs.declared.desk.OrderIn.{OrderIn}
@@ -15,15 +15,15 @@ use Rattle.cast.specs.declared.follower.Follower.{Follower}
 abbrev pub GoesOn : {M : Type 0} → Follower M → Follower M → Type 0
 GoesOn old new = (new.left ≡ old.left) × (new.awaited ≡ old.awaited)
 
--- these notices were heard behind those: they are counted, and the machine has taken the messages among them
+-- the follower heard more notices: they are counted, and the machine has taken the messages among them
 abbrev pub HearsMore : {M : Type 0} → (M → List Message → Type 0) → Follower M → List Notice
     → Follower M → List Notice → Type 0
 HearsMore stands old before new after =
     (more : List Notice) × (after ≡ before ++ more) × (new.heard ≡ old.heard + length more)
     × ((taken : List Message) → stands old.machine taken → stands new.machine (taken ++ told more))
 
--- it has submitted the first of its items, in order, and when it is done, all of them; it has counted the notices that it
--- got; and its machine has taken the messages among them, in order, behind those that it had taken before
+-- It has submitted the first of its items, in order; when it is done, all of them. It has counted its notices. Its
+-- machine has taken the messages among them, in order, after those that it had taken before.
 pub record FollowerFact {M : Type 0} (stands : M → List Message → Type 0) (given job : Follower M)
     (sent : List OrderIn) (got : List Notice) (done : Bool) : Type 0 where
   pub ordered : AreFirst given.left job.left sent

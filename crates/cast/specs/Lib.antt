@@ -1,5 +1,4 @@
 pub mod Types
-pub mod Settings
 pub mod Followers
 pub mod Followed
 pub mod Sums

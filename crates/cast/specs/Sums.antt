@@ -4,7 +4,7 @@ use Rattle.std.specs.List.{sum_by}
 use Rattle.cast_message.specs.declared.message.Message.{Message}
 use Rattle.cast_merge.specs.Told.{of_sender}
 
--- whatever each message counts, lists that have the same messages of each sender, in order, come to the same
+-- if two lists have the same messages of each sender, in order, their sums are equal, whatever each message counts
 abbrev pub SumsAgree : Type 0
 SumsAgree =
     (value : Message → ℕ) (xs ys : List Message) → ((s : ℕ) → of_sender s xs ≡ of_sender s ys)

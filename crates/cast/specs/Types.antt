@@ -1,4 +1,4 @@
--- The types that contracts and definitions of a crate above name.
+-- The types that contracts and definitions of the crates above name.
 pub use Rattle.cast_message.specs.declared.config.Config.{Config}
 pub use Rattle.cast_message.specs.declared.message.Item.{Item}
 pub use Rattle.cast_message.specs.declared.message.Item.TheVariants.{Data, Propose, Close}

@@ -1,4 +1,4 @@
-//! A group of followers that has run, and its machines, which have taken all that their nodes delivered.
+//! A group of followers after its run, with machines that have taken all that their nodes delivered.
 ghost use Rattle.std.specs.Prelude.{◌≡◌, ℕ, List, slice_get, IfOk, IfErr, OnOk};
 ghost use Rattle.cast_message.specs.declared.config.Config.{Config as Configured};
 ghost use Rattle.cast_run.specs.Faults.{Fits, IsFaultOf};
@@ -22,25 +22,27 @@ use std::alloc::{AllocError, Global};
 use std::sync::Wait;
 use std::thread::Threads;
 
-/// What a group of followers has come to.
+/// What a group of followers gives back.
 #[derive(Drop)]
 pub struct Followed<M> {
-    /// The machines, in the order in which their followers were added. Each has taken all that its node delivered.
+    /// The machines, in the order their followers were added. Each has taken all that its node delivered.
     pub machines: Vec<M>,
-    /// What became of each follower's items, and at which node it was, in the same order.
+    /// The node of each follower and what happened to its items, in the same order.
     pub clients: Vec<ClientReport>,
-    /// The log, the end and the node of each node.
+    /// How each node ended, with its log and its state.
     pub report: GroupReport,
-    /// What all nodes did, as one list of events, with the replies, and the group after them. Its `world.at_rest()` says whether the
-    /// group has come to rest, `world.live(node)` who has not crashed.
+    /// What all nodes did, as one list of events, with the replies, and the group after them. Its `world.at_rest()`
+    /// says whether the group is at rest, and `world.live(node)` whether a node has not crashed.
     pub assembly: Assembly,
 }
 
-/// Runs a group of followers in threads, as `run_group` does, and merges what its nodes logged. A follower hands its machine what
-/// it hears while the group runs; what its node delivered after the follower was done, the machine takes once all threads have
-/// ended. So each machine has taken exactly what its node delivered, in that order: of each sender a prefix of what was
-/// broadcast there, each item once. At rest live nodes have delivered the same of each sender, in uniform mode where no fault is
-/// tolerated, or no more nodes have crashed than are. It is refused as `run_group` is.
+/// Runs a group of followers in threads, as `run_group` does, and merges what its nodes logged. A follower passes what
+/// it hears to its machine while the group runs. After all threads have ended, the machine takes what its node
+/// delivered after the follower was done. The run is refused as `run_group` is.
+///
+/// So each machine has taken exactly what its node delivered, in order: from each sender a prefix of its broadcast,
+/// each item once. At rest live nodes have delivered the same from each sender. In uniform mode, that needs `faults` to
+/// be 0, or at most `faults` crashed nodes.
 pub fn run_followers<M: Machine + Send + Drop + 'static, R: Threads + Wait + Copy + Send + 'static>(
     rt: R,
     alloc: Global,
@@ -57,8 +59,8 @@ pub fn run_followers<M: Machine + Send + Drop + 'static, R: Threads + Wait + Cop
     Ok(conclude(alloc, live)?)
 }
 
-/// Runs a group of followers in the calling thread, as `run_group_by_seed` does: the same seed makes the same run again. What is
-/// known of the answer is what is known of threads.
+/// Runs a group of followers in the calling thread, as `run_group_by_seed` does; the same seed makes the same run. The
+/// result has the same clauses as in threads.
 pub fn run_followers_by_seed<M: Machine + Drop, R: Wait>(
     rt: &R,
     alloc: Global,
@@ -76,7 +78,7 @@ pub fn run_followers_by_seed<M: Machine + Drop, R: Wait>(
     Ok(conclude(alloc, live)?)
 }
 
-// Merges the logs, and brings each machine up to what its node delivered.
+// Merges the logs, and lets each machine take the rest of what its node delivered.
 fn conclude<M: Machine + Drop>(
     alloc: Global,
     run: LiveRun<Follower<M>>,
@@ -102,7 +104,7 @@ fn conclude<M: Machine + Drop>(
     })
 }
 
-// The machine of each follower, once it has taken what its client was told and it has not heard.
+// The machine of each follower, after it has taken what its client was sent but it has not yet heard.
 fn catch_up<M: Machine + Drop>(
     alloc: Global,
     reports: &[NodeReport],
@@ -120,7 +122,7 @@ fn catch_up<M: Machine + Drop>(
     Ok(machines)
 }
 
-// All that the client at this place is told by the log of its node, if there are both.
+// All that the log of its node says to the client at this place, if both exist.
 fn told_to(
     alloc: Global,
     reports: &[NodeReport],

@@ -1,4 +1,4 @@
-//! The job that submits a list of items and has a state machine follow what its node delivers.
+//! The job that submits a list of items, while a state machine follows what its node delivers.
 ghost use Rattle.std.specs.Prelude.{◌≡◌, ◌↔◌, ◌<◌, ◌≤◌, ◌+◌, ◌-◌, ◌^◌, ◌++◌, ◌∷◌, [], List, length, drop, IsTrue, IsFalse};
 ghost use Rattle.cast_message.specs.declared.message.Message.{Message};
 ghost use Rattle.cast_desk.specs.Desk.{IsSameClient};
@@ -14,9 +14,9 @@ use cast_message::{Item, List};
 use cast_run::{ClientJob, Submissions};
 use std::sync::Wait;
 
-/// Submits its items, one in a turn where the desk has room, and hands each message that its node tells it was delivered to its
-/// machine, in order, one notice in a turn. It is done once all items are submitted, and the machine has taken as many messages
-/// as it awaits, which is none if nothing else is said. It takes no memory of its own.
+/// Submits its items, one a turn if the desk has room. It takes one notice a turn, and passes each delivered message to
+/// its machine, in order. It is done after it has submitted all items and its machine has taken as many messages as it
+/// awaits, 0 by default. It allocates nothing itself.
 #[derive(Drop)]
 pub struct Follower<M> {
     left: Submissions,
@@ -24,7 +24,7 @@ pub struct Follower<M> {
     // How many messages it awaits, and how many its machine has taken, as far as a `u64` counts.
     awaited: u64,
     taken: u64,
-    // How many notices it has got.
+    // The number of its notices.
     heard: u64,
 }
 
@@ -33,8 +33,8 @@ impl<M: Machine> ClientJob for Follower<M> {
 
     ghost fact = { FollowerFact M.stands };
 
-    // What every job's turn does; that the next item is submitted, unless the desk refuses it; that a notice is taken, unless the
-    // tray is empty, or the follower can't count one more; and when it is done.
+    // Besides what every job's turn does: the next item is submitted, unless the desk refuses it. A notice is taken,
+    // unless the tray is empty or the follower can't count another. And it says when the follower is done.
     fn turn<R: Wait>(&mut self, rt: &R, client: &mut Client) -> bool
         requires { HoldsOf (FollowerFact M.stands) self.old client.old }
         ensures same { IsSameClient client.old client.new }
@@ -51,7 +51,7 @@ impl<M: Machine> ClientJob for Follower<M> {
 }
 
 impl<M> Follower<M> {
-    /// The follower that submits these items and hands what is delivered to this machine.
+    /// A follower that submits these items, and passes deliveries to this machine.
     pub fn new(items: List<Item>, machine: M) -> Follower<M>
         ensures given { (result.left ≡ items) × (result.machine ≡ machine) }
         ensures new { (result.awaited ≡ 0) × (result.taken ≡ 0) × (result.heard ≡ 0) }
@@ -65,8 +65,8 @@ impl<M> Follower<M> {
         }
     }
 
-    /// The same follower, which is not done before its machine has taken so many messages. A number that the group never delivers
-    /// keeps its node awake until its turns are used up.
+    /// The same follower, but not done before its machine has taken `messages` messages. If the group never delivers
+    /// that many, its node stays awake until its turns are used up.
     pub fn awaiting(self, messages: u64) -> Follower<M>
         ensures { result ≡ record self { awaited = messages } }
     {
@@ -76,7 +76,6 @@ impl<M> Follower<M> {
         }
     }
 
-    /// Its machine.
     pub fn machine(&self) -> &M
         ensures { result.now ≡ self.now.machine }
     {
@@ -91,7 +90,7 @@ impl<M> Follower<M> {
 }
 
 impl<M: Machine> Follower<M> {
-    // Takes the next notice, where there is one, and it can be counted.
+    // Takes the next notice, if there is one and it can be counted.
     fn hear_next<R: Wait>(&mut self, rt: &R, client: &mut Client)
         ensures given { GoesOn self.old self.new }
         ensures same { IsSameClient client.old client.new }
@@ -107,7 +106,7 @@ impl<M: Machine> Follower<M> {
         }
     }
 
-    // Counts the notice, and hands the machine what it says was delivered.
+    // Counts the notice, and passes the message that it delivers to the machine.
     fn hear(&mut self, notice: &Notice)
         requires { self.old.heard + 1 < 2 ^ 64 }
         ensures given { GoesOn self.old self.new }
@@ -120,7 +119,8 @@ impl<M: Machine> Follower<M> {
         }
     }
 
-    /// Its machine, once it has taken the messages among all that the client is told, of which the follower has heard the first.
+    /// Its machine, after it has taken the messages among all of the client's notices; the follower has heard the first
+    /// of these.
     pub(crate) fn caught_up(self, all: &[Notice]) -> M
         ensures { (taken : List Message) → M.stands self.machine taken
             → M.stands result (taken ++ told (drop self.heard all.now)) }
@@ -135,7 +135,7 @@ impl<M: Machine> Follower<M> {
     }
 }
 
-// Hands the machine the message that the notice says was delivered, if it says so, and answers whether it does.
+// Passes the message that the notice delivers to the machine, if there is one, and returns whether there is.
 fn hand_on<M: Machine>(machine: &mut M, notice: &Notice) -> bool
     ensures { (taken : List Message) → M.stands machine.old taken
         → M.stands machine.new (taken ++ told (notice.now ∷ [])) }

@@ -1,4 +1,4 @@
-//! The followers of a group, before it runs.
+//! The followers of a group before its run.
 ghost use Rattle.std.specs.Prelude.{◌≡◌, ◌++◌, ◌∷◌, [], OnOk, OnErr};
 ghost use Rattle.cast_run.specs.Jobs.{told_job};
 ghost use Rattle.cast.specs.Followers.{IsNewFollower, AreNewFollowers};
@@ -9,7 +9,7 @@ use cast_message::NodeId;
 use std::alloc::{AllocError, Global};
 use std::marker::Model;
 
-/// Followers at their nodes, none of which has run yet: each machine stands for no message. To contracts it is the list of them.
+/// Followers at their nodes before they run: each machine matches no messages. Contracts see them as a list.
 #[derive(Drop)]
 pub struct Followers<M: Machine> {
     list: Vec<(NodeId, Follower<M>)>,
@@ -28,7 +28,7 @@ impl<M: Machine> Model for Followers<M> {
 }
 
 impl<M: Machine + Drop> Followers<M> {
-    /// There are none. It takes no memory.
+    /// No followers. It allocates nothing.
     pub fn new(alloc: Global) -> Followers<M>
         ensures { result ≡ [] }
     {
@@ -37,7 +37,7 @@ impl<M: Machine + Drop> Followers<M> {
         }
     }
 
-    /// One follower more, at this node, or want of memory. A node of a group has up to 4.
+    /// Adds a follower at this node. A node has up to 4.
     pub fn add(&mut self, node: NodeId, follower: Follower<M>) -> Result<(), AllocError>
         requires { IsNewFollower M.stands follower }
         ensures ok { OnOk result (self.new ≡ self.old ++ told_job node follower ∷ []) }
@@ -47,7 +47,7 @@ impl<M: Machine + Drop> Followers<M> {
         Ok(())
     }
 
-    /// The followers as jobs, in the order in which they were added.
+    /// The followers as jobs, in the order they were added.
     pub fn into_jobs(self) -> Vec<(NodeId, Follower<M>)>
         ensures jobs { result.items ≡ self }
         ensures new { AreNewFollowers M.stands result.items }

@@ -1,4 +1,4 @@
-//! A group of jobs with the usual gates and limits.
+//! Runs a group of jobs with the usual gates and limits.
 ghost use Rattle.std.specs.Prelude.{◌≡◌, [], ℕ, false, slice_get, Some, IfOk, IfErr, OnOk};
 ghost use Rattle.cast_run.specs.Faults.{Fits, IsFaultOf};
 ghost use Rattle.cast_run.specs.Jobs.{told_job};
@@ -13,18 +13,18 @@ use std::alloc::Global;
 use std::sync::Wait;
 use std::thread::Threads;
 
-/// How many turns an engine takes at most, and how often a job is called, where nothing else is said. A job that waits is called some
-/// hundred times while its engine takes a turn.
+/// By default, an engine takes this many turns at most, and a job is called this often at most. A job that waits is
+/// called some hundred times in one turn of its engine.
 pub const USUAL_LIMITS: Limits = Limits {
     turns: 4_000_000,
     calls: 400_000_000,
 };
 
-/// How many steps a run by a seed takes at most, where nothing else is said.
+/// By default, a run by a seed takes this many steps at most.
 pub const USUAL_STEPS: u64 = 100_000_000;
 
-/// Runs a group in threads as `run_live` does, with gates that let every turn pass, and `USUAL_LIMITS`. What is known of the answer
-/// is what is known there (`ran`), and it is refused as there.
+/// Runs a group in threads as `run_live` does, with gates that let every turn pass, and `USUAL_LIMITS`. The result
+/// (`ran`) and the refusals are those of `run_live`.
 pub fn run_group<J: ClientJob + Send + Drop + 'static, R: Threads + Wait + Copy + Send + 'static>(
     rt: R,
     alloc: Global,
@@ -39,7 +39,7 @@ pub fn run_group<J: ClientJob + Send + Drop + 'static, R: Threads + Wait + Copy 
     ensures fault { IfErr result
         (IsFaultOf config.nodes jobs.items config.nodes plan.now.faults) }
 {
-    // What does not fit is told before any memory is asked for.
+    // A misfit is reported before any memory is allocated.
     if let Some(misfit) = find_misfit(&config, plan, jobs.as_slice(), config.nodes() as usize) {
         return Err(misfit);
     }
@@ -47,9 +47,9 @@ pub fn run_group<J: ClientJob + Send + Drop + 'static, R: Threads + Wait + Copy 
     run_live(rt, alloc, config, plan, jobs, gates, USUAL_LIMITS)
 }
 
-/// Runs a group in the calling thread as `run_scheduled` does, by the schedule of a seed, as `castgroup live --seed` does, with gates
-/// that let every turn pass, `USUAL_LIMITS` and `USUAL_STEPS`. The same seed makes the same run again. What is known of the answer
-/// is what is known of threads.
+/// Runs a group in the calling thread as `run_scheduled` does, by the schedule of a seed, as `castgroup live --seed`
+/// does. Gates let every turn pass; `USUAL_LIMITS` and `USUAL_STEPS` apply. The same seed makes the same run. The
+/// result has the same clauses as in threads.
 pub fn run_group_by_seed<J: ClientJob + Drop, R: Wait>(
     rt: &R,
     alloc: Global,

@@ -9,16 +9,14 @@ mod followers;
 mod group;
 mod items;
 mod machine;
-mod settings;
 
 // Types, which every use wants: what is broadcast, to whom, within which limits. `Settings::of` has the usual configuration,
 // `data` makes an item of bytes.
 pub use cast_message::{
     Answer, Config, ConfigFault, Decision, Event, Frame, FrameBody, FrameKind, Item, List, Message,
-    Mode, NodeId, Outcome, Payload, Reply, StepFault,
+    Mode, NodeId, Outcome, Payload, Reply, Settings, StepFault,
 };
 pub use items::data;
-pub use settings::Settings;
 
 // The group as one value, if you say yourself what happens when: a test bed, or a run that is read step by step. No thread and
 // no time is in it.

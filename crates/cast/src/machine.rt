@@ -4,16 +4,15 @@ ghost use Rattle.cast_message.specs.declared.message.Message.{Message};
 
 use cast_message::Message;
 
-/// A state machine, which takes one message after another. A node delivers the messages of one sender in the order in which
-/// that sender broadcast them, and those of different senders as they come, which another node may see otherwise. So what
-/// machines are to agree on must not depend on the order between senders.
+/// A state machine, which takes one message after another. A node delivers the messages of one sender in the order of
+/// its broadcast. Between senders, the order may differ at another node. So what machines should agree on must not
+/// depend on it.
 ///
-/// A machine may say what its state has to do with the messages that it took (`stands`), in order; each step is then proved to
-/// keep that. It may also leave it away: then nothing is known of its state.
+/// A machine may say how its state relates to the messages that it took, in order (`stands`); each step is then proved
+/// to keep that. Without it, nothing is known about its state.
 pub trait Machine {
     ghost stands: { Self → List Message → Type 0 } = { λ _ _. Unit {0} };
 
-    /// Takes the next message.
     fn apply(&mut self, message: &Message)
         ensures { (taken : List Message) → stands self.old taken
             → stands self.new (taken ++ message.now ∷ []) };

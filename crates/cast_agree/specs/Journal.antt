@@ -1,5 +1,5 @@
 -- What is counted of several messages.
---     counted_all counted ms       what is counted after these messages were delivered, in order
+--     counted_all counted ms       what is counted after the delivery of these messages, in order
 --     decisions_all counted ms     the decisions that they complete
 use Rattle.std.specs.Prelude.{List, [], ◌∷◌, ◌++◌}
 use Rattle.std.specs.Option.{option_to_list}

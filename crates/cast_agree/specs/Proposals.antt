@@ -1,4 +1,4 @@
--- What is decided, said of the items delivered so far, the newest first, with their senders.
+-- What is decided by the items delivered so far. The items come with their senders, newest first.
 --     proposals j past        the first proposal of each sender in instance j, in order
 --     counted_of quorum past  what is counted of them
 --     DecidesLeast            a quorum of senders decides, by the least of their values
@@ -37,7 +37,6 @@ least (x ∷ xs) = fold min x xs
 abbrev pub settled : ℕ → List (ℕ × ℕ) → Option ℕ
 settled quorum ps = if nat_le quorum (length ps) then Some (least (take quorum (values ps))) else None
 
--- the decision that a proposal completes
 abbrev pub settled_by : ℕ → ℕ → List (ℕ × ℕ) → ℕ → ℕ → Option Decision
 settled_by quorum j ps sender value =
     if not (has_proposed ps sender) && length ps + 1 == quorum

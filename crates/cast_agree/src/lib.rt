@@ -1,6 +1,6 @@
-//! Set agreement (after Chaudhuri 1993), one instance beside another: of n senders of which f may be faulty, the proposals of
-//! the first n - f distinct ones to be delivered decide an instance, by the least of their values. Fewer than f + 1 values
-//! lie below any value decided so, so that at most f + 1 are.
+//! Set agreement (after Chaudhuri 1993). Of n senders, f may be faulty. The first n - f distinct senders whose
+//! proposals are delivered decide an instance, by the least of their values. At most f + 1 values are decided, since at
+//! most f values are below any decided one.
 #![tactic(auto)]
 
 ghost use Rattle.std.specs.Prelude.{◌≡◌, ◌+◌, ◌-◌, ◌<◌, ◌≤◌, ◌++◌, length, option_map, unwrap_or, vec_len, vec_capacity, IfOk, OnOk, OnErr};
@@ -24,9 +24,9 @@ use tally::Tally;
 #[derive(Drop)]
 pub struct Agree {
     alloc: Global,
-    // How many distinct senders decide an instance.
+    // How many distinct senders decide.
     quorum: u64,
-    // What is counted, by instance, in a map that can make its room before anything is counted.
+    // By instance. The map can make its room before anything is counted.
     tallies: HashMap<u64, Tally>,
 }
 
@@ -41,8 +41,8 @@ impl Model for Agree {
 }
 
 impl Agree {
-    /// Nothing is counted; the proposals of all but `faults` of the nodes decide. The faults are below the nodes. It takes
-    /// no memory.
+    /// An agreement in which nothing is counted. The proposals of all nodes but `faults` decide; `faults` is below
+    /// `nodes`. It allocates nothing.
     pub fn new(alloc: Global, nodes: u64, faults: u64) -> Agree
         requires { faults < nodes }
         ensures { result ≡ record { quorum = nodes - faults; tallies = map.empty } }
@@ -54,9 +54,8 @@ impl Agree {
         }
     }
 
-    /// Counts an item that was delivered from a sender, and gives the decision that it completes: there is one exactly
-    /// where this is the proposal of the (n - f)-th distinct sender in its instance. A second proposal of a sender in an
-    /// instance is not counted.
+    /// Counts an item that was delivered from a sender. If it is the proposal of the (n - f)-th distinct sender in its
+    /// instance, returns the decision. A sender's second proposal in an instance is not counted.
     pub fn delivered(&mut self, sender: NodeId, item: &Item) -> Result<Option<Decision>, AllocError>
         ensures decision { IfOk result
             (λ decision. decision ≡ decision_by self.old sender item.now) }
@@ -67,8 +66,8 @@ impl Agree {
         Ok(count(self.quorum, &mut self.tallies, sender, item))
     }
 
-    /// Counts the items of messages that were delivered, in order, as `delivered` does, and gives the decisions that they
-    /// complete. Where memory is wanting it counts none of them.
+    /// Counts the items of messages as `delivered` does, in order, and returns the decisions that they complete. If it
+    /// is out of memory, it counts none.
     pub fn count_all(&mut self, messages: &[Message]) -> Result<Vec<Decision>, AllocError>
         ensures decisions { IfOk result
             (λ decisions. decisions.items ≡ decisions_all self.old messages.now) }
@@ -81,7 +80,7 @@ impl Agree {
         Ok(decisions)
     }
 
-    /// The value decided in an instance, if it is. It takes no memory.
+    /// The value decided in an instance, if there is one. It allocates nothing.
     pub fn decision(&self, instance: u64) -> Option<u64>
         ensures { result ≡ decision self.now instance }
     {
@@ -89,7 +88,7 @@ impl Agree {
     }
 }
 
-// Counts the items of messages among tallies that have room for one more for each.
+// Counts the items of messages. The tallies have room for one more per message.
 fn count_each(
     quorum: u64,
     tallies: &mut HashMap<u64, Tally>,
@@ -109,7 +108,7 @@ fn count_each(
     }
 }
 
-// Counts an item of a sender among tallies that have room for one more, and gives the decision that it completes.
+// Counts an item of a sender, and returns the decision that it completes. The tallies have room for one more.
 fn count(
     quorum: u64,
     tallies: &mut HashMap<u64, Tally>,
@@ -141,7 +140,7 @@ fn tally_of(tallies: &HashMap<u64, Tally>, instance: u64) -> Tally
     }
 }
 
-// Keeps what is counted of an instance, for which there is room.
+// Keeps the tally of an instance. There is room for it.
 fn store(tallies: &mut HashMap<u64, Tally>, instance: u64, tally: Tally)
     requires { 0 < spare tallies.old }
     ensures tallies { tallies_of tallies.new.entries
@@ -163,7 +162,7 @@ fn decision_of(instance: u64, decided: Option<u64>) -> Option<Decision>
     })
 }
 
-// Puts a decision, if there is one, at the end of others, which have room for it.
+// Appends a decision, if there is one. There is room for it.
 fn put(decisions: &mut Vec<Decision>, decision: Option<Decision>)
     requires { vec_len decisions.old < vec_capacity decisions.old }
     ensures items { decisions.new.items ≡ decisions.old.items ++ option_to_list decision }
@@ -175,8 +174,8 @@ fn put(decisions: &mut Vec<Decision>, decision: Option<Decision>)
     }
 }
 
-/// A law of every list of deliveries: an instance is decided from the (n - f)-th distinct proposer on, by the least of the
-/// values of the first n - f, and a delivery completes a decision exactly where it is the (n - f)-th's.
+/// A law of every list of deliveries. An instance is decided from the (n - f)-th distinct proposer on, by the least
+/// value of the first n - f. A delivery completes a decision if and only if it is the proposal of the (n - f)-th.
 pub fn decides_least()
     ensures { DecidesLeast }
 {}

@@ -21,8 +21,8 @@ pub record PutterEnd (T : Type 0) : Type 0 where
   pub number : ℕ
   pub put : List T
 
--- the taker of the box `home`: what it has taken, with the putters' numbers, and what those putters have put that have
--- ended, which are the first
+-- the taker of the box `home`: what it has taken, with the putters' numbers, and what each ended putter has put; the
+-- ended putters are the first ones
 pub record TakerEnd (T : Type 0) : Type 0 where
   pub home : TableId
   pub size : ℕ
@@ -47,13 +47,13 @@ module _ {T : Type 0} where
   IsSameTaker old new =
       (new.home ≡ old.home) × (new.size ≡ old.size) × (new.putters ≡ old.putters) × (new.ended ≡ old.ended)
 
-  -- this item was taken, which a putter had put, or none was
+  -- an item from one of the putters was taken, or none was
   abbrev pub TakesItem : TakerEnd T → Option T → TakerEnd T → Type 0
   TakesItem old item new =
       MatchOption item (new.taken ≡ old.taken)
       (λ item. (from : ℕ) × (from < old.putters) × (new.taken ≡ old.taken ++ (from, item) ∷ []))
 
-  -- each putter is the one that stood in its place
+  -- each putter is the same as the one in its place before
   abbrev pub AreSamePutters : List (PutterEnd T) → List (PutterEnd T) → Type 0
   AreSamePutters old new =
       (length new ≡ length old)
@@ -75,19 +75,19 @@ module _ {T : Type 0} where
   abbrev pub HaveAllEnded : TakerEnd T → Type 0
   HaveAllEnded taker = length taker.ended ≡ taker.putters
 
-  -- the ends know the limits of their box, no putter has put anything, and nothing was taken
+  -- the ends know the limits of their box, nothing was put and nothing taken
   abbrev pub AreNew : List (PutterEnd T) → TakerEnd T → Type 0
   AreNew putters taker =
       ((a : ℕ) (p : PutterEnd T) → slice_get putters a ≡ Some p
       → (p.size ≡ taker.size) × (p.putters ≡ taker.putters) × (p.put ≡ []))
       × (taker.taken ≡ [])
 
-  -- at one moment of the call the box held `size` items, all of its putters, and this putter's among them were the last
-  -- that it had put
+  -- at one moment of the call the box held `size` items, all from its putters; those of this putter were the last that
+  -- it had put
   abbrev pub WasFull : PutterEnd T → Type 0
   WasFull p = Held p.size (HasOwn p.putters p.number p.put)
 
-  -- where it is the only putter of its box, it has put at least as many items as the box has places
+  -- if it is the only putter of its box, it has put at least as many items as the box has places
   abbrev pub FilledItAlone : PutterEnd T → Type 0
   FilledItAlone p = p.putters ≡ 1 → p.size ≤ length p.put
 
@@ -102,7 +102,7 @@ IsSize size = (0 < size) × (size ≤ 4096)
 abbrev pub IsPutters : ℕ → Type 0
 IsPutters putters = (0 < putters) × (putters ≤ 64)
 
--- the first refusal that has a cause, by what the size and the number of putters have to be
+-- the first fault, given what the size and the number of putters must satisfy
 abbrev pub IsFirstFault : Type 0 → Type 0 → BoxFault → Type 0
 IsFirstFault size putters Size = ¬ size
 IsFirstFault size putters Putters = size × ¬ putters

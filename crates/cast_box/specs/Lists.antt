@@ -7,23 +7,23 @@ module _ {T : Type 0} where
   of a [] = []
   of a (m ∷ ms) = if a == m.0 then m.1 ∷ of a ms else of a ms
 
-  -- what putter a has put, of the lists of all putters
+  -- what putter a has put, given the lists of all putters
   abbrev pub put_by : List (List T) → ℕ → List T
   put_by lists a = slice_index_or lists a []
 
-  -- what was taken and then what is left has each putter's items, in the order in which it put them, and no others
+  -- what was taken, followed by what is left, has each putter's items in the order it put them, and no others
   abbrev pub IsFair : List (List T) → List (ℕ × T) → List (ℕ × T) → Type 0
   IsFair put taken left = (a : ℕ) → of a (taken ++ left) ≡ put_by put a
 
-  -- of the putters that have ended, whose lists these are, all was taken
+  -- everything was taken that the ended putters had put; these are their lists
   abbrev pub HasTakenOfEnded : List (List T) → List (ℕ × T) → Type 0
   HasTakenOfEnded ended taken = (a : ℕ) → a < length ended → of a taken ≡ put_by ended a
 
-  -- the second list ends the first
+  -- the first list ends with the second
   abbrev pub EndsWith : List T → List T → Type 0
   EndsWith xs end = (before : List T) × (xs ≡ before ++ end)
 
-  -- the second list begins the first
+  -- the first list starts with the second
   abbrev pub StartsWith : List T → List T → Type 0
   StartsWith xs front = (rest : List T) × (xs ≡ front ++ rest)
 
@@ -32,6 +32,6 @@ module _ {T : Type 0} where
   AreBelow n [] = Unit {0}
   AreBelow n (m ∷ ms) = (m.0 < n) × AreBelow n ms
 
-  -- the items are of putters below `putters`, and those of putter `number` are the last that it put
+  -- all items are from putters below `putters`, and those of putter `number` are the last that it put
   abbrev pub HasOwn : ℕ → ℕ → List T → List (ℕ × T) → Type 0
   HasOwn putters number put items = AreBelow putters items × EndsWith put (of number items)

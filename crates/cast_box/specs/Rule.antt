@@ -1,5 +1,5 @@
--- The rule of a box: for each putter, what was taken of it and then what the box holds of it is what it has put, and the
--- box holds no more than its size.
+-- The rule of a box: for each putter, what was taken and then what is still in the box is what that putter put. The box
+-- holds no more than its size.
 use Rattle.std.specs.Prelude.{◌≡◌, ℕ, ◌<◌, ◌≤◌, List, [], ◌∷◌, ◌++◌, length}
 use mathlib.Core.Option.{Option, some, none}
 use lib.ListN.{get_elem?}
@@ -8,7 +8,7 @@ use Rattle.cast_box.specs.declared.rule.Known.{Known}
 use Rattle.cast_box.specs.declared.rule.Role.TheVariants.{Putting, Taking, Gathering, Ended}
 
 module _ {T : Type 0} where
-  -- the putter of this number, and what it has put
+  -- the putter with this number, and what it has put
   abbrev pub putter : ℕ → ℕ → ℕ → List T → Known T
   putter size putters number put =
       record {
@@ -22,7 +22,7 @@ module _ {T : Type 0} where
         left = [];
       }
 
-  -- the taker knows how many putters were made, what it has taken, and what those have put that have ended
+  -- the taker knows how many putters were made, what it has taken, and what each ended putter has put
   abbrev pub taker : ℕ → ℕ → ℕ → List (ℕ × T) → List (List T) → Known T
   taker size putters made taken ended =
       record {
@@ -55,8 +55,8 @@ module _ {T : Type 0} where
   spent =
       record { role = Ended; size = 0; putters = 0; number = 0; put = []; taken = []; ended = []; left = [] }
 
-  -- What an end's knowledge `v` has to do with the box. `reader` is the taker's pass; seat a is the pass of putter a, where
-  -- that putter was made and has not ended; put a is what putter a has put.
+  -- How the knowledge `v` of an end relates to the box. `reader` is the taker's pass. `seat a` is the pass of putter a,
+  -- if that putter was made and has not ended. `put a` is what putter a has put.
   module _ (reader : ℕ) (seat : ℕ → Option ℕ) (put : ℕ → List T) (taken items : List (ℕ × T))
       (size putters : ℕ) where
     pub record IsPutter (pass : ℕ) (v : Known T) : Type 0 where
@@ -100,7 +100,7 @@ module _ {T : Type 0} where
     pub fits : (pass : ℕ) (v : Known T) → get_elem? views pass ≡ some v
         → Fits reader seat put taken items size putters pass v
 
-  -- what a step tells, of what the end knew before, the item with its putter's number, and what the end knows after
+  -- how a step relates what the end knew before, the item with its putter's number, and what the end knows after
   abbrev pub Puts : Known T → ℕ × T → Known T → Type 0
   Puts v m w = w ≡ putter v.size v.putters v.number (v.put ++ m.1 ∷ [])
 
@@ -115,7 +115,7 @@ module _ {T : Type 0} where
   abbrev pub Empties : Known T → ℕ × T → Known T → Type 0
   Empties v m w = (w ≡ gatherer v.taken v.ended w.left) × (v.left ≡ m ∷ w.left)
 
-  -- what an end learns of the items that the box holds
+  -- what an end learns about the items in the box
   abbrev pub ShowsPutter : Known T → List (ℕ × T) → Type 0
   ShowsPutter v items = HasOwn v.putters v.number v.put items
 

@@ -1,4 +1,4 @@
-//! The ends of a box, which threads hold: a queue that they share, under the rule of `rule.rt`.
+//! The ends of a box: threads hold them, and they share a queue under the rule of `rule.rt`.
 ghost use Rattle.std.specs.Prelude.{◌≡◌, ◌++◌, ◌∷◌, [], ◌<◌, ◌≤◌, length, IsTrue, IfNone, OnErr, MatchResult};
 ghost use Rattle.cast_box.specs.Lists.{IsFair, HasTakenOfEnded};
 ghost use Rattle.cast_box.specs.Ends.{PutterEnd, TakerEnd, IsSamePutter, IsSameTaker, IsNextToEnd, HaveAllEnded, TakesItem, WasFull, FilledItAlone};
@@ -9,14 +9,14 @@ use std::alloc::Global;
 use std::marker::Model;
 use std::sync::{Arc, Wait};
 
-/// An item that found the box full.
+/// The item that a full box handed back.
 #[derive(Drop)]
 pub struct Full<T> {
     pub item: T,
 }
 
-/// An end of a box through which its thread puts items. To contracts it is its number, the limits of its box, and the list
-/// of what it has put.
+/// An end through which a thread puts items. Contracts see its number, the limits of its box, and the list of what it
+/// has put.
 #[derive(Drop)]
 pub struct Putter<T> {
     pub(crate) number: u64,
@@ -47,14 +47,14 @@ impl<T> Model for Putter<T> {
         × (p.number < (known p.pass).putters) };
 }
 
-/// The end of a box through which items are taken. To contracts it is the limits of its box, the list of what it has taken,
-/// with the putters' numbers, and what those putters have put that have ended.
+/// The end through which items are taken. Contracts see the limits of its box, the list of what it has taken with the
+/// putters' numbers, and what each ended putter has put.
 #[derive(Drop)]
 pub struct Taker<T> {
     pub(crate) queue: Arc<BoxQueue<T>, Global>,
     pub(crate) pass: BoxPass<T>,
-    // The last take found nothing. The next one then looks first whether the box is empty still, which takes far less than a
-    // take that finds nothing; while items come, looking would hold up who puts them.
+    // Whether the last take found nothing. The next one then first checks that the box is still empty, which costs far
+    // less than a take that finds nothing. While items come, the check would hold up the putters.
     pub(crate) found_nothing: bool,
 }
 
@@ -81,10 +81,10 @@ impl<T> Model for Taker<T> {
 }
 
 impl<T> Putter<T> {
-    /// Puts the item at the back of the box, under this putter's number. Where the box had no room at one moment of the
-    /// call, the item comes back and nothing was put: the box then held as many items as it has places, and this putter's
-    /// among them were the last that it had put. So the only putter of a box gets an item back only where it has put at least
-    /// that many. It may spin behind a thread that stalls in a put or a take.
+    /// Puts the item at the back of the box, under this putter's number. If the box was full at one moment of the call,
+    /// nothing is put and the item comes back. The box then held as many items as it has places, and those of this
+    /// putter were the last that it had put. So a box's only putter gets an item back only if it has put at least that
+    /// many. The call may spin while a thread stalls in a put or a take.
     #[inline(always)]
     pub fn put<R: Wait>(&mut self, rt: &R, item: T) -> Result<(), Full<T>>
         ensures same { IsSamePutter self.old self.new }
@@ -102,9 +102,8 @@ impl<T> Putter<T> {
 }
 
 impl<T> Taker<T> {
-    /// Takes the item at the front of the box, where it is not empty. It answers nothing only where the box was empty at
-    /// one moment of the call; so all that the putters have put that have ended was taken then. It may spin behind a thread
-    /// that stalls in a put.
+    /// Takes the item at the front of the box. It returns nothing only if the box was empty at one moment of the call;
+    /// all that the ended putters had put was taken then. The call may spin while a thread stalls in a put.
     #[inline(always)]
     pub fn take<R: Wait>(&mut self, rt: &R) -> Option<T>
         ensures same { IsSameTaker self.old self.new }
@@ -117,7 +116,8 @@ impl<T> Taker<T> {
         self.pop(rt)
     }
 
-    // Whether the last take found nothing, and nor would one now: the box was empty at one moment of the call.
+    // Whether the last take found nothing and another would find nothing too: the box was empty at one moment of the
+    // call.
     fn is_still_empty(&mut self) -> bool
         ensures same { self.new ≡ self.old }
         ensures empty { IsTrue result → HasTakenOfEnded self.old.ended self.old.taken }
@@ -125,7 +125,7 @@ impl<T> Taker<T> {
         self.found_nothing && self.queue.is_empty_as::<Take>(&mut self.pass)
     }
 
-    // Takes the item at the front, where there is one.
+    // Takes the item at the front, if there is one.
     #[inline(always)]
     fn pop<R: Wait>(&mut self, rt: &R) -> Option<T>
         ensures same { IsSameTaker self.old self.new }
@@ -146,7 +146,7 @@ impl<T> Taker<T> {
 }
 
 impl<T: Drop> Taker<T> {
-    /// Ends the putter of the next number, beginning with 0, and knows from then on what it has put. It takes no memory.
+    /// Ends the putter with the next number, beginning with 0, and remembers what it has put. It allocates nothing.
     pub fn end(&mut self, putter: Putter<T>)
         requires { IsNextToEnd putter self.old }
         ensures { self.new ≡ record self.old { ended = self.old.ended ++ putter.put ∷ [] } }
@@ -154,8 +154,8 @@ impl<T: Drop> Taker<T> {
         self.queue.absorb::<EndPutter>(&mut self.pass, putter.pass);
     }
 
-    /// Ends the box, whose putters have all ended. What was taken and then what is left has each putter's items, in the
-    /// order in which it put them, and no others; and no more is left than the box has places. It takes no memory.
+    /// Ends the box, whose putters have all ended. What was taken, followed by what is left, has each putter's items in
+    /// the order it put them, and no others. No more is left than the box has places. It allocates nothing.
     pub fn gather<R: Wait>(self, rt: &R) -> Gathered<T>
         requires { HaveAllEnded self }
         ensures put { result.put ≡ self.ended }

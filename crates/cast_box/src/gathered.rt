@@ -9,13 +9,13 @@ use std::alloc::Global;
 use std::marker::Model;
 use std::sync::{Arc, Wait};
 
-/// What is left in a box that has ended. To contracts it is all that was put, by putter, all that was taken and all that is
-/// left, with the putters' numbers.
+/// What is left in a box that has ended. Contracts see what was put, by putter, and what was taken and what is left,
+/// with the putters' numbers.
 #[derive(Drop)]
 pub struct Gathered<T> {
     pub(crate) queue: Arc<BoxQueue<T>, Global>,
     pub(crate) pass: BoxPass<T>,
-    // The item that is handed out next. It was taken from the queue when the box ended: only a take shows what the queue
+    // The item that is handed out next. It left the queue when the box ended, since only a take shows what the queue
     // holds.
     pub(crate) next: Option<(u64, T)>,
 }
@@ -39,9 +39,8 @@ impl<T> Model for Gathered<T> {
         × OnSome g.next ((known g.pass).role ≡ Gathering) };
 }
 
-/// Ends a box, whose ends these all are, the putters in the order of their numbers. What was taken and then what is left
-/// has each putter's items, in the order in which it put them, and no others; and no more is left than the box has places.
-/// It takes no memory.
+/// Ends a box. `putters` are all of its putters, by number. What was taken, followed by what is left, has each putter's
+/// items in the order it put them, and no others. No more is left than the box has places. It allocates nothing.
 pub fn gather<T: Drop, R: Wait>(rt: &R, putters: Vec<Putter<T>>, mut taker: Taker<T>) -> Gathered<T>
     requires { AreAllEnds putters.items taker }
     ensures put { result.put ≡ map (λ p. p.put) putters.items }
@@ -56,8 +55,8 @@ pub fn gather<T: Drop, R: Wait>(rt: &R, putters: Vec<Putter<T>>, mut taker: Take
 }
 
 impl<T: Drop> Gathered<T> {
-    /// Hands out the next item that was left in the box, front first, with the number of its putter; nothing once all were
-    /// handed out. It takes no memory.
+    /// Hands out the next item left in the box, front first, with its putter's number, or nothing once all were handed
+    /// out. It allocates nothing.
     pub fn next_left<R: Wait>(&mut self, rt: &R) -> Option<(u64, T)>
         ensures same { (self.new.put ≡ self.old.put) × (self.new.taken ≡ self.old.taken) }
         ensures left { MatchOption result

@@ -1,7 +1,6 @@
-//! A bounded queue that threads share, with one end for each of its putters and one for its taker. Of every box it is
-//! proved that what was taken, followed by what is left, filtered by a putter, is the list of what that putter put: each
-//! item comes out once, in the order of its putter, and nothing else does. A box is a queue that its ends share;
-//! `specs/Rule` has the rule that every step keeps.
+//! A bounded queue that threads share, with one end for each putter and one for the taker. For every putter of every
+//! box it is proved: what was taken from it, followed by what is left, is the list of what it put. Each item comes out
+//! once, in its putter's order, and nothing else does. `specs/Rule` has the rule that every step keeps.
 #![tactic(auto)]
 
 mod ends;

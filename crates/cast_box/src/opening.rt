@@ -1,4 +1,4 @@
-//! The making of a box and of its ends.
+//! Makes a box and its ends.
 ghost use Rattle.std.specs.Prelude.{◌≡◌, ◌+◌, ◌<◌, [], IfOk, IfErr};
 ghost use Rattle.crossbeam_queue.specs.Passes.{view as known, IsPassOf, IsSamePass};
 ghost use Rattle.cast_box.specs.Rule.{taker};
@@ -28,9 +28,9 @@ pub enum BoxFault {
     Memory,
 }
 
-/// A box of `size` places, 1 to 4,096, with `putters` putters, 1 to 64, in the order of their numbers from 0 on, and its
-/// taker. All memory that the box ever takes is taken here. Of two causes of a refusal the first in the order of `BoxFault`
-/// is answered.
+/// A box of `size` places, 1 to 4,096, with its taker and its `putters` putters, 1 to 64, in the order of their numbers
+/// from 0. All memory that the box ever needs is allocated here. If two causes apply, the fault is the first in the
+/// order of `BoxFault`.
 pub fn make_box<T: Drop>(
     alloc: Global,
     size: u64,
@@ -50,7 +50,6 @@ pub fn make_box<T: Drop>(
     open_box(alloc, size as usize, putters).map_err(|_| BoxFault::Memory)
 }
 
-// A box of so many places and putters.
 fn open_box<T: Drop>(
     alloc: Global,
     size: usize,
@@ -107,7 +106,7 @@ impl<T: Drop> Opening<T> {
         Ok(Opening { queue, pass })
     }
 
-    // Makes the putter of the next number.
+    // Makes the putter with the next number.
     fn next_putter(&mut self, number: u64) -> Result<Putter<T>, AllocError>
         requires { (number ≡ self.old.made) × (number < self.old.putters) }
         ensures { IfOk result (λ p.
@@ -129,7 +128,7 @@ impl<T: Drop> Opening<T> {
         })
     }
 
-    // The taker, once all putters are made.
+    // The taker, after all putters were made.
     fn into_taker(self) -> Taker<T>
         requires { self.made ≡ self.putters }
         ensures { result ≡ record {
@@ -149,7 +148,7 @@ impl<T: Drop> Opening<T> {
     }
 }
 
-// Tells the first pass how many places and putters the box has.
+// Gives the first pass the limits of the box.
 fn set_limits<L: Limits, T>(queue: &BoxQueue<T>, pass: &mut BoxPass<T>, size: usize, putters: u64)
     requires limits { (size ≡ L.size) × (putters ≡ L.putters) }
     requires pass { IsPassOf queue.now pass.old × (known pass.old ≡ taker 0 0 0 [] []) }

@@ -1,5 +1,5 @@
-//! The rule of a box as the queue takes it: what each end knows, how ends are made and ended, and what each put and take
-//! tells.
+//! The rule of a box in the queue's terms: what each end knows, how ends are made and ended, and what each put and take
+//! shows.
 use crossbeam_queue::protocol::{Join, Lesson, Outcome, Protocol, Split};
 use crossbeam_queue::{Pass, RuledArrayQueue};
 use std::collections::LinkedList;
@@ -17,14 +17,12 @@ pub enum Role {
     Ended,
 }
 
-/// What an end knows. No value of it is made: it stands in proofs alone.
+/// What an end knows. It exists only in proofs; no value of it is made.
 pub struct Known<T> {
     pub role: Role,
-    /// How many places the box has.
     pub size: u64,
-    /// How many putters the box has.
     pub putters: u64,
-    /// Of a putter its number, of the taker how many putters were made.
+    /// A putter's number, or how many putters the taker has made.
     pub number: u64,
     pub put: LinkedList<T>,
     pub taken: LinkedList<(u64, T)>,
@@ -32,7 +30,6 @@ pub struct Known<T> {
     pub left: LinkedList<(u64, T)>,
 }
 
-/// The rule of a box.
 pub struct EachInOrder;
 
 impl<T> Protocol<(u64, T), Known<T>> for EachInOrder {
@@ -44,7 +41,7 @@ impl<T> Protocol<(u64, T), Known<T>> for EachInOrder {
     ghost first = { taker 0 0 0 [] [] };
 }
 
-/// How many places and putters a box gets, which is known only when it is made.
+/// How many places and putters a box gets, known only when it is made.
 pub trait Limits {
     ghost use Rattle.std.specs.Prelude.{ℕ};
 
@@ -59,7 +56,7 @@ impl Limits for Brand {
     ghost putters = { 0 };
 }
 
-/// The first end is told the limits of its box.
+/// The first end learns the limits of its box.
 pub struct SetLimits<L: Limits> {
     of: PhantomData<L>,
 }
@@ -73,7 +70,7 @@ impl<T, L: Limits> Split<Known<T>> for SetLimits<L> {
     ghost right = { λ v. spent };
 }
 
-/// The taker makes the putter of the next number.
+/// The taker makes the putter with the next number.
 pub struct NextPutter;
 
 impl<T> Split<Known<T>> for NextPutter {
@@ -85,7 +82,7 @@ impl<T> Split<Known<T>> for NextPutter {
     ghost right = { λ v. putter v.size v.putters v.number [] };
 }
 
-/// The taker ends the putter of the next number, and knows from then on what it put.
+/// The taker ends the putter with the next number, and learns what it put.
 pub struct EndPutter;
 
 impl<T> Join<Known<T>> for EndPutter {
@@ -97,7 +94,6 @@ impl<T> Join<Known<T>> for EndPutter {
     ghost spent = { spent };
 }
 
-/// A put.
 pub struct Put;
 
 impl<T> Outcome<(u64, T), Known<T>> for Put {
@@ -157,8 +153,8 @@ impl<T> Lesson<(u64, T), Known<T>> for Empty {
     ghost fact = { ShowsLeft };
 }
 
-/// The queue of a box. Each item stands beside its putter's number.
+/// The queue of a box. Each item is paired with its putter's number.
 pub type BoxQueue<T> = RuledArrayQueue<(u64, T), Known<T>, EachInOrder>;
 
-/// What an end holds of the rule. It takes no bytes.
+/// What an end knows under the rule. It takes no bytes.
 pub type BoxPass<T> = Pass<(u64, T), Known<T>>;

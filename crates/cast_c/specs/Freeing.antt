@@ -5,7 +5,7 @@ use mir.Syntax.{Ty}
 use base.Fml.{Fml}
 use denote.RawPtr.{Ptr}
 
--- the heap: there is one
+-- the only heap
 abbrev pub heap : Global
 heap = record { memory = record { seal = tt } }
 

@@ -1,4 +1,4 @@
--- What the pointer of a judge's handle owns: the judge and the right to free its block, where it holds one.
+-- What the pointer in a judge's handle owns: the judge and the right to free its block, if it holds one.
 use Rattle.std.specs.Prelude.{Option, Some, None}
 use Rattle.std.specs.Coded.{Coded, coded_option}
 use Rattle.std.specs.Box.Ownership.{box_owns}

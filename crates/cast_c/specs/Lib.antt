@@ -1,4 +1,4 @@
--- What the contracts of the exports speak of.
+-- The definitions that the contracts of the exports use.
 pub mod Freeing
 pub mod JudgeOwning
 pub mod Numbers

@@ -1,10 +1,10 @@
--- What numbers stand for that cross to C.
+-- The meaning of the numbers that cross to C.
 --     mode_in, first_fault, first_code    a mode; the first fault of a configuration; its number
 --     IsOf numbers config                 the configuration of the numbers
---     item_in, event_in                   an item and an event, with the bytes, or None where no kind has this number
---     orders_bytes event                  whether it orders bytes, which are copied before it is taken
---     says, status_of, Tells              the numbers and the status of a verdict; what is told of a judged record
---     IsNew numbers world                 a group of this configuration in which nothing has happened
+--     item_in, event_in                   an item and an event, with the bytes, or None if no kind has this number
+--     orders_bytes event                  whether it orders bytes, which are copied before the event is taken
+--     says, status_of, Tells              a verdict's numbers and status; what the export of a judged record reports
+--     IsNew numbers world                 a group with this configuration in which nothing has happened
 use Rattle.std.specs.Prelude.{◌≡◌, ℕ, ◌==◌, List, [], Bool, true, false, Option, None, Some, Result, Ok, Err, if◌then◌else◌}
 use Rattle.std.specs.declared.alloc.AllocError.{AllocError}
 use Rattle.std.specs.Option.{option_map}
@@ -66,7 +66,7 @@ event_in numbers bytes =
     else if numbers.kind == 4 then Some (Crash numbers.node)
     else None
 
--- whether it orders bytes, which are copied before it is taken
+-- whether it orders bytes, which are copied before the event is taken
 abbrev pub orders_bytes : Event → Bool
 orders_bytes (Order node (Data bytes)) = true
 orders_bytes _ = false
@@ -79,12 +79,12 @@ abbrev pub status_of : Verdict → ℕ
 status_of Good = 0
 status_of (Bad line rule) = 3
 
--- what is told of a judged record
+-- what the export of a judged record reports
 abbrev pub Tells : Result Verdict AllocError → ℕ → VerdictNumbers → Type 0
 Tells (Ok said) status told = (status ≡ status_of said) × (told ≡ says said)
 Tells (Err refused) status told = status ≡ 5
 
--- a group of this configuration in which nothing has happened
+-- a group with this configuration in which nothing has happened
 pub record IsNew (numbers : ConfigNumbers) (world : State) : Type 0 where
   pub config : Config
   pub same : IsOf numbers config

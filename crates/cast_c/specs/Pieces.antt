@@ -1,6 +1,6 @@
 -- What the exports of a judge say.
 --     IsFed old piece status new      the clauses of the call that takes a piece
---     IsDone old status told          those of the call that answers the verdict
+--     IsDone old status told          the clauses of the call that returns the verdict
 use Rattle.std.specs.Prelude.{◌≡◌, ◌≢◌, ◌⊎◌, ℕ, ◌+◌, ◌^◌, ◌<◌, ◌≤◌, ◌++◌, true, false, List, length}
 use Rattle.cast_record.specs.declared.verdict.Verdict.TheVariants.{Good, Bad}
 use Rattle.cast_record.specs.Verdicts.{verdict}
@@ -8,7 +8,7 @@ use Rattle.cast_judge.specs.Judged.{Stands, IsSkipped, WantedMemory, is_reading,
 use Rattle.cast_judge.specs.declared.judging.Judging.{Judging}
 use Rattle.cast_c.specs.declared.numbers.VerdictNumbers.{VerdictNumbers}
 
--- the piece was looked at
+-- the piece was read
 abbrev pub IsTaken : ℕ → Type 0
 IsTaken status = (status ≡ 0) ⊎ (status ≡ 5)
 

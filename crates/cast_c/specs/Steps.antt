@@ -1,12 +1,13 @@
 -- What the exports of a group say.
---     numbers_of_reply, numbers_of_outcome, only_number    a reply, what a step delivers and decides, and nothing delivered, as numbers
---     status_of_reply, status_of_round      5 where memory was wanted, and else 0
---     IsStep old event status told new      the status, and the numbers of the reply to the event, after which the group is the new one
---     IsStepBy old numbers bytes status told new    the same of an event that is given as numbers and bytes
---     IsRound old status told new           the same of a round, with its status
---     numbers_of_item, bytes_of, PutsItem   an item as numbers and bytes, and its bytes in a buffer
---     CountsDelivered, TellsItem            what the readers say of the deliveries
---     shown_by, decision_by                 a number, where the status is 0; a value, where one was found
+--     numbers_of_reply, numbers_of_outcome   a reply as numbers; what a step delivers and decides
+--     only_number code number                a reply that delivers and decides nothing
+--     status_of_reply, status_of_round       5 if memory ran out, otherwise 0
+--     IsStep old event status told new       after the event, the status, the numbers of the reply, and the new group
+--     IsStepBy old numbers bytes status told new    the same for an event given as numbers and bytes
+--     IsRound old status told new            the same for a round, with its status
+--     numbers_of_item, bytes_of, PutsItem    an item as numbers and bytes, and its bytes in a buffer
+--     CountsDelivered, TellsItem             what the readers say about the deliveries
+--     shown_by, decision_by                  a number, if the status is 0; a value, if one was found
 use Rattle.std.specs.Prelude.{◌≡◌, ◌⊎◌, ℕ, ◌<◌, ◌≤◌, ◌==◌, ◌++◌, max, Bool, true, false, List, [], ◌∷◌, length, drop, map, slice_get, Option, None, Some, Result, Ok, Err, IfOk, OnErr, IsSomeAnd, if◌then◌else◌}
 use Rattle.cast_message.specs.StepCode.{step_code}
 use Rattle.cast_message.specs.declared.config.Config.{Config}
@@ -41,7 +42,7 @@ only_number code number = record {
   decisions = 0;
 }
 
--- of no message 0 stands
+-- 0 if there is no message
 abbrev pub sender_of : List Message → ℕ
 sender_of [] = 0
 sender_of (message ∷ rest) = message.sender
@@ -87,7 +88,8 @@ pub record IsStep (old : State) (event : Event) (status : ℕ) (told : ReplyNumb
   pub sure : StandingFor old (λ config past.
       IsCrash event → made ≡ reply config past event)
 
--- the same of an event that is given as numbers and bytes: these are of no event; or no memory was there to copy bytes that it orders
+-- the same for an event given as numbers and bytes; they may give no event, or memory may run out for the bytes that it
+-- orders
 abbrev pub IsStepOf : State → Option Event → ℕ → ReplyNumbers → State → Type 0
 IsStepOf old None status told new = ((status ≡ 1) ⊎ (status ≡ 5)) × (new ≡ old)
 IsStepOf old (Some event) status told new =
@@ -127,7 +129,7 @@ abbrev pub bytes_of : Item → List ℕ
 bytes_of (Data bytes) = bytes
 bytes_of _ = []
 
--- the bytes stand at the front of the buffer, or it has no room for them
+-- the bytes are at the front of the buffer, or it has no room for them
 pub record Puts (bytes : List ℕ) (status : ℕ) (old new : List ℕ) : Type 0 where
   pub done : status ≡ 0 → new ≡ bytes ++ drop (length bytes) old
   pub short : status ≡ 6 → (length old < length bytes) × (new ≡ old)
@@ -146,7 +148,7 @@ pub record CountsDelivered (config : Config) (past : History) (q s status count 
   pub none : status ≡ 2 → config.nodes ≤ max q s
   pub known : (status ≡ 0) ⊎ (status ≡ 2)
 
--- the item of this number is told, and its bytes are put; or there is none
+-- the item with this number is reported, and its bytes are put; or there is no such item
 pub record TellsItem (config : Config) (past : History) (q s number status : ℕ)
     (told : ItemNumbers) (old new : List ℕ) : Type 0 where
   pub told_item : (status ≡ 0) ⊎ (status ≡ 6) →

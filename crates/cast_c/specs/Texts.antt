@@ -1,8 +1,8 @@
 -- What the exports of texts say.
 --     only_length, numbers_of_fault, status_of_fault    how a text ended, as numbers, and the status
---     RefusesAs script fault                   the fault is the script's, or none of a script
---     IsRefused script told                    the script is refused, and this tells why
---     IsText Writes status told old new        a text that was written, its length, and the text in the buffer, where that has room
+--     RefusesAs script fault                   if it is a fault of scripts, it is the fault of this script
+--     IsRefused script told                    the script is refused, and this says why
+--     IsText Writes status told old new        a text, its length, and the text in the buffer, if that has room
 --     PutsText made status told old new        a text in the buffer, or why there is none
 use Rattle.std.specs.Prelude.{◌≡◌, ℕ, ◌<◌, ◌≤◌, List, length, Result, Ok, Err}
 use Rattle.std.specs.Global.{Vec}

@@ -6,7 +6,6 @@ use crate::numbers::{ItemNumbers, ReplyNumbers};
 use crate::status::{DONE, TOO_SHORT};
 use cast_message::{Answer, Item, Outcome, Reply};
 
-/// The numbers of a reply.
 pub(crate) fn numbers_of(reply: &Reply) -> ReplyNumbers
     ensures { result ≡ numbers_of_reply reply.now }
 {
@@ -52,7 +51,7 @@ fn numbers_of_outcome(number: u64, outcome: &Outcome) -> ReplyNumbers
     }
 }
 
-/// Writes an item: its numbers, and its bytes where the buffer has room for them.
+/// Writes an item: its numbers, and its bytes if the buffer has room.
 pub(crate) fn put_item(item: &Item, told: &mut ItemNumbers, bytes: &mut [u8]) -> u32
     ensures numbers { told.new ≡ numbers_of_item item.now }
     ensures puts { PutsItem item.now result bytes.old bytes.new }
@@ -80,7 +79,7 @@ fn numbers_of_item(item: &Item) -> ItemNumbers
     }
 }
 
-/// Writes bytes to the front of a buffer, where it has room for them.
+/// Writes bytes to the front of a buffer, if it has room.
 pub(crate) fn put_bytes(from: &[u8], to: &mut [u8]) -> u32
     ensures { Puts from.now result to.old to.new }
 {

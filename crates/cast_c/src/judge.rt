@@ -1,4 +1,4 @@
-//! The judge: a record whole, or in pieces.
+//! The judge, for a whole record or for its pieces.
 ghost use Rattle.std.specs.Prelude.{◌≡◌, ◌<◌, ◌⊎◌, [], None, true, length, is_some, IfSome, IsSomeAnd};
 ghost use Rattle.cast_record.specs.Verdicts.{verdict};
 ghost use Rattle.cast_record.specs.declared.verdict.Verdict.TheVariants.{Good, Bad};
@@ -13,7 +13,7 @@ use crate::status::{DONE, MISUSED, OUT_OF_MEMORY, REFUSED};
 use cast_judge::{Judging, Verdict, judge};
 use std::alloc::{AllocError, Global};
 
-/// The verdict on a record: 0 good, 3 bad, 5 out of memory.
+/// The verdict on a record. 0: good; 3: bad; 5: out of memory.
 #[unsafe(no_mangle)]
 pub extern "C" fn cast_c_judge(alloc: Global, text: &[u8], said: &mut VerdictNumbers) -> u32
     ensures good { result ≡ 0 → verdict text.now ≡ Good }
@@ -24,7 +24,7 @@ pub extern "C" fn cast_c_judge(alloc: Global, text: &[u8], said: &mut VerdictNum
     tell(judge(alloc, text), said)
 }
 
-// Writes a verdict, and answers its status.
+// Writes a verdict, and returns its status.
 fn tell(judged: Result<Verdict, AllocError>, said: &mut VerdictNumbers) -> u32
     ensures told { Tells judged result said.new }
 {
@@ -37,7 +37,7 @@ fn tell(judged: Result<Verdict, AllocError>, said: &mut VerdictNumbers) -> u32
     }
 }
 
-/// Makes a judge to which nothing was fed: 0 done, 1 the handle holds one, 5 out of memory.
+/// Makes a judge that got nothing yet. 0: done; 1: the handle holds one already; 5: out of memory.
 #[unsafe(no_mangle)]
 pub extern "C" fn cast_c_judge_new(alloc: Global, judge: &mut JudgeHandle) -> u32
     ensures made { result ≡ 0 → IsSomeAnd judge.new.loose.judging
@@ -58,8 +58,8 @@ pub extern "C" fn cast_c_judge_new(alloc: Global, judge: &mut JudgeHandle) -> u3
     }
 }
 
-/// Takes the next piece of a record: 0 done, 1 the handle holds no judge, 2 with it the pieces have 2^63 bytes, 5 out of memory.
-/// After 5 the judge answers 5.
+/// Takes the next piece of a record. 0: done; 1: the handle holds no judge; 2: the pieces would reach 2^63 bytes; 5:
+/// out of memory, and so is each later piece.
 #[unsafe(no_mangle)]
 pub extern "C" fn cast_c_judge_feed(alloc: Global, judge: &mut JudgeHandle, piece: &[u8]) -> u32
     ensures fed { IfSome judge.old.loose.judging (λ old.
@@ -86,8 +86,8 @@ fn feed(judging: &mut Judging, piece: &[u8]) -> u32
     }
 }
 
-/// The verdict on all pieces joined, after which the handle holds nothing: 0 good, 1 the handle holds no judge, 3 bad, 5 a piece was
-/// refused for want of memory.
+/// The verdict on all pieces joined; afterwards the handle is empty. 0: good; 1: it held no judge; 3: bad; 5: a piece
+/// ran out of memory.
 #[unsafe(no_mangle)]
 pub extern "C" fn cast_c_judge_finish(
     alloc: Global,
@@ -110,7 +110,7 @@ fn finish(judging: Judging, said: &mut VerdictNumbers) -> u32
     tell(judging.finish(), said)
 }
 
-/// Drops the judge, where the handle holds one.
+/// Drops the judge, if the handle holds one.
 #[unsafe(no_mangle)]
 pub extern "C" fn cast_c_judge_drop(alloc: Global, judge: &mut JudgeHandle)
     ensures { judge.new.loose.judging ≡ None }

@@ -1,5 +1,5 @@
-//! A judge that C holds by a pointer. C makes the handle of zeros, passes it by its address, copies it nowhere, and neither reads nor
-//! writes what stands in it.
+//! A judge that C holds by a pointer. C makes the handle of zeros and passes its address. It neither copies the
+//! handle nor touches what is in it.
 ghost use Rattle.std.specs.Prelude.{◌≡◌, true, Option, None, Some, is_some, option_map};
 ghost use Rattle.cast_judge.specs.declared.judging.Judging.{Judging as State};
 ghost use Rattle.cast_c.specs.JudgeOwning.{judge_owns, judge_coded};
@@ -10,7 +10,7 @@ use std::alloc::Global;
 use std::marker::Model;
 use std::{mem, ptr};
 
-/// The pointer to a judge on the heap, or to none. Its type names no other, since none that owns memory crosses to C.
+/// The pointer to a judge on the heap, or to none. It points to bytes, since no type that owns memory crosses to C.
 #[repr(C)]
 #[derive(Drop)]
 pub struct LooseJudge {
@@ -63,7 +63,6 @@ impl LooseJudge {
 }
 
 impl JudgeHandle {
-    /// The handle that holds this judge.
     pub(crate) fn of(judging: Box<Judging>) -> JudgeHandle
         ensures { result.loose.judging ≡ Some judging.value }
     {
@@ -88,7 +87,7 @@ impl JudgeHandle {
         self.held
     }
 
-    /// Takes the judge out of the handle, where it holds one.
+    /// Takes the judge out of the handle, if it holds one.
     pub(crate) fn take(&mut self, alloc: Global) -> Option<Box<Judging>>
         ensures taken { option_map (λ judging. judging.value) result ≡ self.old.loose.judging }
         ensures emptied { self.new.loose.judging ≡ None }

@@ -1,9 +1,14 @@
-//! The proved core and the judge for callers in C, and so for other languages: `bindings/` has the header, and what Rust and Python
-//! make of it. Each export makes one call of the kit's, in numbers and byte slices, states the clauses of that call, and answers a
-//! status with the numbers of docs/FORMATS.md: 0 done, 1 no such call (a handle that holds nothing, or one that holds something
-//! where it should not, or a number that names no kind), 2 refused, 3 a bad record, 5 out of memory, 6 a buffer that is too short.
+//! The proved core and the judge for C, and so for other languages. `bindings/` has the header, and what Rust and
+//! Python make of it.
 //!
-//! What C has to keep at each call, beside what an export says, is in `bindings/c/castgroup.h`.
+//! Each export makes one call of the kit, in numbers and byte slices, and states the clauses of that call. It returns a
+//! status with the numbers of docs/FORMATS.md:
+//!
+//! - 0: done.
+//! - 1: no such call. A handle holds nothing, or something where it shouldn't, or a number names no kind.
+//! - 2: refused. 3: a bad record. 5: out of memory. 6: a buffer is too short.
+//!
+//! What else C must keep to at each call is in `bindings/c/castgroup.h`.
 #![tactic(auto)]
 
 mod deliveries;
@@ -21,7 +26,7 @@ mod world_handle;
 use judge_handle::JudgeHandle;
 use world_handle::WorldHandle;
 
-// C may hand each handle to another thread.
+// C may pass each handle to another thread.
 fn handles_cross_threads() {
     cross::<WorldHandle>();
     cross::<JudgeHandle>();

@@ -6,7 +6,7 @@ ghost use Rattle.cast_c.specs.Numbers.{orders_bytes, IsOf, event_in, first_fault
 use crate::status::{BAD, DONE};
 use bytes::Bytes;
 use cast_judge::Verdict;
-use cast_message::{Config, ConfigFault, Event, Item, Mode, NodeId, Payload};
+use cast_message::{Config, ConfigFault, Event, Item, Mode, NodeId, Payload, Settings};
 use std::alloc::{AllocError, Global};
 
 /// A configuration. Mode 0 is basic, 1 is uniform.
@@ -91,16 +91,17 @@ impl ConfigNumbers {
             1 => Mode::Uniform,
             _ => return Err(ConfigFault::Mode),
         };
-        Config::check(
-            self.nodes,
-            self.faults,
-            self.choices,
-            self.item_limit,
-            self.log_limit,
-            self.box_size,
-            self.first_stamp,
+        let settings = Settings {
+            nodes: self.nodes,
+            faults: self.faults,
+            choices: self.choices,
+            item_limit: self.item_limit,
+            log_limit: self.log_limit,
+            box_size: self.box_size,
+            first_stamp: self.first_stamp,
             mode,
-        )
+        };
+        settings.check()
     }
 }
 

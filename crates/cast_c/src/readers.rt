@@ -1,4 +1,4 @@
-//! What a group shows. The group is the same after each of these calls.
+//! What a group shows. None of these calls changes it. Status 0 means done, and 1 that the handle holds no group.
 ghost use Rattle.std.specs.Prelude.{◌≡◌, ◌⊎◌, ◌↔◌, ◌&&◌, None, IfSome, IsTrue, cond, is_some, nat_lt};
 ghost use Rattle.cast_message.specs.declared.config.Mode.TheVariants.{Uniform};
 ghost use Rattle.cast_model.specs.Delivery.{decision};
@@ -17,7 +17,7 @@ use cast_message::NodeId;
 use cast_world::World;
 use std::alloc::Global;
 
-/// How many items node `node` delivered from `sender`: 0 done, 1 the handle holds no group, 2 not both are nodes.
+/// The number of items that node `node` delivered from `sender`. 2: not both are nodes.
 #[unsafe(no_mangle)]
 pub extern "C" fn cast_c_world_delivered(
     alloc: Global,
@@ -52,8 +52,8 @@ fn count_delivered(world: &World, node: u8, sender: u8, count: &mut u64) -> u32
     }
 }
 
-/// The item with this number, from 0 on, of those that node `node` delivered from `sender`: 0 done, 1 the handle holds no group, 2
-/// there is no such item, 6 the buffer has no room for its bytes, of which `item` tells how many there are.
+/// The item with this number, from 0, of those that node `node` delivered from `sender`. 2: there is no such item; 6:
+/// the buffer has no room for its bytes, and `item` has their number.
 #[unsafe(no_mangle)]
 pub extern "C" fn cast_c_world_item(
     alloc: Global,
@@ -97,7 +97,7 @@ fn tell_item(
     }
 }
 
-/// Whether node `node` decided in the instance, and which value: 0 done, 1 the handle holds no group.
+/// Whether node `node` decided in the instance, and which value.
 #[unsafe(no_mangle)]
 pub extern "C" fn cast_c_world_decision(
     alloc: Global,
@@ -126,8 +126,7 @@ pub extern "C" fn cast_c_world_decision(
     DONE
 }
 
-/// How many slots of what `from` gives `to` are not acknowledged: 0 done, 1 the handle holds no group, 2 not both are nodes, or they
-/// are the same.
+/// The number of unacknowledged slots that `from` gave `to`. 2: not both are nodes, or they are the same.
 #[unsafe(no_mangle)]
 pub extern "C" fn cast_c_world_owed(
     alloc: Global,
@@ -156,7 +155,7 @@ pub extern "C" fn cast_c_world_owed(
     status
 }
 
-/// Whether node `node` is one of the group and has not crashed: 0 done, 1 the handle holds no group.
+/// Whether node `node` belongs to the group and has not crashed.
 #[unsafe(no_mangle)]
 pub extern "C" fn cast_c_world_live(
     alloc: Global,
@@ -177,7 +176,7 @@ pub extern "C" fn cast_c_world_live(
     DONE
 }
 
-/// Whether no live node owes a live node a slot: 0 done, 1 the handle holds no group.
+/// Whether no live node owes a live node a slot.
 #[unsafe(no_mangle)]
 pub extern "C" fn cast_c_world_at_rest(
     alloc: Global,

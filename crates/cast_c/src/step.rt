@@ -1,4 +1,4 @@
-//! A group takes an event.
+//! The call by which a group takes an event.
 ghost use Rattle.std.specs.Prelude.{◌≡◌, None, IfSome, IsSomeAnd};
 ghost use Rattle.cast_c.specs.Steps.{IsStep, IsStepBy};
 
@@ -10,8 +10,8 @@ use cast_message::Event;
 use cast_world::{World, is_want_of_memory};
 use std::alloc::Global;
 
-/// Takes one event, with the bytes of its item: 0 done, and `reply` says what came of it, a refusal too; 1 the handle holds no
-/// group, or no kind has this number; 5 out of memory, and nothing changed. Of an event without bytes those are not read.
+/// Takes one event, with the bytes of its item, which are read only if it has some. 0: done, and `reply` is the reply,
+/// maybe a refusal; 1: the handle holds no group, or no kind has this number; 5: out of memory, and nothing changed.
 #[unsafe(no_mangle)]
 pub extern "C" fn cast_c_world_step(
     alloc: Global,

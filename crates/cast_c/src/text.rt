@@ -1,4 +1,4 @@
-//! From the bytes of a script to those of its record, or of its picture, in a buffer of the caller's.
+//! From a script's bytes to those of its record or picture, in a buffer of the caller.
 ghost use Rattle.std.specs.Prelude.{◌≡◌, ◌⊎◌, [], Some, IfOk, IfErr};
 ghost use Rattle.cast_text.specs.Text.{WritesRecord};
 ghost use Rattle.cast_text.specs.Drawing.{WritesDrawing};
@@ -12,8 +12,8 @@ use cast_script::ScriptFault;
 use cast_text::{TextFault, Window, draw_text, run_text};
 use std::alloc::Global;
 
-/// Writes the record of a script: 0 done, 2 the script is refused, 5 out of memory, 6 the buffer has no room for it. `told` says how
-/// long it is, or why it was refused.
+/// Writes the record of a script. 0: done; 2: the script is refused; 5: out of memory; 6: the buffer has no room for
+/// it. `told` has its length, or why it was refused.
 #[unsafe(no_mangle)]
 pub extern "C" fn cast_c_run(
     alloc: Global,
@@ -39,7 +39,7 @@ fn record_of(alloc: Global, script: &[u8]) -> Result<Vec<u8>, TextFault>
     Ok(writer.into_inner())
 }
 
-/// Draws the events of a script from one place to another, both shown: the same statuses.
+/// Draws the events of a script from one place to another, both included. The statuses are the same.
 #[unsafe(no_mangle)]
 pub extern "C" fn cast_c_draw(
     alloc: Global,
@@ -67,7 +67,7 @@ fn picture_of(alloc: Global, script: &[u8], window: Window) -> Result<Vec<u8>, T
     Ok(writer.into_inner())
 }
 
-// Puts the text into the buffer, or tells why there is none.
+// Puts the text into the buffer, or reports why there is none.
 fn put_text(made: Result<Vec<u8>, TextFault>, out: &mut [u8], told: &mut TextNumbers) -> u32
     ensures { PutsText made result told.new out.old out.new }
 {
@@ -110,7 +110,7 @@ fn numbers_of_fault(fault: TextFault) -> TextNumbers
     }
 }
 
-// A vector refuses a write only for want of memory, and a slice refuses no read.
+// A vector refuses a write only if memory is out, and a slice refuses no read.
 fn status_of_fault(fault: TextFault) -> u32
     ensures { result ≡ status_of_fault fault }
 {

@@ -1,4 +1,4 @@
-//! A group: made, taken through rounds, and dropped.
+//! Makes a group, takes it through rounds, drops it.
 ghost use Rattle.std.specs.Prelude.{◌≡◌, ◌⊎◌, None, Some, true, is_some, IfSome, IsSomeAnd};
 ghost use Rattle.cast_c.specs.Numbers.{IsNew, first_code};
 ghost use Rattle.cast_c.specs.Steps.{IsRound, numbers_of_round};
@@ -11,8 +11,8 @@ use cast_message::StepFault;
 use cast_world::World;
 use std::alloc::Global;
 
-/// Makes a group in which nothing has happened: 0 done, 1 the handle holds one, 2 the configuration is refused, and `fault` is the
-/// number of its first fault, 5 out of memory.
+/// Makes a group in which nothing has happened. 0: done; 1: the handle holds one already; 2: the configuration is
+/// refused, and `fault` is the number of its first fault; 5: out of memory.
 #[unsafe(no_mangle)]
 pub extern "C" fn cast_c_world_new(
     alloc: Global,
@@ -49,8 +49,8 @@ pub extern "C" fn cast_c_world_new(
     }
 }
 
-/// Takes the events of one round: 0 done, or refused with code 12; 1 the handle holds no group; 5 out of memory. Of a round that
-/// was refused, or that wanted memory, the events before stand.
+/// Takes the events of one round. 0: done, or refused with code 12; 1: the handle holds no group; 5: out of memory. If
+/// it stops early, the events before remain.
 #[unsafe(no_mangle)]
 pub extern "C" fn cast_c_world_round(
     alloc: Global,
@@ -89,7 +89,7 @@ fn numbers_of(made: Result<u64, StepFault>) -> ReplyNumbers
     }
 }
 
-/// Drops the group, where the handle holds one.
+/// Drops the group, if the handle holds one.
 #[unsafe(no_mangle)]
 pub extern "C" fn cast_c_world_drop(alloc: Global, world: &mut WorldHandle)
     ensures { world.new.loose.world ≡ None }

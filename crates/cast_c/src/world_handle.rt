@@ -1,5 +1,5 @@
-//! A group that C holds by a pointer. C makes the handle of zeros, passes it by its address, copies it nowhere, and neither reads nor
-//! writes what stands in it.
+//! A group that C holds by a pointer. C makes the handle of zeros and passes its address. It neither copies the
+//! handle nor touches what is in it.
 ghost use Rattle.std.specs.Prelude.{◌≡◌, true, Option, None, Some, is_some, option_map};
 ghost use Rattle.cast_world.specs.Group.{State};
 ghost use Rattle.cast_c.specs.WorldOwning.{world_owns, world_coded};
@@ -10,7 +10,7 @@ use std::alloc::Global;
 use std::marker::Model;
 use std::{mem, ptr};
 
-/// The pointer to a group on the heap, or to none. Its type names no other, since none that owns memory crosses to C.
+/// The pointer to a group on the heap, or to none. It points to bytes, since no type that owns memory crosses to C.
 #[repr(C)]
 #[derive(Drop)]
 pub struct LooseWorld {
@@ -63,7 +63,6 @@ impl LooseWorld {
 }
 
 impl WorldHandle {
-    /// The handle that holds this group.
     pub(crate) fn of(world: Box<World>) -> WorldHandle
         ensures { result.loose.world ≡ Some world.value }
     {
@@ -88,7 +87,7 @@ impl WorldHandle {
         self.held
     }
 
-    /// Takes the group out of the handle, where it holds one.
+    /// Takes the group out of the handle, if it holds one.
     pub(crate) fn take(&mut self, alloc: Global) -> Option<Box<World>>
         ensures taken { option_map (λ world. world.value) result ≡ self.old.loose.world }
         ensures emptied { self.new.loose.world ≡ None }

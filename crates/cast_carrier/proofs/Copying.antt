@@ -245,8 +245,8 @@ by_plan faults ordinals taken inboxes delayed k test q inbox at = omega (arith, 
 
 -- ---- what is due is let through
 
--- one of the parcels taken that are for target q and pass the test is not lost, and as many were taken for the target after it as it
--- is delayed by
+-- One of the taken parcels that are for target q and pass the test is not lost, and after it as many were taken for the
+-- target as delay it.
 pub record IsThrough (faults : List Fault) (ordinals : List Ordinals) (test : Parcel → Bool) (q : ℕ) (taken : List (ℕ × Parcel)) : Type 0 where
   pub before : List (ℕ × Parcel)
   pub m : ℕ × Parcel

@@ -1,4 +1,4 @@
--- A carrier, as contracts see it, and what it keeps.
+-- A carrier as contracts see it, and what it keeps.
 use Rattle.std.specs.Prelude.{◌≡◌, ℕ, ◌+◌, ◌-◌, ◌≤◌, ◌<◌, ◌==◌, nat_le, nat_lt, Bool, true, false, not, ◌&&◌, ◌||◌, cond, if◌then◌else◌, List, [], ◌∷◌, ◌++◌, map, length, slice_get, slice_set, Some, None, ◌⊎◌}
 use Rattle.std.specs.List.{count_by, sum_by, filter}
 use Rattle.cast_box.specs.Ends.{PutterEnd, TakerEnd, IsSameTaker, IsSamePutter, AreSamePutters, WasFull}
@@ -26,13 +26,13 @@ with_faults faults c = record c { faults = faults }
 abbrev pub IsTaken : List (ℕ × Parcel) → Parcel → Type 0
 IsTaken taken x = (number : ℕ) × Has taken (number, x)
 
--- what went into inbox q goes to node q, and was taken from the outbox
+-- each parcel put into inbox q is for node q, and was taken from the outbox
 abbrev pub Brings : List (ℕ × Parcel) → List (PutterEnd Parcel) → Type 0
 Brings taken inboxes =
     (q : ℕ) (inbox : PutterEnd Parcel) (x : Parcel) → slice_get inboxes q ≡ Some inbox
     → Has inbox.put x → (x.frame.to ≡ q) × IsTaken taken x
 
--- so was what is delayed
+-- each delayed parcel was taken from the outbox
 abbrev pub Delays : List (ℕ × Parcel) → List Delayed → Type 0
 Delays taken delayed = (d : Delayed) → Has delayed d → IsTaken taken d.parcel
 
@@ -47,7 +47,7 @@ IsSameCarrier old new =
 abbrev pub AreUnused : List (PutterEnd Parcel) → Type 0
 AreUnused inboxes = (q : ℕ) (p : PutterEnd Parcel) → slice_get inboxes q ≡ Some p → p.put ≡ []
 
--- ---- what a carrier makes of its plan
+-- ---- what a carrier does with its plan
 
 -- one more frame was taken for a target
 abbrev pub counted_down : ℕ → Delayed → Delayed
@@ -58,17 +58,17 @@ counted_down to d =
 abbrev pub is_early : Delayed → Bool
 is_early d = nat_lt 0 d.left
 
--- what still waits once one more frame was taken for a target, in its order
+-- what still waits after one more frame was taken for a target, in its order
 abbrev pub waiting_on : ℕ → List Delayed → List Delayed
 waiting_on to delayed = filter is_early (map (counted_down to) delayed)
 
--- how many copies of the delayed parcels for target q that pass a test are handed on by the time that so many more frames are
--- taken for it
+-- how many copies of the delayed parcels for target q that pass a test are handed on by the time that `more` further
+-- frames were taken for it
 abbrev pub kept_for : (Parcel → Bool) → ℕ → ℕ → List Delayed → ℕ
 kept_for test q more delayed =
     sum_by (λ d. cond (is_for test q d.parcel && nat_le d.left more) (copies d.twice) 0) delayed
 
--- no more are put or kept than are due, at any time
+-- at no time are more put or kept than are due
 abbrev pub IsWithin : List Fault → ℕ → List (ℕ × Parcel) → List (PutterEnd Parcel) → List Delayed → Type 0
 IsWithin faults targets taken inboxes delayed =
     (test : Parcel → Bool) (q more : ℕ) (inbox : PutterEnd Parcel)
@@ -81,11 +81,12 @@ CarrierPlans faults ordinals taken inboxes delayed =
     (ordinals ≡ ordinals_after (length inboxes) taken)
     × IsWithin faults (length inboxes) taken inboxes delayed
 
--- it is kept behind the others, or lost
+-- it is kept, after the others, or lost
 abbrev pub IsKeptOrLost : List Delayed → Delayed → List Delayed → Type 0
 IsKeptOrLost old d new = (kept : Bool) × (new ≡ cond kept (old ++ d ∷ []) old)
 
--- what waited and is not due waits, and behind it the parcel, where its fate delays it and there was memory to keep it
+-- the delayed parcels that are not due still wait; the new one waits after them if its fate delays it and there was
+-- memory to keep it
 abbrev pub WaitsBy : Fate → List Delayed → Parcel → List Delayed → Type 0
 WaitsBy fate old x new =
     (kept : Bool) × (kept ≡ true → (fate.lost ≡ false) × (0 < fate.delay))
@@ -94,7 +95,7 @@ WaitsBy fate old x new =
 
 -- ---- what a carrier puts, in order
 
--- the parcel was put into the inbox of its target, or is lost, as that was full, or there is none
+-- the parcel was put into the inbox of its target, or is lost because that was full or does not exist
 abbrev pub PutsOne : List (PutterEnd Parcel) → Parcel → List (PutterEnd Parcel) → Type 0
 PutsOne old x new =
     ((slice_get old x.frame.to ≡ None) × (new ≡ old))
@@ -102,7 +103,7 @@ PutsOne old x new =
     × (new ≡ slice_set old x.frame.to now) × IsSamePutter was now
     × ((now.put ≡ was.put ++ x ∷ []) ⊎ ((now.put ≡ was.put) × WasFull was)))
 
--- a copy of it too, where it is repeated: that is also lost where there is no memory for its bytes
+-- a repeated parcel has a copy put too, which is also lost if there is no memory for its bytes
 abbrev pub PutsCopy : Bool → List (PutterEnd Parcel) → Parcel → List (PutterEnd Parcel) → Type 0
 PutsCopy false old x new = new ≡ old
 PutsCopy true old x new = PutsOne old x new ⊎ ((carries_bytes x.frame.body ≡ true) × (new ≡ old))
@@ -111,7 +112,7 @@ PutsCopy true old x new = PutsOne old x new ⊎ ((carries_bytes x.frame.body ≡
 abbrev pub HandsOn : Bool → List (PutterEnd Parcel) → Parcel → List (PutterEnd Parcel) → Type 0
 HandsOn twice old x new = (mid : List (PutterEnd Parcel)) × PutsCopy twice old x mid × PutsOne mid x new
 
--- these are, one after another
+-- these are handed on, one after another
 unfoldable pub HandsOnAll : List (PutterEnd Parcel) → List Delayed → List (PutterEnd Parcel) → Type 0
 HandsOnAll old [] new = new ≡ old
 HandsOnAll old (d ∷ ds) new =
@@ -121,28 +122,28 @@ HandsOnAll old (d ∷ ds) new =
 abbrev pub is_due : Delayed → Bool
 is_due d = not (is_early d)
 
--- and is handed on, once one more frame was taken for a target, in its order
+-- what is due, and so handed on, after one more frame was taken for a target, in its order
 abbrev pub due_by : ℕ → List Delayed → List Delayed
 due_by to delayed = filter is_due (map (counted_down to) delayed)
 
--- unless the parcel is lost or waits
+-- the parcel is handed on, unless it is lost or waits
 abbrev pub HandsOnUnless : Bool → Bool → List (PutterEnd Parcel) → Parcel → List (PutterEnd Parcel) → Type 0
 HandsOnUnless true twice old x new = new ≡ old
 HandsOnUnless false twice old x new = HandsOn twice old x new
 
--- what is due by the parcel is handed on, and then the parcel, by its fate
+-- what becomes due with the parcel is handed on, and then the parcel, by its fate
 abbrev pub HandsOver : Fate → List (PutterEnd Parcel) → List Delayed → Parcel
     → List (PutterEnd Parcel) → Type 0
 HandsOver fate old delayed x new =
     (mid : List (PutterEnd Parcel)) × HandsOnAll old (due_by x.frame.to delayed) mid
     × HandsOnUnless (fate.lost || nat_lt 0 fate.delay) fate.twice mid x new
 
--- the parcel goes on its way, and what is due by it
+-- the parcel goes on its way, and so does what becomes due with it
 abbrev pub Carries : CarrierState → Fate → Parcel → CarrierState → Type 0
 Carries old fate x new =
     WaitsBy fate old.delayed x new.delayed × HandsOver fate old.inboxes old.delayed x new.inboxes
 
--- one parcel was taken from the outbox, and carried as the plan says; or none was, and nothing changed
+-- one parcel was taken from the outbox and carried as the plan says; or none was, and nothing changed
 abbrev pub CarriesOne : CarrierState → CarrierState → Bool → Type 0
 CarriesOne old new true =
     (m : ℕ × Parcel) × (new.outbox.taken ≡ old.outbox.taken ++ m ∷ [])

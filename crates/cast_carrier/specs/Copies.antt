@@ -1,9 +1,9 @@
--- How many copies of the frames that it took a plan lets a carrier put.
+-- How many copies of the frames that a carrier took the plan lets it put.
 --     ordinals_after targets taken              how many frames of each kind were taken for each target
 --     frames_for q taken                        how many frames of either kind were taken for target q
---     due faults targets test q more taken      how many copies of the parcels for target q that pass a test are due once so
---                                               many more frames are taken for it
---     IsByPlan faults taken inboxes             however parcels are told apart, no more of them were put than are due by now
+--     due faults targets test q more taken      how many copies of the parcels for target q that pass a test are due after
+--                                               `more` further frames were taken for it
+--     IsByPlan faults taken inboxes             of the parcels that pass any test, no more were put than are due by now
 use Rattle.std.specs.Prelude.{◌≡◌, ℕ, ◌+◌, ◌≤◌, ◌==◌, nat_lt, Bool, ◌&&◌, ◌||◌, cond, if◌then◌else◌, List, [], ◌∷◌, length, replicate, slice_get, Some}
 use Rattle.std.specs.List.{fold, count_by}
 use Rattle.cast_box.specs.Ends.{PutterEnd}
@@ -16,7 +16,7 @@ use Rattle.cast_carrier.specs.Fates.{fate_in, counted_in}
 abbrev pub none_taken : Ordinals
 none_taken = record { carry = 0; took = 0 }
 
--- the ordinals once these were taken too
+-- the ordinals after these were taken too
 abbrev pub counted_all : List Ordinals → List (ℕ × Parcel) → List Ordinals
 counted_all ordinals taken = fold (λ counts m. counted_in counts m.1.frame) ordinals taken
 
@@ -33,12 +33,12 @@ is_for test q x = x.frame.to == q && test x
 abbrev pub copies : Bool → ℕ
 copies twice = if twice then 2 else 1
 
--- the copies of a frame that are due once so many frames are taken for its target after it: none where it is lost, or delayed
--- for longer
+-- the copies of a frame that are due after `frames` further frames were taken for its target: none if it is lost, or
+-- delayed for longer
 abbrev pub copies_after : Fate → ℕ → ℕ
 copies_after fate frames = if fate.lost || nat_lt frames fate.delay then 0 else copies fate.twice
 
--- the copies that are due of all parcels taken that are for the target and pass the test, the first of them with these ordinals
+-- the copies due of the taken parcels that are for the target and pass the test; the first parcel has these ordinals
 unfoldable pub due_from : List Fault → List Ordinals → (Parcel → Bool) → ℕ → ℕ → List (ℕ × Parcel) → ℕ
 due_from faults ordinals test q more [] = 0
 due_from faults ordinals test q more (m ∷ ms) =

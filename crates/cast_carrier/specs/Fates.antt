@@ -1,11 +1,11 @@
--- What a plan makes of the frames that a carrier takes.
+-- What a plan does to the frames that a carrier takes.
 --     is_one_of frame frames                 the frame is one of these
 --     IsAmong first step ordinal             it is first, first + step, first + 2 * step ..
---     fate_by frame faults                   what becomes of a frame by the faults of a plan
---     fate_in faults ordinals frame          the same of the next frame for its target, where so many were taken
+--     fate_by frame faults                   the fate of a frame by the faults of a plan
+--     fate_in faults ordinals frame          the fate of the next frame for its target, after as many as `ordinals` counts
 --     counted_in ordinals frame              how many were taken then
 --     AreByTarget faults rows                the rows are the faults of each target's frames
---     AreFatedAlike to some all              by some of the faults a frame for the target meets the fate that it meets by all
+--     AreFatedAlike to some all              any frame for the target has the same fate by some of the faults as by all
 use Rattle.std.specs.Prelude.{◌≡◌, ℕ, ◌+◌, ◌-◌, ◌*◌, ◌%◌, ◌^◌, min, max, ◌==◌, nat_le, Bool, true, false, ◌&&◌, ◌||◌, if◌then◌else◌, List, [], ◌∷◌, slice_get, slice_set, Option, Some, None}
 use Rattle.std.specs.List.{list_any, filter}
 use Rattle.std.specs.Global.{Vec}
@@ -29,7 +29,7 @@ is_kind Carry Took = false
 is_kind Took Carry = false
 is_kind Took Took = true
 
--- the ordinal is first, first + step, first + 2 * step, ..; with no step, first alone
+-- the ordinal is first, first + step, first + 2 * step, ..; if step is 0, it is first
 abbrev pub is_among : ℕ → ℕ → ℕ → Bool
 is_among first step ordinal =
     if step == 0 then ordinal == first
@@ -44,7 +44,7 @@ is_one_of frame frames =
     && (is_kind frames.kind frame.kind
     && (frames.from == frame.from && is_among frames.first frames.step frame.ordinal))
 
--- ---- what becomes of a frame
+-- ---- the fate of a frame
 
 abbrev pub loses : NamedFrame → Fault → Bool
 loses frame (Lose frames) = is_one_of frame frames
@@ -58,14 +58,14 @@ repeats frame (Repeat frames) = is_one_of frame frames
 repeats frame (Delay frames count) = false
 repeats frame (Crash node entries) = false
 
--- for how many frames more it is kept
+-- how many more frames delay it
 abbrev pub delay_by : NamedFrame → Fault → ℕ
 delay_by frame (Lose frames) = 0
 delay_by frame (Repeat frames) = 0
 delay_by frame (Delay frames count) = if is_one_of frame frames then count else 0
 delay_by frame (Crash node entries) = 0
 
--- of several delays the longest
+-- the longest of several delays
 unfoldable pub delay_of : NamedFrame → List Fault → ℕ
 delay_of frame [] = 0
 delay_of frame (fault ∷ faults) = max (delay_by frame fault) (delay_of frame faults)
@@ -77,7 +77,7 @@ fate_by frame faults = record {
   twice = list_any (repeats frame) faults;
 }
 
--- a fate, and one fault more
+-- a fate after one more fault
 abbrev pub suffered : NamedFrame → Fate → Fault → Fate
 suffered frame fate fault = record {
   lost = fate.lost || loses frame fault;
@@ -91,7 +91,7 @@ abbrev pub ordinal_of : FrameKind → Ordinals → ℕ
 ordinal_of Carry counts = counts.carry
 ordinal_of Took counts = counts.took
 
--- one frame of the kind more; a count stays at its greatest value
+-- one more frame of the kind; a count stays at its greatest value
 abbrev pub one_more : FrameKind → Ordinals → Ordinals
 one_more Carry counts = record { carry = min (counts.carry + 1) (2 ^ 64 - 1); took = counts.took }
 one_more Took counts = record { carry = counts.carry; took = min (counts.took + 1) (2 ^ 64 - 1) }
@@ -104,7 +104,7 @@ named frame counts = record {
   ordinal = ordinal_of (kind_of frame.body) counts;
 }
 
--- no fault befalls a frame whose target has no ordinals
+-- a frame whose target has no ordinals meets no fault
 abbrev pub fate_where : List Fault → Frame → Option Ordinals → Fate
 fate_where faults frame (Some counts) = fate_by (named frame counts) faults
 fate_where faults frame None = record { lost = false; delay = 0; twice = false }
@@ -112,7 +112,7 @@ fate_where faults frame None = record { lost = false; delay = 0; twice = false }
 abbrev pub fate_in : List Fault → List Ordinals → Frame → Fate
 fate_in faults ordinals frame = fate_where faults frame (slice_get ordinals frame.to)
 
--- the counts of its target, and no other
+-- the count of its target changes, and no other
 abbrev pub counted_where : List Ordinals → Frame → Option Ordinals → List Ordinals
 counted_where ordinals frame (Some counts) =
     slice_set ordinals frame.to (one_more (kind_of frame.body) counts)
@@ -123,11 +123,11 @@ counted_in ordinals frame = counted_where ordinals frame (slice_get ordinals fra
 
 -- ---- the faults of each target
 
--- at the place of each target stand the faults of its frames, in their order
+-- each target's place has the faults of its frames, in their order
 abbrev pub AreByTarget : List Fault → List (Vec Fault) → Type 0
 AreByTarget faults rows =
     (q : ℕ) (row : Vec Fault) → slice_get rows q ≡ Some row → row.items ≡ filter (is_to q) faults
 
--- whatever frame for the target meets the same fate by both
+-- any frame for the target has the same fate by both
 abbrev pub AreFatedAlike : ℕ → List Fault → List Fault → Type 0
 AreFatedAlike to some all = (frame : NamedFrame) → frame.to ≡ to → fate_by frame some ≡ fate_by frame all

@@ -1,6 +1,6 @@
--- Words over lists.
---     Has xs x                  x stands in the list
---     AreSame Same old new      each of the new stands for the one of the old in its place
+-- Words about lists.
+--     Has xs x                  the list has x
+--     AreSame Same old new      each new element corresponds to the old one in its place
 --     IsRoomFor n v             an empty list with room for n
 use Rattle.std.specs.Prelude.{◌≡◌, ◌≤◌, ℕ, List, [], slice_get, Some, vec_len, vec_capacity}
 use Rattle.std.specs.Global.{Vec}

@@ -1,60 +1,56 @@
-//! The stop board: what engines tell each other of their quiet and their end, carriers of what was put, and jobs of their end. No
-//! contract speaks of it.
+//! The stop board. Engines post on it that they are quiet or have ended, carriers that all was put, and jobs that they
+//! have ended. No contract mentions it.
 //!
-//! An engine that owes nothing is quiet, and whoever makes a frame owes until it is acknowledged: so where all are quiet, no
-//! frame that is under way makes anyone owe more. That does not hold of frames of an engine that has crashed, or ended otherwise
-//! before all were quiet. It counts as quiet only once its carrier has put all that it took, and each engine that was quiet by
-//! then only once it has found its inbox empty after that.
+//! An engine that owes nothing is quiet, and a frame's maker owes until the frame is acknowledged. So when all engines
+//! are quiet, no frame under way can make one owe more. That fails for frames of an engine that crashed, or otherwise
+//! ended before all were quiet. Such an engine counts as quiet only after its carrier has put all that it took. Each
+//! engine that was quiet by then counts only after it has found its inbox empty again.
 use crossbeam_utils::CachePadded;
 use std::alloc::{AllocError, Global};
 use std::sync::atomic::{AtomicBool, AtomicU64, Ordering};
 
-/// An engine's word of its quiet. No two of its words in succession are the same.
+/// What an engine last posted about its quiet. Two successive words are never the same.
 #[derive(Clone, Copy, PartialEq, Eq)]
 pub struct QuietWord(u64);
 
 impl QuietWord {
-    /// The word of an engine that has ended, and owes nothing any more.
+    /// The word of an engine that has ended and owes nothing more.
     pub const ENDED: QuietWord = QuietWord(1);
 
-    /// The word of an engine that may be made to owe more.
+    /// The word of an engine that may come to owe more.
     pub const BUSY: QuietWord = QuietWord(0);
 
-    /// The word after so many changes from busy to quiet and back.
+    /// The word after this many changes between busy and quiet.
     pub fn new(changes: u64, quiet: bool) -> QuietWord {
         QuietWord(changes.wrapping_mul(2).wrapping_add(u64::from(quiet)))
     }
 
-    /// Whether it says that the engine is quiet.
     pub fn is_quiet(self) -> bool {
         self.0 % 2 == 1
     }
 }
 
-// What the board has of one engine.
 #[derive(Drop)]
 struct Signals {
-    // Its word of its quiet.
     quiet: AtomicU64,
     ended: AtomicBool,
-    // Since the engine has ended, nothing of it is under way that makes another owe more.
+    // The engine has ended, and none of its frames under way makes another owe more.
     settled: AtomicBool,
-    // An engine has ended whose last frames may lie in this one's inbox, which it has not looked at since.
+    // The inbox may hold the last frames of an engine that has ended, and was not checked since.
     unread: AtomicBool,
-    // How many of its clients' jobs have not ended.
+    // How many jobs of its clients have not ended.
     jobs: AtomicU64,
 }
 
-/// What the board has of each engine.
+/// What all engines have posted.
 #[derive(Drop)]
 pub struct Board {
-    // Whether the run was given up.
     abandoned: AtomicBool,
     signals: Vec<CachePadded<Signals>>,
 }
 
 impl Board {
-    /// A board for engines with so many jobs each.
+    /// A board for engines with these numbers of jobs.
     pub fn new(alloc: Global, jobs: &[u64]) -> Result<Board, AllocError> {
         let mut signals = Vec::new(alloc);
         for count in jobs {
@@ -72,7 +68,7 @@ impl Board {
         })
     }
 
-    /// Gives the run up: all are to end.
+    /// Gives the run up: everything must end.
     pub fn abandon(&self) {
         self.abandoned.store(true, Ordering::SeqCst);
     }
@@ -82,20 +78,19 @@ impl Board {
         self.abandoned.load(Ordering::SeqCst)
     }
 
-    /// How many engines there are.
     pub fn len(&self) -> usize {
         self.signals.len()
     }
 
-    /// Writes an engine's word of its quiet.
+    /// Posts an engine's word.
     pub fn write(&self, node: usize, word: QuietWord) {
         if let Some(signals) = self.signals.get(node) {
             signals.quiet.store(word.0, Ordering::SeqCst);
         }
     }
 
-    /// Reads an engine's word. One that has ended is quiet, but busy as long as frames of it may be under way; and so is one in
-    /// whose inbox frames of an engine that has ended may lie.
+    /// Reads an engine's word. An engine that has ended is quiet, but busy while its frames may be under way. One whose
+    /// inbox may hold frames of an ended engine is busy too.
     pub fn read(&self, node: usize) -> QuietWord {
         let Some(signals) = self.signals.get(node) else {
             return QuietWord::ENDED;
@@ -113,7 +108,7 @@ impl Board {
         }
     }
 
-    /// Whether an engine has ended. Also true where the run was given up.
+    /// Whether an engine has ended. Also true if the run was given up.
     pub fn has_ended(&self, node: usize) -> bool {
         match self.signals.get(node) {
             Some(signals) => signals.ended.load(Ordering::SeqCst) || self.is_abandoned(),
@@ -129,8 +124,8 @@ impl Board {
         }
     }
 
-    /// Notes that the carrier of an engine that has ended has put all that it took: what it put is to be looked for before the
-    /// engine counts as quiet.
+    /// Notes that an ended engine's carrier has put all that it took. All inboxes are marked unread first; only then
+    /// does the engine count as quiet.
     pub fn settle(&self, node: usize) {
         let Some(own) = self.signals.get(node) else {
             return;
@@ -144,7 +139,7 @@ impl Board {
         own.settled.store(true, Ordering::SeqCst);
     }
 
-    /// Whether an engine has ended whose last frames may lie in this one's inbox, since it was last noted that it looks for
+    /// Whether the engine's inbox may hold the last frames of an engine that ended after it last noted a check for
     /// them.
     pub fn is_unread(&self, node: usize) -> bool {
         match self.signals.get(node) {
@@ -153,21 +148,21 @@ impl Board {
         }
     }
 
-    /// Notes that an engine is about to look into its inbox for the last frames of those that have ended.
+    /// Notes that an engine is about to check its inbox for the last frames of ended engines.
     pub fn look(&self, node: usize) {
         if let Some(signals) = self.signals.get(node) {
             signals.unread.store(false, Ordering::SeqCst);
         }
     }
 
-    /// Notes that a job of one of an engine's clients has ended.
+    /// Notes that a job of one of the engine's clients has ended.
     pub fn end_job(&self, node: usize) {
         if let Some(signals) = self.signals.get(node) {
             signals.jobs.fetch_sub(1, Ordering::SeqCst);
         }
     }
 
-    /// Whether all jobs of an engine's clients have ended.
+    /// Whether all jobs of the engine's clients have ended.
     pub fn has_no_job(&self, node: usize) -> bool {
         match self.signals.get(node) {
             Some(signals) => signals.jobs.load(Ordering::SeqCst) == 0,

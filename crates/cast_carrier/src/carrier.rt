@@ -1,5 +1,5 @@
-//! A carrier: takes parcels from an outbox and puts each into the inbox of its frame's target, once, twice or never, as the
-//! plan says.
+//! A carrier takes parcels from an outbox. It puts each into the inbox of its frame's target, once, twice or never, as
+//! the plan says.
 ghost use Rattle.std.specs.Prelude.{◌≡◌, [], IfOk, IsFalse, map};
 ghost use Rattle.std.specs.List.{filter};
 ghost use Rattle.cast_box.specs.Lists.{HasTakenOfEnded};
@@ -16,13 +16,14 @@ use std::alloc::{AllocError, Global};
 use std::marker::Model;
 use std::sync::Wait;
 
-/// How a carrier waits that finds nothing. It sleeps soon: its engine has put nothing, and what it puts can wait for so long.
+/// How a carrier waits when it finds nothing. It sleeps soon: its engine has put nothing, and what it puts can wait
+/// that long.
 pub const CARRIER_PAUSE: Pause = Pause {
     patience: 8,
     nap: SHORT_NAP,
 };
 
-/// A parcel that is kept until so many more frames were taken for its target.
+/// A parcel kept until `left` more frames were taken for its target.
 #[derive(Drop)]
 pub struct Delayed {
     pub left: u64,
@@ -61,7 +62,7 @@ impl Model for Carrier {
 }
 
 impl Carrier {
-    /// The carrier of a node with these ends, of which none was used. It acts on these faults of a plan.
+    /// A node's carrier with these unused ends, which acts on these faults of a plan.
     pub fn new(
         alloc: Global,
         node: NodeId,
@@ -95,11 +96,11 @@ impl Carrier {
         self.node
     }
 
-    /// Carries one parcel: what is due by it is handed on, in the order in which it came, and waits no longer; and then the
-    /// parcel itself, unless it is lost, or waits behind the others as its fate delays it. What is handed on is lost only where
-    /// the inbox was full, or is none; a copy also where there is no memory for its bytes; and what is to wait where there is no
-    /// memory to keep it. Answers whether there was a parcel; else nothing changed, and all that an engine that has ended put was
-    /// taken.
+    /// Carries one parcel. First it hands on what this parcel makes due, in the order of arrival. Then it hands on the
+    /// parcel itself, unless its fate loses it or has it wait after the others. A parcel handed on is lost only if its
+    /// inbox is full or does not exist; a copy also if there is no memory for its bytes. One that is to wait is lost if
+    /// there is no memory to keep it. Returns whether there was a parcel. If there was none, nothing changed, and all
+    /// that an ended engine had put was taken.
     pub fn carry<R: Wait>(&mut self, rt: &R) -> bool
         ensures same { IsSameCarrier self.old self.new }
         ensures one { CarriesOne self.old self.new result }
@@ -116,8 +117,8 @@ impl Carrier {
         }
     }
 
-    /// The ends. What is delayed is lost. What was put is of the frames that were taken, and as the plan says: nothing that it
-    /// loses or still delays, and nothing twice but what it repeats.
+    /// The ends. Delayed parcels are lost. What was put comes from the frames taken, as the plan says: nothing that it
+    /// loses or still delays, and nothing twice unless it repeats it.
     pub fn into_parts(self) -> (Taker<Parcel>, Vec<Putter<Parcel>>)
         ensures parts { (result.0 ≡ self.outbox) × (result.1.items ≡ self.inboxes) }
         ensures kept { Brings self.outbox.taken self.inboxes }
@@ -132,7 +133,7 @@ impl Carrier {
     }
 }
 
-// Hands on what is due by one more frame for the target, and then loses, keeps or hands on the parcel.
+// Hands on what one more frame for the target makes due, and then loses, keeps or hands on the parcel.
 fn take_over<R: Wait>(
     rt: &R,
     inboxes: &mut Vec<Putter<Parcel>>,
@@ -155,7 +156,7 @@ fn take_over<R: Wait>(
     hand_on(rt, inboxes, parcel, fate.twice);
 }
 
-// Hands on what is due by one more frame for the target.
+// Hands on what one more frame for the target makes due.
 fn pass_time<R: Wait>(
     rt: &R,
     inboxes: &mut Vec<Putter<Parcel>>,
@@ -170,7 +171,7 @@ fn pass_time<R: Wait>(
     release(rt, inboxes, delayed);
 }
 
-// One frame more was taken for a target.
+// Counts one more frame taken for a target.
 fn count_down(delayed: &mut Vec<Delayed>, to: NodeId)
     ensures { delayed.new.items ≡ map (counted_down to) delayed.old.items }
 {
@@ -204,7 +205,7 @@ fn release<R: Wait>(rt: &R, inboxes: &mut Vec<Putter<Parcel>>, delayed: &mut Vec
     }
 }
 
-// Keeps a parcel until as many more were taken for its target as its fate says. It is lost where there is no memory.
+// Keeps a parcel until its fate's number of frames were taken for its target. It is lost if there is no memory.
 fn keep(delayed: &mut Vec<Delayed>, parcel: Parcel, fate: Fate)
     ensures { IsKeptOrLost delayed.old.items
         (record { left = fate.delay; twice = fate.twice; parcel = parcel }) delayed.new.items }
@@ -216,7 +217,7 @@ fn keep(delayed: &mut Vec<Delayed>, parcel: Parcel, fate: Fate)
     });
 }
 
-// Hands on a parcel once or twice. A copy that finds no memory is lost.
+// Hands on a parcel once or twice. A copy is lost if there is no memory for it.
 #[inline(always)]
 fn hand_on<R: Wait>(rt: &R, inboxes: &mut Vec<Putter<Parcel>>, parcel: Parcel, twice: bool)
     ensures { HandsOn twice inboxes.old.items parcel inboxes.new.items }
@@ -225,7 +226,7 @@ fn hand_on<R: Wait>(rt: &R, inboxes: &mut Vec<Putter<Parcel>>, parcel: Parcel, t
     put(rt, inboxes, parcel);
 }
 
-// Where the parcel is handed on twice, puts a copy.
+// Puts a copy if the parcel is handed on twice.
 fn put_copy<R: Wait>(rt: &R, inboxes: &mut Vec<Putter<Parcel>>, parcel: &Parcel, twice: bool)
     ensures { PutsCopy twice inboxes.old.items parcel.now inboxes.new.items }
 {
@@ -237,7 +238,7 @@ fn put_copy<R: Wait>(rt: &R, inboxes: &mut Vec<Putter<Parcel>>, parcel: &Parcel,
     }
 }
 
-// Puts a parcel into the inbox of its target. It is lost where that is full.
+// Puts a parcel into the inbox of its target. It is lost if that is full.
 #[inline(always)]
 fn put<R: Wait>(rt: &R, inboxes: &mut Vec<Putter<Parcel>>, parcel: Parcel)
     ensures { PutsOne inboxes.old.items parcel inboxes.new.items }

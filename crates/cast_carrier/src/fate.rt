@@ -1,4 +1,4 @@
-//! What becomes of a frame by a plan.
+//! What a plan does to a frame.
 ghost use Rattle.std.specs.Prelude.{◌≡◌, ◌↔◌, IsTrue};
 ghost use Rattle.cast_carrier.specs.Fates.{is_kind, is_among, IsAmong, is_one_of, suffered, fate_by, fate_in, ordinal_of, one_more, counted_in};
 
@@ -13,7 +13,7 @@ pub struct Ordinals {
     pub took: u64,
 }
 
-/// What becomes of a frame.
+/// What happens to a frame.
 #[derive(Clone, Copy)]
 pub struct Fate {
     pub lost: bool,
@@ -22,7 +22,6 @@ pub struct Fate {
     pub twice: bool,
 }
 
-// Handed on at once, and once.
 const UNHARMED: Fate = Fate {
     lost: false,
     delay: 0,
@@ -30,7 +29,7 @@ const UNHARMED: Fate = Fate {
 };
 
 impl Fate {
-    // What becomes of a frame by one fault more. It is changed where it stands: handed on by value, fault after fault, its
+    // Adds what one fault does to the frame. `self` is changed in place: passed by value, fault after fault, its
     // padding is copied each time, and the processor waits for that.
     fn suffer(&mut self, fault: &Fault, frame: &NamedFrame)
         ensures { self.new ≡ suffered frame.now self.old fault.now }
@@ -48,8 +47,8 @@ impl Fate {
     }
 }
 
-/// What becomes of a parcel by the plan, which counts its frame. A frame for a target past the row of ordinals is not counted,
-/// and no fault befalls it.
+/// The fate of a parcel by the plan; its frame is counted. A frame for a target without ordinals is not counted, and
+/// meets no fault.
 pub fn fate_of(faults: &CarrierFaults, ordinals: &mut [Ordinals], parcel: &Parcel) -> Fate
     ensures fate { result ≡ fate_in faults.now ordinals.old parcel.now.frame }
     ensures counts { ordinals.new ≡ counted_in ordinals.old parcel.now.frame }
@@ -71,7 +70,7 @@ pub fn fate_of(faults: &CarrierFaults, ordinals: &mut [Ordinals], parcel: &Parce
     fate_by(faults.for_target(to), &frame)
 }
 
-// The ordinal of the next frame of the kind, which stays at its greatest value once there.
+// The ordinal of the next frame of the kind; it stays at its greatest value.
 fn count(counts: &mut Ordinals, kind: FrameKind) -> u64
     ensures ordinal { result ≡ ordinal_of kind counts.old }
     ensures counts { counts.new ≡ one_more kind counts.old }
@@ -90,7 +89,7 @@ fn count(counts: &mut Ordinals, kind: FrameKind) -> u64
     }
 }
 
-/// A frame by what the faults of a plan name of it.
+/// What the faults of a plan can name about a frame.
 #[derive(Drop)]
 pub struct NamedFrame {
     pub kind: FrameKind,
@@ -100,11 +99,10 @@ pub struct NamedFrame {
 }
 
 impl NamedFrame {
-    // Whether it is one of these frames.
     fn is_one_of(&self, frames: &Frames) -> bool
         ensures { result ≡ is_one_of self.now frames.now }
     {
-        // Most faults are of other frames, and a division takes long.
+        // Most faults are about other frames, and a division is slow.
         if frames.to != self.to || !is_kind(frames.kind, self.kind) || frames.from != self.from {
             return false;
         }
@@ -112,7 +110,6 @@ impl NamedFrame {
     }
 }
 
-// Whether two kinds are the same.
 fn is_kind(kind: FrameKind, other: FrameKind) -> bool
     ensures { result ≡ is_kind kind other }
 {
@@ -122,7 +119,7 @@ fn is_kind(kind: FrameKind, other: FrameKind) -> bool
     )
 }
 
-// Whether the ordinal is first, first + step, first + 2 * step, ..; with no step, first alone.
+// Whether the ordinal is first, first + step, first + 2 * step, ..; if step is 0, only first.
 fn is_among(first: u64, step: u64, ordinal: u64) -> bool
     ensures is { result ≡ is_among first step ordinal }
     ensures multiples { IsTrue result ↔ IsAmong first step ordinal }
@@ -133,7 +130,6 @@ fn is_among(first: u64, step: u64, ordinal: u64) -> bool
     first <= ordinal && (ordinal - first) % step == 0
 }
 
-// What becomes of a frame by all faults of a plan.
 fn fate_by(faults: &[Fault], frame: &NamedFrame) -> Fate
     ensures { result ≡ fate_by frame.now faults.now }
 {

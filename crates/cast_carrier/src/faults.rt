@@ -1,5 +1,5 @@
-//! The faults that a carrier acts on, by the target of their frames: so a frame takes a step for each fault of its own link, however
-//! many the plan has for others.
+//! The faults that a carrier acts on, by the target of their frames. So a frame takes a step only for each fault of its
+//! own link, however many the plan has for others.
 ghost use Rattle.std.specs.Prelude.{◌≡◌, IfOk};
 ghost use Rattle.cast_carrier.specs.Fates.{AreByTarget, AreFatedAlike};
 
@@ -11,9 +11,9 @@ use std::marker::Model;
 /// The faults of a carrier. Contracts see them in their order.
 #[derive(Drop)]
 pub struct CarrierFaults {
-    // In the order of the plan, as contracts see them.
+    // In the plan's order, as contracts see them.
     all: Vec<Fault>,
-    // The same by target, where the carrier has it.
+    // The same, in a row for each target of the carrier.
     rows: Vec<Vec<Fault>>,
 }
 
@@ -30,7 +30,7 @@ impl Model for CarrierFaults {
 }
 
 impl CarrierFaults {
-    /// These faults, for a carrier with so many targets. All room is made here.
+    /// These faults, for a carrier with this many targets. All memory is allocated here.
     pub fn new(
         alloc: Global,
         faults: Vec<Fault>,
@@ -45,8 +45,8 @@ impl CarrierFaults {
         Ok(CarrierFaults { all: faults, rows })
     }
 
-    /// Some by which any frame for this target meets the fate that it meets by all: those of its own frames, where the carrier
-    /// has this target.
+    /// Faults that give any frame for this target the same fate as all faults do: those of the target's own frames, if
+    /// the carrier has this target.
     pub fn for_target(&self, to: NodeId) -> &[Fault]
         ensures { AreFatedAlike to result.now self.now }
     {

@@ -1,6 +1,6 @@
-//! The network between the nodes of a group: for each node a carrier, which takes parcels from the node's outbox and puts each
-//! into the inbox of its frame's target, once, twice or never, at once or later, as a plan of faults says; and the board on which
-//! engines tell one another that they owe nothing or have ended, carriers that all was put, and jobs that they have ended.
+//! The network between the nodes of a group. Each node has a carrier, which takes parcels from the node's outbox. It
+//! puts each into the inbox of its frame's target, once, twice or never, at once or later, as a plan of faults says. On
+//! the stop board, engines, carriers and jobs post what the end of a run depends on.
 #![tactic(auto)]
 
 mod board;

@@ -1,4 +1,4 @@
-//! What a plan may name, and what it says of each node.
+//! What a plan may name, and what it says about each node.
 ghost use Rattle.std.specs.Prelude.{◌≡◌, ◌≢◌, [], ◌↔◌, None, IsTrue, IfOk, OnErr};
 ghost use Rattle.std.specs.List.{filter};
 ghost use Rattle.cast_carrier.specs.Plans.{ArePlanned, IsPlanned, IsLink, crash_by, crash_from, IsLeastCrash, is_from, is_at, least};
@@ -6,7 +6,7 @@ ghost use Rattle.cast_carrier.specs.Plans.{ArePlanned, IsPlanned, IsLink, crash_
 use cast_message::{Fault, NodeId};
 use std::alloc::{AllocError, Global};
 
-/// Whether each fault names nodes of the group, and no link of a node to itself. It takes no memory.
+/// Whether each fault names nodes of the group, and no link from a node to itself. It allocates nothing.
 pub fn is_planned(nodes: u64, faults: &[Fault]) -> bool
     ensures { IsTrue result ↔ ArePlanned nodes faults.now }
 {
@@ -35,7 +35,7 @@ fn is_link(nodes: u64, from: NodeId, to: NodeId) -> bool
     u64::from(from.0) < nodes && u64::from(to.0) < nodes && from != to
 }
 
-/// After how many entries the node crashes, if it is to crash: of several counts the least.
+/// After how many entries the node crashes, if it is to crash; of several counts, the least.
 pub fn crash_of(node: NodeId, faults: &[Fault]) -> Option<u64>
     ensures is { result ≡ crash_from node None faults.now }
     ensures least { IsLeastCrash node faults.now result }
@@ -74,7 +74,7 @@ fn least(earliest: Option<u64>, entries: u64) -> Option<u64>
     }
 }
 
-/// The faults of the frames of a node, in their order, or want of memory, but never where there are none.
+/// The faults of a node's frames, in their order. It can run out of memory only if there are some.
 pub fn faults_from(alloc: Global, node: NodeId, faults: &[Fault]) -> Result<Vec<Fault>, AllocError>
     ensures ok { IfOk result (λ own. own.items ≡ filter (is_from node) faults.now) }
     ensures err { OnErr result (filter (is_from node) faults.now ≢ []) }
@@ -91,7 +91,7 @@ pub(crate) enum LinkEnd {
     Target,
 }
 
-/// The faults of frames whose link has this node at that end, in their order, or want of memory, but never where there are none.
+/// As `faults_from`, for frames whose link has this node at that end.
 pub(crate) fn faults_at(
     alloc: Global,
     end: LinkEnd,

@@ -1,25 +1,25 @@
 //! How a thread that finds nothing to do lets others run.
 //!
-//! A thread that gives up the processor again and again is as busy to the scheduler as one that works: carriers with nothing to
-//! carry, and engines to which nothing comes, would keep a core for themselves, while others share what is left. Where all cores
-//! have work, a few turns of the others are enough until there is something to do, and a sleep would only hold it up.
+//! To the scheduler, a thread that yields the processor again and again is as busy as one that works. Carriers with
+//! nothing to carry, and engines that receive nothing, would keep a core for themselves, while others share the rest.
+//! If all cores have work, there is something to do after a few turns of the others, and a sleep would only delay it.
 use std::sync::Wait;
 use std::thread;
 use std::thread::Parker;
 use std::time::Duration;
 
-/// How a thread waits: so many times in succession it gives up the processor, and then it sleeps, for so many microseconds at a
-/// time, to which the system adds some fifty.
+/// How a thread waits. It first yields the processor `patience` times in succession. Then it sleeps `nap` microseconds
+/// at a time, to which the system adds some fifty.
 #[derive(Clone, Copy)]
 pub struct Pause {
     pub patience: u64,
     pub nap: u64,
 }
 
-/// The shortest sleep that is of use, in microseconds.
+/// The shortest useful sleep, in microseconds.
 pub const SHORT_NAP: u64 = 20;
 
-/// A thread that has nothing to do at times.
+/// A thread that sometimes has nothing to do.
 #[derive(Drop)]
 pub struct Waiting {
     parker: Parker,
@@ -41,7 +41,7 @@ impl Waiting {
         self.waits = 0;
     }
 
-    /// Lets others run, as there was nothing to do.
+    /// Lets others run, since there was nothing to do.
     pub fn wait<R: Wait>(&mut self, rt: &R, pause: Pause) {
         if self.waits < pause.patience {
             self.waits += 1;

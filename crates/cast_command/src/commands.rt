@@ -1,28 +1,23 @@
 //! The commands with their arguments and texts.
 use crate::version::VERSION;
+use cast_message::REFUSALS;
 use clap::{Arg, ArgAction, Command};
 use std::alloc::{AllocError, Global};
+use std::fmt::Write;
 
-/// What the lines `r EVENT CODE` of a record mean.
-const REFUSALS: &str = "Refused events (r EVENT CODE):
-   1  a node that does not exist
-   2  a link from a node to itself
-   3  a node that has crashed
-   4  a stream that is closed
-   5  a payload of more than 1,024 bytes
-   6  a second proposal in an instance
-   7  a stream that is full: its last place is kept for the close
-   8  a slot that was not given
-   9  a slot that was acknowledged
-  10  a slot that was not taken
-  11  a frame that was not made
-  12  a node that has made all its frames";
+/// What the lines `r EVENT CODE` of a record mean, for the help of `run`.
+pub fn refusals_help(alloc: Global) -> Result<String, AllocError> {
+    let mut text = String::from_str(alloc, "Refused events (r EVENT CODE):")?;
+    for fault in REFUSALS.iter() {
+        write!(text, "\n  {:2}  {}", fault.code(), fault.words())?;
+    }
+    Ok(text)
+}
 
 /// What a refusal with this code means.
 pub fn refusal_meaning(code: u64) -> Option<&'static str> {
-    let line = REFUSALS.lines().nth(code as usize)?;
-    let (_code, meaning) = line.trim_start().split_once("  ")?;
-    Some(meaning)
+    let fault = REFUSALS.iter().find(|fault| fault.code() == code)?;
+    Some(fault.words())
 }
 
 /// What the lines of a summary mean.
@@ -44,7 +39,7 @@ const MERGED_ENDS: &str =
 rest: whether all that live nodes gave live nodes was acknowledged
 verdict: what the judge says of the record of what happened";
 
-/// What the marks of a picture mean.
+/// What the marks in a picture mean.
 const MARKS: &str = "A line for each node, time to the right, a column for each event. Marks:
   dot      a broadcast, with the item
   arrow    a frame that arrives, in the colour of the message's sender; dotted and grey an acknowledgement
@@ -54,12 +49,13 @@ const MARKS: &str = "A line for each node, time to the right, a column for each 
   cross    a crash
 A pale mark below the lines is a refused event with its code, a pale ground a settle.";
 
-/// The command line of the program. The rules of records stand below the help of `judge`.
+/// The command line of the program. The help of `run` ends with `refusals`, and that of `judge` with `rules`.
 pub fn castgroup_command<'a>(
     alloc: Global,
+    refusals: &'a str,
     rules: &'static str,
 ) -> Result<Command<'a>, AllocError> {
-    let command = with_command(program(alloc)?, run_command(alloc))?;
+    let command = with_command(program(alloc)?, run_command(alloc, refusals))?;
     let command = with_command(command, judge_command(alloc, rules))?;
     let command = with_command(command, live_command(alloc))?;
     let command = with_command(command, merge_command(alloc))?;
@@ -83,10 +79,10 @@ fn program<'a>(alloc: Global) -> Result<Command<'a>, AllocError> {
         .arg(terse_flag(alloc))
 }
 
-// Where the flags that each command takes stand in its help: behind its own, and before that for help.
+// The place in a command's help of the flags that every command takes: after its own, and before the help flag.
 const LAST: usize = 900;
 
-// Flags that each command takes.
+// Flags that every command takes.
 fn explain_flag<'a>(alloc: Global) -> Result<Arg<'a>, AllocError> {
     let help =
         "Say in one more line on standard error where a fault is, and why, as on a terminal, or where the environment has CASTGROUP_EXPLAIN=1";
@@ -122,10 +118,10 @@ fn records<'a>(alloc: Global) -> Arg<'a> {
     )
 }
 
-fn run_command<'a>(alloc: Global) -> Result<Command<'a>, AllocError> {
+fn run_command<'a>(alloc: Global, refusals: &'a str) -> Result<Command<'a>, AllocError> {
     Command::new(alloc, "run")
         .about("Writes the record of a script's events")
-        .after_help(REFUSALS)
+        .after_help(refusals)
         .arg(script(alloc))
 }
 
@@ -158,7 +154,7 @@ pub fn merge_command<'a>(alloc: Global) -> Result<Command<'a>, AllocError> {
     with_outputs(alloc, command)?.arg(logs)
 }
 
-// The options that say by which seeds a group runs in place of threads.
+// The options that choose seeds, by which a group runs in place of threads.
 fn with_seeds<'a>(alloc: Global, command: Command<'a>) -> Result<Command<'a>, AllocError> {
     let seed = "Run in one thread, by the schedule of seed N: the same run each time";
     let times = "Run M seeds from N on, and tell of those runs that are not as one hopes";
@@ -178,7 +174,6 @@ fn with_outputs<'a>(alloc: Global, command: Command<'a>) -> Result<Command<'a>, 
         .arg(option(alloc, "draw", "FILE", picture))
 }
 
-// An option that takes a value.
 fn option<'a>(
     alloc: Global,
     name: &'static str,
@@ -197,7 +192,7 @@ fn migrate_command<'a>(alloc: Global) -> Result<Command<'a>, AllocError> {
         .arg(record(alloc))
 }
 
-/// The command that draws the run of a script.
+/// The command that draws a script's run.
 pub fn draw_command<'a>(alloc: Global) -> Result<Command<'a>, AllocError> {
     let from = "The first event that is drawn, counted from 0; the first of all if absent";
     let to = "The last event that is drawn; the last of all if absent";
@@ -211,7 +206,8 @@ pub fn draw_command<'a>(alloc: Global) -> Result<Command<'a>, AllocError> {
         .arg(script(alloc))
 }
 
-// An option that takes a number. One below 0 is taken here, and refused in words of its own with all else that is none.
+// An option that takes a number. A number below 0 passes here; like anything else that is not one, it is refused later
+// with a message of this program.
 fn number<'a>(
     alloc: Global,
     name: &'static str,

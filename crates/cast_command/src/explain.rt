@@ -1,5 +1,5 @@
-//! Why a script, a group, a head or a record was refused, and what of a script a command leaves aside, in words. Each call reads
-//! the bytes once more. Who says the words puts the input's name before them.
+//! Says in words why a script, a group, a head or a record was refused, and what a command ignores in a script. Each
+//! call reads the bytes again. The caller puts the input's name before the words.
 mod due;
 mod element;
 mod excerpt;

@@ -1,5 +1,5 @@
-//! What the program `castgroup` is told and says in words: its command line, with what the words of a call ask for, and why an input
-//! is refused. It stands apart from the program, so that neither is checked over all that the other stands on.
+//! The words of the program `castgroup`: its command line, what a call asks for, and why an input is refused. It is a
+//! crate apart from the program, so that neither is checked over everything that the other depends on.
 #![tactic(auto)]
 
 mod commands;
@@ -7,6 +7,7 @@ mod explain;
 mod request;
 mod version;
 
+pub use commands::refusals_help;
 pub use explain::{
     RULES, Refusals, Taken, aside_words, group_words, head_words, refused_words, script_words,
     twice_words, verdict_words,

@@ -9,14 +9,14 @@ use std::io;
 /// Where a text is read or written.
 #[derive(Clone, Copy)]
 pub enum Place<'a> {
-    /// Standard input, or standard output.
+    /// Standard input or standard output.
     Standard,
     /// The file of this name.
     File(&'a str),
 }
 
 impl<'a> Place<'a> {
-    /// The place that a word names: `-` is no file.
+    /// The place that a word names; `-` is not a file.
     pub fn named(word: &'a str) -> Place<'a> {
         if word == "-" {
             Place::Standard
@@ -25,7 +25,7 @@ impl<'a> Place<'a> {
         }
     }
 
-    /// The word that names the place.
+    /// The word that names this place.
     pub fn word(self) -> &'a str {
         match self {
             Place::Standard => "-",
@@ -38,16 +38,16 @@ impl<'a> Place<'a> {
     }
 }
 
-/// Whether more is said on standard error than the fixed texts.
+/// Whether standard error gets more than the fixed texts.
 #[derive(Clone, Copy)]
 pub enum Detail {
-    /// Where standard error is a terminal.
+    /// If standard error is a terminal.
     OnTerminal,
     Always,
     Never,
 }
 
-/// What is kept of a run, where it is wanted.
+/// Where the requested texts of a run are kept.
 #[derive(Clone, Copy)]
 pub struct RunPlaces<'a> {
     /// The record of what happened.
@@ -64,7 +64,7 @@ impl RunPlaces<'_> {
         self.record.is_none() && self.replay.is_none() && self.picture.is_none()
     }
 
-    /// How many of the outputs go to standard output.
+    /// How many outputs go to standard output.
     pub fn count_standard(&self) -> usize {
         let places = [self.record, self.replay, self.picture];
         places
@@ -74,7 +74,7 @@ impl RunPlaces<'_> {
             .count()
     }
 
-    // Whether two outputs have one name, as `-` for standard output.
+    // Whether two outputs have the same name; `-` names standard output.
     fn have_a_name_twice(&self) -> bool {
         is_again(self.record, self.replay)
             || is_again(self.record, self.picture)
@@ -89,14 +89,13 @@ fn is_again(place: Option<Place<'_>>, other: Option<Place<'_>>) -> bool {
     }
 }
 
-/// So many seeds, of which this is the first. Behind the greatest number comes 0.
+/// This many seeds from the first on. After the greatest number comes 0.
 #[derive(Clone, Copy)]
 pub struct Seeds {
     pub first: u64,
     pub times: u64,
 }
 
-/// How a script's group runs.
 #[derive(Clone, Copy)]
 pub enum Running {
     /// Once, in threads.
@@ -107,50 +106,46 @@ pub enum Running {
     BySeeds(Seeds),
 }
 
-/// A group that is to run.
 #[derive(Clone, Copy)]
 pub struct LiveTask<'a> {
     pub script: Place<'a>,
     pub running: Running,
     pub places: RunPlaces<'a>,
-    /// Whether it is told how far the run is, also where standard error is no terminal.
+    /// Whether progress is shown, even if standard error is not a terminal.
     pub tells_progress: bool,
 }
 
-/// Logs that are to be merged.
 #[derive(Drop)]
 pub struct MergeTask<'a> {
-    /// The logs, one at least.
+    /// The logs, at least one.
     pub logs: Vec<Place<'a>>,
     pub places: RunPlaces<'a>,
 }
 
-/// What the program is asked to do.
 #[derive(Drop)]
 pub enum Task<'a> {
-    /// To write the record of a script.
+    /// Write the record of a script.
     Run(Place<'a>),
-    /// To judge these records, one at least.
+    /// Judge these records, at least one.
     Judge(Vec<Place<'a>>),
-    /// To run the group of a script.
+    /// Run the group of a script.
     Live(LiveTask<'a>),
-    /// To draw the run of a script.
+    /// Draw the run of a script.
     Draw {
         script: Place<'a>,
-        /// The first event that is drawn, where one is named.
+        /// The first event to draw, if given.
         from: Option<u64>,
-        /// The last, which does not stand before it.
+        /// The last event, which is not before the first.
         to: Option<u64>,
-        /// Whether a page is written that steps through the run, and not the picture alone.
+        /// Whether to write a page that steps through the run, rather than the picture alone.
         as_page: bool,
     },
-    /// To write a record with the new head.
+    /// Write a record with the new head.
     Migrate(Place<'a>),
-    /// To merge the logs of a group's processes.
+    /// Merge the logs of a group's processes.
     Merge(MergeTask<'a>),
 }
 
-/// What a call asks for.
 #[derive(Drop)]
 pub struct Request<'a> {
     pub task: Task<'a>,
@@ -162,23 +157,23 @@ pub struct Request<'a> {
 pub enum Refusal {
     /// Help or the version was asked for, or the words ask for nothing that the program does.
     Shown(Shown),
-    /// Memory was wanted.
+    /// Memory ran out.
     Memory,
 }
 
-/// A text that is shown in place of doing anything.
+/// A text that is shown instead of doing anything.
 #[derive(Drop)]
 pub struct Shown {
     error: Error,
 }
 
 impl Shown {
-    /// Whether the words were at fault: help and the version are none.
+    /// Whether the words were wrong; help and the version are no error.
     pub fn is_fault(&self) -> bool {
         self.error.exit_code() != 0
     }
 
-    /// Writes it: a fault to standard error, help and the version to standard output.
+    /// Writes a fault to standard error, or help and the version to standard output.
     pub fn print<R: Print + Eprint>(&self, rt: &R) -> io::Result<()> {
         self.error.print(rt)
     }
@@ -199,20 +194,25 @@ impl From<Error> for Refusal {
     }
 }
 
-/// What these words ask for, of which the first names the program. The rules of records stand below the help of `judge`.
+/// What these words ask for. The first of them names the program. The help of `run` ends with `refusals`, and that of
+/// `judge` with `rules`.
 pub fn parse<'a>(
     alloc: Global,
     words: &'a [String],
+    refusals: &'a str,
     rules: &'static str,
 ) -> Result<Request<'a>, Refusal> {
-    let matches = castgroup_command(alloc, rules)?.try_get_matches_from(words)?;
+    let matches = castgroup_command(alloc, refusals, rules)?.try_get_matches_from(words)?;
     match matches.subcommand() {
         Some((command, inner)) => Ok(Request {
             task: task_of(alloc, command, inner)?,
             detail: detail_of(inner),
         }),
         // (a command line that names none was refused before)
-        None => Err(fault(castgroup_command(alloc, rules)?, "a command is wanted")),
+        None => Err(fault(
+            castgroup_command(alloc, refusals, rules)?,
+            "a command is wanted",
+        )),
     }
 }
 
@@ -285,7 +285,7 @@ fn merge<'a>(alloc: Global, matches: &ArgMatches<'a>) -> Result<Task<'a>, Refusa
     Ok(Task::Merge(MergeTask { logs, places }))
 }
 
-// Two outputs of one name are a fault: one of them would be lost.
+// Two outputs with one name are a fault: one would be lost.
 fn live<'a>(alloc: Global, matches: &ArgMatches<'a>) -> Result<Task<'a>, Refusal> {
     let places = run_places(matches);
     if places.have_a_name_twice() {
@@ -300,7 +300,7 @@ fn live<'a>(alloc: Global, matches: &ArgMatches<'a>) -> Result<Task<'a>, Refusal
     }))
 }
 
-// (a number of times without a seed was refused with the words)
+// (a number of times without a seed was refused before)
 fn running_of(alloc: Global, matches: &ArgMatches<'_>) -> Result<Running, Refusal> {
     let seed = number_of(alloc, matches, "seed", 0)?;
     let times = number_of(alloc, matches, "times", 1)?;
@@ -311,7 +311,7 @@ fn running_of(alloc: Global, matches: &ArgMatches<'_>) -> Result<Running, Refusa
     })
 }
 
-// The number that an option names, at least this one.
+// The number given for an option, at least this one.
 fn number_of(
     alloc: Global,
     matches: &ArgMatches<'_>,
@@ -340,7 +340,7 @@ fn number_fault(alloc: Global, name: &str, least: u64, word: &str) -> Result<Ref
     Ok(fault(command, message.as_str()))
 }
 
-// A first event that stands behind the last is a fault.
+// A first event after the last is a fault.
 fn draw<'a>(alloc: Global, matches: &ArgMatches<'a>) -> Result<Task<'a>, Refusal> {
     let from = number_of(alloc, matches, "from", 0)?;
     let to = number_of(alloc, matches, "to", 0)?;
@@ -359,7 +359,7 @@ fn draw<'a>(alloc: Global, matches: &ArgMatches<'a>) -> Result<Task<'a>, Refusal
     })
 }
 
-// A fault of the words that are handed to this command.
+// A fault in the words given to this command.
 fn fault(mut command: Command<'_>, message: &str) -> Refusal {
     match command.error(ErrorKind::ValueValidation, message) {
         Ok(error) => error.into(),

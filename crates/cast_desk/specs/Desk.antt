@@ -16,33 +16,32 @@ pub record ClientState : Type 0 where
   pub orders : PutterEnd OrderIn
   pub tray : TakerEnd Notice
 
--- the client is an end of the same boxes, with the same number and first ticket
+-- the client still has the same number, first ticket and ends
 abbrev pub IsSameClient : ClientState → ClientState → Type 0
 IsSameClient old new =
     (new.number ≡ old.number) × (new.first_ticket ≡ old.first_ticket) × IsSamePutter old.orders new.orders
     × IsSameTaker old.tray new.tray
 
--- the orders carry the client's number and, in turn, the tickets from `first` on
+-- the orders carry the client's number and consecutive tickets from `first` on
 abbrev pub AreInTurn : ℕ → ℕ → List OrderIn → Type 0
 AreInTurn client first orders =
     (i : ℕ) (o : OrderIn) → slice_get orders i ≡ Some o → (o.client ≡ client) × (o.ticket ≡ first + i)
 
--- the ticket that the client gives next
+-- the next ticket that the client gives
 abbrev pub next_ticket : ClientState → ℕ
 next_ticket c = c.first_ticket + length c.orders.put
 
--- how many notices there are, as far as a 64-bit number counts
+-- the number of notices, or the greatest 64-bit number if there are more
 abbrev pub counted : List (ℕ × Notice) → ℕ
 counted taken = min (length taken) (2 ^ 64 - 1)
 
--- why the item was handed back: the desk's box was full, or the ticket to come is 2^64 - 1, which is never given; only
--- where it isn't is the box tried
+-- why the item was handed back: the next ticket is 2^64 - 1, which is never given, or else the desk's box was full
 abbrev pub IsRefusal : ClientState → Item → DeskFault → Type 0
 IsRefusal c item (Full back) =
     (back ≡ item) × (next_ticket c + 1 < 2 ^ 64) × WasFull c.orders × FilledItAlone c.orders
 IsRefusal c item (Tickets back) = (back ≡ item) × (next_ticket c + 1 ≡ 2 ^ 64)
 
--- the notice was put into the tray of this client, or found it full; no other tray changed
+-- the notice was put into this client's tray, or found it full; no other tray changed
 abbrev pub IsPutAt : List (PutterEnd Notice) → ℕ → Notice → Result (Unit {0}) (Refused Notice)
     → List (PutterEnd Notice) → Type 0
 IsPutAt old client notice result new =
@@ -51,7 +50,7 @@ IsPutAt old client notice result new =
     × MatchResult result (λ _. now.put ≡ was.put ++ notice ∷ [])
     (λ full. (full.item ≡ notice) × (now.put ≡ was.put) × WasFull was × FilledItAlone was)
 
--- these are all the ends of a desk's boxes, the clients in the order of their numbers
+-- these are all the ends of a desk's boxes, the clients by number
 pub record IsDeskOf (clients : List ClientState) (orders : TakerEnd OrderIn) (trays : List (PutterEnd Notice))
     : Type 0 where
   pub desk : AreAllEnds (map (λ c. c.orders) clients) orders
@@ -61,8 +60,7 @@ pub record IsDeskOf (clients : List ClientState) (orders : TakerEnd OrderIn) (tr
       → AreAllEnds (tray ∷ []) client.tray
   pub number : (c : ℕ) (client : ClientState) → slice_get clients c ≡ Some client → client.number ≡ c
 
--- nothing was submitted and nothing taken, no notice was given and none taken, all boxes have `size` places, and each tray
--- has one putter
+-- nothing was submitted, given or taken; all boxes have `size` places, and each tray has one putter
 pub record IsNewDesk (size first_ticket : ℕ) (clients : List ClientState) (orders : TakerEnd OrderIn)
     (trays : List (PutterEnd Notice)) : Type 0 where
   pub client : (c : ℕ) (client : ClientState) → slice_get clients c ≡ Some client

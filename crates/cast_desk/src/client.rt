@@ -11,7 +11,7 @@ use std::marker::Model;
 use std::sync::Wait;
 use thiserror::Error;
 
-/// Why an item is not submitted. It comes back.
+/// Why an item was not submitted. The item comes back.
 #[derive(Debug, Drop, Error)]
 pub enum DeskFault {
     /// The desk was full at one moment of the call.
@@ -22,18 +22,17 @@ pub enum DeskFault {
     Tickets(Item),
 }
 
-/// A client's ends of its boxes. To contracts it is its number, its first ticket and these ends; the orders that it has put
-/// carry its number and, in turn, the tickets from its first ticket on. Where the client ends, `into_ends` hands its ends out.
+/// A client's ends of its boxes. Contracts see its number, its first ticket and these ends. The orders that it has put
+/// carry its number and consecutive tickets from the first ticket on. `into_ends` ends the client and hands out its
+/// ends.
 #[derive(Drop)]
 pub struct Client {
     pub(crate) number: u64,
     pub(crate) first_ticket: u64,
     pub(crate) next_ticket: u64,
-    // Its putter at the desk.
     pub(crate) orders: Putter<OrderIn>,
-    // The taker of its tray.
     pub(crate) tray: Taker<Notice>,
-    // How many notices it has taken, as far as a `u64` counts.
+    // How many notices it has taken; the count stops at the greatest `u64`.
     pub(crate) taken: u64,
 }
 
@@ -81,9 +80,9 @@ impl Client {
         }
     }
 
-    /// Puts the item on the desk as an order with the client's number and its next ticket, and answers that ticket. Tickets
-    /// rise by one from `first_ticket`; 2^64 - 1 is never given, which is tried before the put. A refusal hands the item
-    /// back and spends no ticket. It may spin behind a thread that stalls at the desk.
+    /// Puts the item on the desk as an order with the client's number and next ticket, and returns that ticket. Tickets
+    /// count up from `first_ticket`; 2^64 - 1 is never given, which is checked before the put. On a refusal the item
+    /// comes back and no ticket is used. The call may spin while another thread stalls at the desk.
     pub fn submit<R: Wait>(&mut self, rt: &R, item: Item) -> Result<u64, DeskFault>
         ensures same { IsSameClient self.old self.new }
         ensures tray { self.new.tray ≡ self.old.tray }
@@ -113,8 +112,8 @@ impl Client {
         }
     }
 
-    /// Takes the notice at the front of the client's tray, or answers nothing where it finds the tray empty. It may have to
-    /// wait for the engine's thread where that stalls in the middle of a put.
+    /// Takes the notice at the front of the client's tray, or nothing if it finds the tray empty. The call may wait for
+    /// the engine's thread if that stalls in a put.
     pub fn next<R: Wait>(&mut self, rt: &R) -> Option<Notice>
         ensures same { IsSameClient self.old self.new }
         ensures orders { self.new.orders ≡ self.old.orders }
@@ -139,14 +138,14 @@ impl Client {
         self.next_ticket - self.first_ticket
     }
 
-    /// How many notices the client has taken, or 2^64 - 1 where they are more.
+    /// How many notices the client has taken, or 2^64 - 1 if there are more.
     pub fn taken(&self) -> u64
         ensures { result ≡ counted self.now.tray.taken }
     {
         self.taken
     }
 
-    /// The ends, where the client ends.
+    /// Ends the client, and returns its ends.
     pub fn into_ends(self) -> (Putter<OrderIn>, Taker<Notice>)
         ensures ends { (result.0 ≡ self.orders) × (result.1 ≡ self.tray) }
         ensures tickets { AreInTurn self.number self.first_ticket self.orders.put }

@@ -9,28 +9,27 @@ use cast_box::{Full, Putter, Taker};
 use cast_message::Item;
 use std::sync::Wait;
 
-/// An order as the desk takes it.
 #[derive(Drop)]
 pub struct OrderIn {
-    /// The number of the client at its node, from 0 on.
+    /// The client's number at its node, from 0.
     pub client: u64,
-    /// The ticket that the client was given for it.
+    /// The ticket that the client received for the order.
     pub ticket: u64,
     pub item: Item,
 }
 
-/// The node's ends of the boxes of its clients.
+/// The node's ends of its clients' boxes.
 #[derive(Drop)]
 pub struct Desk {
-    /// The taker of the desk, at which every client has a putter.
+    /// The taker of the desk, where every client has a putter.
     pub orders: Taker<OrderIn>,
-    /// For each client the putter of its tray, in the order of the clients' numbers.
+    /// The putter of each client's tray, by client.
     pub trays: Vec<Putter<Notice>>,
 }
 
 impl Desk {
-    /// Takes the order at the front of the desk. It answers nothing only where the desk was empty at one moment of the
-    /// call. It may spin behind a client that stalls in `submit`.
+    /// Takes the order at the front of the desk. It returns nothing only if the desk was empty at one moment of the
+    /// call. The call may spin while a client stalls in `submit`.
     pub fn take<R: Wait>(&mut self, rt: &R) -> Option<OrderIn>
         ensures same { IsSameTaker self.old.orders self.new.orders
             × (self.new.trays ≡ self.old.trays) }
@@ -44,9 +43,8 @@ impl Desk {
         self.orders.take(rt)
     }
 
-    /// Puts the notice into the tray of this client, by its number among those of the desk. Where it finds that tray full, the
-    /// notice comes back and nothing was put. It may have to wait for the client's thread where that stalls in the middle of a
-    /// take.
+    /// Puts the notice into the tray of this client of the desk, given by number. If it finds that tray full, nothing
+    /// is put and the notice comes back. The call may wait for the client's thread if that stalls in a take.
     pub fn notify<R: Wait>(
         &mut self,
         rt: &R,

@@ -1,6 +1,6 @@
-//! The desk of a node, at which its clients submit orders, and the trays from which they take notices. The desk is a box
-//! with a putter for each client; each client has a tray, a box with the desk as its only putter. So what the desk took of a
-//! client is a beginning of what that client submitted, and what a client took is a beginning of what it was notified.
+//! The desk of a node, where its clients submit orders, and the trays from which they take notices. The desk is a box
+//! with a putter for each client; each client's tray is a box whose only putter is the desk. So the desk took a prefix
+//! of what the client submitted, and the client took a prefix of what was put into its tray.
 #![tactic(auto)]
 
 mod client;

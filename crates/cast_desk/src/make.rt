@@ -1,4 +1,4 @@
-//! The making of a desk with its clients, and its end.
+//! Makes a desk with its clients, and ends it.
 ghost use Rattle.std.specs.Prelude.{◌≡◌, ◌≤◌, ◌∷◌, ◌++◌, [], ℕ, length, map, slice_get, Some, IfOk, IfErr, OnOk};
 ghost use Rattle.cast_box.specs.Lists.{of, StartsWith, IsFair};
 ghost use Rattle.cast_box.specs.Ends.{PutterEnd, TakerEnd, AreAllEnds, IsSize};
@@ -12,12 +12,12 @@ use cast_box::{BoxFault, Gathered, MOST_PLACES, Putter, Taker, make_box};
 use std::alloc::{AllocError, Global};
 use std::sync::Wait;
 
-/// The most clients of a desk.
+/// The most clients a desk has.
 pub const MOST_CLIENTS: u64 = 4;
 
-/// A desk with `clients` clients, 1 to 4, in the order of their numbers from 0 on, each with a tray. The boxes have `size`
-/// places each, 1 to 4,096, and tickets count up from `first_ticket`. All memory that the boxes ever take is taken here. A
-/// refusal is that of a box: of two causes the size comes before the number of clients (`Putters`).
+/// A desk with `clients` clients, 1 to 4, by number from 0, each with a tray. Each box has `size` places, 1 to 4,096,
+/// and tickets count up from `first_ticket`. All memory that the boxes ever need is allocated here. Refusals are those
+/// of a box: first `Size`, then `Putters` for a wrong number of clients.
 pub fn make_desk(
     alloc: Global,
     size: u64,
@@ -61,7 +61,7 @@ fn open(
     Ok((all, Desk { orders, trays }))
 }
 
-// Adds the client that has this putter at the desk, with a tray of its own.
+// Adds the client with this putter, and makes its tray.
 fn add_client(
     alloc: Global,
     size: u64,
@@ -100,9 +100,9 @@ fn sole(mut all: Vec<Putter<Notice>>) -> Putter<Notice>
     all.swap_remove(0)
 }
 
-/// Ends all boxes of a desk, whose ends these all are, the clients in the order of their numbers. What the desk took of a
-/// client, followed by what is left of it, is what that client submitted; and what a client took is the beginning of what it
-/// was notified. No more is left than the desk has places. It takes no memory.
+/// Ends all boxes of a desk, given all their ends, the clients by number. What the desk took from a client, followed by
+/// what is left, is what the client submitted. The client took a prefix of what was put into its tray. No more is left
+/// than the desk has places. It allocates nothing.
 pub fn end_desk<R: Wait>(rt: &R, clients: Vec<Client>, desk: Desk) -> Gathered<OrderIn>
     requires { IsDeskOf clients.items desk.orders desk.trays.items }
     ensures orders { (c : ℕ) (client : ClientState) → slice_get clients.items c ≡ Some client →

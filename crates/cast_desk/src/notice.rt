@@ -1,10 +1,10 @@
-//! What clients are told.
+//! What a node notifies its clients of.
 use cast_message::{Decision, Message, StepFault};
 
-/// What a client is told.
+/// What a client is notified of.
 #[derive(Drop)]
 pub enum Notice {
-    /// The client's order with this ticket was taken, with this number among the orders of its node, or was refused.
+    /// The node took the client's order with this ticket, as its order of this number, or refused it.
     Reply {
         ticket: u64,
         outcome: Result<u64, StepFault>,

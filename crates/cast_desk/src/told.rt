@@ -1,4 +1,4 @@
-//! What a client is told of a log.
+//! What the client of a node is notified of, computed from the node's log.
 ghost use Rattle.std.specs.Prelude.{◌≡◌, ◌≢◌, ◌++◌, [], IfOk, OnOk, OnErr};
 ghost use Rattle.std.specs.Option.{option_to_list};
 ghost use Rattle.cast_desk.specs.Feed.{feed as feed_of, told_by, reply_of, refusal_of, news_of, orders_in};
@@ -8,9 +8,9 @@ use cast_log::{EntryKind, KindRef, Log, Origin};
 use cast_message::{Event, List, Outcome, StepFault};
 use std::alloc::{AllocError, Global};
 
-/// What the client of this number is told of a log, entry by entry: first the reply to its own order, with the number of
-/// orders before it in the log or with the fault for which it was refused; then each message that the step delivered; then
-/// each decision that it took. Memory is wanted only where the client is told something.
+/// The notices for this client from a log, entry by entry: the reply to its own order, then each message that the step
+/// delivered, then each decision. The reply has the number of orders before it in the log, or the fault that refused
+/// it. Memory is needed only if there is a notice.
 pub fn feed(alloc: Global, log: &Log, client: u64) -> Result<List<Notice>, AllocError>
     ensures ok { IfOk result (λ notices. notices ≡ feed_of log.now client) }
     ensures err { OnErr result (feed_of log.now client ≢ []) }
@@ -65,8 +65,8 @@ fn tell_reply(
     }
 }
 
-/// The reply to a step, where it is an order of the client of this number; so many orders stand before it in the log. It takes
-/// no memory.
+/// The reply to a step that is this client's order; `number` counts the orders before it in the log. It allocates
+/// nothing.
 pub fn own_reply(client: u64, event: &Event, origin: &Option<Origin>, number: u64) -> Option<Notice>
     ensures { option_to_list result ≡ reply_of client event.now origin.now number }
 {
@@ -110,7 +110,7 @@ fn tell_news(notices: &mut List<Notice>, outcome: &Outcome) -> Result<(), AllocE
     Ok(())
 }
 
-/// How many orders an entry of a log is: 1 where an order was taken, else 0.
+/// How many orders an entry is: 1 if it took an order, else 0.
 pub fn orders_in(kind: &EntryKind) -> u64
     ensures { result ≡ orders_in kind.now }
 {

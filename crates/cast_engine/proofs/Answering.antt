@@ -19,7 +19,7 @@ use Rattle.cast_desk.specs.declared.desk.OrderIn.{OrderIn}
 use Rattle.cast_box.specs.Lists.{of}
 use Rattle.cast_node.specs.Linked.{StampedStep, Trail, steps_in, event_of, outcome_in}
 use Rattle.cast_carrier.specs.Lists.{Has}
-use Rattle.cast_journal.specs.Runs.{Read, Moved, Served, Denied, Run, mark, trail_of, log_of, orders_of, order_by, entry_by, IsRead, IsRun, is_order, origin_of}
+use Rattle.cast_journal.specs.Runs.{Read, Moved, Came, Served, Denied, Run, mark, trail_of, log_of, orders_of, order_by, entry_by, IsRead, IsRun, is_own, origin_of}
 use Rattle.cast_journal.specs.Journals.{Rises, IsStampedAfter}
 use Rattle.cast_engine.specs.Serving.{is_of, origin_in, entries_of, orders_by, before, HasOriginOf, IsOriginIn, IsAnswered, IsAnsweredBy, Matches}
 use Rattle.cast_carrier.proofs.Lists.{has_left, has_last, has_snoc, has_none, has_filter}
@@ -87,6 +87,7 @@ before_all : (stamp : ℕ) (config : Config) (p : ℕ) (run : Run) → ((x : Ent
 unfolding before trail_of log_of
 before_all stamp config p [] below = refl
 before_all stamp config p (Moved s step ∷ rs) below = all_of stamp (mark s step) (trail_of rs) (below _ (has_last (log_of config p rs) _))
+before_all stamp config p (Came s x ∷ rs) below = all_of stamp (mark s (Arrived x.frame)) (trail_of rs) (below _ (has_last (log_of config p rs) _))
 before_all stamp config p (Served s order ∷ rs) below = all_of stamp (mark s (Ordered order.item)) (trail_of rs) (below _ (has_last (log_of config p rs) _))
 before_all stamp config p (Denied s order fault ∷ rs) below = before_all stamp config p rs (λ x h. below x (has_left (log_of config p rs) _ x h))
 
@@ -116,20 +117,28 @@ module _ (config : Config) (p : ℕ) (c : ℕ) where
   unfolding entries_of
   entries_in log x h = has_filter (λ e. is_of c (origin_in e.kind)) log x h
 
-  pub run_fits : (run : Run) (first clock : ℕ) → Rises first (log_of config p run) clock → IsRun config p run → Fits run
-  unfolding trail_of log_of orders_of IsRun entries_of orders_by Matches
-  run_fits [] first clock r is = tt
-  run_fits (Moved stamp step ∷ rs) first clock r is =
+  -- a step more by which no order is taken
+  fits_moved : (stamp : ℕ) (step : Step) (rs : Run) (first clock : ℕ) → Rises first (log_of config p rs ++ entry_by config p (steps_in config p (trail_of rs)) (Moved stamp step) ∷ []) clock → Fits rs
+      → Matches (IsAnswered config p (mark stamp step ∷ trail_of rs)) (entries_of c (log_of config p rs ++ entry_by config p (steps_in config p (trail_of rs)) (Moved stamp step) ∷ [])) (orders_by c (orders_of rs ++ []))
+  fits_moved stamp step rs first clock r old =
       let log = log_of config p rs in
       let e = entry_by config p (steps_in config p (trail_of rs)) (Moved stamp step) in
       let m = mark stamp step in
-      let earlier = rises_front log first clock e r in
-      let old = run_fits rs first earlier.0 earlier.1 is.0 in
       let S : Entry → OrderIn → Type 0 = IsAnswered config p (m ∷ trail_of rs) in
       let still : Matches S (entries_of c log) (orders_by c (orders_of rs)) =
       matches_still (IsAnswered config p (trail_of rs)) S (entries_of c log) (orders_by c (orders_of rs)) (λ x y h a. answered_still (trail_of rs) m x y (rises_last log first clock e x r (entries_in log x h)) a) old in
       subst (λ l. Matches S l (orders_by c (orders_of rs ++ []))) (sym (entries_snoc log e ∙ append-nil (entries_of c log)))
       (subst (λ l. Matches S (entries_of c log) (orders_by c l)) (sym (append-nil (orders_of rs))) still)
+
+  pub run_fits : (run : Run) (first clock : ℕ) → Rises first (log_of config p run) clock → IsRun config p run → Fits run
+  unfolding trail_of log_of orders_of IsRun entries_of orders_by Matches
+  run_fits [] first clock r is = tt
+  run_fits (Moved stamp step ∷ rs) first clock r is =
+      let earlier = rises_front (log_of config p rs) first clock (entry_by config p (steps_in config p (trail_of rs)) (Moved stamp step)) r in
+      fits_moved stamp step rs first clock r (run_fits rs first earlier.0 earlier.1 is.0)
+  run_fits (Came stamp x ∷ rs) first clock r is =
+      let earlier = rises_front (log_of config p rs) first clock (entry_by config p (steps_in config p (trail_of rs)) (Came stamp x)) r in
+      fits_moved stamp (Arrived x.frame) rs first clock r (run_fits rs first earlier.0 earlier.1 is.0)
   run_fits (Served stamp order ∷ rs) first clock r is =
       let log = log_of config p rs in
       let e = entry_by config p (steps_in config p (trail_of rs)) (Served stamp order) in
@@ -155,8 +164,8 @@ module _ (config : Config) (p : ℕ) (c : ℕ) where
       (both_or_none S (entries_of c log) (orders_by c (orders_of rs)) e order (order.client == c) old now))
 
 -- what is no order has no origin to tell of
-moved_origin : (P : Origin → Type 0) (p : ℕ) (step : Step) (outcome : Outcome) → is_order step ≡ false → HasOriginOf P (StepEntry (event_of p step) None outcome)
-moved_origin P p (Ordered item) outcome h = absurd (false≢true (sym h))
+moved_origin : (P : Origin → Type 0) (p : ℕ) (step : Step) (outcome : Outcome) → is_own step ≡ true → HasOriginOf P (StepEntry (event_of p step) None outcome)
+moved_origin P p (Ordered item) outcome h = absurd (false≢true h)
 moved_origin P p (Sent to slot) outcome h = refl
 moved_origin P p (Acknowledged to slot) outcome h = refl
 moved_origin P p (Arrived frame) outcome h = refl
@@ -182,6 +191,7 @@ run_origins config p (r ∷ rs) is e h =
   where
     last : (r : Read) → IsRead config p (steps_in config p (trail_of rs)) r → HasOriginOf (IsOriginIn (orders_of rs ++ order_by r)) (entry_by config p (steps_in config p (trail_of rs)) r).kind
     last (Moved stamp step) read = moved_origin (IsOriginIn (orders_of rs ++ [])) p step (outcome_in (node_reply config p (steps_in config p (trail_of rs)) step)) read.2
+    last (Came stamp x) read = refl
     last (Served stamp order) read = (origin_of order, refl, (order, has_last (orders_of rs) order, refl))
     last (Denied stamp order fault) read = (order, has_last (orders_of rs) order, refl)
 

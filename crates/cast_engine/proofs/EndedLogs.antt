@@ -15,11 +15,12 @@ use Rattle.cast_desk.specs.Feed.{told_by, feed_from, feed, orders_in, orders_of 
 use Rattle.cast_carrier.specs.declared.parcel.Parcel.{Parcel}
 use Rattle.cast_node.specs.declared.report.EngineEnd.{EngineEnd}
 use Rattle.cast_engine.specs.declared.feeding.Place.{Place}
-use Rattle.cast_node.specs.Linked.{TakenStep, steps_in, taken_in, taken_by, taken, taken_of, AreTaken, IsRising, EachArrival, OnArrival, made_in}
+use Rattle.cast_node.specs.Linked.{TakenStep, steps_in, taken_in, taken_by, taken, taken_of, AreTaken, IsRising, made_in}
 use Rattle.cast_carrier.specs.Lists.{Has}
-use Rattle.cast_journal.specs.Runs.{made_of, trail_of, log_of, orders_of, CameBefore}
+use Rattle.cast_journal.specs.Runs.{made_of, trail_of, log_of, orders_of, parcels_of}
 use Rattle.cast_journal.specs.Journals.{Rises}
-use Rattle.cast_journal.proofs.RunLogs.{rises_pairs, run_tells, run_taken, run_received, handed_made}
+use Rattle.cast_journal.proofs.RunLogs.{rises_pairs, run_tells, run_taken, run_arrivals, handed_made}
+use Rattle.cast_journal.proofs.Arrivals.{was_taken}
 use Rattle.cast_engine.specs.Feeding.{told_here, told_at, told_to, IsPlaced, AreFed}
 use Rattle.cast_engine.specs.Clocks.{Follows, stamps_made}
 use Rattle.cast_engine.specs.Engines.{EngineState, CameIn, Leaves, Tells, WereTold, trays_at}
@@ -53,10 +54,10 @@ leaves_tell e log node ended l =
             matches = λ c. run_fits e.config e.me c k.run e.config.first_stamp l.clock rises k.runs;
             origins = run_origins e.config e.me k.run k.runs;
           }));
-      received = run_received e.inbox.taken e.config.first_stamp k.run k.received;
-      each_taken = k.each_taken;
+      parcels = parcels_of k.run;
+      arrived = run_arrivals e.config e.me e.config.first_stamp k.run k.runs k.stamped;
       taken_in = k.taken_in;
-      stamps = subst (Follows (CameIn e.inbox.taken) e.config.first_stamp) (sym k.is_log) (run_follows e.config e.me e.inbox.taken k.run e.config.first_stamp l.clock rises k.received);
+      stamps = subst (Follows (CameIn e.inbox.taken) e.config.first_stamp) (sym k.is_log) (run_follows e.config e.me e.inbox.taken k.run e.config.first_stamp l.clock rises k.runs k.stamped (was_taken e.me e.inbox.taken (parcels_of k.run) e.waiting k.taken_in));
       made = run_made e.config e.me k.run ∙ ap stamps_made (sym k.is_log);
     }
 

@@ -11,8 +11,10 @@ use Rattle.cast_log.specs.declared.entry.Entry.{Entry}
 use Rattle.cast_log.specs.declared.entry.EntryKind.{EntryKind}
 use Rattle.cast_log.specs.declared.entry.EntryKind.TheVariants.{Step as StepEntry, Refused}
 use Rattle.cast_carrier.specs.declared.parcel.Parcel.{Parcel}
+use Rattle.cast_carrier.specs.Lists.{Has}
+use Rattle.cast_carrier.proofs.Lists.{has_left, has_right}
 use Rattle.cast_node.specs.Linked.{Made, event_of, outcome_in, steps_in, made_in, stamped}
-use Rattle.cast_journal.specs.Runs.{Read, Moved, Served, Denied, Run, trail_of, log_of, entry_by, clock_after, AreReceived, IsReceived, IsReceivedBy}
+use Rattle.cast_journal.specs.Runs.{Read, Moved, Came as Arrival, Served, Denied, Run, trail_of, log_of, parcels_of, parcel_by, entry_by, IsRead, IsRun, is_own, clock_after, AreStamped, IsStamped}
 use Rattle.cast_engine.specs.Clocks.{makes, stamps_made, IsStampedAs, IsStampedBy, Follows}
 use Rattle.cast_journal.specs.Journals.{Rises, IsStampedAfter}
 use Rattle.cast_engine.specs.Engines.{CameIn}
@@ -43,35 +45,41 @@ clock_is : (config : Config) (p : ℕ) (run : Run) (first clock : ℕ) → Rises
 unfolding Rises log_of clock_after
 clock_is config p [] first clock r = r
 clock_is config p (Moved stamp step ∷ rs) first clock r = (rises_front (log_of config p rs) first clock _ r).3
+clock_is config p (Arrival stamp x ∷ rs) first clock r = (rises_front (log_of config p rs) first clock _ r).3
 clock_is config p (Served stamp order ∷ rs) first clock r = (rises_front (log_of config p rs) first clock _ r).3
 clock_is config p (Denied stamp order fault ∷ rs) first clock r = (rises_front (log_of config p rs) first clock _ r).3
 
-module _ (config : Config) (p : ℕ) (arrived : List (ℕ × Parcel)) (steps : Steps) (clock : ℕ) where
-  by_step : (stamp : ℕ) (step : Step) (outcome : Outcome) → IsStampedAfter clock (record { stamp = stamp; kind = StepEntry (event_of p step) None outcome }) → IsReceivedBy arrived clock stamp step
-      → IsStampedAs (CameIn arrived) clock stamp (StepEntry (event_of p step) None outcome)
-  by_step stamp (Ordered item) outcome after h = after.1 refl
-  by_step stamp (Sent to slot) outcome after h = after.1 refl
-  by_step stamp (Acknowledged to slot) outcome after h = after.1 refl
-  by_step stamp (Arrived frame) outcome after h = (h.1, (h.0, frame, h.2, refl, refl), h.3)
-  by_step stamp Stopped outcome after h = after.1 refl
+module _ (config : Config) (p : ℕ) (taken : List (ℕ × Parcel)) (steps : Steps) (clock : ℕ) where
+  by_step : (stamp : ℕ) (step : Step) (outcome : Outcome) → is_own step ≡ true → IsStampedAfter clock (record { stamp = stamp; kind = StepEntry (event_of p step) None outcome })
+      → IsStampedAs (CameIn taken) clock stamp (StepEntry (event_of p step) None outcome)
+  by_step stamp (Ordered item) outcome own after = after.1 refl
+  by_step stamp (Sent to slot) outcome own after = after.1 refl
+  by_step stamp (Acknowledged to slot) outcome own after = after.1 refl
+  by_step stamp (Arrived frame) outcome own after = absurd cc
+  by_step stamp Stopped outcome own after = after.1 refl
 
-  by_read : (r : Read) → IsStampedAfter clock (entry_by config p steps r) → IsReceived arrived clock r → IsStampedBy (CameIn arrived) clock (entry_by config p steps r)
-  by_read (Moved stamp step) after h = by_step stamp step (outcome_in (node_reply config p steps step)) after h
-  by_read (Served stamp order) after h = after.1 refl
-  by_read (Denied stamp order fault) after h = after.1 refl
+  by_read : (r : Read) → IsRead config p steps r → IsStampedAfter clock (entry_by config p steps r) → IsStamped clock r → ((x : Parcel) → Has (parcel_by r) x → (n : ℕ) × Has taken (n, x))
+      → IsStampedBy (CameIn taken) clock (entry_by config p steps r)
+  by_read (Moved stamp step) is after h was = by_step stamp step (outcome_in (node_reply config p steps step)) is.2 after
+  by_read (Arrival stamp x) is after h was = let it = was x (0, refl) in (x.stamp, (it.0, x.frame, it.1, refl, refl), h)
+  by_read (Served stamp order) is after h was = after.1 refl
+  by_read (Denied stamp order fault) is after h was = after.1 refl
 
 -- the clock gave each entry its stamp
-pub run_follows : (config : Config) (p : ℕ) (arrived : List (ℕ × Parcel)) (run : Run) (first clock : ℕ) → Rises first (log_of config p run) clock → AreReceived arrived first run → Follows (CameIn arrived) first (log_of config p run)
-unfolding log_of AreReceived Follows
-run_follows config p arrived [] first clock r h = tt
-run_follows config p arrived (r ∷ rs) first clock rises h =
+pub run_follows : (config : Config) (p : ℕ) (taken : List (ℕ × Parcel)) (run : Run) (first clock : ℕ) → Rises first (log_of config p run) clock → IsRun config p run → AreStamped first run
+    → ((x : Parcel) → Has (parcels_of run) x → (n : ℕ) × Has taken (n, x)) → Follows (CameIn taken) first (log_of config p run)
+unfolding log_of parcels_of IsRun AreStamped Follows
+run_follows config p taken [] first clock r is h was = tt
+run_follows config p taken (r ∷ rs) first clock rises is h was =
     let steps = steps_in config p (trail_of rs) in
     let log = log_of config p rs in
     let e = entry_by config p steps r in
     let earlier = rises_front log first clock e rises in
     let time = clock_is config p rs first earlier.0 earlier.1 in
-    let received : IsReceived arrived earlier.0 r = subst (λ c. IsReceived arrived c r) (sym time) h.1 in
-    follows_more (CameIn arrived) log first earlier.0 e earlier.1 (run_follows config p arrived rs first earlier.0 earlier.1 h.0) (by_read config p arrived steps earlier.0 r earlier.2 received)
+    let stamped : IsStamped earlier.0 r = subst (λ c. IsStamped c r) (sym time) h.1 in
+    follows_more (CameIn taken) log first earlier.0 e earlier.1
+    (run_follows config p taken rs first earlier.0 earlier.1 is.0 h.0 (λ x has. was x (has_left (parcels_of rs) (parcel_by r) x has)))
+    (by_read config p taken steps earlier.0 r is.1 earlier.2 stamped (λ x has. was x (has_right (parcels_of rs) (parcel_by r) x has)))
 
 -- the stamp of each frame is that of the entry that made it
 stamps_snoc : (log : List Entry) (e : Entry) (b : Bool) → makes e.kind ≡ b → stamps_made (log ++ e ∷ []) ≡ stamps_made log ++ (if b then e.stamp ∷ [] else [])
@@ -106,6 +114,11 @@ run_made config p (Moved stamp step ∷ rs) =
     let steps = steps_in config p (trail_of rs) in
     let e = entry_by config p steps (Moved stamp step) in
     map-append stamp_in (made_in config p (trail_of rs)) _ ∙ (λ i. run_made config p rs i ++ makes_one p steps stamp step None (outcome_in (node_reply config p steps step)) i)
+    ∙ sym (stamps_snoc (log_of config p rs) e (makes e.kind) refl)
+run_made config p (Arrival stamp x ∷ rs) =
+    let steps = steps_in config p (trail_of rs) in
+    let e = entry_by config p steps (Arrival stamp x) in
+    map-append stamp_in (made_in config p (trail_of rs)) _ ∙ (λ i. run_made config p rs i ++ makes_one p steps stamp (Arrived x.frame) None (outcome_in (node_reply config p steps (Arrived x.frame))) i)
     ∙ sym (stamps_snoc (log_of config p rs) e (makes e.kind) refl)
 run_made config p (Served stamp order ∷ rs) =
     let steps = steps_in config p (trail_of rs) in

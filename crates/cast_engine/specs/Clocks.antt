@@ -1,8 +1,8 @@
--- How the stamps of logs follow the clocks that they are read off.
---     makes kind                   an entry by which a frame is made
---     stamps_made log              the stamps under which frames were made, in order: that of frame q at place q
---     IsStampedBy Came clock e     the clock gives the entry its stamp; Came from seq sent: that frame came with this stamp
---     Follows Came clock log       so it does for each entry, one after another
+-- How a log's stamps follow the clocks from which they are read.
+--     makes kind                   an entry that makes a frame
+--     stamps_made log              the stamps of the frames made, in order: that of frame q at place q
+--     IsStampedBy Came clock e     the clock gives the entry its stamp; Came from seq sent: that frame's stamp is sent
+--     Follows Came clock log       the clock gives each entry its stamp, one after another
 use Rattle.std.specs.Prelude.{◌≡◌, ℕ, ◌+◌, max, Bool, true, false, List, [], ◌∷◌, map}
 use Rattle.std.specs.List.{filter}
 use Rattle.cast_message.specs.declared.event.Event.{Event}
@@ -20,12 +20,12 @@ abbrev pub makes : EntryKind → Bool
 makes (StepEntry event origin outcome) = makes_by event
 makes (Refused origin fault) = false
 
--- each entry of a Send or an Ack makes one frame, and frames are numbered from 0 on
+-- each entry of a Send or an Ack makes one frame; frames are numbered from 0
 unfoldable pub stamps_made : List Entry → List ℕ
 stamps_made log = map (λ e. e.stamp) (filter (λ e. makes e.kind) log)
 
--- an arrival has the stamp after the greater of the clock's and the one that its frame came with; any other entry has the one
--- after the clock's (Lamport 1978)
+-- an arrival has the stamp after the greater of the clock's and its frame's; any other entry has the stamp after the
+-- clock's (Lamport 1978)
 abbrev pub IsStampedAs : (ℕ → ℕ → ℕ → Type 0) → ℕ → ℕ → EntryKind → Type 0
 IsStampedAs Came clock stamp (StepEntry (Arrive from seq) origin outcome) =
     (sent : ℕ) × Came from seq sent × (stamp ≡ max clock sent + 1)

@@ -1,5 +1,6 @@
 -- An engine, as contracts see it, and what it keeps.
-use Rattle.std.specs.Prelude.{◌≡◌, ◌≢◌, ℕ, ◌+◌, ◌<◌, ◌≤◌, ◌^◌, length, List, [], ◌∷◌, ◌++◌, map, slice_get, Option, Some, None, ◌⊎◌, ⊤}
+use Rattle.std.specs.Prelude.{◌≡◌, ℕ, ◌+◌, ◌<◌, ◌≤◌, ◌^◌, length, List, [], ◌∷◌, ◌++◌, map, slice_get, Option, Some, None, IsSome, ◌⊎◌, ⊤}
+use Rattle.std.specs.Option.{option_to_list}
 use Rattle.cast_message.specs.declared.config.Config.{Config}
 use Rattle.cast_message.specs.declared.message.Frame.{Frame}
 use Rattle.cast_box.specs.Ends.{PutterEnd, TakerEnd, IsSamePutter, IsSameTaker, AreSamePutters}
@@ -10,19 +11,18 @@ use Rattle.cast_desk.specs.declared.notice.Notice.{Notice}
 use Rattle.cast_carrier.specs.declared.parcel.Parcel.{Parcel}
 use Rattle.cast_engine.specs.declared.feeding.Place.{Place}
 use Rattle.cast_engine.specs.declared.engine.Turn.{Turn}
-use Rattle.cast_engine.specs.declared.engine.Turn.TheVariants.{Idle}
+use Rattle.cast_engine.specs.declared.engine.Turn.TheVariants.{Idle, Stopped, Ended}
 use Rattle.cast_carrier.specs.Lists.{Has}
 use Rattle.cast_engine.specs.Clocks.{Follows, stamps_made}
-use Rattle.cast_journal.specs.Runs.{EngineKeeps, HasTakenEach, AreTakenIn, MayCome, CameBefore, parcel, made_of}
-use Rattle.cast_node.specs.Linked.{Trail, IsLogOf, made_in, stamped, EachArrival}
+use Rattle.cast_journal.specs.Runs.{EngineKeeps, AreArrivals, parcels_for, parcel, made_of}
+use Rattle.cast_node.specs.Linked.{Trail, IsLogOf, made_in, stamped}
 use Rattle.cast_box.specs.Lists.{StartsWith, HasTakenOfEnded}
 use Rattle.cast_desk.specs.Feed.{feed}
 use Rattle.cast_engine.specs.Serving.{Serves}
-use Rattle.cast_journal.specs.Journals.{JournalState, LogsStep, KeepsOf, Rises, EndsAs}
+use Rattle.cast_journal.specs.Journals.{JournalState, KeepsOf, Rises, EndsAs}
 use Rattle.cast_node.specs.declared.report.EngineEnd.{EngineEnd}
-use Rattle.cast_node.specs.declared.report.EngineEnd.TheVariants.{ClockFull}
+use Rattle.cast_node.specs.declared.report.EngineEnd.TheVariants.{ClockFull, TurnLimit}
 use Rattle.cast_node.specs.Kept.{Kept}
-use Rattle.cast_model.specs.Steps.{Arrived}
 use Rattle.cast_engine.specs.Feeding.{AreFed, TellEach}
 
 pub record EngineState : Type 0 where
@@ -32,7 +32,10 @@ pub record EngineState : Type 0 where
   pub outbox : PutterEnd Parcel
   pub held : Option Parcel  -- waits to be put into the outbox
   pub inbox : TakerEnd Parcel
+  pub waiting : Option Parcel  -- was taken from the inbox, and waits to be logged
   pub desk : Option Desk
+  pub turns : ℕ  -- how many are left
+  pub ended : Option EngineEnd
 
 -- the engine has ended one putter more of its inbox
 abbrev pub with_ended : EngineState → List Parcel → EngineState
@@ -81,11 +84,27 @@ abbrev pub IsIdleRightly : Turn → EngineState → EngineState → Type 0
 IsIdleRightly Idle old new = HasSameBoxes old new
 IsIdleRightly _ old new = ⊤
 
+-- the engine has ended where a turn says so
+abbrev pub HasEnded : Turn → Option EngineEnd → Type 0
+HasEnded Stopped ended = IsSome ended
+HasEnded Ended ended = IsSome ended
+HasEnded _ ended = ⊤
+
+-- a clock can't rise over the stamp of the parcel that waits
+abbrev pub HasLastStamp : Option Parcel → Type 0
+HasLastStamp waiting = (x : Parcel) × (waiting ≡ Some x) × (x.stamp + 1 ≡ 2 ^ 64)
+
+-- the clock is full: by its own stamp, or by that of the parcel that waits
+abbrev pub IsFull : ℕ → Option Parcel → Type 0
+IsFull clock waiting = (clock + 1 ≡ 2 ^ 64) ⊎ HasLastStamp waiting
+
 -- what an engine keeps of its journal and its boxes
 pub record EngineStays (j : JournalState) (put : List Parcel) (held : Option Parcel)
-    (arrived : List (ℕ × Parcel)) (desk : Option Desk) (places : List Place) : Type 0 where
-  pub keeps : KeepsOf j put held arrived (taken_at desk)
+    (taken : List (ℕ × Parcel)) (waiting : Option Parcel) (desk : Option Desk) (places : List Place)
+    : Type 0 where
+  pub keeps : KeepsOf j put held taken waiting (taken_at desk)
   pub fed : AreFed j.log (trays_at desk) places
+  pub late : j.ended ≡ Some ClockFull → IsFull j.clock waiting
 
 -- an order was taken from the desk, if there is one
 abbrev pub TakesOrder : Option Desk → Option OrderIn → Option Desk → Type 0
@@ -98,19 +117,6 @@ abbrev pub HadNoOrder : Option Desk → Type 0
 HadNoOrder None = ⊤
 HadNoOrder (Some desk) = HasTakenOfEnded desk.orders.ended desk.orders.taken
 
--- why a parcel is dropped: it is for another node, or some node could have made its frame for this one, and something may come of
--- it, for which memory may be wanting
-abbrev pub IsDropped : JournalState → Parcel → Type 0
-IsDropped j x =
-    (x.frame.to ≢ j.node.me) ⊎ MayCome j.node x.frame
-
--- a parcel's arrival was logged, or the parcel was dropped, or it has the last stamp, by which the clock is full
-abbrev pub TakesIn : JournalState → JournalState → Parcel → Type 0
-TakesIn old new x =
-    (LogsStep old new (Arrived x.frame) None x.stamp × (x.frame.to ≡ old.node.me))
-    ⊎ (((new ≡ old) × IsDropped old x)
-    ⊎ ((x.stamp + 1 ≡ 2 ^ 64) × (new ≡ record old { ended = Some ClockFull })))
-
 -- no order was taken, and no notice given
 abbrev pub IsUnused : Option Desk → Type 0
 IsUnused desk =
@@ -121,11 +127,17 @@ IsUnused desk =
 pub record Leaves (e : EngineState) (log : List Entry) (node : Kept) (ended : EngineEnd) : Type 0 where
   pub held : Option Parcel
   pub clock : ℕ
-  pub keeps : EngineKeeps e.config e.me node log clock e.outbox.put held e.inbox.taken (taken_at e.desk)
+  pub keeps : EngineKeeps e.config e.me node log clock e.outbox.put held e.inbox.taken e.waiting
+      (taken_at e.desk)
   pub places : List Place
   pub fed : AreFed log (trays_at e.desk) places
   pub rises : Rises e.config.first_stamp log clock
   pub ends : EndsAs e.config.log_limit e.crash (Some ended) log
+  -- an end that came before stays, no turn was left where the turns are said to be used up, and the clock was full where it is said
+  -- to be
+  pub before : IsSome e.ended → e.ended ≡ Some ended
+  pub spent : ended ≡ TurnLimit → (e.turns ≡ 0) ⊎ (e.ended ≡ None)
+  pub late : ended ≡ ClockFull → IsFull clock e.waiting
 
 -- a frame of this maker and number came in a parcel with this stamp
 abbrev pub CameIn : List (ℕ × Parcel) → ℕ → ℕ → ℕ → Type 0
@@ -134,8 +146,8 @@ CameIn taken from seq sent =
     × (frame.seq ≡ seq)
 
 -- the log tells of the node's steps; what was put into the outbox is the first of the frames that they made, in order, with their
--- stamps; each frame that arrived came out of the inbox in a parcel of its own, whose stamp is smaller than the arrival's; no
--- parcel was dropped without its cause; and the clock began at the first stamp and gave each entry its own
+-- stamps; the parcels for the node that were taken out of the inbox are those whose frames arrived, in order, each with a smaller stamp
+-- than its arrival's, and the one that waits; and the clock began at the first stamp and gave each entry its own
 pub record Tells (e : EngineState) (log : List Entry) (node : Kept) : Type 0 where
   pub trail : Trail
   pub tells : IsLogOf e.config e.me trail log node
@@ -143,9 +155,9 @@ pub record Tells (e : EngineState) (log : List Entry) (node : Kept) : Type 0 whe
       → slice_get (made_in e.config e.me trail) x.frame.seq ≡ Some (stamped x.stamp x.frame)
   pub handed : StartsWith (made_in e.config e.me trail) (map made_of e.outbox.put)
   pub serves : Serves e.config e.me log trail (map (λ m. m.1) (taken_at e.desk))
-  pub received : EachArrival (CameBefore e.inbox.taken) trail
-  pub each_taken : HasTakenEach e.inbox.taken trail
-  pub taken_in : AreTakenIn e.config e.me trail e.inbox.taken
+  pub parcels : List Parcel
+  pub arrived : AreArrivals trail parcels
+  pub taken_in : parcels_for e.me e.inbox.taken ≡ parcels ++ option_to_list e.waiting
   pub stamps : Follows (CameIn e.inbox.taken) e.config.first_stamp log
   pub made : map (λ m. m.stamp) (made_in e.config e.me trail) ≡ stamps_made log
 

@@ -1,9 +1,9 @@
--- What became of the orders of a client.
+-- What happened to the orders of a client.
 --     entries_of c log                     the entries with an origin at client c
 --     IsAnswered config p trail e order    the entry took the order as a step, or refused it as the steps before it say
 --     Matches R xs ys                      the two lists are related one for one, in order
---     HasOriginOf P kind                   an entry of an order, taken or refused, has an origin of which P holds; no other has one
---     Serves config p log trail orders     each client's entries and its orders match, and each order in the log is one of them
+--     HasOriginOf P kind                   an order's entry, taken or refused, has an origin with P; no other has one
+--     Serves config p log trail orders     each client's entries match its orders; each order in the log is one of them
 use Rattle.std.specs.Prelude.{◌≡◌, ℕ, ◌==◌, nat_lt, Bool, false, if◌then◌else◌, List, [], ◌∷◌, Option, Some, None}
 use Rattle.std.specs.List.{filter}
 use Rattle.cast_message.specs.declared.config.Config.{Config}
@@ -55,7 +55,7 @@ Matches R [] (y ∷ ys) = ⊥
 Matches R (x ∷ xs) [] = ⊥
 Matches R (x ∷ xs) (y ∷ ys) = R x y × Matches R xs ys
 
--- an entry of an order, taken or refused, has an origin of which this holds, and no other entry has one
+-- an entry of an order, taken or refused, has an origin with this property; no other entry has an origin
 abbrev pub HasOriginOf : (Origin → Type 0) → EntryKind → Type 0
 HasOriginOf P (StepEntry (Order node item) origin outcome) = (o : Origin) × (origin ≡ Some o) × P o
 HasOriginOf P (StepEntry event origin outcome) = origin ≡ None
@@ -64,7 +64,7 @@ HasOriginOf P (Refused origin fault) = P origin
 abbrev pub IsOriginIn : List OrderIn → Origin → Type 0
 IsOriginIn orders origin = (order : OrderIn) × Has orders order × (origin ≡ origin_of order)
 
--- for each client, its entries and its orders, and each order in the log is one of these
+-- each client's entries match its orders, and each order in the log is one of these
 pub record Serves (config : Config) (p : ℕ) (log : List Entry) (trail : Trail)
     (orders : List OrderIn) : Type 0 where
   pub matches : (c : ℕ) → Matches (IsAnswered config p trail) (entries_of c log) (orders_by c orders)

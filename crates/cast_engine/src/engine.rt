@@ -1,9 +1,8 @@
 //! An engine: the owner of a node, its log and its clock, with the ends of its boxes.
-ghost use Rattle.std.specs.Prelude.{◌≡◌, ◌<◌, [], length, IfOk, IfNone, IsFalse, Some, None};
+ghost use Rattle.std.specs.Prelude.{◌≡◌, ◌<◌, [], length, IfOk, IfNone, IsFalse, IsSome, Some, None};
 ghost use Rattle.cast_box.specs.Ends.{IsSamePutter, IsNextToEnd};
-ghost use Rattle.cast_engine.specs.Engines.{EngineState, IsSameEngine, HasSameBoxes, DoesFew, IsIdleRightly, IsSameDesk, TakesOrder, HadNoOrder, TakesIn, Leaves, Tells, WereTold, IsUnused, trays_at, with_ended};
+ghost use Rattle.cast_engine.specs.Engines.{EngineState, IsSameEngine, HasSameBoxes, DoesFew, IsIdleRightly, IsSameDesk, TakesOrder, HadNoOrder, HasEnded, Leaves, Tells, WereTold, IsUnused, trays_at, with_ended};
 ghost use Rattle.cast_journal.specs.Runs.{Handed};
-ghost use Rattle.cast_journal.specs.Journals.{MayLog};
 
 use crate::feeding::{Place, first_places, notify_all};
 use crate::gate::Gate;
@@ -13,7 +12,7 @@ use cast_box::{Full, Putter, Taker};
 use cast_carrier::{Board, Parcel, Pause};
 use cast_desk::{Desk, OrderIn};
 use cast_journal::Journal;
-use cast_log::{EntryKind, KindRef, Log, OpenLog};
+use cast_log::Log;
 use cast_message::{Config, Frame, FrameBody, FrameKind, NodeId};
 use cast_node::{EngineEnd, Node};
 use std::alloc::{AllocError, Global};
@@ -42,11 +41,15 @@ pub struct Engine {
     inbox: Taker<Parcel>,
     // The parcel that the outbox refused last.
     held: Option<Parcel>,
+    // The parcel that was taken last, where its arrival is not logged yet, for which memory may be wanting.
+    waiting: Option<Parcel>,
     // Where the node has clients.
     desk: Option<Desk>,
     // By client.
     places: Vec<Place>,
     resend: Resend,
+    // How many messages were delivered in this turn.
+    delivered: usize,
     // No order is taken any more: no job was left, and the desk was empty or the engine has ended.
     no_orders: bool,
     // No notice is taken any more: no job was left, and each tray was full.
@@ -65,10 +68,13 @@ impl Model for Engine {
       outbox = e.outbox;
       held = e.held;
       inbox = e.inbox;
+      waiting = e.waiting;
       desk = e.desk;
+      turns = e.journal.turns;
+      ended = e.journal.ended;
     } };
 
-    ghost invariant = { λ e. EngineStays e.journal e.outbox.put e.held e.inbox.taken
+    ghost invariant = { λ e. EngineStays e.journal e.outbox.put e.held e.inbox.taken e.waiting
         (e.desk) e.places.items };
 }
 
@@ -79,7 +85,7 @@ enum Received {
     Carried { from: NodeId, slot: u64 },
     // Word that the peer took this slot.
     Acknowledged { from: NodeId, slot: u64 },
-    // Nothing: the parcel was dropped.
+    // Nothing: its arrival was not logged.
     Nothing,
 }
 
@@ -126,7 +132,10 @@ impl Engine {
               outbox = boxes.outbox;
               held = None;
               inbox = boxes.inbox;
+              waiting = None;
               desk = boxes.desk;
+              turns = turns;
+              ended = None;
             }) }
     {
         let journal = Journal::new(alloc, config, me, crash, turns)?;
@@ -137,9 +146,11 @@ impl Engine {
             outbox: boxes.outbox,
             inbox: boxes.inbox,
             held: None,
+            waiting: None,
             desk: boxes.desk,
             places,
             resend,
+            delivered: 0,
             no_orders: false,
             trays_full: false,
         })
@@ -160,6 +171,7 @@ impl Engine {
         ensures same { IsSameEngine self.old self.new }
         ensures few { DoesFew 1 1 3 1 self.old self.new }
         ensures idle { IsIdleRightly result self.old self.new }
+        ensures ended { HasEnded result self.new.ended }
     {
         if !self.may_go_on() {
             return Turn::Ended;
@@ -168,9 +180,8 @@ impl Engine {
             return Turn::Ended;
         }
         gate.pass(rt);
-        let logged = self.journal.log().len();
         let moved = self.work(rt, board, quiet);
-        tell_gate(gate, self.journal.log(), logged);
+        self.tell_gate(gate);
         if quiet.may_stop(board) {
             self.stop();
             return Turn::Stopped;
@@ -202,13 +213,12 @@ impl Engine {
         ensures told { WereTold result.log (trays_at self.desk) }
     {
         let Engine {
-            mut journal,
+            journal,
             outbox,
             inbox,
             desk,
             ..
         } = self;
-        journal.close();
         let (log, node, ended) = journal.into_parts();
         EngineParts {
             log,
@@ -225,6 +235,7 @@ impl Engine {
     fn may_go_on(&mut self) -> bool
         ensures same { IsSameEngine self.old self.new }
         ensures boxes { HasSameBoxes self.old self.new }
+        ensures ended { IsFalse result → IsSome self.new.ended }
     {
         self.journal.may_log()
     }
@@ -234,6 +245,7 @@ impl Engine {
     fn count_turn(&mut self) -> bool
         ensures same { IsSameEngine self.old self.new }
         ensures boxes { HasSameBoxes self.old self.new }
+        ensures ended { IsFalse result → IsSome self.new.ended }
     {
         self.journal.count_turn()
     }
@@ -243,9 +255,20 @@ impl Engine {
     fn stop(&mut self)
         ensures same { IsSameEngine self.old self.new }
         ensures boxes { HasSameBoxes self.old self.new }
+        ensures ended { IsSome self.new.ended }
     {
         if self.journal.may_log() {
             self.journal.end(EngineEnd::Stopped);
+        }
+    }
+
+    // Tells the gate how many messages were delivered in this turn, where there are any.
+    fn tell_gate<G: Gate>(&mut self, gate: &mut G)
+        ensures { self.new ≡ self.old }
+    {
+        if self.delivered > 0 {
+            gate.delivered(self.delivered as u64);
+            self.delivered = 0;
         }
     }
 
@@ -268,7 +291,7 @@ impl Engine {
         exchanged || ordered || sent || told
     }
 
-    // Puts the parcel that waits, takes one and acknowledges it. Answers whether it put or took one.
+    // Puts the parcel that the outbox refused, takes one and acknowledges it. Answers whether any of this was done.
     #[tactic(auto, using(crate::proofs::Again::desk_same))]
     fn exchange<R: Wait>(&mut self, rt: &R, board: &Board, quiet: &mut Quiet) -> bool
         ensures same { IsSameEngine self.old self.new }
@@ -293,7 +316,8 @@ impl Engine {
         hand(rt, &mut self.outbox, &mut self.held, parcel)
     }
 
-    // Takes a parcel, where none waits to be put, and acknowledges what it carries. Answers whether it took one.
+    // Where no parcel waits to be put: takes one, where none waits to be logged, logs it and acknowledges what it carries. Answers
+    // whether one was taken or logged.
     #[tactic(auto, using(crate::proofs::Again::desk_same))]
     fn receive_and_acknowledge<R: Wait>(&mut self, rt: &R, board: &Board, quiet: &mut Quiet) -> bool
         ensures same { IsSameEngine self.old self.new }
@@ -304,39 +328,72 @@ impl Engine {
             return false;
         }
         quiet.look(board);
-        let Some(received) = self.receive(rt) else {
+        let taken = self.take_next(rt);
+        if !taken && self.waiting.is_none() {
             quiet.found_nothing();
             return false;
-        };
-        match received {
+        }
+        match self.log_waiting() {
             Received::Carried { from, slot } => {
                 quiet.write(board, false);
                 self.make(rt, FrameKind::Took, from, slot);
+                true
             }
-            Received::Acknowledged { from, slot } => self.hear(from, slot),
-            Received::Nothing => {}
+            Received::Acknowledged { from, slot } => {
+                self.hear(from, slot);
+                true
+            }
+            Received::Nothing => taken,
+        }
+    }
+
+    // Takes a parcel from the inbox, where none waits to be logged. Answers whether there was one. It waits then, but for one to another
+    // node, which is dropped.
+    #[tactic(auto, using(crate::proofs::Again::desk_same))]
+    fn take_next<R: Wait>(&mut self, rt: &R) -> bool
+        ensures same { IsSameEngine self.old self.new }
+        ensures few { DoesFew 1 0 0 0 self.old self.new }
+        ensures idle { IsFalse result → HasSameBoxes self.old self.new }
+    {
+        if self.waiting.is_some() {
+            return false;
+        }
+        let Some(parcel) = self.inbox.take(rt) else {
+            return false;
+        };
+        if parcel.frame.to == self.journal.id() {
+            self.resend.meet(self.journal.node(), &parcel.frame);
+            set(&mut self.waiting, Some(parcel));
+        } else {
+            let_go(parcel);
         }
         true
     }
 
-    // Takes one parcel, where there is one, and logs its arrival.
+    // Logs the arrival of the parcel that waits, where there is one, and answers what it has brought. It waits on where memory is
+    // wanting, and where it has the last stamp, which ends the engine.
     #[tactic(auto, using(crate::proofs::Again::desk_same))]
-    fn receive<R: Wait>(&mut self, rt: &R) -> Option<Received>
+    fn log_waiting(&mut self) -> Received
         ensures same { IsSameEngine self.old self.new }
-        ensures few { DoesFew 1 0 0 0 self.old self.new }
-        ensures none { IfNone result (HasSameBoxes self.old self.new) }
+        ensures boxes { HasSameBoxes self.old self.new }
     {
         if !self.journal.may_log() {
-            return None;
+            return Received::Nothing;
         }
-        match self.inbox.take(rt) {
-            Some(parcel) => {
-                self.resend.meet(self.journal.node(), &parcel.frame);
-                let received = take_in(&mut self.journal, parcel);
-                Some(received)
-            }
-            None => None,
+        let Some(parcel) = &self.waiting else {
+            return Received::Nothing;
+        };
+        if parcel.stamp == u64::MAX {
+            self.journal.end_by_last_stamp(parcel);
+            return Received::Nothing;
         }
+        let Ok(delivered) = self.journal.arrive(parcel) else {
+            return Received::Nothing;
+        };
+        let received = brought_by(&parcel.frame);
+        self.delivered = self.delivered.saturating_add(delivered);
+        set(&mut self.waiting, None);
+        received
     }
 
     // Makes a frame for a slot, which it carries or acknowledges, and hands it on, where none waits to be put. Answers whether it
@@ -380,7 +437,8 @@ impl Engine {
         let Some(order) = next_order(rt, &mut self.desk) else {
             return false;
         };
-        self.journal.order(order);
+        let delivered = self.journal.order(order);
+        self.delivered = self.delivered.saturating_add(delivered);
         self.resend.given();
         true
     }
@@ -455,7 +513,7 @@ impl Engine {
 
     // Whether no parcel waits and nothing is owed to an engine that has not ended.
     fn is_settled(&self, board: &Board) -> bool {
-        if self.held.is_some() {
+        if self.held.is_some() || self.waiting.is_some() {
             return false;
         }
         for peer in 0..board.len() {
@@ -464,19 +522,6 @@ impl Engine {
             }
         }
         true
-    }
-}
-
-// Tells the gate how many messages were delivered in the entries from this place on, where there are any.
-fn tell_gate<G: Gate>(gate: &mut G, log: &OpenLog, from: usize) {
-    let mut count = 0usize;
-    for place in from..log.len() {
-        if let KindRef::Whole(EntryKind::Step { outcome, .. }) = log.entry(place).kind {
-            count = count.saturating_add(outcome.deliveries.as_slice().len());
-        }
-    }
-    if count > 0 {
-        gate.delivered(count as u64);
     }
 }
 
@@ -497,32 +542,14 @@ fn count_clients(desk: &Option<Desk>) -> usize
     }
 }
 
-// Logs the arrival of a parcel, and lets it go.
-fn take_in(journal: &mut Journal, parcel: Parcel) -> Received
-    requires { MayLog journal.old }
-    ensures { TakesIn journal.old journal.new parcel }
+fn set(waiting: &mut Option<Parcel>, next: Option<Parcel>)
+    ensures { waiting.new ≡ next }
 {
-    log_arrival(journal, &parcel)
+    *waiting = next;
 }
 
-// Logs the arrival of a parcel, and answers what it has brought. A parcel for another node, and one that finds no memory, is
-// dropped, and one with the last stamp ends the engine.
-fn log_arrival(journal: &mut Journal, parcel: &Parcel) -> Received
-    requires { MayLog journal.old }
-    ensures { TakesIn journal.old journal.new parcel.now }
-{
-    if parcel.stamp == u64::MAX {
-        journal.end_by_last_stamp(parcel.stamp);
-        return Received::Nothing;
-    }
-    if parcel.frame.to != journal.id() {
-        return Received::Nothing;
-    }
-    match journal.arrive(parcel) {
-        Ok(()) => brought_by(&parcel.frame),
-        Err(_) => Received::Nothing,
-    }
-}
+// A parcel for another node.
+fn let_go(_parcel: Parcel) {}
 
 // What a frame that arrived has brought.
 fn brought_by(frame: &Frame) -> Received {

@@ -1,4 +1,4 @@
-//! What the clients of a node are told of its log, notice by notice.
+//! What the clients of a node learn of its log, notice by notice.
 ghost use Rattle.std.specs.Prelude.{◌≡◌, ◌+◌, ◌<◌, ◌^◌, ◌∷◌, replicate, slice_get, true, None, IfOk, IfNone, IfSome, IsFalse, OnErr};
 ghost use Rattle.cast_box.specs.Ends.{AreSamePutters};
 ghost use Rattle.cast_desk.specs.Feed.{told_by, news_of, feed};
@@ -11,18 +11,18 @@ use cast_message::Outcome;
 use std::alloc::{AllocError, Global};
 use std::sync::Wait;
 
-/// A client's place in its feed: what the entries before it told was put, and so many notices of the entry at it.
+/// A client's place in its feed. The tray got all that the entries before `entry` say, and the first `told` notices of
+/// that entry.
 #[derive(Drop)]
 pub struct Place {
     pub entry: usize,
-    /// How many orders stand before that entry.
+    /// The number of orders before that entry.
     pub orders: u64,
     pub told: usize,
-    /// The next notice, where it found the tray full.
+    /// The next notice, if it found the tray full.
     pub waiting: Option<Notice>,
 }
 
-/// The places of clients that were told nothing.
 pub fn first_places(alloc: Global, clients: usize) -> Result<Vec<Place>, AllocError>
     ensures { IfOk result (λ places. places.items ≡ replicate clients first_place) }
 {
@@ -38,8 +38,8 @@ pub fn first_places(alloc: Global, clients: usize) -> Result<Vec<Place>, AllocEr
     Ok(places)
 }
 
-/// For each client that has something to be told, puts the next notice of its feed, where its tray has room and memory for it is
-/// not wanting (`told`). Answers whether one was put.
+/// Puts the next notice of its feed into each client's tray. A client gets none if its feed is at its end, its tray is
+/// full, or memory runs out (`told`). Returns whether one was put.
 pub fn notify_all<R: Wait>(rt: &R, desk: &mut Desk, places: &mut Vec<Place>, log: &OpenLog) -> bool
     requires { AreFed log.now.entries desk.old.trays.items places.old.items }
     ensures fed { AreFed log.now.entries desk.new.trays.items places.new.items }
@@ -56,7 +56,7 @@ pub fn notify_all<R: Wait>(rt: &R, desk: &mut Desk, places: &mut Vec<Place>, log
     moved
 }
 
-// Puts the next notice of a client's feed, where its tray has room. Answers whether it did.
+// Puts the next notice of a client's feed, if its tray has room. Returns whether it did.
 fn notify<R: Wait>(rt: &R, desk: &mut Desk, client: usize, place: &mut Place, log: &OpenLog) -> bool
     requires { FedIn client log.now.entries desk.old.trays.items place.old }
     ensures orders { desk.new.orders ≡ desk.old.orders }
@@ -82,8 +82,8 @@ fn notify<R: Wait>(rt: &R, desk: &mut Desk, client: usize, place: &mut Place, lo
     }
 }
 
-// The next notice of a client's feed, where there is one: none only where all of the feed was told. Or want of memory, which only
-// a delivered message with bytes takes that found no full tray before, and then it stays the next.
+// The next notice of a client's feed; nothing only if the client got all of its feed. Only the copy of a delivered
+// message with bytes allocates: if it runs out of memory, that notice stays the next.
 fn next_notice(client: u64, place: &mut Place, log: &OpenLog) -> Result<Option<Notice>, AllocError>
     requires { IsPlaced client log.now.entries place.old }
     ensures placed { IsPlaced client log.now.entries place.new }
@@ -113,7 +113,7 @@ fn next_notice(client: u64, place: &mut Place, log: &OpenLog) -> Result<Option<N
     Ok(None)
 }
 
-// The notice of this number of those that an entry brings a client, or want of memory for it. The next number is a number too.
+// Notice number `told` of those that an entry has for a client. The number after it doesn't overflow.
 fn notice_at(
     kind: &EntryKind,
     client: u64,
@@ -157,8 +157,8 @@ fn after_reply(reply: Notice, outcome: &Outcome, told: usize) -> Result<Option<N
     }
 }
 
-// The notice of this number of those that a step's outcome brings every client, or want of memory for it. A reply before them
-// leaves the next number a number too.
+// Notice number `at` of those that a step's outcome has for every client. Even after a reply, the next number doesn't
+// overflow.
 fn news_at(outcome: &Outcome, at: usize) -> Result<Option<Notice>, AllocError>
     ensures ok { IfOk result (λ found. found ≡ slice_get (news_of outcome.now) at) }
     ensures counts { IfOk result (λ found. IfSome found (λ _. at + 2 < 2 ^ 64)) }

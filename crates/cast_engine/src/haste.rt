@@ -1,26 +1,28 @@
 //! Whether an engine sends again too soon, and how it waits then. No contract speaks of it.
 //!
-//! What is lost is sent again after so many turns, not after a time. On a processor of its own a turn that finds nothing takes
-//! less than a microsecond, while a peer waits for milliseconds behind another program: so an engine would send again what is
-//! under way, and again, until the logs are full. Two things tell of that, and the engine then sleeps in turns that find nothing.
+//! An engine sends again what is lost after a number of turns, not after a time. On a processor of its own, an idle
+//! turn takes less than a microsecond. Meanwhile a peer may wait for milliseconds while another program runs. So an
+//! engine would send again and again what is still under way, until the logs are full. Two signs show this, and make
+//! the engine sleep in idle turns:
 //!
-//! - Word of a slot that was acknowledged before, as a frame comes twice only where it was sent twice, or a plan repeats it. The
-//!   engine sleeps twice as long as before, and half as long once little such word has come for a while: as the timer of TCP backs
-//!   off, whose acknowledgements tell the same (Karn and Partridge, 1987; RFC 6298).
-//! - A peer's silence, before any word can come: so much was sent again to it since its last frame that not all of it is lost. It
-//!   may have no processor for the moment. A silence that goes on is a link on which all is lost, which no sleep mends.
+//! - Word of a slot that was acknowledged before. A frame comes twice only if it was sent twice, or a plan repeats it.
+//!   The engine then sleeps twice as long as before, and half as long after some calm. The timer of TCP backs off for
+//!   the same reason (Karn and Partridge, 1987; RFC 6298).
+//! - A peer's silence, before any word can come. So much was sent again to it since its last frame that not all of it
+//!   can be lost. The peer may have no processor for the moment. A longer silence means a link that loses everything;
+//!   there no sleep helps.
 use crate::resend::TURNS_UNTIL_AGAIN;
 use cast_carrier::{Pause, SHORT_NAP};
 
-// An engine that does not hurry gives up the processor for so many turns in succession that what it owes is sent again in less.
-// After them nothing is owed but to engines that have ended, or the outbox stays full or memory is wanting, and it waits for others
-// alone.
+// Without haste, an engine yields in this many idle turns in a row, longer than it takes to send again all that it
+// owes. Afterwards it owes only engines that have ended, or its outbox is full, or memory is out. Then it only waits
+// for others.
 const AT_EASE: Pause = Pause {
     patience: 2 * TURNS_UNTIL_AGAIN as u64,
     nap: SHORT_NAP,
 };
 
-// One that hurries gives up the processor so often, and then sleeps.
+// In haste, an engine yields this often, and then sleeps.
 const SHORT_PATIENCE: u64 = 8;
 
 // The first sleep and the longest, in microseconds.
@@ -28,14 +30,14 @@ const FIRST_NAP: u64 = SHORT_NAP;
 
 const LONG_NAP: u64 = 128 * SHORT_NAP;
 
-// Of slots that were sent within so many turns an engine has word before it sends them again.
+// Within this many turns an engine gets word of a slot, before it sends the slot again.
 const PERIOD: u64 = TURNS_UNTIL_AGAIN as u64;
 
-// After so many periods without haste it sleeps half as long.
+// After this many periods without haste it sleeps half as long.
 const CALM_PERIODS: u64 = 4;
 
-// So much of the word that has come in a period is of slots that were acknowledged before, where an engine hurries: at least so
-// many of them, and one of so many. Of frames that are lost hardly any such word comes.
+// An engine is in haste if at least this many words of a period, and one in `SHARE_AGAIN`, are of slots acknowledged
+// before. Lost frames hardly ever cause such words.
 const LEAST_AGAIN: u64 = 16;
 
 const SHARE_AGAIN: u64 = 2;
@@ -43,26 +45,25 @@ const SHARE_AGAIN: u64 = 2;
 // How long an engine sleeps while a peer is silent, in microseconds.
 const NAP_IN_SILENCE: u64 = 4 * SHORT_NAP;
 
-// A peer is silent once so many slots were sent again to it since its last frame, and all that can be under way to it; and
-// for so many times as many.
+// A peer is silent if this many slots, and no fewer than a whole window, were sent again to it since its last frame. At
+// `LONG_SILENCE` times that number it no longer counts as silent.
 const LEAST_UNANSWERED: u64 = 16;
 
 const LONG_SILENCE: u64 = 4;
 
-/// How many slots were sent again to a peer since a frame came from it.
+/// The number of slots sent again to a peer since its last frame.
 #[derive(Clone, Copy)]
 pub struct Unanswered(u64);
 
 impl Unanswered {
-    /// None.
     pub const NONE: Unanswered = Unanswered(0);
 
-    /// One slot more was sent again.
+    /// Counts one more slot.
     pub fn add(&mut self) {
         self.0 = self.0.saturating_add(1);
     }
 
-    /// Whether the peer is silent, and not for long, where so many slots are under way to it at most.
+    /// Whether the peer is silent, but not for long. `window` is the most slots under way to it.
     pub fn is_silence(self, window: u64) -> bool {
         let least = LEAST_UNANSWERED.max(window);
         self.0 >= least && self.0 < least.saturating_mul(LONG_SILENCE)
@@ -72,19 +73,19 @@ impl Unanswered {
 /// How much an engine has sent again too soon of late.
 #[derive(Drop)]
 pub struct Haste {
-    // How long it sleeps, in microseconds; 0 where it does not hurry.
+    // How long it sleeps, in microseconds; 0 without haste.
     nap: u64,
-    // How many periods have passed since that was set last.
+    // The number of periods since `nap` was last set.
     calm: u64,
-    // How many turns of this period have passed.
+    // The number of turns in this period.
     turns: u64,
-    // In this period, how often word of a slot has come, and how often of one that was acknowledged before.
+    // How many words of slots came in this period, and how many of them were of slots acknowledged before.
     heard: u64,
     again: u64,
 }
 
 impl Haste {
-    /// An engine that does not hurry.
+    /// An engine without haste.
     pub fn new() -> Haste {
         Haste {
             nap: 0,
@@ -95,7 +96,7 @@ impl Haste {
         }
     }
 
-    /// A turn has begun.
+    /// Counts a turn.
     pub fn pass(&mut self) {
         self.turns = self.turns.saturating_add(1);
         if self.turns < PERIOD {
@@ -109,8 +110,8 @@ impl Haste {
         }
     }
 
-    /// Word has come of a slot, which was acknowledged before or not. In the period after its sleep changed it is left aside:
-    /// where the sleep became longer, it is of slots that were sent again before, and says nothing new.
+    /// Notes word of a slot; `again` says whether the slot was acknowledged before. In the period after the sleep
+    /// changed, such words change nothing: after a longer sleep, they are of slots sent again earlier.
     pub fn note(&mut self, again: bool) {
         self.heard = self.heard.saturating_add(1);
         self.again = self.again.saturating_add(u64::from(again));
@@ -121,7 +122,7 @@ impl Haste {
         }
     }
 
-    /// How it waits in a turn that finds nothing, where a peer is silent or none is.
+    /// How the engine waits in an idle turn; `silence` says whether a peer is silent.
     pub fn pause(&self, silence: bool) -> Pause {
         let nap = if silence {
             self.nap.max(NAP_IN_SILENCE)

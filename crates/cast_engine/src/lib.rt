@@ -1,5 +1,5 @@
-//! Engines: the owner of a node, with its log, its clock and the ends of its boxes, turn by turn. The engines of a group tell
-//! one another on a board when they are quiet, and pass a gate in each turn that is counted.
+//! Engines: each owns a node, its log, its clock and the ends of its boxes, and works turn by turn. The engines of a
+//! group report on a board when they are quiet. In each counted turn an engine passes a gate.
 #![tactic(auto)]
 
 mod engine;

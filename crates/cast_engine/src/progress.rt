@@ -1,5 +1,5 @@
-//! How far a run is: its engines count turns and deliveries while they run, and whoever watches may look. No contract speaks
-//! of these counts, and no engine reads them.
+//! How far a run has come. Its engines count turns and deliveries, and others may look while they run. No contract
+//! speaks of these counts, and no engine reads them.
 ghost use Rattle.std.specs.Prelude.{◌≡◌, IfOk, vec_len};
 
 use crate::gate::Gate;
@@ -9,7 +9,6 @@ use std::alloc::{AllocError, Global};
 use std::sync::atomic::{AtomicU64, Ordering};
 use std::sync::{Arc, Wait};
 
-// What one engine counts.
 #[derive(Drop)]
 struct Counts {
     turns: AtomicU64,
@@ -25,7 +24,7 @@ pub struct Progress {
 }
 
 impl Progress {
-    /// Nothing is counted, for a run of any group. Who runs it and who watches it share the counts.
+    /// Counts of 0, for a run of any group. The run and those who watch it share them.
     pub fn for_group(alloc: Global) -> Result<Arc<Progress, Global>, AllocError> {
         let mut counts = Vec::new(alloc);
         for _node in 0..MOST_NODES {
@@ -38,17 +37,17 @@ impl Progress {
         Ok(Arc::new(alloc, Progress { counts, due })?)
     }
 
-    /// Says how many deliveries the run can make.
+    /// Sets how many deliveries the run can make.
     pub fn expect(&self, deliveries: u64) {
         self.due.store(deliveries, Ordering::Relaxed);
     }
 
-    /// How many deliveries the run can make, 0 until that is known.
+    /// The number of deliveries that the run can make, or 0 while it is unknown.
     pub fn due(&self) -> u64 {
         self.due.load(Ordering::Relaxed)
     }
 
-    /// How many turns the engines have taken.
+    /// The number of turns of all engines.
     pub fn turns(&self) -> u64 {
         let mut sum = 0u64;
         for counts in &self.counts {
@@ -57,7 +56,7 @@ impl Progress {
         sum
     }
 
-    /// How many deliveries the nodes have made.
+    /// The number of deliveries of all nodes.
     pub fn deliveries(&self) -> u64 {
         let mut sum = 0u64;
         for counts in &self.counts {
@@ -67,7 +66,7 @@ impl Progress {
     }
 }
 
-/// The gate that lets every turn pass at once and counts it.
+/// A gate that lets every turn pass at once and counts it.
 #[derive(Drop)]
 pub struct CountingGate {
     progress: Arc<Progress, Global>,
@@ -77,7 +76,7 @@ pub struct CountingGate {
 }
 
 impl CountingGate {
-    /// A gate for each of so many nodes, which count here.
+    /// One gate for each node; all count in `progress`.
     pub fn for_nodes(
         alloc: Global,
         nodes: u64,

@@ -1,21 +1,21 @@
-//! What an engine tells the others of its quiet, by its word on the stop board. No contract speaks of it.
+//! How an engine reports on the stop board whether it is quiet. No contract speaks of it.
 use cast_carrier::{Board, QuietWord};
 use std::alloc::{AllocError, Global};
 
-/// What an engine knows of its own word on the board.
+/// What an engine knows about its own word on the board.
 #[derive(Drop)]
 pub struct Quiet {
     node: usize,
     changes: u64,
     quiet: bool,
-    // Its inbox may hold the last frames of an engine that has ended.
+    // Whether its inbox may hold the last frames of an ended engine.
     unread: bool,
-    // The words as they were read last.
+    // The words as they were last read.
     seen: Vec<QuietWord>,
 }
 
 impl Quiet {
-    /// An engine that is not quiet. Its room is made here.
+    /// An engine that is not quiet. All memory that it needs is allocated here.
     pub fn new(alloc: Global, node: usize, engines: usize) -> Result<Quiet, AllocError> {
         let seen = vec![in alloc; QuietWord::BUSY; engines]?;
         Ok(Quiet {
@@ -27,9 +27,9 @@ impl Quiet {
         })
     }
 
-    /// Notes, before the engine looks into its inbox, whether the last frames of one that has ended may lie there. Until the
-    /// inbox was found empty the engine is not quiet: it says so first, so that no word of before stands once it is not marked
-    /// any more.
+    /// Notes, before the engine reads its inbox, whether the last frames of an ended engine may be there. Until the
+    /// inbox was found empty, the engine is not quiet. It says so on the board before its mark is removed, so that no
+    /// earlier word remains then.
     pub fn look(&mut self, board: &Board) {
         if board.is_unread(self.node) {
             self.unread = true;
@@ -38,12 +38,12 @@ impl Quiet {
         }
     }
 
-    /// Notes that the inbox was found empty, or is looked at no more.
+    /// Notes that the inbox was found empty, or won't be read any more.
     pub fn found_nothing(&mut self) {
         self.unread = false;
     }
 
-    /// Says on the board whether the engine is quiet, where that has changed.
+    /// Reports on the board whether the engine is quiet, if that changed.
     pub fn write(&mut self, board: &Board, quiet: bool) {
         let quiet = quiet && !self.unread;
         if quiet != self.quiet {
@@ -58,7 +58,7 @@ impl Quiet {
         board.has_no_job(self.node)
     }
 
-    /// Whether two readings of all words in succession were equal, and each engine is quiet, or has ended and its last frames
+    /// Whether two readings in a row gave the same words, and each engine is quiet, or has ended and its last frames
     /// were put.
     pub fn may_stop(&mut self, board: &Board) -> bool {
         if !self.quiet {
@@ -74,7 +74,7 @@ impl Quiet {
         self.is_seen_again(board)
     }
 
-    /// Notes that the engine has ended, and whether all were quiet then.
+    /// Reports that the engine has ended, and whether all were quiet then.
     pub fn end(&self, board: &Board, all_quiet: bool) {
         board.end(self.node, all_quiet);
     }

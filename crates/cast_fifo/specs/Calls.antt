@@ -1,11 +1,11 @@
--- What a hold-back does, said of the calls so far, the newest first.
+-- What a hold-back does, by the calls so far, newest first.
 --     is_ready calls s i         the pair was offered, or held and marked
---     item_of calls s i          the item of the pair: of two of one pair the first counts
+--     item_of calls s i          the item of the pair; if two came, the first counts
 --     IsNext calls s n           n is the least number of s that wasn't offered and wasn't both held and marked
 --     between calls s n m        the messages of s from n up to m
---     held_by nodes calls        what the calls leave, of each sender
+--     held_by nodes calls        what the calls leave, by sender
 --     MayBeCalled nodes calls    the conditions of each call
---     GivesInOrder               what each call answers, and what `next` and `closed` show then
+--     GivesInOrder               what each call returns, and what `next` and `closed` show after it
 use Rattle.std.specs.Prelude.{◌≡◌, ℕ, ◌-◌, ◌<◌, ◌==◌, Bool, true, false, ◌&&◌, ◌||◌, if◌then◌else◌, List, [], ◌∷◌, map, replicate, slice_set, Option, Some, None, is_some, unwrap_or}
 use Rattle.std.specs.List.{list_any, range_with_len}
 use Rattle.cast_message.specs.declared.message.Item.{Item}
@@ -43,7 +43,7 @@ is_ready calls s i =
     list_any (is_offer_of s i) calls
     || (list_any (is_hold_of s i) calls && list_any (is_mark_of s i) calls)
 
--- the item that a call brings for a pair
+-- the item of a call for a pair
 abbrev pub brought : Call → ℕ → ℕ → Option Item
 brought (Hold message) s i = if is_pair message s i then Some message.item else None
 brought (Known sender number) s i = None
@@ -61,7 +61,7 @@ pub record IsNext (calls : List Call) (s n : ℕ) : Type 0 where
   pub all_below : (i : ℕ) → i < n → is_ready calls s i ≡ true
   pub not_itself : is_ready calls s n ≡ false
 
--- the default stands where the pair never came, and no pair between is such
+-- the default is for a pair that never came; no pair between is such
 abbrev pub message_of : List Call → ℕ → ℕ → Message
 message_of calls s i = record { sender = s; number = i; item = unwrap_or (item_of calls s i) Close }
 
@@ -91,7 +91,7 @@ abbrev pub held_by : ℕ → List Call → List HeldBack
 held_by nodes [] = replicate nodes nothing_held
 held_by nodes (call ∷ past) = held_after (held_by nodes past) call
 
--- what a call answers; `hold` answers no messages
+-- what a call returns; `hold` returns no messages
 abbrev pub answer : List HeldBack → Call → List Message
 answer all (Hold message) = []
 answer all (Known sender number) =
@@ -100,7 +100,7 @@ answer all (Offer message) =
     let held = held_of all message.sender in
     numbered message.sender held.next (offered_items held message.number message.item)
 
--- the sender is below the number of nodes; what is marked was held or offered
+-- the sender is below the number of nodes, and a marked pair was held or offered
 abbrev pub MayCall : ℕ → List Call → Call → Type 0
 MayCall nodes past (Hold message) = message.sender < nodes
 MayCall nodes past (Known sender number) =
@@ -111,14 +111,13 @@ abbrev pub MayBeCalled : ℕ → List Call → Type 0
 MayBeCalled nodes [] = Unit {0}
 MayBeCalled nodes (call ∷ past) = MayBeCalled nodes past × MayCall nodes past call
 
--- what the calls leave of a sender
 pub record ShowsOf (nodes : ℕ) (calls : List Call) (s : ℕ) : Type 0 where
   pub next : IsNext calls s (held_of (held_by nodes calls) s).next
   pub closed : (held_of (held_by nodes calls) s).closed
       ≡ has_close calls s (held_of (held_by nodes calls) s).next
   pub came_is : (i : ℕ) → came (held_of (held_by nodes calls) s) i ≡ is_some (item_of calls s i)
 
--- a call answers the messages from Next before it up to Next after it
+-- a call returns the messages from `next` before it up to `next` after it
 abbrev pub AnswersTurns : ℕ → List Call → Call → Type 0
 AnswersTurns nodes past call =
     let s = sender_of call in

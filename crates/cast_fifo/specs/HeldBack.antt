@@ -1,20 +1,17 @@
 -- What is held back of one sender, and what a call changes.
 --     HeldBack                      the number whose turn is next, whether a Close had its turn, and what waits, by number
---     waiting_at waiting i          what waits at a number
 --     came held i                   the number had its turn or waits
---     with_item held i item         a message is kept, of two of one number the first
---     with_waiting held i waiting   something waits at a number
+--     with_item held i item         a message is kept; if two have the same number, the first counts
 --     with_mark held i              a message that waits is marked
---     run_from i waiting            the items marked from a number on, without a gap
---     advanced held                 they had their turn
---     known_items, known_after      what a mark brings, and what is held then
---     offered_items, offered_after  the same, where the message is kept first
---     heard_items, heard_after      the same of a mark, or of an item that is offered
---     held_of all s                 what is held of a sender
-use Rattle.std.specs.Prelude.{ℕ, ◌+◌, ◌<◌, ◌==◌, nat_lt, Bool, true, false, ◌&&◌, ◌||◌, if◌then◌else◌, List, [], ◌∷◌, length, slice_index_or, Option, Some, None, is_some}
-use Rattle.std.specs.List.{All, list_any}
+--     run_from i waiting            the items marked from a number, without a gap
+--     advanced held                 these items had their turn
+--     known_items, known_after      the items that a mark releases, and what is held then
+--     offered_items, offered_after  the same, if the message is kept first
+--     heard_items, heard_after      the same for a mark, or for an item that is offered
+use Rattle.std.specs.Prelude.{ℕ, ◌+◌, ◌==◌, nat_lt, Bool, true, false, ◌&&◌, ◌||◌, if◌then◌else◌, List, [], ◌∷◌, length, slice_index_or, Option, Some, None, is_some}
+use Rattle.std.specs.List.{list_any}
 use Rattle.std.specs.Ordering.{nat_cmp}
-use Rattle.std.specs.Map.{lookup, keys_of, set_value}
+use Rattle.std.specs.Map.{lookup, set_value}
 use Rattle.std.specs.BTreeMap.{insert_entry, is_at}
 use Rattle.cast_message.specs.declared.message.Item.{Item}
 use Rattle.cast_message.specs.Items.{is_close}
@@ -47,12 +44,11 @@ with_item held number item =
     then held
     else with_waiting held number (record { item = item; known = false })
 
--- the item of a message that waits and is marked
 abbrev pub item_due : Option Waiting → Option Item
 item_due None = None
 item_due (Some w) = if w.known then Some w.item else None
 
--- the item of a message that waits, or else the one that is offered
+-- the item of the message that waits, or else the offered one
 abbrev pub item_first : Option Waiting → Option Item → Option Item
 item_first None offered = offered
 item_first (Some w) offered = Some w.item
@@ -71,7 +67,7 @@ run_from next [] = []
 run_from next (entry ∷ entries) =
     if entry.0 == next && entry.1.known then entry.1.item ∷ run_from (next + 1) entries else []
 
--- what waits behind them
+-- what waits after them
 abbrev pub rest_from : ℕ → List (ℕ × Waiting) → List (ℕ × Waiting)
 rest_from next [] = []
 rest_from next (entry ∷ entries) =
@@ -97,7 +93,6 @@ offered_items held number item = known_items (with_item held number item) number
 abbrev pub offered_after : HeldBack → ℕ → Item → HeldBack
 offered_after held number item = known_after (with_item held number item) number
 
--- what a mark brings, or an item that is offered
 abbrev pub heard_items : HeldBack → ℕ → Option Item → List Item
 heard_items held number None = known_items held number
 heard_items held number (Some item) = offered_items held number item

@@ -1,4 +1,4 @@
--- What waits, as a ring of places from the next number on and the entries of the numbers farther away.
+-- What waits: a ring of places from the next number, and the entries of numbers farther away.
 use Rattle.std.specs.Prelude.{◌≡◌, ℕ, ◌+◌, ◌^◌, ◌≤◌, ◌<◌, Bool, false, List, [], ◌∷◌, ◌++◌, length, Option, Some, None}
 use Rattle.std.specs.List.{All}
 use Rattle.std.specs.Map.{keys_of}
@@ -19,13 +19,13 @@ abbrev pub held_in : ℕ → Bool → List (Option Waiting) → List (ℕ × Wai
 held_in next closed ring far =
     record { next = next; closed = closed; waiting = entries_of next ring far }
 
--- the first place has no mark, as its message would have had its turn
+-- the first place has no mark: a marked message would have had its turn
 abbrev pub StartsUnmarked : List (Option Waiting) → Type 0
 StartsUnmarked [] = Unit {0}
 StartsUnmarked (None ∷ places) = Unit {0}
 StartsUnmarked (Some w ∷ places) = w.known ≡ false
 
--- a ring of up to 4,096 places, and farther away only numbers that it doesn't reach, for which it has room
+-- a ring of up to 4,096 places, and an entry farther away only for numbers beyond it, for which it has room
 pub record IsWindow (next : ℕ) (ring : List (Option Waiting)) (far : List (ℕ × Waiting)) (room : ℕ)
     : Type 0 where
   pub short : length ring ≤ 4096
@@ -34,7 +34,7 @@ pub record IsWindow (next : ℕ) (ring : List (Option Waiting)) (far : List (ℕ
   pub below : All (λ number. number + 1 < 2 ^ 64) (keys_of far)
   pub reach : 0 < length far → 4096 ≤ room
 
--- the item of the first place, where it is marked
+-- the item of the first place, if it is marked
 abbrev pub due_front : List (Option Waiting) → Option Item
 due_front [] = None
 due_front (place ∷ places) = item_due place

@@ -1,4 +1,4 @@
-//! The ordered map of the numbers that the ring doesn't reach.
+//! The ordered map of the numbers beyond the ring.
 ghost use Rattle.std.specs.Prelude.{◌≡◌, ◌<◌, ◌∷◌, length};
 ghost use Rattle.std.specs.List.{All};
 ghost use Rattle.std.specs.Map.{keys_of};
@@ -16,7 +16,7 @@ pub fn mark_far(far: &mut BTreeMap<u64, Waiting>, number: u64)
     }
 }
 
-/// The first entry goes.
+/// Removes and returns the first entry.
 pub fn take_first(far: &mut BTreeMap<u64, Waiting>) -> (u64, Waiting)
     requires { 0 < length far.old.entries }
     ensures first { far.old.entries ≡ result ∷ far.new.entries }

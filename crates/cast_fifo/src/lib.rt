@@ -1,6 +1,6 @@
-//! Messages come in any order and go in the order of their senders' numbers: FIFO order (after Hadzilacos and Toueg, TR
-//! 94-1425) by a next expected number per sender and a hold-back of what came before its turn. A message can be kept
-//! first and marked later, so that it goes only once its node knows enough of it.
+//! FIFO order (after Hadzilacos and Toueg, TR 94-1425). Messages arrive in any order, and leave in the order of their
+//! sender's numbers; a message is held back until its turn. It can be held first and marked later. It then leaves only
+//! when its node knows enough about it.
 #![tactic(auto)]
 
 ghost use Rattle.std.specs.Prelude.{[], ◌≡◌, ◌≢◌, ◌+◌, ◌<◌, ◌≤◌, ◌^◌, ◌++◌, true, length, replicate, slice_set, vec_len, vec_capacity, nat_lt, IsTrue, IsSome, IfOk, OnOk, OnErr};
@@ -19,7 +19,7 @@ use queue::Queue;
 use std::alloc::{AllocError, Global};
 use std::marker::Model;
 
-/// What is held back of each sender.
+/// What is held back, by sender.
 #[derive(Drop)]
 pub struct HoldBack {
     alloc: Global,
@@ -36,7 +36,7 @@ impl Model for HoldBack {
 }
 
 impl HoldBack {
-    /// Nothing is held of this many senders.
+    /// A hold-back for as many senders as given. It holds nothing.
     pub fn new(alloc: Global, nodes: u64) -> Result<HoldBack, AllocError>
         ensures { IfOk result (λ h. h ≡ replicate nodes nothing_held) }
     {
@@ -47,8 +47,8 @@ impl HoldBack {
         Ok(HoldBack { alloc, senders })
     }
 
-    /// The number of the sender whose turn is next: the least that was not offered, and was not both held and marked.
-    /// The sender is below the number of nodes. It takes no memory.
+    /// The sender's next number: the least that was neither offered nor both held and marked. The sender is below the
+    /// number of nodes. It allocates nothing.
     pub fn next(&self, sender: NodeId) -> u64
         requires { sender < length self.now }
         ensures { result ≡ (held_of self.now sender).next }
@@ -56,7 +56,7 @@ impl HoldBack {
         self.senders[usize::from(sender.0)].next()
     }
 
-    /// Whether a Close of the sender had its turn. The sender is below the number of nodes. It takes no memory.
+    /// Whether a Close of the sender had its turn. The sender is below the number of nodes. It allocates nothing.
     pub fn closed(&self, sender: NodeId) -> bool
         requires { sender < length self.now }
         ensures { result ≡ (held_of self.now sender).closed }
@@ -64,8 +64,8 @@ impl HoldBack {
         self.senders[usize::from(sender.0)].closed()
     }
 
-    /// Keeps a message, of two of one pair the first. The sender is below the number of nodes, and the number below
-    /// `u64::MAX`.
+    /// Keeps a message; if two have the same pair, the first counts. The sender is below the number of nodes, and the
+    /// number below `u64::MAX`.
     pub fn hold(&mut self, message: Message) -> Result<(), AllocError>
         requires sender { message.sender < length self.old }
         requires number { message.number + 1 < 2 ^ 64 }
@@ -81,7 +81,7 @@ impl HoldBack {
         Ok(())
     }
 
-    /// Marks a pair that was held or offered, and answers the messages whose turn has come, in order. The sender is
+    /// Marks a pair that was held or offered, and returns the messages whose turn has come, in order. The sender is
     /// below the number of nodes.
     pub fn known(&mut self, sender: NodeId, number: u64) -> Result<Vec<Message>, AllocError>
         requires sender { sender < length self.old }
@@ -91,11 +91,11 @@ impl HoldBack {
         ensures ok { OnOk result (self.new ≡ held_after self.old (Known sender number)) }
         ensures err { OnErr result (self.new ≡ self.old) }
     {
-        self.senders[usize::from(sender.0)].turn(self.alloc, sender, number, None)
+        self.turn(sender, number, None)
     }
 
-    /// Keeps a message and marks its pair in one, and answers the messages whose turn has come, in order: none where the
-    /// pair was offered before. The sender is below the number of nodes, and the number below `u64::MAX`.
+    /// Keeps a message, marks its pair, and returns the messages whose turn has come, in order: none if the pair was
+    /// offered before. The sender is below the number of nodes, and the number below `u64::MAX`.
     pub fn offer(&mut self, message: Message) -> Result<Vec<Message>, AllocError>
         requires sender { message.sender < length self.old }
         requires number { message.number + 1 < 2 ^ 64 }
@@ -111,10 +111,16 @@ impl HoldBack {
             number,
             item,
         } = message;
-        self.senders[usize::from(sender.0)].offer(self.alloc, sender, number, item)
+        if number == self.next(sender) {
+            return self.turn(sender, number, Some(item));
+        }
+        let queue = &mut self.senders[usize::from(sender.0)];
+        queue.hold(number, item)?;
+        queue.mark(number, &mut Vec::new(self.alloc));
+        Ok(Vec::new(self.alloc))
     }
 
-    /// Whether a pair was held or offered. The sender is below the number of nodes. It takes no memory.
+    /// Whether a pair was held or offered. The sender is below the number of nodes. It allocates nothing.
     pub fn came(&self, sender: NodeId, number: u64) -> bool
         requires { sender < length self.now }
         ensures { result ≡ came (held_of self.now sender) number }
@@ -122,8 +128,8 @@ impl HoldBack {
         self.senders[usize::from(sender.0)].came(number)
     }
 
-    /// Whether a pair had its turn, so that a mark of it brings nothing and changes nothing. The sender is below the number of
-    /// nodes. It takes no memory.
+    /// Whether a pair had its turn, so that marking it changes nothing. The sender is below the number of nodes. It
+    /// allocates nothing.
     pub fn had_turn(&self, sender: NodeId, number: u64) -> bool
         requires { sender < length self.now }
         ensures test { result ≡ nat_lt number (held_of self.now sender).next }
@@ -134,8 +140,8 @@ impl HoldBack {
         self.senders[usize::from(sender.0)].had_turn(number)
     }
 
-    /// Copies of the messages whose turn comes once the pair is marked, or once an item is offered for it, which is the
-    /// next. The sender is below the number of nodes.
+    /// Copies of the messages whose turn comes if the pair is marked, or if this item is offered for it. An item is
+    /// offered only for the sender's next number. The sender is below the number of nodes.
     pub fn ready(
         &self,
         sender: NodeId,
@@ -151,8 +157,8 @@ impl HoldBack {
         self.senders[usize::from(sender.0)].ready(self.alloc, sender, number, offered)
     }
 
-    /// Marks a pair, or takes the item that is offered for the next one, and puts the items whose turn has come at the end
-    /// of `items`, which has room for them. The sender is below the number of nodes. It takes no memory.
+    /// Marks a pair, or takes the item offered for the next one, and appends the items whose turn has come to `items`,
+    /// which has room for them. The sender is below the number of nodes. It allocates nothing.
     pub fn release(
         &mut self,
         sender: NodeId,
@@ -172,11 +178,34 @@ impl HoldBack {
     {
         self.senders[usize::from(sender.0)].release(number, offered, items);
     }
+
+    // Returns the messages that are ready, and releases them.
+    fn turn(
+        &mut self,
+        sender: NodeId,
+        number: u64,
+        offered: Option<Item>,
+    ) -> Result<Vec<Message>, AllocError>
+        requires sender { sender < length self.old }
+        requires number { IsSome offered → number + 1 < 2 ^ 64 }
+        requires offered { IsSome offered → number ≡ (held_of self.old sender).next }
+        ensures messages { IfOk result (λ messages. messages.items
+            ≡ numbered sender (held_of self.old sender).next
+            (heard_items (held_of self.old sender) number offered)) }
+        ensures ok { OnOk result (self.new
+            ≡ slice_set self.old sender (heard_after (held_of self.old sender) number offered)) }
+        ensures err { OnErr result (self.new ≡ self.old) }
+    {
+        let messages = self.ready(sender, number, offered.as_ref())?;
+        let mut items = Vec::with_capacity(self.alloc, messages.len())?;
+        self.release(sender, number, offered, &mut items);
+        Ok(messages)
+    }
 }
 
-/// A law of every list of calls of `hold`, `known` and `offer`: Next is the least number that was not offered and was not both
-/// held and marked, `closed` says whether a Close is among the first Next messages, and each call answers the messages from Next
-/// before it up to Next after it. Of two messages of one pair the first counts.
+/// A law of every list of calls of `hold`, `known` and `offer`. `next` is the least number that was neither offered nor
+/// both held and marked. `closed` says whether a Close is among the messages before it. Each call returns the messages
+/// from `next` before it up to `next` after it. Of two messages with the same pair, the first counts.
 pub fn gives_in_order()
     ensures { GivesInOrder }
 {}

@@ -1,6 +1,6 @@
-//! What is held back of one sender: a ring of places for the numbers from the next on (`ring`), and an ordered map for those
-//! farther away (`far`). As soon as a number is farther away, the ring has room for all its places, so that a turn never takes
-//! memory.
+//! What is held back of one sender: a ring of places for the numbers from the next (`ring`), and an ordered map of
+//! those farther away (`far`). While the map has a number, the ring has room for all its places, so a turn allocates
+//! nothing.
 ghost use Rattle.std.specs.Prelude.{◌≡◌, ◌≢◌, ◌+◌, ◌<◌, ◌≤◌, ◌^◌, ◌∷◌, ◌++◌, ◌==◌, ◌&&◌, ◌||◌, length, drop, [], None, false, nat_lt, IsTrue, IsSome, IfOk, OnOk, OnErr, vec_len, vec_capacity};
 ghost use Rattle.std.specs.Option.{option_copied};
 ghost use Rattle.std.specs.VecDeque.{deque_capacity};
@@ -22,11 +22,11 @@ use std::marker::Model;
 pub struct Queue {
     // The number whose turn is next.
     next: u64,
-    // A Close had its turn.
+    // Whether a Close had its turn.
     closed: bool,
-    // The places of the numbers from `next` on.
+    // The numbers from `next` on.
     ring: VecDeque<Option<Waiting>>,
-    // The numbers that the ring doesn't reach.
+    // The numbers beyond the ring.
     far: BTreeMap<u64, Waiting>,
 }
 
@@ -44,7 +44,7 @@ impl Model for Queue {
 }
 
 impl Queue {
-    /// Nothing is held.
+    /// A queue that holds nothing.
     pub fn new(alloc: Global) -> Queue
         ensures { result ≡ nothing_held }
     {
@@ -70,7 +70,7 @@ impl Queue {
         self.closed
     }
 
-    /// Keeps an item, of two of one number the first.
+    /// Keeps an item; if two have the same number, the first counts.
     pub fn hold(&mut self, number: u64, item: Item) -> Result<(), AllocError>
         requires { number + 1 < 2 ^ 64 }
         ensures ok { OnOk result (self.new ≡ with_item self.old number item) }
@@ -82,50 +82,6 @@ impl Queue {
         self.keep(number, item)
     }
 
-    /// Keeps an item and marks its number in one, and answers the messages whose turn has come.
-    pub fn offer(
-        &mut self,
-        alloc: Global,
-        sender: NodeId,
-        number: u64,
-        item: Item,
-    ) -> Result<Vec<Message>, AllocError>
-        requires { number + 1 < 2 ^ 64 }
-        ensures messages { IfOk result (λ messages.
-            messages.items ≡ numbered sender self.old.next (offered_items self.old number item)) }
-        ensures ok { OnOk result (self.new ≡ offered_after self.old number item) }
-        ensures err { OnErr result (self.new ≡ self.old) }
-        ensures other { number ≢ self.old.next → IfOk result (λ messages. messages.items ≡ []) }
-    {
-        if number == self.next {
-            return self.turn(alloc, sender, number, Some(item));
-        }
-        self.hold(number, item)?;
-        self.mark(number, &mut Vec::new(alloc));
-        Ok(Vec::new(alloc))
-    }
-
-    /// Marks a number, or takes the item that is offered for the next one, and answers the messages whose turn has come.
-    pub fn turn(
-        &mut self,
-        alloc: Global,
-        sender: NodeId,
-        number: u64,
-        offered: Option<Item>,
-    ) -> Result<Vec<Message>, AllocError>
-        requires number { IsSome offered → number + 1 < 2 ^ 64 }
-        requires offered { IsSome offered → number ≡ self.old.next }
-        ensures messages { IfOk result (λ messages. messages.items
-            ≡ numbered sender self.old.next (heard_items self.old number offered)) }
-        ensures ok { OnOk result (self.new ≡ heard_after self.old number offered) }
-        ensures err { OnErr result (self.new ≡ self.old) }
-    {
-        let messages = self.ready(alloc, sender, number, offered.as_ref())?;
-        let mut items = Vec::with_capacity(alloc, messages.len())?;
-        self.release(number, offered, &mut items);
-        Ok(messages)
-    }
-
     /// Whether the number had its turn or waits.
     pub fn came(&self, number: u64) -> bool
         ensures { result ≡ came self.now number }
@@ -133,7 +89,7 @@ impl Queue {
         number < self.next || self.at(number).is_some()
     }
 
-    /// Whether the number had its turn, so that a mark of it changes nothing.
+    /// Whether the number had its turn, so that marking it changes nothing.
     pub fn had_turn(&self, number: u64) -> bool
         ensures test { result ≡ nat_lt number self.now.next }
         ensures nothing { IsTrue result → known_items self.now number ≡ [] }
@@ -142,7 +98,7 @@ impl Queue {
         number < self.next
     }
 
-    /// Copies of the messages whose turn comes by a mark, or by the item that is offered for the next number.
+    /// Copies of the messages whose turn comes if the number is marked, or if this item is offered for it, the next.
     pub fn ready(
         &self,
         alloc: Global,
@@ -164,8 +120,8 @@ impl Queue {
         copies(alloc, sender, number, first, &self.ring, &self.far)
     }
 
-    /// Marks a number, or takes the item that is offered for the next one, and puts the items whose turn has come at the end of
-    /// others, which have room for them.
+    /// Marks a number, or takes the item offered for the next one, and appends the items whose turn has come to
+    /// `items`, which has room for them.
     pub fn release(&mut self, number: u64, offered: Option<Item>, items: &mut Vec<Item>)
         requires number { IsSome offered → number + 1 < 2 ^ 64 }
         requires offered { IsSome offered → number ≡ self.old.next }
@@ -180,7 +136,7 @@ impl Queue {
         }
     }
 
-    // The turn of the next number, whose item waits or else is this one.
+    // Gives the next number its turn. Its item is the one that waits, or else this one.
     fn take(&mut self, item: Item, items: &mut Vec<Item>)
         requires number { self.old.next + 1 < 2 ^ 64 }
         requires room { vec_len items.old + length (offered_items self.old self.old.next item)
@@ -207,8 +163,8 @@ impl Queue {
         );
     }
 
-    // Marks a number, which may be the next.
-    fn mark(&mut self, number: u64, items: &mut Vec<Item>)
+    /// Marks a number, and appends the items whose turn has come.
+    pub fn mark(&mut self, number: u64, items: &mut Vec<Item>)
         requires { number ≡ self.old.next → vec_len items.old
             + length (known_items self.old number) ≤ vec_capacity items.old }
         ensures items { items.new.items ≡ items.old.items ++ known_items self.old number }
@@ -228,7 +184,7 @@ impl Queue {
         );
     }
 
-    // The item of the next number, which waits or else is offered.
+    // The item of the next number: the one that waits, or else the offered one.
     fn first<'a>(&'a self, offered: Option<&'a Item>) -> Option<&'a Item>
         ensures { option_copied result
             ≡ item_first (waiting_at self.now.waiting self.now.next) (option_copied offered.entry) }
@@ -251,7 +207,7 @@ impl Queue {
         self.ring.get(place as usize)?.as_ref()
     }
 
-    // Keeps an item at a number that did not come.
+    // Keeps an item at a number that has none.
     fn keep(&mut self, number: u64, item: Item) -> Result<(), AllocError>
         requires new { came self.old number ≡ false }
         requires number { number + 1 < 2 ^ 64 }
@@ -272,7 +228,7 @@ impl Queue {
     }
 }
 
-// Copies of the message of the next number, which has this item, and of those that are marked right behind it.
+// Copies of the message of the next number, which has this item, and of the marked messages right after it.
 fn copies(
     alloc: Global,
     sender: NodeId,
@@ -302,14 +258,14 @@ fn copies(
     Ok(messages)
 }
 
-// Whether what waits at a number is marked, and the number is this far from the next.
+// Whether what waits at a number is marked, and `count` numbers lie between `next` and it.
 fn has_turn(number: u64, waiting: &Waiting, next: u64, count: usize) -> bool
     ensures { result ≡ (number == next + count && waiting.now.known) }
 {
     number.checked_sub(next) == Some(count as u64) && waiting.known
 }
 
-// A message more, with a copy of this item.
+// Adds a message with a copy of this item.
 fn put_copy(
     messages: &mut Vec<Message>,
     sender: NodeId,
@@ -350,7 +306,7 @@ fn mark_at(
     }
 }
 
-// The turn of the messages that are marked from the next number on.
+// Gives the marked messages from the next number on their turn.
 fn advance(
     next: &mut u64,
     closed: &mut bool,
@@ -374,7 +330,7 @@ fn advance(
     }
 }
 
-// The next number, whose place went, has its turn.
+// Gives the next number, whose place is gone, its turn.
 fn pass(
     next: &mut u64,
     closed: &mut bool,
@@ -401,7 +357,7 @@ fn pass(
     *next += 1;
 }
 
-// Gives a place to the number that the ring reaches once this one has passed.
+// Moves the number that the ring reaches, after this one has passed, from the map to the ring.
 fn reach(passed: u64, ring: &mut VecDeque<Option<Waiting>>, far: &mut BTreeMap<u64, Waiting>)
     requires { IsWindow passed (None ∷ ring.old.items) far.old.entries (deque_capacity ring.old) }
     ensures window { IsWindow (passed + 1) ring.new.items far.new.entries

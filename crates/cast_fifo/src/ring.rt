@@ -10,10 +10,10 @@ use cast_message::Item;
 use std::alloc::AllocError;
 use std::collections::VecDeque;
 
-/// How many places from the next number on the ring may have.
+/// How many places the ring may have.
 pub const REACH: u64 = 4096;
 
-/// Places up to this one, the new ones empty.
+/// Adds empty places up to this one.
 pub fn make_places(ring: &mut VecDeque<Option<Waiting>>, place: usize) -> Result<(), AllocError>
     requires { place < 4096 }
     ensures ok { OnOk result (ring.new.items
@@ -27,7 +27,7 @@ pub fn make_places(ring: &mut VecDeque<Option<Waiting>>, place: usize) -> Result
     Ok(())
 }
 
-/// More places, all of them empty.
+/// Adds empty places.
 pub fn add_places(ring: &mut VecDeque<Option<Waiting>>, more: usize)
     requires { length ring.old.items + more ≤ deque_capacity ring.old }
     ensures places { ring.new.items ≡ ring.old.items ++ replicate more None }
@@ -47,7 +47,7 @@ pub fn mark_place(place: &mut Option<Waiting>)
     }
 }
 
-/// The item of a place that is marked.
+/// The item of a place, if it is marked.
 pub fn due(place: &Option<Waiting>) -> Option<&Item>
     ensures { option_copied result ≡ item_due place.now }
 {
@@ -57,7 +57,7 @@ pub fn due(place: &Option<Waiting>) -> Option<&Item>
     }
 }
 
-/// The first place goes, where it is marked, and its item.
+/// Removes the first place if it is marked, and returns its item.
 pub fn take_marked(ring: &mut VecDeque<Option<Waiting>>) -> Option<Item>
     ensures item { result ≡ due_front ring.old.items }
     ensures ring { ring.new.items
@@ -69,7 +69,7 @@ pub fn take_marked(ring: &mut VecDeque<Option<Waiting>>) -> Option<Item>
     Some(waiting.item)
 }
 
-/// The first place goes, and its item, or else this one.
+/// Removes the first place, and returns its item, or else this one.
 pub fn take_front(ring: &mut VecDeque<Option<Waiting>>, item: Item) -> Item
     ensures item { result ≡ front_item ring.old.items item }
     ensures ring { ring.new.items ≡ drop 1 ring.old.items }

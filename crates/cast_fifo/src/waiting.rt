@@ -1,10 +1,9 @@
 //! What is kept of a message whose turn has not come.
 use cast_message::Item;
 
-/// What is kept of a message whose turn has not come.
 #[derive(Drop)]
 pub struct Waiting {
     pub item: Item,
-    /// It was marked, so that it goes as soon as its turn comes.
+    /// Whether it was marked, so that it leaves as soon as its turn comes.
     pub known: bool,
 }

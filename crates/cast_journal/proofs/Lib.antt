@@ -1,3 +1,4 @@
 pub mod Journaling
 pub mod Running
 pub mod RunLogs
+pub mod Arrivals

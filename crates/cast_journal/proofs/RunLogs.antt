@@ -1,17 +1,16 @@
 -- What the log of a run tells, and what is kept before anything was done.
-use Rattle.std.proofs.Common.{◌≡◌, ℕ, zero, suc, ◌+◌, ◌<◌, List, [], ◌∷◌, ◌++◌, length, map, slice_get, Option, Some, None, sym, refl, ap, ◌∙◌, arith}
+use Rattle.std.proofs.Common.{◌≡◌, ℕ, zero, suc, ◌+◌, ◌<◌, List, [], ◌∷◌, ◌++◌, length, map, slice_get, Option, Some, None, true, sym, refl, ap, ◌∙◌, subst, arith}
 use Rattle.std.specs.Prelude.{reverse, slice_index_or}
 use Rattle.std.proofs.lemmas.List.{append-nil, reverse-append}
 use Rattle.cast_message.specs.declared.config.Config.{Config}
-use Rattle.cast_model.specs.Steps.{Step, Ordered, Arrived}
+use Rattle.cast_model.specs.Steps.{Step, Ordered, Sent, Acknowledged, Arrived, Stopped}
 use Rattle.cast_log.specs.declared.entry.Entry.{Entry}
 use Rattle.cast_desk.specs.declared.desk.OrderIn.{OrderIn}
 use Rattle.cast_carrier.specs.declared.parcel.Parcel.{Parcel}
 use Rattle.cast_node.specs.Kept.{nothing_kept}
-use Rattle.cast_node.specs.Linked.{TakenStep, steps_in, kept_in, taken_in, taken_by, taken, taken_of, AreTaken, IsRising, EachArrival, OnArrival, made_in}
+use Rattle.cast_node.specs.Linked.{TakenStep, steps_in, kept_in, taken_in, taken_by, taken, taken_of, AreTaken, IsRising, made_in}
 use Rattle.cast_carrier.specs.Lists.{Has}
-use Rattle.cast_carrier.proofs.Lists.{has_none}
-use Rattle.cast_journal.specs.Runs.{Moved, Served, Denied, Run, mark, made_of, trail_of, log_of, orders_of, entry_by, arrivals_in, IsRun, clock_after, AreReceived, IsReceivedBy, CameBefore, EngineKeeps}
+use Rattle.cast_journal.specs.Runs.{Moved, Came, Served, Denied, Run, mark, made_of, trail_of, log_of, orders_of, parcels_of, entry_by, IsRun, is_own, clock_after, AreStamped, Adds, AreArrivals, EngineKeeps}
 use Rattle.cast_journal.specs.Journals.{Rises}
 use Rattle.cast_box.proofs.Closing.{map_at}
 use Rattle.cast_node.proofs.Beginning.{stands_for_nothing}
@@ -42,6 +41,9 @@ run_tells config p [] = refl
 run_tells config p (Moved stamp step ∷ rs) =
     let steps = steps_in config p (trail_of rs) in
     tells_more (log_of config p rs) (entry_by config p steps (Moved stamp step)) (taken_in config p (trail_of rs)) (taken_by config p steps (mark stamp step)) refl (run_tells config p rs)
+run_tells config p (Came stamp x ∷ rs) =
+    let steps = steps_in config p (trail_of rs) in
+    tells_more (log_of config p rs) (entry_by config p steps (Came stamp x)) (taken_in config p (trail_of rs)) (taken_by config p steps (mark stamp (Arrived x.frame))) refl (run_tells config p rs)
 run_tells config p (Served stamp order ∷ rs) =
     let steps = steps_in config p (trail_of rs) in
     tells_more (log_of config p rs) (entry_by config p steps (Served stamp order)) (taken_in config p (trail_of rs)) (taken_by config p steps (mark stamp (Ordered order.item))) refl (run_tells config p rs)
@@ -52,19 +54,25 @@ pub run_taken : (config : Config) (p : ℕ) (run : Run) → IsRun config p run �
 unfolding trail_of IsRun AreTaken
 run_taken config p [] r = tt
 run_taken config p (Moved stamp step ∷ rs) r = (run_taken config p rs r.0, r.1.0, r.1.1)
+run_taken config p (Came stamp x ∷ rs) r = (run_taken config p rs r.0, r.1.0, r.1.1)
 run_taken config p (Served stamp order ∷ rs) r = (run_taken config p rs r.0, r.1, tt)
 run_taken config p (Denied stamp order fault ∷ rs) r = run_taken config p rs r.0
 
-by_step : (arrived : List (ℕ × Parcel)) (clock stamp : ℕ) (step : Step) → IsReceivedBy arrived clock stamp step → OnArrival (CameBefore arrived) stamp step
-by_step arrived clock stamp (Arrived frame) h = (h.0, h.1, h.2, omega (arith, h.3))
-by_step arrived clock stamp step h = tt
+own_adds : (stamp : ℕ) (step : Step) → is_own step ≡ true → (xs : List Parcel) → Adds stamp step xs (xs ++ [])
+own_adds stamp (Ordered item) own xs = append-nil xs
+own_adds stamp (Sent to slot) own xs = append-nil xs
+own_adds stamp (Acknowledged to slot) own xs = append-nil xs
+own_adds stamp (Arrived frame) own xs = absurd cc
+own_adds stamp Stopped own xs = append-nil xs
 
-pub run_received : (arrived : List (ℕ × Parcel)) (first : ℕ) (run : Run) → AreReceived arrived first run → EachArrival (CameBefore arrived) (trail_of run)
-unfolding trail_of AreReceived EachArrival
-run_received arrived first [] h = tt
-run_received arrived first (Moved stamp step ∷ rs) h = (run_received arrived first rs h.0, by_step arrived (clock_after first rs) stamp step h.1)
-run_received arrived first (Served stamp order ∷ rs) h = (run_received arrived first rs h.0, tt)
-run_received arrived first (Denied stamp order fault ∷ rs) h = run_received arrived first rs h.0
+-- the frames that arrived came in the parcels that did
+pub run_arrivals : (config : Config) (p first : ℕ) (run : Run) → IsRun config p run → AreStamped first run → AreArrivals (trail_of run) (parcels_of run)
+unfolding trail_of parcels_of IsRun AreStamped AreArrivals
+run_arrivals config p first [] r s = refl
+run_arrivals config p first (Moved stamp step ∷ rs) r s = (parcels_of rs, run_arrivals config p first rs r.0 s.0, own_adds stamp step r.1.2 (parcels_of rs))
+run_arrivals config p first (Came stamp x ∷ rs) r s = (parcels_of rs, run_arrivals config p first rs r.0 s.0, (x, refl, refl, omega (arith, s.1)))
+run_arrivals config p first (Served stamp order ∷ rs) r s = (parcels_of rs, run_arrivals config p first rs r.0 s.0, append-nil (parcels_of rs))
+run_arrivals config p first (Denied stamp order fault ∷ rs) r s = subst (AreArrivals (trail_of rs)) (sym (append-nil (parcels_of rs))) (run_arrivals config p first rs r.0 s.0)
 
 -- what was put was made
 pub handed_made : (config : Config) (p : ℕ) (run : Run) → IsRun config p run → (xs : List Parcel) → map made_of xs ≡ made_in config p (trail_of run)
@@ -76,8 +84,8 @@ handed_made config p run runs xs all x h =
     ap (slice_get made) seq ∙ at
 
 -- before anything was done
-pub keeps_new : (config : Config) (me : ℕ) → me < config.nodes → EngineKeeps config me (nothing_kept config me) [] config.first_stamp [] None [] []
-unfolding trail_of log_of orders_of IsRun clock_after AreReceived steps_in kept_in made_in arrivals_in
+pub keeps_new : (config : Config) (me : ℕ) → me < config.nodes → EngineKeeps config me (nothing_kept config me) [] config.first_stamp [] None [] None []
+unfolding trail_of log_of orders_of parcels_of IsRun clock_after AreStamped steps_in kept_in made_in
 keeps_new config me lt = record {
   run = [];
   runs = tt;
@@ -86,8 +94,7 @@ keeps_new config me lt = record {
   reached = refl;
   handed = refl;
   time = refl;
-  received = tt;
-  each_taken = λ test. omega arith;
-  taken_in = λ m h. absurd (has_none m h);
+  stamped = tt;
+  taken_in = refl;
   ordered = refl;
 }

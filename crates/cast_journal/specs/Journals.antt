@@ -1,5 +1,5 @@
 -- A node, its log and its clock, and what a call changes of them.
-use Rattle.std.specs.Prelude.{◌≡◌, ◌≢◌, ℕ, suc, ◌+◌, ◌<◌, ◌≤◌, ◌^◌, max, Bool, true, false, List, [], ◌∷◌, ◌++◌, length, slice_get, Option, Some, None, Result, Ok, Err, ◌⊎◌, refl}
+use Rattle.std.specs.Prelude.{◌≡◌, ◌≢◌, ℕ, suc, ◌+◌, ◌<◌, ◌≤◌, ◌^◌, max, Bool, true, false, List, [], ◌∷◌, ◌++◌, length, slice_get, Option, Some, None, Result, Ok, Err, IsSome, ◌⊎◌, refl}
 use Rattle.std.specs.Coded.{Coded, code_by, coded×, coded_ℕ, coded_list, coded_option}
 use Rattle.cast_message.specs.declared.config.Config.{Config}
 use Rattle.cast_message.specs.declared.event.Event.{Event}
@@ -8,6 +8,7 @@ use Rattle.cast_message.specs.declared.event.Answer.{Answer}
 use Rattle.cast_message.specs.declared.event.Answer.TheVariants.{Ordered as AnswerOrdered}
 use Rattle.cast_message.specs.declared.event.Outcome.{Outcome}
 use Rattle.cast_message.specs.declared.message.Item.{Item}
+use Rattle.cast_message.specs.declared.message.Message.{Message}
 use Rattle.cast_message.specs.declared.event.StepFault.{StepFault}
 use Rattle.cast_model.specs.Steps.{Step, Ordered, Stopped}
 use Rattle.cast_log.specs.declared.entry.Origin.{Origin}
@@ -32,7 +33,7 @@ pub record JournalState : Type 0 where
   pub ended : Option EngineEnd
   pub turns : ℕ  -- how many are left
 
--- an entry may be logged: there is room, a greater stamp, and no crash is due
+-- an entry may be logged: there is room and a greater stamp, and no crash is due
 pub record MayLog (j : JournalState) : Type 0 where
   pub running : j.ended ≡ None
   pub room : length j.log < j.config.log_limit
@@ -66,32 +67,46 @@ abbrev pub LogsOrder : JournalState → JournalState → OrderIn → Type 0
 LogsOrder old new order =
     LogsStep old new (Ordered order.item) (Some (origin_of order)) old.clock ⊎ LogsRefusal old new order
 
--- a node was asked to take up an item, which it did or refused
+abbrev pub delivered_in : EntryKind → List Message
+delivered_in (StepEntry event origin outcome) = outcome.deliveries
+delivered_in (Refused origin fault) = []
+
+-- the last entry delivered this many messages
+abbrev pub IsDeliveredLast : List Entry → ℕ → Type 0
+IsDeliveredLast log count =
+    (before : List Entry) × (e : Entry) × (log ≡ before ++ e ∷ []) × (count ≡ length (delivered_in e.kind))
+
+-- a node was asked to take an item, and took or refused it
 abbrev pub AsksOrder : Kept → Kept → Item → Result (Item × Outcome) StepFault → Type 0
 AsksOrder old new item (Ok told) =
     (number : ℕ) × Gives old (Ordered item) (Ok (AnswerOrdered number told.1)) new
 AsksOrder old new item (Err fault) = Gives old (Ordered item) (Err fault) new
 
--- where an engine ends so that could log an entry more: all are quiet, or no turn is left
+-- how an engine may end that could log one more entry: all are quiet, or no turn is left
 abbrev pub MayEnd : JournalState → EngineEnd → Type 0
 MayEnd j AllStopped = MayLog j
 MayEnd j TurnLimit = MayLog j × (j.turns ≡ 0)
 MayEnd j _ = ⊥
 
--- only the end was noted, and turns counted
+-- only the end was noted, and turns were counted
 abbrev pub OnlyEnds : JournalState → JournalState → Type 0
 OnlyEnds old new = new ≡ record old { ended = new.ended; turns = new.turns }
 
--- the engine ends here, by a crash or without one
+-- the engine ends here, with or without a crash
 abbrev pub Halts : JournalState → JournalState → Type 0
 Halts old new = OnlyEnds old new ⊎ LogsStep old new Stopped None old.clock
 
--- why it ends, where nothing may be logged any more: the log is full, the clock is, or the crash is due
+-- why an engine ends that may log nothing more: the log or the clock is full, or the crash is due
 abbrev pub HaltsBy : JournalState → Option EngineEnd → Type 0
 HaltsBy j (Some LogFull) = j.config.log_limit ≤ length j.log
 HaltsBy j (Some ClockFull) = (length j.log < j.config.log_limit) × (j.clock + 1 ≡ 2 ^ 64)
 HaltsBy j (Some Crashed) = j.crash ≡ Some (length j.log)
 HaltsBy j _ = ⊥
+
+-- a clock is full if it shows the last stamp, or if it was full before
+abbrev pub EndsLate : JournalState → JournalState → Type 0
+EndsLate old new = new.ended ≡ Some ClockFull
+    → ((old.ended ≡ Some ClockFull) × (new.clock ≡ old.clock)) ⊎ (new.clock + 1 ≡ 2 ^ 64)
 
 abbrev pub is_arrival_event : Event → Bool
 is_arrival_event (Arrive from seq) = true
@@ -101,11 +116,11 @@ abbrev pub is_arrival : EntryKind → Bool
 is_arrival (StepEntry event origin outcome) = is_arrival_event event
 is_arrival (Refused origin fault) = false
 
--- the entry's stamp is one above the clock; that of an arrival may be greater, as the parcel's may
+-- the entry's stamp is one above the clock; an arrival's may be greater, as its parcel's may be
 abbrev pub IsStampedAfter : ℕ → Entry → Type 0
 IsStampedAfter clock e = (clock < e.stamp) × (is_arrival e.kind ≡ false → e.stamp ≡ clock + 1)
 
--- the stamps rise from `first` on and end at the clock
+-- the stamps rise from `first`, and the last is the clock
 unfoldable pub Rises : ℕ → List Entry → ℕ → Type 0
 Rises first [] clock = clock ≡ first
 Rises first (e ∷ es) clock = IsStampedAfter first e × Rises e.stamp es clock
@@ -122,8 +137,9 @@ is_crash (Refused origin fault) = false
 abbrev pub GoesOn : ℕ → Option ℕ → List Entry → Type 0
 GoesOn limit crash log = (length log < limit) × ((n : ℕ) → crash ≡ Some n → length log < n)
 
--- how a log may end: a crash stands last, after as many entries as the plan says, and exactly where the end is Crashed; the end
--- LogFull comes only at the limit, ClockFull only below it, and Stopped and TurnLimit only where no crash is due either
+-- How a log may end. A crash comes last, after as many entries as the plan says, and if and only if the end is Crashed.
+-- LogFull comes only at the limit, and ClockFull only below it. AllStopped and TurnLimit come only if no crash is due
+-- either.
 pub record EndsAs (limit : ℕ) (crash : Option ℕ) (ended : Option EngineEnd) (log : List Entry) : Type 0 where
   pub within : length log ≤ limit
   pub full : ended ≡ Some LogFull → length log ≡ limit
@@ -136,8 +152,20 @@ pub record EndsAs (limit : ℕ) (crash : Option ℕ) (ended : Option EngineEnd) 
   pub crashed : ended ≡ Some Crashed
       → (i : ℕ) × (e : Entry) × (slice_get log i ≡ Some e) × (is_crash e.kind ≡ true)
 
--- what a journal keeps: room for its whole log, rising stamps, how the log may end, a live node before a crash, and that an end for
--- want of turns comes only where none is left
+-- what a journal leaves; if its engine had not ended, it ended here: as its log says, or else as if no turn were left
+pub record IsClosed (j : JournalState) (log : List Entry) (node : Kept) (ended : EngineEnd) : Type 0 where
+  pub new : JournalState
+  pub halts : Halts j new
+  pub kept : IsSome j.ended → new ≡ j
+  pub cause : j.ended ≡ None → (ended ≡ TurnLimit) ⊎ HaltsBy j (Some ended)
+  pub late : EndsLate j new
+  pub parts : (log ≡ new.log) × (node ≡ new.node) × (new.ended ≡ Some ended)
+  pub rises : Rises new.config.first_stamp new.log new.clock
+  pub ends : EndsAs new.config.log_limit new.crash new.ended new.log
+  pub spent : ended ≡ TurnLimit → new.turns ≡ 0
+
+-- what a journal keeps: room for its whole log, rising stamps, how the log may end, and a live node before a crash; the
+-- end TurnLimit comes only if no turn is left
 pub record JournalKeeps (config : Config) (room : ℕ) (node : Kept) (log : List Entry) (clock : ℕ)
     (crash : Option ℕ) (ended : Option EngineEnd) (turns : ℕ) : Type 0 where
   pub has_room : config.log_limit ≤ room
@@ -154,8 +182,8 @@ journal_code config kept entry end =
     (λ p. record { config = p.0; node = p.1.0; log = p.1.1.0; clock = p.1.1.1.0; crash = p.1.1.1.1.0; ended = p.1.1.1.1.1.0; turns = p.1.1.1.1.1.1 })
     (λ _. refl)
 
--- what is kept of a journal, and of the parcels and orders that it put, keeps to be put, and took
+-- what a journal keeps, together with the parcels and orders that were put, wait to be put, or were taken
 abbrev pub KeepsOf : JournalState → List Parcel → Option Parcel → List (ℕ × Parcel)
-    → List (ℕ × OrderIn) → Type 0
-KeepsOf j put held arrived orders =
-    EngineKeeps j.config j.node.me j.node j.log j.clock put held arrived orders
+    → Option Parcel → List (ℕ × OrderIn) → Type 0
+KeepsOf j put held taken waiting orders =
+    EngineKeeps j.config j.node.me j.node j.log j.clock put held taken waiting orders

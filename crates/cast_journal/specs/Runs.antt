@@ -1,18 +1,18 @@
--- What an engine did, entry by entry: its log as a function of it, and what ties it to its boxes.
---     Read, Run                        an entry with the step or the order that it came of; all of them, the newest first
+-- What an engine did, entry by entry: its log as a function of it, and how it relates to its boxes.
+--     Read, Run                        an entry with its step or order; all of them, newest first
 --     trail_of run                     the steps
 --     log_of config p run              the log
 --     orders_of run                    the orders, accepted or refused, in order
---     IsRun config p run               each was taken or refused where it stands
---     clock_after first run            the clock, which began so
---     AreReceived taken first run      each arrival's frame came in a parcel, and its stamp is one above the greater of the
---                                      clock's and the parcel's
---     arrivals_in trail                the frames that arrived
---     MayDrop config p trail x         why a parcel may be dropped
---     AreTakenIn config p trail taken  each parcel that was taken is logged as an arrival, or may be dropped
+--     IsRun config p run               each step was taken, and each order refused, at its place
+--     clock_after first run            the clock, which began at `first`
+--     AreStamped first run             each arrival's stamp is one above the greater of the clock's and its parcel's
+--     parcels_of run                   the parcels that arrived, in order
+--     parcels_for p taken              those of the parcels taken that are for this node
+--     AreArrivals trail xs             the frames that arrived came in these parcels, in order, each sent before
+--     arrivals_in trail                the frames that arrived, newest first
 --     made_of x                        the frame of a parcel, with the stamp of the step that made it
-use Rattle.std.specs.Prelude.{◌≡◌, ◌≢◌, ◌⊎◌, ℕ, ◌+◌, ◌<◌, ◌≤◌, ◌^◌, max, Bool, true, false, List, [], ◌∷◌, ◌++◌, map, Option, Some, None}
-use Rattle.std.specs.List.{count_by}
+use Rattle.std.specs.Prelude.{◌≡◌, ◌⊎◌, ℕ, ◌+◌, ◌<◌, ◌==◌, max, Bool, true, false, List, [], ◌∷◌, ◌++◌, map, Option, Some, None}
+use Rattle.std.specs.List.{filter}
 use Rattle.std.specs.Option.{option_to_list}
 use Rattle.cast_message.specs.declared.config.Config.{Config}
 use Rattle.cast_message.specs.declared.event.StepFault.{StepFault}
@@ -26,19 +26,19 @@ use Rattle.cast_log.specs.declared.entry.EntryKind.TheVariants.{Step as StepEntr
 use Rattle.cast_node.specs.Kept.{Kept}
 use Rattle.cast_node.specs.Stands.{Stands}
 use Rattle.cast_node.specs.Turns.{may_want}
-use Rattle.cast_box.specs.Lists.{EndsWith}
 use Rattle.cast_desk.specs.declared.desk.OrderIn.{OrderIn}
 use Rattle.cast_carrier.specs.declared.parcel.Parcel.{Parcel}
 use Rattle.cast_carrier.specs.Lists.{Has}
 use Rattle.cast_node.specs.Linked.{StampedStep, Made, Trail, event_of, outcome_in, steps_in, made_in, kept_in, stamped, IsFor}
 
--- An entry, and what it came of.
+-- an entry, and its step or order
 pub data Read : Type 0 where
-  Moved : (stamp : ℕ) (step : Step) → Read
+  Moved : (stamp : ℕ) (step : Step) → Read  -- a step by which no order and no parcel was taken
+  Came : (stamp : ℕ) (x : Parcel) → Read
   Served : (stamp : ℕ) (order : OrderIn) → Read
   Denied : (stamp : ℕ) (order : OrderIn) (fault : StepFault) → Read
 
--- what an engine did, the newest first
+-- what an engine did, newest first
 abbrev pub Run : Type 0
 Run = List Read
 
@@ -47,10 +47,11 @@ mark stamp step = record { stamp = stamp; step = step }
 
 abbrev pub with_mark : Read → Trail → Trail
 with_mark (Moved stamp step) trail = mark stamp step ∷ trail
+with_mark (Came stamp x) trail = mark stamp (Arrived x.frame) ∷ trail
 with_mark (Served stamp order) trail = mark stamp (Ordered order.item) ∷ trail
 with_mark (Denied stamp order fault) trail = trail
 
--- the steps, the newest first
+-- the steps, newest first
 unfoldable pub trail_of : Run → Trail
 trail_of [] = []
 trail_of (r ∷ rs) = with_mark r (trail_of rs)
@@ -66,6 +67,7 @@ step_entry config p steps stamp step origin = record {
 
 abbrev pub entry_by : Config → ℕ → Steps → Read → Entry
 entry_by config p steps (Moved stamp step) = step_entry config p steps stamp step None
+entry_by config p steps (Came stamp x) = step_entry config p steps stamp (Arrived x.frame) None
 entry_by config p steps (Served stamp order) =
     step_entry config p steps stamp (Ordered order.item) (Some (origin_of order))
 entry_by config p steps (Denied stamp order fault) =
@@ -78,6 +80,7 @@ log_of config p (r ∷ rs) = log_of config p rs ++ entry_by config p (steps_in c
 
 abbrev pub order_by : Read → List OrderIn
 order_by (Moved stamp step) = []
+order_by (Came stamp x) = []
 order_by (Served stamp order) = order ∷ []
 order_by (Denied stamp order fault) = order ∷ []
 
@@ -86,18 +89,22 @@ unfoldable pub orders_of : Run → List OrderIn
 orders_of [] = []
 orders_of (r ∷ rs) = orders_of rs ++ order_by r
 
-abbrev pub is_order : Step → Bool
-is_order (Ordered item) = true
-is_order _ = false
+-- the step takes no order and no frame
+abbrev pub is_own : Step → Bool
+is_own (Ordered item) = false
+is_own (Arrived frame) = false
+is_own _ = true
 
 abbrev pub IsRead : Config → ℕ → Steps → Read → Type 0
 IsRead config p steps (Moved stamp step) =
-    (own_fault config p steps step ≡ None) × IsFor p step × (is_order step ≡ false)
+    (own_fault config p steps step ≡ None) × IsFor p step × (is_own step ≡ true)
+IsRead config p steps (Came stamp x) =
+    (own_fault config p steps (Arrived x.frame) ≡ None) × (x.frame.to ≡ p)
 IsRead config p steps (Served stamp order) = own_fault config p steps (Ordered order.item) ≡ None
 IsRead config p steps (Denied stamp order fault) =
     IsRefused (own_fault config p steps (Ordered order.item)) fault
 
--- each step was taken, and each order refused that was refused, where it stands
+-- each step was taken, and each refused order refused, at its place
 unfoldable pub IsRun : Config → ℕ → Run → Type 0
 IsRun config p [] = Unit {0}
 IsRun config p (r ∷ rs) = IsRun config p rs × IsRead config p (steps_in config p (trail_of rs)) r
@@ -107,28 +114,36 @@ parcel stamp frame = record { stamp = stamp; frame = frame }
 
 abbrev pub stamp_of : Read → ℕ
 stamp_of (Moved stamp step) = stamp
+stamp_of (Came stamp x) = stamp
 stamp_of (Served stamp order) = stamp
 stamp_of (Denied stamp order fault) = stamp
 
--- the clock has the stamp of the last entry
+-- the clock is the stamp of the last entry
 unfoldable pub clock_after : ℕ → Run → ℕ
 clock_after first [] = first
 clock_after first (r ∷ rs) = stamp_of r
 
-abbrev pub IsReceivedBy : List (ℕ × Parcel) → ℕ → ℕ → Step → Type 0
-IsReceivedBy taken clock stamp (Arrived frame) =
-    (number : ℕ) × (sent : ℕ) × Has taken (number, parcel sent frame) × (stamp ≡ max clock sent + 1)
-IsReceivedBy taken clock stamp _ = Unit {0}
+abbrev pub IsStamped : ℕ → Read → Type 0
+IsStamped clock (Came stamp x) = stamp ≡ max clock x.stamp + 1
+IsStamped clock _ = Unit {0}
 
-abbrev pub IsReceived : List (ℕ × Parcel) → ℕ → Read → Type 0
-IsReceived taken clock (Moved stamp step) = IsReceivedBy taken clock stamp step
-IsReceived taken clock (Served stamp order) = Unit {0}
-IsReceived taken clock (Denied stamp order fault) = Unit {0}
+-- the stamp of each arrival is one above the greater of the clock's and the parcel's
+unfoldable pub AreStamped : ℕ → Run → Type 0
+AreStamped first [] = Unit {0}
+AreStamped first (r ∷ rs) = AreStamped first rs × IsStamped (clock_after first rs) r
 
--- the frame of each arrival came in a parcel, and its stamp is one above the greater of the clock's and the parcel's
-unfoldable pub AreReceived : List (ℕ × Parcel) → ℕ → Run → Type 0
-AreReceived taken first [] = Unit {0}
-AreReceived taken first (r ∷ rs) = AreReceived taken first rs × IsReceived taken (clock_after first rs) r
+abbrev pub parcel_by : Read → List Parcel
+parcel_by (Came stamp x) = x ∷ []
+parcel_by _ = []
+
+-- the parcels that arrived, in order
+unfoldable pub parcels_of : Run → List Parcel
+parcels_of [] = []
+parcels_of (r ∷ rs) = parcels_of rs ++ parcel_by r
+
+-- those of the taken parcels that are for this node
+abbrev pub parcels_for : ℕ → List (ℕ × Parcel) → List Parcel
+parcels_for p taken = filter (λ x. x.frame.to == p) (map (λ m. m.1) taken)
 
 abbrev pub made_of : Parcel → Made
 made_of x = stamped x.stamp x.frame
@@ -137,53 +152,44 @@ abbrev pub arrived_by : Step → List Frame
 arrived_by (Arrived frame) = frame ∷ []
 arrived_by _ = []
 
--- the frames that arrived by these steps, the newest first
+-- the frames that arrived in these steps, newest first
 unfoldable pub arrivals_in : Trail → List Frame
 arrivals_in [] = []
 arrivals_in (mark ∷ trail) = arrived_by mark.step ++ arrivals_in trail
 
--- however frames are told apart, no more of them arrived than were in the parcels that were taken
-abbrev pub HasTakenEach : List (ℕ × Parcel) → Trail → Type 0
-HasTakenEach taken trail =
-    (test : Frame → Bool) → count_by test (arrivals_in trail) ≤ count_by (λ m. test m.1.frame) taken
+-- what a step adds to the parcels that arrived before it
+abbrev pub Adds : ℕ → Step → List Parcel → List Parcel → Type 0
+Adds stamp (Arrived frame) before xs =
+    (x : Parcel) × (xs ≡ before ++ x ∷ []) × (x.frame ≡ frame) × (x.stamp < stamp)
+Adds stamp _ before xs = xs ≡ before
 
--- some node could have made the frame for this one, and something may come of it
+-- the frames that arrived in these steps came in these parcels, in order, each with a smaller stamp than its arrival
+unfoldable pub AreArrivals : Trail → List Parcel → Type 0
+AreArrivals [] xs = xs ≡ []
+AreArrivals (mark ∷ trail) xs =
+    (before : List Parcel) × AreArrivals trail before × Adds mark.stamp mark.step before xs
+
+-- some node could have made the frame for this one, and it may have an effect
 abbrev pub MayCome : Kept → Frame → Type 0
 MayCome kept frame = may_want kept frame ≡ true
 
--- why a parcel may be dropped: it is for another node, it has the last stamp, by which the clock is full, or something might have come
--- of it when it was taken, for which memory may have been wanting
-abbrev pub MayDrop : Config → ℕ → Trail → Parcel → Type 0
-MayDrop config p trail x =
-    (x.frame.to ≢ p)
-    ⊎ ((x.stamp + 1 ≡ 2 ^ 64) ⊎ ((past : Trail) × EndsWith trail past × MayCome (kept_in config p past) x.frame))
-
--- each parcel that was taken is logged as an arrival, or was dropped for its cause
-abbrev pub AreTakenIn : Config → ℕ → Trail → List (ℕ × Parcel) → Type 0
-AreTakenIn config p trail taken =
-    (m : ℕ × Parcel) → Has taken m → Has (arrivals_in trail) m.1.frame ⊎ MayDrop config p trail m.1
-
--- what a log, a node and boxes show of an engine
+-- what a log, a node and boxes say about an engine
 pub record EngineKeeps (config : Config) (p : ℕ) (kept : Kept) (log : List Entry) (clock : ℕ)
-    (put : List Parcel) (held : Option Parcel) (arrived : List (ℕ × Parcel))
+    (put : List Parcel) (held : Option Parcel) (taken : List (ℕ × Parcel)) (waiting : Option Parcel)
     (orders : List (ℕ × OrderIn)) : Type 0 where
   pub run : Run
   pub runs : IsRun config p run
   pub is_log : log ≡ log_of config p run
   pub stands : Stands config p (steps_in config p (trail_of run)) kept
   pub reached : kept ≡ kept_in config p (trail_of run)
-  -- what was put into the outbox, and then what it refused last, are the frames that the node made, in order, with the stamps
-  -- of their steps
+  -- what was put into the outbox, followed by what it refused last, are the node's frames, in order, with the stamps of
+  -- their steps
   pub handed : map made_of (put ++ option_to_list held) ≡ made_in config p (trail_of run)
   pub time : clock ≡ clock_after config.first_stamp run
-  -- the frame of each arrival came in a parcel taken from the inbox, and its stamp is one above the greater of the clock's and
-  -- the parcel's
-  pub received : AreReceived arrived config.first_stamp run
-  -- each in a parcel of its own
-  pub each_taken : HasTakenEach arrived (trail_of run)
-  -- and none is dropped without its cause
-  pub taken_in : AreTakenIn config p (trail_of run) arrived
-  -- the orders, one for one, are those taken from the desk
+  pub stamped : AreStamped config.first_stamp run
+  -- the taken parcels for this node arrived, in order, except the one that waits
+  pub taken_in : parcels_for p taken ≡ parcels_of run ++ option_to_list waiting
+  -- the orders are those taken from the desk, one for one
   pub ordered : orders_of run ≡ map (λ m. m.1) orders
 
 -- a parcel was put into the outbox, or waits

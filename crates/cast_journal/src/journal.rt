@@ -1,13 +1,14 @@
 //! A node with its log and its clock.
-ghost use Rattle.std.specs.Prelude.{◌≡◌, ◌+◌, ◌-◌, ◌<◌, ◌^◌, ◌⊎◌, [], length, true, Some, None, Err, IfOk, IfErr, OnOk, OnErr, IsTrue, IsFalse, IsSome, is_some};
+ghost use Rattle.std.specs.Prelude.{◌≡◌, ◌+◌, ◌-◌, ◌<◌, ◌^◌, ◌⊎◌, ◌++◌, ◌∷◌, [], length, true, Some, None, Err, IfOk, IfErr, OnOk, OnErr, IsTrue, IsFalse, IsSome, is_some};
 ghost use Rattle.cast_message.specs.declared.message.FrameKind.TheVariants.{Took};
 ghost use Rattle.cast_model.specs.Steps.{Acknowledged, Arrived, Stopped, making};
+ghost use Rattle.cast_log.specs.Logged.{entry_with, silent};
 ghost use Rattle.cast_node.specs.Linked.{event_of};
 ghost use Rattle.cast_node.specs.Calls.{sent_reply};
 ghost use Rattle.cast_node.specs.Kept.{nothing_kept};
 ghost use Rattle.cast_node.specs.Turns.{Gives, kept_fault, frame_made, may_want};
 ghost use Rattle.cast_node.specs.declared.report.EngineEnd.TheVariants.{Crashed, TurnLimit, ClockFull};
-ghost use Rattle.cast_journal.specs.Journals.{MayLog, LogsStep, LogsOrder, Halts, HaltsBy, Rises, EndsAs, AsksOrder, MayEnd};
+ghost use Rattle.cast_journal.specs.Journals.{MayLog, LogsStep, LogsOrder, IsDeliveredLast, Halts, HaltsBy, EndsLate, IsClosed, AsksOrder, MayEnd};
 
 use cast_carrier::Parcel;
 use cast_desk::OrderIn;
@@ -17,7 +18,7 @@ use cast_node::{EngineEnd, Node, no_news};
 use std::alloc::{AllocError, Global};
 use std::marker::Model;
 
-/// A node, its log and its clock. The log's room is made when the journal is.
+/// A node, its log and its clock. The journal allocates the whole log's room when it is made.
 #[derive(Drop)]
 pub struct Journal {
     alloc: Global,
@@ -25,7 +26,7 @@ pub struct Journal {
     node: Node,
     log: OpenLog,
     clock: u64,
-    // After so many entries the engine crashes.
+    // The engine crashes after this many entries.
     crash: Option<u64>,
     ended: Option<EngineEnd>,
     // How many turns are left.
@@ -59,7 +60,8 @@ impl Model for Journal {
 }
 
 impl Journal {
-    /// The journal of a new node of the group, with room for its whole log, for so many turns. Only memory can be wanting.
+    /// The journal of a new node of the group, with room for its whole log, for as many turns as given; or out of
+    /// memory.
     pub fn new(
         alloc: Global,
         config: &Config,
@@ -95,7 +97,7 @@ impl Journal {
         })
     }
 
-    /// Whether an entry may be logged. Where none may, the engine has ended: its log or its clock is full, or it crashes now.
+    /// Whether an entry may be logged. If not, the engine has ended: its log or its clock is full, or it crashes now.
     #[inline(always)]
     pub fn may_log(&mut self) -> bool
         ensures may { IsTrue result → (self.new ≡ self.old) × MayLog self.old }
@@ -103,6 +105,7 @@ impl Journal {
         ensures kept { IsSome self.old.ended → self.new ≡ self.old }
         ensures cause { IsFalse result → self.old.ended ≡ None → HaltsBy self.old self.new.ended }
         ensures ended { IsFalse result → IsSome self.new.ended }
+        ensures late { EndsLate self.old self.new }
     {
         if self.ended.is_some() {
             return false;
@@ -147,38 +150,31 @@ impl Journal {
         self.ended = Some(EngineEnd::Crashed);
     }
 
-    /// Takes a frame that arrives, and logs it. Only memory can be wanting, and only where some node could have made the frame for
-    /// this one, and something may come of it. A refusal changes nothing.
-    pub fn arrive(&mut self, parcel: &Parcel) -> Result<(), StepFault>
+    /// Takes a frame that arrives, logs it, and returns how many messages it delivered. The only refusal is out of
+    /// memory, and only if some node could have made the frame for this one, and it may have an effect. A refusal
+    /// changes nothing.
+    pub fn arrive(&mut self, parcel: &Parcel) -> Result<usize, StepFault>
         requires may { MayLog self.old }
         requires to { parcel.now.frame.to ≡ self.old.node.me }
         requires stamp { parcel.now.stamp + 1 < 2 ^ 64 }
         ensures ok { OnOk result
             (LogsStep self.old self.new (Arrived parcel.now.frame) None parcel.now.stamp) }
+        ensures count { IfOk result (λ count. IsDeliveredLast self.new.log count) }
         ensures ended { self.new.ended ≡ self.old.ended }
         ensures err { OnErr result (self.new ≡ self.old) }
         ensures wants { OnErr result (may_want self.old.node parcel.now.frame ≡ true) }
     {
         let outcome = self.node.arrive(&parcel.frame)?;
+        let delivered = outcome.deliveries.as_slice().len();
         let stamp = self.clock.max(parcel.stamp) + 1;
-        let event = Event::Arrive {
-            from: parcel.frame.from,
-            seq: parcel.frame.seq,
-        };
-        self.log.push(Entry {
-            stamp,
-            kind: EntryKind::Step {
-                event,
-                origin: None,
-                outcome,
-            },
-        });
+        self.log
+            .push_arrived(stamp, parcel.frame.from, parcel.frame.seq, outcome);
         self.clock = stamp;
-        Ok(())
+        Ok(delivered)
     }
 
-    /// Makes a frame of this kind for a slot, and logs it, or answers why the node makes none: want of memory only for one that
-    /// carries a message. A refusal changes nothing.
+    /// Makes a frame of this kind for a slot, and logs it, or returns why the node makes none. Only a frame with a
+    /// message can be out of memory. A refusal changes nothing.
     #[inline(always)]
     pub fn make(&mut self, kind: FrameKind, to: NodeId, slot: u64) -> Result<Parcel, StepFault>
         requires { MayLog self.old }
@@ -197,22 +193,16 @@ impl Journal {
         let from = self.node.id();
         let frame = frame_by(&mut self.node, kind, to, slot)?;
         let stamp = self.clock + 1;
-        self.log.push(Entry {
-            stamp,
-            kind: EntryKind::Step {
-                event: event_by(kind, from, to, slot),
-                origin: None,
-                outcome: no_news(self.alloc),
-            },
-        });
+        log_frame(&mut self.log, stamp, kind, from, to, slot);
         self.clock = stamp;
         Ok(Parcel { stamp, frame })
     }
 
-    /// Takes up a client's order, and logs it, or logs that it was refused.
-    pub fn order(&mut self, order: OrderIn)
+    /// Takes a client's order, and logs it or its refusal. Returns how many messages it delivered.
+    pub fn order(&mut self, order: OrderIn) -> usize
         requires { MayLog self.old }
         ensures logs { LogsOrder self.old self.new order }
+        ensures count { IsDeliveredLast self.new.log result }
         ensures ended { self.new.ended ≡ self.old.ended }
     {
         let node = self.node.id();
@@ -225,6 +215,7 @@ impl Journal {
         let stamp = self.clock + 1;
         match ask(&mut self.node, item) {
             Ok((item, outcome)) => {
+                let delivered = outcome.deliveries.as_slice().len();
                 self.log.push(Entry {
                     stamp,
                     kind: EntryKind::Step {
@@ -234,6 +225,7 @@ impl Journal {
                     },
                 });
                 self.clock = stamp;
+                delivered
             }
             Err(fault) => {
                 self.log.push(Entry {
@@ -241,11 +233,12 @@ impl Journal {
                     kind: EntryKind::Refused { origin, fault },
                 });
                 self.clock = stamp;
+                0
             }
         }
     }
 
-    /// Notes how the engine ends: it stops, as all are quiet, or no turn is left.
+    /// Notes how the engine ends: it stops because all are quiet, or no turn is left.
     pub fn end(&mut self, end: EngineEnd)
         requires { MayEnd self.old end }
         ensures { self.new ≡ record self.old { ended = Some end } }
@@ -253,36 +246,42 @@ impl Journal {
         self.ended = Some(end);
     }
 
-    /// Ends the engine, whose clock is full, as a parcel came with the last stamp.
-    pub fn end_by_last_stamp(&mut self, stamp: u64)
+    /// Ends the engine: its clock is full, because this parcel has the last stamp.
+    pub fn end_by_last_stamp(&mut self, parcel: &Parcel)
         requires may { MayLog self.old }
-        requires last { stamp + 1 ≡ 2 ^ 64 }
+        requires last { parcel.now.stamp + 1 ≡ 2 ^ 64 }
         ensures { self.new ≡ record self.old { ended = Some ClockFull } }
     {
+        let _last = parcel.stamp;
         self.ended = Some(EngineEnd::ClockFull);
     }
 
-    /// Counts a turn. Where none is left the engine has ended, or ends here: as its log says, or else for that.
+    /// Counts a turn, and returns whether one was left. If none was, the engine has ended or ends here: as its log
+    /// says, or else because no turn is left.
     pub fn count_turn(&mut self) -> bool
         ensures halts { Halts self.old self.new }
         ensures counted { IsTrue result → self.new ≡ record self.old { turns = self.old.turns - 1 } }
         ensures none { IsFalse result → (self.old.turns ≡ 0) × IsSome self.new.ended }
+        ensures late { EndsLate self.old self.new }
     {
         if self.turns == 0 {
-            self.close();
+            if self.may_log() {
+                self.end(EngineEnd::TurnLimit);
+            }
             return false;
         }
         self.turns -= 1;
         true
     }
 
-    /// Ends the engine, where it has not ended: as its log says, or else as if no turn were left.
-    pub fn close(&mut self)
+    // Ends the engine, if it has not ended: as its log says, or else as if no turn were left.
+    fn close(&mut self)
         ensures kept { IsSome self.old.ended → self.new ≡ self.old }
         ensures halts { Halts self.old self.new }
         ensures ended { IsSome self.new.ended }
         ensures cause { self.old.ended ≡ None →
             (self.new.ended ≡ Some TurnLimit) ⊎ HaltsBy self.old self.new.ended }
+        ensures late { EndsLate self.old self.new }
     {
         if self.may_log() {
             self.turns = 0;
@@ -318,14 +317,12 @@ impl Journal {
         &self.log
     }
 
-    /// The log, the node and the end of an engine that has ended.
-    pub fn into_parts(self) -> (Log, Node, EngineEnd)
-        requires { IsSome self.ended }
-        ensures parts { (result.0 ≡ self.log) × (result.1 ≡ self.node)
-            × (self.ended ≡ Some result.2) }
-        ensures rises { Rises self.config.first_stamp self.log self.clock }
-        ensures ends { EndsAs self.config.log_limit self.crash self.ended self.log }
+    /// The log, the node and the end. If the engine has not ended, it ends here: as its log says, or else as if no turn
+    /// were left.
+    pub fn into_parts(mut self) -> (Log, Node, EngineEnd)
+        ensures { IsClosed self result.0 result.1 result.2 }
     {
+        self.close();
         let Journal {
             log,
             node,
@@ -336,7 +333,7 @@ impl Journal {
     }
 }
 
-// Has a node make a frame of this kind.
+// Makes a frame of this kind for a slot.
 fn frame_by(node: &mut Node, kind: FrameKind, to: NodeId, slot: u64) -> Result<Frame, StepFault>
     ensures gives { Gives node.old (making kind to slot) (sent_reply result) node.new }
     ensures made { IfOk result (λ frame. frame ≡ frame_made kind node.old to slot) }
@@ -349,17 +346,21 @@ fn frame_by(node: &mut Node, kind: FrameKind, to: NodeId, slot: u64) -> Result<F
     }
 }
 
-// The event of a node that makes a frame of this kind.
-fn event_by(kind: FrameKind, from: NodeId, to: NodeId, slot: u64) -> Event
-    ensures { result ≡ event_of from (making kind to slot) }
+// Logs that `from` made a frame of this kind for a slot.
+#[inline(always)]
+fn log_frame(log: &mut OpenLog, stamp: u64, kind: FrameKind, from: NodeId, to: NodeId, slot: u64)
+    requires { length log.old.entries < log.old.room }
+    ensures entries { log.new.entries ≡ log.old.entries
+        ++ entry_with stamp (silent (event_of from (making kind to slot))) ∷ [] }
+    ensures room { log.new.room ≡ log.old.room }
 {
     match kind {
-        FrameKind::Carry => Event::Send { from, to, slot },
-        FrameKind::Took => Event::Ack { from, to, slot },
+        FrameKind::Carry => log.push_sent(stamp, from, to, slot),
+        FrameKind::Took => log.push_acknowledged(stamp, from, to, slot),
     }
 }
 
-// Asks the node to take up an item, of which a copy is kept for the log. Why it refuses is asked once.
+// Asks the node to take an item, and returns a copy of it for the log. The node checks only once whether it refuses.
 fn ask(node: &mut Node, item: Item) -> Result<(Item, Outcome), StepFault>
     ensures gives { AsksOrder node.old node.new item result }
     ensures copy { IfOk result (λ told. told.0 ≡ item) }

@@ -1,5 +1,5 @@
--- The values that were proposed in an instance, and which of them are decided.
---     is_decided candidates value      so says the first candidate for the value
+-- The values proposed in an instance, and which of them are decided.
+--     is_decided candidates value      the first candidate for the value says that it is decided
 use Rattle.std.specs.Prelude.{ℕ, ◌==◌, if◌then◌else◌, Bool, true, false, List, [], ◌∷◌, ◌++◌, length, position, slice_set, slice_index_or, Option, Some, None}
 use Rattle.std.specs.List.{list_any, filter}
 use Rattle.cast_judge.specs.declared.candidates.Candidate.{Candidate}

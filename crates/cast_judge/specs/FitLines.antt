@@ -1,6 +1,6 @@
 -- Lines that break no rule, as bytes.
---     IsCutAfter text past rest     the text is those lines, of which none breaks a rule, and then the rest
---     BeginsWell past bytes         the bytes begin with a line that breaks no rule after those, or has not ended
+--     IsCutAfter text past rest     the text is those lines, none of which breaks a rule, followed by the rest
+--     BeginsWell past bytes         after those lines, the bytes begin with a line that breaks no rule, or an unfinished one
 use Rattle.std.specs.Prelude.{◌≡◌, ◌⊎◌, ℕ, ◌<◌, ◌≤◌, ◌==◌, false, List, [], ◌∷◌, ◌++◌, length, Ok}
 use Rattle.std.specs.List.{All}
 use Rattle.cast_record.specs.declared.line.Line.{Line}
@@ -8,7 +8,7 @@ use Rattle.cast_record.specs.Reading.{line_of}
 use Rattle.cast_record.specs.Rules.{is_ended}
 use Rattle.cast_record.specs.Verdicts.{with_line}
 
--- the byte stands nowhere in the bytes
+-- the bytes do not have this byte
 abbrev pub HasNone : ℕ → List ℕ → Type 0
 HasNone byte bytes = All (λ b. (b == byte) ≡ false) bytes
 
@@ -16,7 +16,7 @@ HasNone byte bytes = All (λ b. (b == byte) ≡ false) bytes
 abbrev pub IsFit : List Line → List ℕ → Type 0
 IsFit past bytes = (line : Line) × (with_line past (line_of bytes) ≡ Ok (line ∷ past))
 
--- the bytes are those before, and this line, which breaks no rule after those lines, with its line feed
+-- the bytes are those before, followed by this line and its line feed; the line breaks no rule after those lines
 pub record EndsFit (past : List Line) (line : Line) (before bytes : List ℕ) : Type 0 where
   pub last : List ℕ
   pub cut : bytes ≡ before ++ (last ++ 10 ∷ [])
@@ -27,7 +27,7 @@ abbrev pub AreFit : List Line → List ℕ → Type 0
 AreFit [] bytes = bytes ≡ []
 AreFit (line ∷ past) bytes = (before : List ℕ) × (AreFit past before × EndsFit past line before bytes)
 
--- the text is those lines, of which none breaks a rule, and then the rest
+-- the text is those lines, none of which breaks a rule, followed by the rest
 pub record IsCutAfter (text : List ℕ) (past : List Line) (rest : List ℕ) : Type 0 where
   pub front : List ℕ
   pub cut : text ≡ front ++ rest
@@ -40,13 +40,13 @@ pub record BeginsFit (past : List Line) (bytes : List ℕ) : Type 0 where
   pub cut : bytes ≡ line ++ 10 ∷ after
   pub fit : IsFit past line
 
--- the bytes are a line that has not ended: it is not too long yet, and does not stand after the end line
+-- the bytes are an unfinished line, which is not too long yet, and does not follow the end line
 pub record IsUnfinished (past : List Line) (bytes : List ℕ) : Type 0 where
   pub some : 0 < length bytes
   pub clean : HasNone 10 bytes
   pub short : length bytes ≤ 4096
   pub going : is_ended past ≡ false
 
--- the bytes begin with a line that does not offend after those lines
+-- the bytes begin with a line that breaks no rule after those lines, or is unfinished
 abbrev pub BeginsWell : List Line → List ℕ → Type 0
 BeginsWell past bytes = BeginsFit past bytes ⊎ IsUnfinished past bytes

@@ -1,6 +1,6 @@
 -- Items as the words that spell them, one after another in their bytes.
---     items_from start ends bytes      the items of the words that begin there, and end where the ends say
---     AreItems start ends bytes        each of those words spells an item, and the last one ends where the bytes do
+--     items_from start ends bytes      the items of the words that begin there and end at the given ends
+--     AreItems start ends bytes        each of those words spells an item, and the last one ends with the bytes
 use Rattle.std.specs.Prelude.{◌≡◌, ℕ, ◌+◌, ◌-◌, ◌<◌, ◌≤◌, List, [], ◌∷◌, ◌++◌, length, take, drop, slice_get, Some}
 use Rattle.cast_message.specs.declared.message.Item.{Item}
 use Rattle.cast_record.specs.Reading.{item_of}
@@ -27,7 +27,7 @@ pub record IsWordAt (items : List Item) (place : ℕ) (word : List ℕ) : Type 0
   pub within : place < length items
   pub spells : slice_get items place ≡ item_of word
 
--- the bytes are the word of the item at this place, a line feed that ends there, and what follows
+-- the bytes are the word of the item at this place, a line feed that ends there, and the rest
 pub record BeginsWithWord (items : List Item) (place : ℕ) (bytes : List ℕ) (end : ℕ) : Type 0 where
   pub word : List ℕ
   pub after : List ℕ

@@ -1,7 +1,7 @@
--- What becomes of one line.
---     Takes bytes old new o        the bytes begin with a line that breaks no rule and is kept, and o is what follows its line
---                                  feed, or nothing changed
---     Judges past bytes o kept     the line that the bytes spell, after those lines, breaks rule o and is not kept, or
+-- What happens to one line.
+--     Takes bytes old new o        the bytes begin with a line that breaks no rule and is kept, and o is what follows its
+--                                  line feed; or nothing changed
+--     Judges past bytes o kept     after those lines, the line that the bytes spell breaks rule o and is not kept, or
 --                                  breaks none and is kept
 use Rattle.std.specs.Prelude.{◌≡◌, ℕ, List, ◌∷◌, ◌++◌, Option, Some, None, Ok, Err}
 use Rattle.cast_record.specs.declared.line.Line.{Line}
@@ -24,7 +24,7 @@ abbrev pub Judges : List Line → List ℕ → Option ℕ → Kept → Type 0
 Judges past bytes None kept = IsKept past bytes kept
 Judges past bytes (Some rule) kept = IsRefused past bytes rule kept
 
--- the bytes are a line that breaks no rule and is kept, its line feed, and what follows
+-- the bytes are a line that breaks no rule and is kept, its line feed, and the rest
 pub record IsTakenOff (bytes after : List ℕ) (old new : Kept) : Type 0 where
   pub line : Line
   pub front : List ℕ

@@ -1,6 +1,6 @@
--- What is kept of the lines read so far, what it says of the next line, and what is kept after that line.
---     rule_by kept line     the least rule that the line breaks, read off what is kept
---     Keeps old line new    the new is what is kept after the line
+-- What is kept about the lines read so far, what it says about the next line, and what is kept after that line.
+--     rule_by kept line     the least rule that the line breaks, by what is kept
+--     Keeps old line new    `new` is kept after the line
 use Rattle.std.specs.Prelude.{◌≡◌, ℕ, ◌+◌, min, ◌==◌, ◌&&◌, ◌||◌, not, nat_lt, if◌then◌else◌, Bool, true, false, List, [], ◌∷◌, ◌++◌, length, slice_get, slice_set, slice_index, slice_index_or, replicate, Option, Some, None, unwrap_or}
 use Rattle.std.specs.List.{list_any}
 use Rattle.std.specs.Map.{lookup}
@@ -52,17 +52,17 @@ changed instance (adds.Decided value) = record instance { candidates = with_deci
 abbrev pub other_at : List (ℕ × Instance) → ℕ → Instance
 other_at entries j = unwrap_or (lookup (is_at (nat_cmp j)) entries) no_instance
 
--- an instance of the row, or one past it
+-- an instance in the row, or past it
 abbrev pub instance_at : Instances → ℕ → Instance
 instance_at instances j =
     if nat_lt j (length instances.row.items) then slice_index_or instances.row.items j no_instance
     else other_at instances.others.entries j
 
--- instance q, where this is added to instance j
+-- instance q, after this was added to instance j
 abbrev pub changed_at : ℕ → Addition → ℕ → Instance → Instance
 changed_at j addition q instance = if q == j then changed instance addition else instance
 
--- what line adds to instance q
+-- what the item adds to instance q
 abbrev pub item_changes : ℕ → Item → ℕ → Instance → Instance
 item_changes sender (Propose j w) q instance =
     changed_at j (adds.Proposed (record { node = sender; value = w })) q instance
@@ -86,14 +86,14 @@ abbrev pub is_same : Option Item → Item → Bool
 is_same None item = false
 is_same (Some other) item = said.is_item other item
 
--- the item stands at this place
+-- the item is at this place
 abbrev pub has_item : List Item → ℕ → Item → Bool
 has_item items number item = is_same (slice_get items number) item
 
 abbrev pub with_item : KeptNode → Item → KeptNode
 with_item node item = record node { items = node.items ++ item ∷ []; closed = is_close item || node.closed }
 
--- one more, up to the greatest number of 64 bits
+-- one more, up to the greatest 64-bit number
 abbrev pub one_more : ℕ → ℕ
 one_more count = min (count + 1) 18446744073709551615
 
@@ -206,12 +206,12 @@ rule_by kept line = said.first_broken 0 (rules_by kept line)
 
 -- ---- a line `d` by its last word
 
--- the line, where its last word spells this item
+-- the line, if its last word spells this item
 abbrev pub delivered_as : Delivery → Item → Line
 delivered_as d item = Delivered d.node (record { sender = d.sender; number = d.number; item = item })
 
--- The rest of the line begins with a word and a line feed, which end there. The word spells an item, and the line with that
--- item breaks no rule.
+-- The rest of the line begins with a word and a line feed, which end there. The word spells an item, and with it the
+-- line breaks no rule.
 pub record IsDue (kept : Kept) (d : Delivery) (end : ℕ) : Type 0 where
   pub word : List ℕ
   pub after : List ℕ

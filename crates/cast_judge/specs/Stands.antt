@@ -1,5 +1,5 @@
--- What is kept stands for the lines read so far, the newest first.
---     StandsFor past kept     what is kept shows what the definitions say of these lines
+-- What is kept matches the lines read so far, the newest first.
+--     StandsFor past kept     what is kept says what the definitions say about these lines
 use Rattle.std.specs.Prelude.{◌≡◌, ℕ, ◌==◌, ◌<◌, ◌≤◌, if◌then◌else◌, List, [], ◌∷◌, ◌++◌, length, slice_index}
 use Rattle.std.specs.List.{list_any}
 use Rattle.cast_message.specs.declared.message.Item.{Item}

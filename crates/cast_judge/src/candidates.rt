@@ -6,15 +6,14 @@ ghost use Rattle.cast_judge.specs.Candidates.{is_for, is_decided, count_decided,
 use std::alloc::{AllocError, Global};
 use std::marker::Model;
 
-/// A value that was proposed.
 #[derive(Clone, Copy)]
 pub struct Candidate {
     pub value: u64,
     pub decided: bool,
 }
 
-/// The values that were proposed in an instance, each once, beside whether it is decided. They lie together, so that a line
-/// of a decision reads one stretch of memory. Contracts see the list of them.
+/// The values proposed in an instance, each once, and whether each is decided. They lie together, so that a line with a
+/// decision reads one stretch of memory. Contracts see them as a list.
 #[derive(Drop)]
 pub struct Candidates {
     all: Vec<Candidate>,
@@ -30,7 +29,7 @@ impl Model for Candidates {
 }
 
 impl Candidates {
-    /// There are none. It takes no memory.
+    /// Creates an empty list without allocating.
     pub fn new(alloc: Global) -> Candidates
         ensures { result ≡ [] }
     {
@@ -39,7 +38,6 @@ impl Candidates {
         }
     }
 
-    /// How many there are.
     pub fn len(&self) -> usize
         ensures { result ≡ length self.now }
     {
@@ -53,7 +51,6 @@ impl Candidates {
         self.all.iter().any(|candidate| candidate.value == value)
     }
 
-    /// Whether the value is decided.
     pub fn is_decided(&self, value: u64) -> bool
         ensures { result ≡ is_decided self.now value }
     {
@@ -63,7 +60,6 @@ impl Candidates {
         }
     }
 
-    /// How many are decided.
     pub fn count_decided(&self) -> usize
         ensures { result ≡ count_decided self.now }
     {
@@ -73,7 +69,6 @@ impl Candidates {
             .count()
     }
 
-    /// Takes a value that is proposed.
     pub fn propose(&mut self, value: u64) -> Result<(), AllocError>
         ensures { OnOk result (self.new ≡ with_candidate self.old value) }
     {
@@ -87,7 +82,7 @@ impl Candidates {
         Ok(())
     }
 
-    /// Takes the decision of a value that was proposed. Any other changes nothing.
+    /// Notes that a proposed value is decided. Another value changes nothing.
     pub fn decide(&mut self, value: u64)
         ensures { self.new ≡ with_decision self.old value }
     {
@@ -99,7 +94,7 @@ impl Candidates {
         }
     }
 
-    // The place of the first candidate for the value.
+    // The place of the first candidate with this value.
     fn place(&self, value: u64) -> Option<usize>
         ensures { result ≡ position (is_for value) self.now }
     {

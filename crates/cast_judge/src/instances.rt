@@ -1,4 +1,4 @@
-//! What was proposed and decided, by instance.
+//! What was proposed and decided in each instance.
 ghost use Rattle.std.specs.Prelude.{◌≡◌, ◌≢◌, ℕ, nat_lt, OnOk, MatchOption};
 ghost use Rattle.std.specs.List.{list_any};
 ghost use Rattle.cast_judge.specs.Candidates.{is_for};
@@ -9,7 +9,6 @@ use cast_message::{List, NodeId};
 use std::alloc::{AllocError, Global};
 use std::collections::BTreeMap;
 
-/// A value that a node proposed.
 #[derive(Clone, Copy)]
 pub struct Proposal {
     pub node: NodeId,
@@ -32,7 +31,7 @@ pub enum Addition {
 }
 
 impl Instance {
-    /// Nothing was proposed. It takes no memory.
+    /// Creates an instance without proposals; allocates nothing.
     pub fn new(alloc: Global) -> Instance
         ensures { result ≡ no_instance }
     {
@@ -42,7 +41,6 @@ impl Instance {
         }
     }
 
-    /// Whether the node proposed.
     pub fn has_proposed(&self, node: NodeId) -> bool
         ensures { result ≡ has_value self.now.proposers node }
     {
@@ -52,14 +50,13 @@ impl Instance {
             .any(|proposer| *proposer == node)
     }
 
-    /// Whether the value was proposed.
     pub fn is_proposed(&self, value: u64) -> bool
         ensures { result ≡ list_any (is_for value) self.now.candidates }
     {
         self.candidates.has(value)
     }
 
-    /// Whether more values than these are decided with this one.
+    /// Whether more than `choices` values are decided, with this one.
     #[tactic(auto, using(crate::proofs::CandidateLemmas::few_decided))]
     pub fn exceeds(&self, choices: u64, value: u64) -> bool
         ensures { result ≡ nat_lt choices (count_with self.now.candidates value) }
@@ -75,7 +72,6 @@ impl Instance {
         }
     }
 
-    /// Takes what a line adds.
     pub fn add(&mut self, addition: Addition) -> Result<(), AllocError>
         ensures { OnOk result (self.new ≡ changed self.old addition) }
     {
@@ -96,18 +92,18 @@ impl Instance {
     }
 }
 
-/// What was proposed and decided, by the numbers of the instances. Where those begin at 0 and come in order they stand in a
-/// row, and a look-up takes the same time however many there are.
+/// What was proposed and decided, by instance number. Instances from 0 on, if they come in order, are kept in a row; a
+/// look-up there takes the same time however many there are.
 #[derive(Drop)]
 pub struct Instances {
     /// The instances from 0 on.
     row: Vec<Instance>,
-    /// The instances past the row.
+    /// The instances that are not in the row.
     others: BTreeMap<u64, Instance>,
 }
 
 impl Instances {
-    /// Nothing was proposed. It takes no memory.
+    /// Creates an empty collection without allocating.
     pub fn new(alloc: Global) -> Instances
         ensures { (q : ℕ) → instance_at result q ≡ no_instance }
     {
@@ -117,7 +113,7 @@ impl Instances {
         }
     }
 
-    /// The instance of this number, if anything was said of it.
+    /// The instance with this number, if a line mentioned it.
     pub fn get(&self, number: u64) -> Option<&Instance>
         ensures { MatchOption result (instance_at self.now number ≡ no_instance)
             (λ found. found.now ≡ instance_at self.now number) }
@@ -128,7 +124,6 @@ impl Instances {
         }
     }
 
-    /// Takes what a line adds to the instance of this number.
     pub fn add(&mut self, alloc: Global, number: u64, addition: Addition) -> Result<(), AllocError>
         ensures { OnOk result ((q : ℕ) →
             instance_at self.new q ≡ changed_at number addition q (instance_at self.old q)) }
@@ -167,7 +162,7 @@ fn add_at(
     }
 }
 
-// Takes the instance of this number out. Nothing may have been said of it.
+// Takes out the instance with this number, or a new one if no line mentioned it.
 fn take_at(alloc: Global, instances: &mut BTreeMap<u64, Instance>, number: u64) -> Instance
     ensures taken { result ≡ other_at instances.old.entries number }
     ensures others { (q : ℕ) → q ≢ number →

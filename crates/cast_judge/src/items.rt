@@ -6,7 +6,7 @@ use cast_record::ItemWord;
 use std::alloc::{AllocError, Global};
 use std::marker::Model;
 
-/// Items, each kept as the bytes of its word. Contracts see the list of the items.
+/// Items, each kept as the bytes of its word. Contracts see the list of items.
 #[derive(Drop)]
 pub struct Items {
     /// The words, one after another.
@@ -29,7 +29,7 @@ impl Model for Items {
 }
 
 impl Items {
-    /// There are none. It takes no memory.
+    /// Creates an empty list without allocating.
     pub fn new(alloc: Global) -> Items
         ensures { result ≡ [] }
     {
@@ -39,7 +39,6 @@ impl Items {
         }
     }
 
-    /// How many there are.
     pub fn len(&self) -> usize
         ensures { result ≡ length self.now }
     {
@@ -61,7 +60,6 @@ impl Items {
         Some(part(self.bytes.as_slice(), start, end))
     }
 
-    /// Puts an item at the end.
     pub fn push(&mut self, item: &ItemWord<'_>) -> Result<(), AllocError>
         ensures { OnOk result (self.new ≡ self.old ++ item.now ∷ []) }
     {
@@ -75,7 +73,6 @@ impl Items {
     }
 }
 
-// Where the word at this place begins.
 fn start_of(ends: &[usize], place: usize) -> usize
     requires { place ≤ length ends.now }
     ensures { result ≡ slice_index (0 ∷ ends.now) place }

@@ -1,4 +1,4 @@
-//! Reading a text piece by piece.
+//! Reads a text piece by piece.
 ghost use Rattle.std.specs.Prelude.{◌≡◌, ℕ, ◌+◌, ◌^◌, ◌<◌, ◌≤◌, ◌++◌, [], ◌∷◌, List, length, nat_lt, option_map, true, false, Some, IfOk, OnOk, OnErr, IsOk, IsErr};
 ghost use Rattle.cast_record.specs.Verdicts.{verdict};
 ghost use Rattle.cast_judge.specs.FitLines.{HasNone, BeginsWell};
@@ -8,25 +8,25 @@ use crate::lines::{find_line_feed, judge_line, take_delivery};
 use cast_record::Verdict;
 use std::alloc::{AllocError, Global};
 
-/// The most bytes of a line that is not whole yet. The longest line of the grammar has 2,084.
+/// The most bytes kept of an unfinished line. The longest line of the grammar has 2,084.
 const MOST_UNFINISHED: usize = 4_096;
 
-/// All pieces together have fewer bytes.
+/// All pieces together have fewer bytes than this.
 const MOST_BYTES: u64 = 1 << 63;
 
 /// Whether the judge goes on.
 #[derive(Clone, Copy)]
 enum State {
-    /// No line offended so far.
+    /// No line broke a rule so far.
     Reading,
     /// The line after those counted broke this rule.
     Offended { rule: u64 },
-    /// A growth was refused.
+    /// Memory ran out.
     Refused,
 }
 
-/// A text that is being judged. Of the text it keeps the word of each item that was broadcast, as deliveries are compared with
-/// it, and at most 4,096 bytes of an unfinished line.
+/// A text that is being judged. It keeps the word of each broadcast item, to compare deliveries with, and at most 4,096
+/// bytes of an unfinished line.
 #[derive(Drop)]
 pub struct Judging {
     alloc: Global,
@@ -34,16 +34,15 @@ pub struct Judging {
     kept: Kept,
     /// How many lines broke no rule.
     lines: u64,
-    /// How many bytes were fed.
     fed: u64,
-    /// What was read of a line that is not whole yet.
+    /// What was read of an unfinished line.
     tail: Vec<u8>,
     ghost short: { length tail.items ≤ 4096 },
     ghost counted: { lines ≤ fed },
     ghost within: { fed < 2 ^ 63 },
 }
 
-/// The verdict on the text, or want of memory. A text whose first line offends wants none.
+/// The verdict on the text, or out of memory. A text whose first line breaks a rule needs no memory.
 pub fn judge(alloc: Global, text: &[u8]) -> Result<Verdict, AllocError>
     ensures said { IfOk result (λ said. said ≡ verdict text.now) }
     ensures some { OnErr result (0 < length text.now) }
@@ -57,7 +56,7 @@ pub fn judge(alloc: Global, text: &[u8]) -> Result<Verdict, AllocError>
 impl Judging {
     ghost use Rattle.cast_judge.specs.Judged.{Stands, IsSkipped, TakesDelivery, TakesLine, lines_with, state_with, is_reading, is_offended, is_refused, WantedMemory};
 
-    /// Nothing was fed. It takes no memory.
+    /// Begins to judge a text; allocates nothing.
     pub fn new(alloc: Global) -> Judging
         ensures fed { result.fed ≡ 0 }
         ensures stands { Stands [] result }
@@ -73,9 +72,9 @@ impl Judging {
         }
     }
 
-    /// Takes the next piece of the text. All pieces together have fewer than 2^63 bytes. A line that offends takes no memory,
-    /// but to join its parts where it came in several pieces. After it the rest is skipped, and takes none. Once a piece was
-    /// refused, every later one is, and so is the verdict.
+    /// Takes the next piece of the text. All pieces together have fewer than 2^63 bytes. A line that breaks a rule
+    /// needs memory only to join its parts, if it came in several pieces. The text after it is skipped and needs none.
+    /// Once a piece is refused, all later pieces are, and so is the verdict.
     pub fn feed(&mut self, piece: &[u8]) -> Result<(), AllocError>
         requires { self.old.fed + length piece.now < 2 ^ 63 }
         ensures fed { self.new.fed ≡ self.old.fed + length piece.now }
@@ -104,14 +103,14 @@ impl Judging {
         }
     }
 
-    /// How many bytes may still be fed, and one more.
+    /// How many bytes may still be fed, plus one.
     pub fn room(&self) -> u64
         ensures { result + self.now.fed ≡ 2 ^ 63 }
     {
         MOST_BYTES - self.fed
     }
 
-    /// The verdict on all pieces joined. It takes no memory, and answers want of memory only where a piece was refused.
+    /// The verdict on all pieces joined. It allocates nothing, and reports out of memory only if a piece was refused.
     pub fn finish(self) -> Result<Verdict, AllocError>
         ensures said { (text : List ℕ) → Stands text self →
             IfOk result (λ said. said ≡ verdict text) }
@@ -137,7 +136,7 @@ impl Judging {
         }
     }
 
-    // Takes a piece while no line offended.
+    // Takes a piece while no line broke a rule.
     fn read(&mut self, piece: &[u8]) -> Result<(), AllocError>
         requires reading { is_reading self.old ≡ true }
         requires room { self.old.lines + length piece.now ≤ self.old.fed }
@@ -159,8 +158,8 @@ impl Judging {
         self.keep_tail(rest)
     }
 
-    // Takes a line and its line feed off the front of the bytes, and tells what follows. None changes nothing: there is no line
-    // feed.
+    // Takes a line and its line feed off the front of the bytes, and returns the rest. At `None` there is no line feed,
+    // and nothing changed.
     fn take_line<'a>(&mut self, bytes: &'a [u8]) -> Result<Option<&'a [u8]>, AllocError>
         requires reading { is_reading self.old ≡ true }
         requires room { self.old.lines + length bytes.now ≤ self.old.fed }
@@ -181,8 +180,8 @@ impl Judging {
         Ok(Some(&bytes[at + 1..]))
     }
 
-    // Takes a line `d` that breaks no rule, where no line is unfinished, before its end is looked for: most lines are such
-    // ones. None changes nothing.
+    // Takes a line `d` that breaks no rule, if no line is unfinished, without first looking for its end: most lines are
+    // like that. At `None` nothing changed.
     fn take_delivery<'a>(&mut self, bytes: &'a [u8]) -> Option<&'a [u8]>
         requires reading { is_reading self.old ≡ true }
         requires room { self.old.lines + length bytes.now ≤ self.old.fed }
@@ -204,7 +203,7 @@ impl Judging {
         matches!(self.state, State::Reading)
     }
 
-    // Takes what stands before a line feed, and the line feed.
+    // Takes the part before a line feed, and the line feed.
     fn end_line(&mut self, part: &[u8]) -> Result<(), AllocError>
         requires reading { is_reading self.old ≡ true }
         requires clean { HasNone 10 part.now }
@@ -241,7 +240,7 @@ impl Judging {
         part.len() > MOST_UNFINISHED || self.tail.len() > MOST_UNFINISHED - part.len()
     }
 
-    // Lets go of the unfinished line, which offends.
+    // Drops the unfinished line, which breaks a rule.
     fn offend(&mut self)
         requires { self.old.lines < self.old.fed }
         ensures kept { self.new.kept ≡ self.old.kept }
@@ -254,7 +253,7 @@ impl Judging {
         self.count(Some(0));
     }
 
-    // Counts a line that broke no rule, or tells the rule that it broke.
+    // Counts a line that broke no rule, or notes the rule that it broke.
     fn count(&mut self, broken: Option<u64>)
         requires { self.old.lines < self.old.fed }
         ensures kept { self.new.kept ≡ self.old.kept }
@@ -269,7 +268,7 @@ impl Judging {
         }
     }
 
-    // Keeps the beginning of a line that is not whole.
+    // Keeps the beginning of an unfinished line.
     fn keep_tail(&mut self, part: &[u8]) -> Result<(), AllocError>
         requires reading { is_reading self.old ≡ true }
         requires clean { HasNone 10 part.now }

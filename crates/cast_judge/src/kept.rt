@@ -1,4 +1,4 @@
-//! What is kept of the lines read so far.
+//! What is kept about the lines read so far.
 ghost use Rattle.std.specs.Prelude.{◌≡◌, ℕ, ◌<◌, ◌≤◌, length, replicate, slice_set, slice_index, IfSome, OnOk, MatchOption};
 ghost use Rattle.cast_record.specs.WordLines.{line_said};
 ghost use Rattle.cast_judge.specs.Kept.{is_ended_at, Delivers, IsDue, node_at, has_item, nobody, instance_at, item_changes, with_item, Keeps, IsNew};
@@ -12,7 +12,7 @@ use std::alloc::{AllocError, Global};
 /// How far the lines read so far go.
 #[derive(Clone, Copy)]
 pub enum Stage {
-    /// There is none.
+    /// There are none.
     Start,
     /// To a line that others may follow.
     Body,
@@ -20,22 +20,21 @@ pub enum Stage {
     Ended,
 }
 
-/// What is kept of the lines read so far.
 #[derive(Drop)]
 pub struct Kept {
     pub alloc: Global,
     pub stage: Stage,
-    /// How many nodes may crash, as the head tells.
+    /// How many nodes may crash, by the head.
     pub faults: u64,
-    /// How many values may be decided in an instance, as the head tells.
+    /// How many values may be decided in an instance, by the head.
     pub choices: u64,
-    /// What is kept of each node of the group, by its number.
+    /// What is kept about each node, by number.
     pub nodes: Vec<KeptNode>,
     pub instances: Instances,
 }
 
 impl Kept {
-    /// Nothing was read. It takes no memory.
+    /// Begins before the first line; allocates nothing.
     pub fn new(alloc: Global) -> Kept
         ensures { IsNew result }
     {
@@ -49,14 +48,14 @@ impl Kept {
         }
     }
 
-    /// Whether the last line that was read is the end.
+    /// Whether the last line read is the end line.
     pub fn is_ended(&self) -> bool
         ensures { result ≡ is_ended_at self.now.stage }
     {
         matches!(self.stage, Stage::Ended)
     }
 
-    /// Takes a line that breaks no rule.
+    /// Takes in a line that breaks no rule.
     pub fn keep(&mut self, line: &WordLine<'_>) -> Result<(), AllocError>
         ensures { OnOk result (Keeps self.old self.new (line_said line.now)) }
     {
@@ -95,9 +94,9 @@ impl Kept {
         }
     }
 
-    /// Takes a delivery that breaks no rule, where its rest begins with the word that is kept of its item, and a line feed. It
-    /// tells where in the rest the line ends, behind its line feed. It may always answer `None`: then nothing changed, and the line
-    /// is to be judged as any other.
+    /// Takes in a delivery that breaks no rule, if its rest begins with the kept word of its item and a line feed.
+    /// Returns where in the rest the line ends, after its line feed. It may return `None` for any delivery. Then
+    /// nothing changed, and the line must be judged like any other.
     pub fn deliver(&mut self, delivery: &Delivery<'_>) -> Option<usize>
         ensures { Delivers self.old self.new delivery.now result }
     {
@@ -106,7 +105,7 @@ impl Kept {
         Some(end)
     }
 
-    // Where in its rest the delivery ends, where it breaks no rule by its word.
+    // Where in its rest the delivery ends, if its word shows that it breaks no rule.
     fn end_of_due(&self, delivery: &Delivery<'_>) -> Option<usize>
         ensures { IfSome result (IsDue self.now delivery.now) }
     {
@@ -121,7 +120,7 @@ impl Kept {
             .end_of_word(delivery.number, delivery.rest)
     }
 
-    // Takes the numbers of a head: of its nodes nothing was said.
+    // Takes in the numbers of a head. Its nodes begin with nothing.
     fn open(&mut self, nodes: u64, faults: u64, choices: u64) -> Result<(), AllocError>
         ensures stage { self.new.stage ≡ self.old.stage }
         ensures faults { OnOk result (self.new.faults ≡ faults) }
@@ -135,7 +134,7 @@ impl Kept {
         Ok(())
     }
 
-    // Takes an item that a node broadcast, and what it proposes, if it is a proposal.
+    // Takes in an item that a node broadcast, and what it proposes, if it is a proposal.
     fn keep_broadcast(&mut self, sender: NodeId, item: &ItemWord<'_>) -> Result<(), AllocError>
         ensures stage { self.new.stage ≡ self.old.stage }
         ensures faults { self.new.faults ≡ self.old.faults }
@@ -158,7 +157,7 @@ impl Kept {
         put_item(&mut self.nodes, sender, item)
     }
 
-    /// What is kept of the node, if it is one of the group.
+    /// What is kept about the node, if it is in the group.
     pub fn node(&self, node: NodeId) -> Option<&KeptNode>
         ensures { MatchOption result (length self.now.nodes.items ≤ node)
             (λ found. (node < length self.now.nodes.items)
@@ -177,7 +176,7 @@ impl Kept {
         }
     }
 
-    /// How many items the node broadcast, which is the number of its next one.
+    /// How many items the node broadcast, which is the number of its next item.
     pub fn item_count(&self, node: NodeId) -> u64
         ensures { result ≡ length (node_at self.now.nodes.items node).items }
     {
@@ -187,7 +186,7 @@ impl Kept {
         }
     }
 
-    /// How many items of the sender the node delivered, which is the number of the next one that it may deliver.
+    /// How many items the node delivered from the sender, which is the number of the next that it may deliver.
     pub fn delivered(&self, node: NodeId, sender: NodeId) -> u64
         ensures { result ≡ slice_index (node_at self.now.nodes.items node).delivered sender }
     {
@@ -197,7 +196,7 @@ impl Kept {
         }
     }
 
-    /// Whether the sender broadcast this item as the one of this number.
+    /// Whether the sender broadcast this item with this number.
     pub fn has_item(&self, sender: NodeId, number: u64, item: &ItemWord<'_>) -> bool
         ensures { result ≡ has_item (node_at self.now.nodes.items sender).items number item.now }
     {

@@ -1,4 +1,4 @@
-//! What is kept of a node: its items, how many it delivered from each, and whether it closed or crashed.
+//! What is kept about a node: its items, how many it delivered from each sender, and whether it closed or crashed.
 ghost use Rattle.std.specs.Prelude.{◌≡◌, replicate, slice_set, slice_index, IfSome, IfOk, OnOk};
 ghost use Rattle.cast_judge.specs.ItemList.{BeginsWithWord};
 ghost use Rattle.cast_judge.specs.Kept.{node_at, has_item, nobody, with_item, with_delivery, with_crash};
@@ -8,7 +8,6 @@ use cast_message::{MOST_NODES, NodeId};
 use cast_record::ItemWord;
 use std::alloc::{AllocError, Global};
 
-/// What is kept of a node.
 #[derive(Drop)]
 pub struct KeptNode {
     /// The items that it broadcast, in order.
@@ -16,12 +15,12 @@ pub struct KeptNode {
     /// Whether one of them closed its stream.
     pub closed: bool,
     pub crashed: bool,
-    /// How many items it delivered, by their sender.
+    /// How many items it delivered from each sender.
     pub delivered: [u64; MOST_NODES as usize],
 }
 
 impl KeptNode {
-    /// Nothing was said of it. It takes no memory.
+    /// A node that no line has mentioned. It allocates nothing.
     pub fn new(alloc: Global) -> KeptNode
         ensures { result ≡ nobody }
     {
@@ -33,7 +32,7 @@ impl KeptNode {
         }
     }
 
-    /// How many items of this sender it delivered. Of a sender past the most nodes there are none.
+    /// How many items it delivered from this sender; none if the number is past the greatest of a node.
     pub fn count_from(&self, sender: NodeId) -> u64
         ensures { result ≡ slice_index self.now.delivered sender }
     {
@@ -43,7 +42,7 @@ impl KeptNode {
         }
     }
 
-    /// Whether it broadcast this item as the one of this number.
+    /// Whether it broadcast this item with this number.
     pub fn has_item(&self, number: u64, item: &ItemWord<'_>) -> bool
         ensures { result ≡ has_item self.now.items number item.now }
     {
@@ -53,8 +52,8 @@ impl KeptNode {
         }
     }
 
-    /// Where the bytes begin with the word that is kept of the item of this number, and a line feed: the place behind these. `None`
-    /// says nothing of the bytes.
+    /// If the bytes begin with the kept word of the item with this number, and a line feed: the place after both.
+    /// `None` says nothing about the bytes.
     pub fn end_of_word(&self, number: u64, bytes: &[u8]) -> Option<usize>
         ensures { IfSome result (BeginsWithWord self.now.items number bytes.now) }
     {
@@ -66,7 +65,6 @@ impl KeptNode {
         None
     }
 
-    /// Takes an item that it broadcast.
     pub fn put_item(&mut self, item: &ItemWord<'_>) -> Result<(), AllocError>
         ensures { OnOk result (self.new ≡ with_item self.old item.now) }
     {
@@ -76,7 +74,6 @@ impl KeptNode {
         self.items.push(item)
     }
 
-    /// Counts a delivery from this sender.
     pub fn put_delivery(&mut self, sender: NodeId)
         ensures { self.new ≡ with_delivery self.old sender }
     {
@@ -88,7 +85,7 @@ impl KeptNode {
     }
 }
 
-/// So many nodes, of which nothing was said.
+/// This many nodes that no line has mentioned.
 pub fn new_nodes(alloc: Global, count: u64) -> Result<Vec<KeptNode>, AllocError>
     ensures { IfOk result (λ nodes. nodes.items ≡ replicate count nobody) }
 {
@@ -99,7 +96,7 @@ pub fn new_nodes(alloc: Global, count: u64) -> Result<Vec<KeptNode>, AllocError>
     Ok(nodes)
 }
 
-/// Takes an item that the node broadcast. A node past the last one changes nothing.
+/// Adds an item that the node broadcast. Nothing changes if the node does not exist.
 pub fn put_item(
     nodes: &mut Vec<KeptNode>,
     node: NodeId,
@@ -115,7 +112,7 @@ pub fn put_item(
     Ok(())
 }
 
-/// Counts a delivery of the node from this sender. A node past the last one changes nothing.
+/// Counts a delivery of the node from this sender. Nothing changes if the node does not exist.
 pub fn put_delivery(nodes: &mut Vec<KeptNode>, node: NodeId, sender: NodeId)
     ensures { nodes.new.items ≡ slice_set nodes.old.items node
         (with_delivery (node_at nodes.old.items node) sender) }
@@ -126,7 +123,7 @@ pub fn put_delivery(nodes: &mut Vec<KeptNode>, node: NodeId, sender: NodeId)
     }
 }
 
-/// Takes the crash of the node. A node past the last one changes nothing.
+/// Notes the crash of the node. Nothing changes if the node does not exist.
 pub fn put_crash(nodes: &mut Vec<KeptNode>, node: NodeId)
     ensures { nodes.new.items ≡ slice_set nodes.old.items node
         (with_crash (node_at nodes.old.items node)) }

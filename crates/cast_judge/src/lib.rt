@@ -1,7 +1,7 @@
-//! The judge of records: it reads the text of a record made by anyone, piece by piece, and says that it is good, or which
-//! line is the first that offends and the least rule that it breaks. What good is stands in `cast_record/specs`, read off
-//! all the lines before a line. The judge looks at no line again: it keeps of each node its items, counters, and whether it
-//! closed or crashed, and of each instance what was proposed and decided.
+//! The judge of records. It reads the text of a record by anyone, piece by piece. It says that the record is good, or
+//! names the first line that breaks a rule and the least rule that it breaks. `cast_record/specs` defines a good record
+//! by all the lines before a line, but the judge reads each line once. It keeps, for each node, its items, counters,
+//! and whether it closed or crashed; and for each instance, what was proposed and decided.
 #![tactic(auto)]
 
 mod candidates;

@@ -18,8 +18,8 @@ pub fn find_line_feed(bytes: &[u8]) -> Option<usize>
     memchr(b'\n', bytes)
 }
 
-/// Takes a line `d` that breaks no rule, and its line feed, off the front of the bytes, and tells what follows. It may always
-/// answer `None`: then nothing changed.
+/// Takes a line `d` that breaks no rule, and its line feed, off the front of the bytes, and returns the rest. It may
+/// always return `None`; then nothing changed.
 pub fn take_delivery<'a>(kept: &mut Kept, bytes: &'a [u8]) -> Option<&'a [u8]>
     ensures { Takes bytes.now kept.old kept.new (option_map (λ after. after.now) result) }
 {
@@ -31,7 +31,8 @@ pub fn take_delivery<'a>(kept: &mut Kept, bytes: &'a [u8]) -> Option<&'a [u8]>
     Some(&delivery.rest[end..])
 }
 
-/// Takes the line that these bytes spell, or tells the least rule that it breaks. A line that breaks one takes no memory.
+/// Takes in the line that these bytes spell, or returns the least rule that it breaks. In that case it allocates
+/// nothing.
 pub fn judge_line(kept: &mut Kept, bytes: &[u8]) -> Result<Option<u64>, AllocError>
     ensures judged { (past : List Said) → StandsFor past kept.old → length past < 2 ^ 63 →
         IfOk result (λ broken. Judges past bytes.now broken kept.new) }

@@ -1,4 +1,4 @@
-//! The rules of a good record, each as a question to what is kept of the lines so far.
+//! The rules of a good record, each as a question about what is kept of the lines so far.
 ghost use Rattle.std.specs.Prelude.{◌≡◌, nat_lt};
 ghost use Rattle.cast_record.specs.Rules.{is_head, names_below};
 ghost use Rattle.cast_record.specs.WordLines.{line_said};

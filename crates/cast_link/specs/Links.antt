@@ -1,10 +1,10 @@
 -- What a node gave another, as callers see it. A slot keeps the message itself, or whatever its user finds it by.
 --     Link X                     how many slots were given, and the owed ones with what they keep
---     Outward X                  a link, and whether there is room for one slot more
---     with_given link kept       a slot more is given
---     with_acknowledged link slot      a slot is owed no more
+--     Outward X                  a link, and whether there is room for one more slot
+--     with_given link kept       one more slot is given
+--     with_acknowledged link slot      a slot is no longer owed
 --     IsLeastFrom owed from slot the least slot owed from `from` on
---     owed_map base places       the owed slots, where places stand for the slots from base on
+--     owed_map base places       the owed slots, if these are the places of the slots from base on
 --     link_of base places        the same as a link
 --     outward_of base places ..  the same with the room
 --     is_acknowledged link slot  the slot was given and is not owed
@@ -32,7 +32,7 @@ module _ {X : Type 0} where
   abbrev pub with_acknowledged : Link X → ℕ → Link X
   with_acknowledged link slot = record { given = link.given; owed = map.remove link.owed slot }
 
-  -- slot is the least one owed that isn't below `from`, or `None` where there is none
+  -- slot is the least one owed from `from` on, or `None` if there is none
   abbrev pub IsLeastFrom : map.FinMap nat_cmp X → ℕ → Option ℕ → Type 0
   IsLeastFrom owed from result =
       MatchOption result
@@ -52,7 +52,7 @@ module _ {X : Type 0} where
   abbrev pub link_of : ℕ → List (Option X) → Link X
   link_of base places = record { given = base + length places; owed = owed_map base places }
 
-  -- there is room for a slot where there is for its place, and where its mark has a word
+  -- there is room for a slot if there is room for its place, and its mark has a word
   abbrev pub outward_of : ℕ → List (Option X) → ℕ → List ℕ → Outward X
   outward_of base places capacity marks =
       record {
@@ -60,7 +60,7 @@ module _ {X : Type 0} where
         room = nat_lt (length places) capacity && nat_lt (bit_of base (base + length places) / 64) (length marks);
       }
 
-  -- the first place, if any, is owed
+  -- the first place, if there is one, is owed
   abbrev pub StartsOwed : List (Option X) → Type 0
   StartsOwed [] = Unit {0}
   StartsOwed (None ∷ places) = ⊥
@@ -76,12 +76,11 @@ module _ {X : Type 0} where
       code_by (Link X × Bool) (coded× (link_code kept) coded_bool)
       (λ o. (o.link, o.room)) (λ p. record { link = p.0; room = p.1 }) (λ _. refl)
 
-  -- a slot that was given and is not owed
   abbrev pub is_acknowledged : Link X → ℕ → Bool
   is_acknowledged link slot = nat_lt slot link.given && not (map.contains_key link.owed slot)
 
--- The base is the least slot owed, or the next to be given. The marks begin with the first slot in the base's word, and those
--- of the slots that were acknowledged are set, and no others. They have room for each place, and no more than a word beyond.
+-- The base is the least slot owed, or the next to be given. The marks begin with the first slot in the base's word. Those of the
+-- slots that were acknowledged are set, and no others. They have room for each place, and for at most one word beyond.
 pub record KeepsOwed {X : Type 0} (base : ℕ) (places : List (Option X)) (marks : List ℕ) (owed : ℕ)
     : Type 0 where
   pub fits : base + length places < 2 ^ 64

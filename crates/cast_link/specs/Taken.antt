@@ -3,9 +3,9 @@
 --     IsFullWord words place          all bits of that word are set
 --     is_marked base words far slot   the slot has a bit or is farther away
 --     taken_set base words far        the slots taken
---     Inward                          the slots taken, and for which more there is room
+--     Inward                          the slots taken, and those for which there is room
 --     has_room inward slot            there is room for the slot
---     inward_of base words ..         the same of a base, words with this capacity, and slots farther away
+--     inward_of base words ..         the same for a base, words with this capacity, and slots farther away
 --     IsWindow base words far         how they are kept
 use Rattle.std.specs.Prelude.{◌≡◌, ◌+◌, ◌≤◌, ◌<◌, length, true, false, ℕ, ◌-◌, ◌*◌, ◌/◌, ◌^◌, nat_eq, nat_lt, nat_le, Bool, ◌||◌, ◌&&◌, List, refl}
 use Rattle.std.specs.List.{list_any, All}
@@ -24,7 +24,6 @@ abbrev pub SetsBit : List ℕ → ℕ → List ℕ → Type 0
 SetsBit before bit after =
     (other : ℕ) → is_set after other ≡ (nat_eq other bit || is_set before other)
 
--- all bits of a word are set
 abbrev pub IsFullWord : List ℕ → ℕ → Type 0
 IsFullWord words place = (k : ℕ) → k < 64 → is_set words (64 * place + k) ≡ true
 
@@ -32,7 +31,7 @@ abbrev pub is_marked : ℕ → List ℕ → List ℕ → ℕ → Bool
 is_marked base words far slot =
     is_set words (bit_of base slot) || list_any (is_at (nat_cmp slot)) far
 
--- from the base on, these mark the slots that those mark
+-- from the base on, these mark the same slots as those
 abbrev pub MarksTheSame : ℕ → List ℕ → List ℕ → List ℕ → List ℕ → Type 0
 MarksTheSame base words far words' far' =
     (slot : ℕ) → base ≤ slot → is_marked base words' far' slot ≡ is_marked base words far slot
@@ -56,8 +55,8 @@ inward_code =
 abbrev pub has_room : Inward → ℕ → Bool
 has_room inward slot = inward.settled && nat_lt slot inward.reach
 
--- the reach is the first slot that has no bit; it is settled that the base may move on where nothing is far that would
--- come within reach, or where there is memory for all words
+-- the reach is the first slot that has no bit; the base may move on if no far slot would come within reach, or if there is room
+-- for all words
 abbrev pub inward_of : ℕ → List ℕ → ℕ → List ℕ → Inward
 inward_of base words capacity far =
     record {
@@ -66,8 +65,8 @@ inward_of base words capacity far =
       settled = nat_eq (length far) 0 || nat_le 4097 capacity;
     }
 
--- the base is the least slot not taken, or the greatest slot there is; bits reach 262,144 slots from the base on; all
--- other slots taken lie beyond
+-- The base is the least slot not taken, or the greatest slot of all. Bits reach 262,144 slots from the base on; all
+-- other taken slots are beyond.
 pub record IsWindow (base : ℕ) (words far : List ℕ) : Type 0 where
   pub least : base + 1 < 2 ^ 64 → is_set words (bit_of base base) ≡ false
   pub short : length words ≤ 4097

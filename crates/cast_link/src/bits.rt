@@ -1,5 +1,4 @@
-//! Bits in words, one for each slot of a link from the word of its base on: those that were taken, or acknowledged. The words at
-//! the front can go.
+//! Bits in words, one for each slot of a link from the word of its base on: set for those that were taken, or acknowledged.
 ghost use Rattle.std.specs.Prelude.{◌≡◌, ◌+◌, ◌-◌, ◌≤◌, ◌<◌, ◌/◌, ◌%◌, ℕ, ◌^◌, true, false, drop, length, slice_index, OnOk};
 ghost use Rattle.std.specs.VecDeque.{deque_capacity};
 ghost use Rattle.cast_message.specs.Bits.{is_set};
@@ -8,14 +7,13 @@ ghost use Rattle.cast_link.specs.Taken.{bit_of, SetsBit, IsFullWord};
 use std::alloc::AllocError;
 use std::collections::VecDeque;
 
-/// The place of a slot among the bits, which begin with the word of the base.
+/// The place of a slot among the bits, which begin with the base's word.
 pub fn bit_of(base: u64, slot: u64) -> u64
     ensures { result ≡ bit_of base slot }
 {
     slot.saturating_sub(base / 64 * 64)
 }
 
-/// Whether the bit is set.
 pub fn has_bit(words: &VecDeque<u64>, bit: u64) -> bool
     ensures { result ≡ is_set words.now.items bit }
 {
@@ -25,7 +23,7 @@ pub fn has_bit(words: &VecDeque<u64>, bit: u64) -> bool
     }
 }
 
-/// How many bits there are from this one on in its word, where all of the word's bits are set; else none.
+/// How many bits its word has from this one on, if all of the word's bits are set; else none.
 pub fn full_word(words: &VecDeque<u64>, bit: u64) -> u64
     ensures set { (k : ℕ) → k < result → is_set words.now.items (bit + k) ≡ true }
     ensures full { IsFullWord words.now.items (bit / 64) → result ≡ 64 - bit % 64 }
@@ -37,7 +35,6 @@ pub fn full_word(words: &VecDeque<u64>, bit: u64) -> u64
     }
 }
 
-// Whether all bits of a word are set.
 fn has_all_bits(word: u64) -> bool
     ensures all { result ≡ true → word ≡ 2 ^ 64 - 1 }
     ensures not_all { result ≡ false → word < 2 ^ 64 - 1 }
@@ -45,7 +42,7 @@ fn has_all_bits(word: u64) -> bool
     word == u64::MAX
 }
 
-/// Makes words up to a bit, the new ones with no bit set.
+/// Adds words with no bit set up to that of a bit.
 pub fn make_room(words: &mut VecDeque<u64>, bit: u64) -> Result<(), AllocError>
     ensures ok { OnOk result (bit / 64 < length words.new.items) }
     ensures more { length words.old.items ≤ length words.new.items }
@@ -59,7 +56,6 @@ pub fn make_room(words: &mut VecDeque<u64>, bit: u64) -> Result<(), AllocError>
     Ok(())
 }
 
-/// Sets a bit.
 pub fn set_bit(words: &mut VecDeque<u64>, bit: u64)
     requires { bit / 64 < length words.old.items }
     ensures len { length words.new.items ≡ length words.old.items }
@@ -69,7 +65,6 @@ pub fn set_bit(words: &mut VecDeque<u64>, bit: u64)
     words[(bit / 64) as usize] |= 1 << (bit % 64);
 }
 
-/// Drops words at the front.
 pub fn drop_front(words: &mut VecDeque<u64>, count: u64)
     ensures words { words.new.items ≡ drop count words.old.items }
     ensures room { deque_capacity words.new ≡ deque_capacity words.old }

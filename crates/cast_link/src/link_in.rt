@@ -1,4 +1,4 @@
-//! The slots taken from a peer, as a base, bits for the slots from the base on, and an ordered set for those farther away.
+//! The slots taken from a peer: all below a base, bits from there on, and an ordered set of the slots farther away.
 ghost use Rattle.std.specs.Prelude.{◌≡◌, ◌<◌, true, not, IfOk, OnOk, OnErr};
 ghost use Rattle.std.specs.FinSet as set;
 ghost use Rattle.cast_link.specs.Taken.{has_room};
@@ -14,9 +14,9 @@ use std::marker::Model;
 pub struct LinkIn {
     // The least slot not taken, or the greatest slot there is.
     base: u64,
-    // The bits of the slots from the first one in the base's word on.
+    // A bit for each slot, from the first slot of the base's word.
     words: VecDeque<u64>,
-    // The slots taken that the bits don't reach.
+    // The slots taken beyond the bits.
     far: BTreeSet<u64>,
 }
 
@@ -34,7 +34,7 @@ impl Model for LinkIn {
 }
 
 impl LinkIn {
-    /// No slot was taken. It takes no memory.
+    /// A link with no slot taken. It allocates nothing.
     pub fn new(alloc: Global) -> LinkIn
         ensures { result.slots ≡ set.empty }
     {
@@ -55,7 +55,7 @@ impl LinkIn {
         make_bit(self.base, &mut self.words, &self.far, slot)
     }
 
-    /// Takes a slot for which there is room, and says whether it is the first time. It takes no memory.
+    /// Takes a slot for which there is room, and returns whether it is new. It allocates nothing.
     #[inline(always)]
     pub fn take_reserved(&mut self, slot: u64) -> bool
         requires { has_room self.old slot ≡ true }
@@ -76,7 +76,7 @@ impl LinkIn {
         true
     }
 
-    /// Takes a slot, and says whether it is the first time.
+    /// Takes a slot, and returns whether it is new.
     pub fn take(&mut self, slot: u64) -> Result<bool, AllocError>
         ensures test { IfOk result (λ first. first ≡ not (set.contains self.old.slots slot)) }
         ensures ok { OnOk result (self.new.slots ≡ set.insert self.old.slots slot) }
@@ -91,7 +91,7 @@ impl LinkIn {
         Ok(first)
     }
 
-    /// Whether the slot was taken, so that it may be acknowledged. It takes no memory.
+    /// Whether the slot was taken, so that it may be acknowledged. It allocates nothing.
     #[inline(always)]
     pub fn may_ack(&self, slot: u64) -> bool
         ensures { result ≡ set.contains self.now.slots slot }

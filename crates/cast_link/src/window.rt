@@ -1,5 +1,5 @@
-//! The slots taken from a peer as a window: a base, bits for the slots within reach of it, and a set for those farther away. As the
-//! base goes on, slots move from the set to the bits.
+//! The slots taken from a peer as a window: a base, bits for the slots within its reach, and a set of those farther away. As the
+//! base moves on, slots move from the set to the bits.
 ghost use Rattle.std.specs.Prelude.{◌≡◌, ◌+◌, ◌≤◌, ◌<◌, ◌∷◌, ◌||◌, ℕ, ◌^◌, IsTrue, true, false, nat_eq, length, slice_index, OnOk};
 ghost use Rattle.std.specs.List.{All};
 ghost use Rattle.std.specs.FinSet as set;
@@ -11,13 +11,13 @@ use crate::bits::{bit_of, drop_front, has_bit, make_room, set_bit};
 use std::alloc::AllocError;
 use std::collections::{BTreeSet, VecDeque};
 
-/// How many slots from the base on have bits.
+/// The number of slots from the base on that have bits.
 pub const REACH: u64 = 262_144;
 
-// Words for that many bits, wherever in its word the base is.
+// Words for as many bits, wherever in its word the base is.
 const WORDS: usize = 4097;
 
-/// Makes a bit for a slot within reach, and room for those that far slots get where the base moves on.
+/// Makes a bit for a slot within reach, and room for those that far slots get when the base moves on.
 #[inline(always)]
 pub fn make_bit(
     base: u64,
@@ -40,8 +40,7 @@ pub fn make_bit(
     words.reserve(WORDS - words.len())
 }
 
-/// Takes the base: the next slot that was not taken becomes the base, and what comes within reach gets a bit. It takes no
-/// memory.
+/// Takes the base. The next slot that was not taken becomes the base, and what comes within reach gets a bit. It takes no memory.
 #[inline(always)]
 pub fn advance(base: &mut u64, words: &mut VecDeque<u64>, far: &mut BTreeSet<u64>)
     requires more { base.old + 1 < 2 ^ 64 }
@@ -57,7 +56,7 @@ pub fn advance(base: &mut u64, words: &mut VecDeque<u64>, far: &mut BTreeSet<u64
     gather(next, words, far);
 }
 
-// The first slot from one on that neither has a bit nor is far, or the greatest slot there is.
+// The first slot from one on that has no bit and is not far, or the greatest slot there is.
 fn first_free(base: u64, words: &VecDeque<u64>, far: &BTreeSet<u64>, from: u64) -> u64
     ensures least { from ≤ result }
     ensures taken { (slot : ℕ) → from ≤ slot → slot < result →
@@ -73,7 +72,7 @@ fn first_free(base: u64, words: &VecDeque<u64>, far: &BTreeSet<u64>, from: u64) 
     u64::MAX
 }
 
-// Gives bits to the far slots that a base reaches.
+// Gives bits to the far slots within reach of a base.
 fn gather(base: u64, words: &mut VecDeque<u64>, far: &mut BTreeSet<u64>)
     requires short { length words.old.items ≤ 4097 }
     requires room { 0 < length far.old.keys → 4097 ≤ deque_capacity words.old }
@@ -90,7 +89,7 @@ fn gather(base: u64, words: &mut VecDeque<u64>, far: &mut BTreeSet<u64>)
     }
 }
 
-// The first slot goes.
+// Takes the first slot out.
 fn take_first(far: &mut BTreeSet<u64>) -> u64
     requires { 0 < length far.old.keys }
     ensures { far.old.keys ≡ result ∷ far.new.keys }
@@ -119,7 +118,7 @@ fn give_bit(base: u64, words: &mut VecDeque<u64>, slot: u64)
     set_bit(words, bit);
 }
 
-// Words up to a place, the new ones with no bit set.
+// Adds words with no bit set up to a place.
 fn add_words(words: &mut VecDeque<u64>, place: usize)
     requires place { place < 4097 }
     requires short { length words.old.items ≤ 4097 }

@@ -28,9 +28,9 @@ use Rattle.cast_record.specs.Text.{record_text}
 use Rattle.cast_record.specs.Verdicts.{verdict}
 use Rattle.cast_script.specs.declared.script.Script.{Script}
 use Rattle.cast_script.specs.declared.script.ScriptEvent.TheVariants.{Core}
-use Rattle.cast_script.specs.declared.script.Settings.{Settings}
+use Rattle.cast_message.specs.declared.settings.Settings.{Settings}
 use Rattle.cast_script.specs.Replay.{script_text, replay, IsReplayIn}
-use Rattle.cast_script.specs.Script.{settings_in, said}
+use Rattle.cast_script.specs.Script.{group_in, settings_in, said}
 use Rattle.cast_text.specs.Ranges.{HasEventRange, HasScriptRange}
 use Rattle.cast_text.specs.Played.{played_from}
 use Rattle.cast_text.specs.Recorded.{lines_of, record_of}
@@ -72,8 +72,8 @@ made_of s w = record {
   mode_in_range = w.11;
 }
 
-abbrev within_of : (c : Config) (turns : ℕ) → AreWithin (settings_in c turns)
-within_of c turns = (c.some_node, c.nodes_in_range, c.faults_in_range, c.some_choice, c.choices_in_range, c.some_item, c.items_in_range, c.some_entry, c.log_in_range, c.some_place, c.box_in_range, c.mode_in_range)
+abbrev within_of : (c : Config) → AreWithin (group_in c)
+within_of c = (c.some_node, c.nodes_in_range, c.faults_in_range, c.some_choice, c.choices_in_range, c.some_item, c.items_in_range, c.some_entry, c.log_in_range, c.some_place, c.box_in_range, c.mode_in_range)
 
 one_proof : (s : Settings) (v w : AreWithin s) → v ≡ w
 one_proof s v w i = (le_prop v.0 w.0 i, le_prop v.1 w.1 i, le_prop v.2 w.2 i, le_prop v.3 w.3 i, le_prop v.4 w.4 i, le_prop v.5 w.5 i, le_prop v.6 w.6 i, le_prop v.7 w.7 i, le_prop v.8 w.8 i, le_prop v.9 w.9 i, le_prop v.10 w.10 i, le_prop v.11 w.11 i)
@@ -81,8 +81,8 @@ one_proof s v w i = (le_prop v.0 w.0 i, le_prop v.1 w.1 i, le_prop v.2 w.2 i, le
 one_config : (s t : Settings) → s ≡ t → (v : AreWithin s) (w : AreWithin t) → made_of s v ≡ made_of t w
 one_config s t e v w = subst (λ t. (w : AreWithin t) → made_of s v ≡ made_of t w) e (λ w. ap (made_of s) (one_proof s v w)) w
 
-same_config : (a b : Config) (m n : ℕ) → settings_in a m ≡ settings_in b n → a ≡ b
-same_config a b m n e = one_config (settings_in a m) (settings_in b n) e (within_of a m) (within_of b n)
+same_config : (a b : Config) → group_in a ≡ group_in b → a ≡ b
+same_config a b e = one_config (group_in a) (group_in b) e (within_of a) (within_of b)
 
 -- ---- the lines of the script are those of the run
 
@@ -93,7 +93,7 @@ script_lines config index past (event ∷ events) = ap (λ ls. lines_for index e
 
 pub record_of_replay : (config : Config) (events : List Event) (script : Script) → said script ≡ replay config events → record_of script ≡ record_of_accepted config events
 record_of_replay config events script e =
-    let one = same_config script.config config script.turns 4000000 (ap (λ s. s.settings) e) in
+    let one = same_config script.config config (ap (λ s. s.settings.group) e) in
     let happened : script.events ≡ map Core events = ap (λ s. s.events) e in
     ap (λ c. head_of c ∷ (lines_of (played_from c 0 [] script.events) ++ End ∷ [])) one
     ∙ ap (λ es. head_of config ∷ (lines_of (played_from config 0 [] es) ++ End ∷ [])) happened

@@ -1,4 +1,4 @@
--- What became of a group that ran, and what is told of it.
+-- What happened to a group that ran, and what is reported of it.
 --     IsMergedRun config reports events    the events are the merge of these linked logs
 --     IsRunOf script reports               these are the reports of a run of the script, with a client for each of its jobs
 --     events_of run                        the merged events of a run
@@ -6,7 +6,7 @@
 --     end_word ended                       the word of an end
 --     node_text config past p ended        the line of node p: its end, and how many items it delivered from each node
 --     summary_text config past ends said   the whole summary
---     IsOfRunning script fault             why the group of the script is not run, or memory was wanted
+--     IsOfRunning script fault             why the script's group is not run, or memory ran out
 use Rattle.std.specs.Prelude.{◌≡◌, ℕ, ◌+◌, ◌++◌, ◌↔◌, [], ◌∷◌, List, Bool, true, false, IsTrue, length, map, flat_map, codes, decimal, reverse, slice_get, Some, Option}
 use Rattle.std.specs.List.{range_with_len}
 use Rattle.cast_message.specs.declared.config.Config.{Config}
@@ -57,12 +57,12 @@ pub record IsMergedRun (config : Config) (reports : List NodeReport) (events : L
 abbrev pub events_of : FinishedRun → List Event
 events_of run = merged_events run.report.reports
 
--- rest is told where the group is at rest after these events, and the record of them is good
+-- the summary says whether the group is at rest after these events, and that their record is good
 pub record IsSummaryOf (config : Config) (events : List Event) (said : Summary) : Type 0 where
   pub rest : IsTrue said.rest ↔ Rest config (history config events)
   pub good : said.verdict ≡ Good
 
--- the run's logs are linked, its world stands for the events into which they merge, and its summary is told of these
+-- the run's logs are linked; its world and summary are those of the merged events
 pub record IsFinished (run : FinishedRun) : Type 0 where
   pub merged : IsMergedRun run.report.config run.report.reports (events_of run)
   pub stands : Stands run.report.config (history run.report.config (events_of run)) run.world
@@ -79,20 +79,20 @@ AreNewJobs jobs = (i : ℕ) (job : ℕ × SubmitAll) → slice_get jobs i ≡ So
 abbrev pub items_of : ℕ × SubmitAll → ℕ × List Item
 items_of job = (job.0, job.1.left)
 
--- what is planned and the jobs fit the script's group
+-- the plan and the jobs fit the script's group
 pub record FitsGroup (script : Script) : Type 0 where
   pub jobs : JobsFit script.config.nodes script.jobs
   pub plan : ArePlanned script.config.nodes script.plan.faults
 
--- these are the reports of a run of the script, which fits its group, in which each of its jobs had a client that submits its
--- items; of these none are left at a node that stopped
+-- These are the reports of a run of the script, which fits its group. Each of its jobs had a client that submits its
+-- items, with none left at a node that stopped.
 pub record IsRunOf (script : Script) (reports : List NodeReport) : Type 0 where
   pub fits : FitsGroup script
   -- the jobs that were handed in
   pub handed : List (ℕ × SubmitAll)
   pub items : map items_of handed ≡ script.jobs
   pub new : AreNewJobs handed
-  -- what came back of them
+  -- what was returned for them
   pub back : LiveRun SubmitAll
   pub ran : IsRun script.config script.plan.faults SubmitsGiven handed back
   pub reported : back.report.reports ≡ reports
@@ -109,7 +109,7 @@ end_word TurnLimit = codes "turnlimit"
 end_word LogFull = codes "logfull"
 end_word ClockFull = codes "clockfull"
 
--- how many items node p delivered from each of these nodes, each after a blank
+-- how many items node p delivered from each of these nodes, each number after a blank
 abbrev pub counts_text : Config → History → ℕ → List ℕ → List ℕ
 counts_text config past p senders =
     flat_map (λ sender. codes " " ++ decimal (length (delivered config past p sender))) senders
@@ -121,7 +121,7 @@ abbrev pub node_text : Config → History → ℕ → EngineEnd → List ℕ
 node_text config past p ended =
     end_text p ended ++ (counts_text config past p (range_with_len 0 config.nodes) ++ codes "\n")
 
--- the lines of the nodes from p on, which ended so
+-- the lines of the nodes from p on, with these ends
 unfoldable pub nodes_text : Config → History → ℕ → List EngineEnd → List ℕ
 nodes_text config past p [] = []
 nodes_text config past p (ended ∷ ends) = node_text config past p ended ++ nodes_text config past (p + 1) ends
@@ -141,7 +141,7 @@ summary_of run =
 
 -- ---- faults
 
--- why the group of a script is not run: the first cause that holds, where all is well a thread that was not started
+-- why the group of a script is not run: the first cause that holds, or, if there is none, a thread that did not start
 abbrev pub IsRefusedFor : Script → LiveFault → Type 0
 IsRefusedFor script lives.Jobs = ¬ JobsFit script.config.nodes script.jobs
 IsRefusedFor script lives.Plan =
@@ -154,7 +154,7 @@ IsOfRunning script (faults.Live why) = IsRefusedFor script why
 IsOfRunning script faults.Memory = FitsGroup script
 IsOfRunning script fault = ⊥
 
--- the script that was read is not run for this
+-- the script that was read is not run for this cause
 pub record DoesNotRun (input : Option (List ℕ)) (why : LiveFault) : Type 0 where
   pub script : Script
   pub read : IsScriptIn input script

@@ -1,12 +1,12 @@
--- What the writers of a run's texts have got.
---     IsSound writer, AreSound outputs           no writer that is wanted has failed
---     PutsWanted contents old new result text    a text that is wanted was written, or broke off
---     Got contents old new whole text            a writer has the whole text, or else a front of it
---     GotTexts summary file old new whole run    each writer that is wanted has so much of its text of the run
---     FailsFor fault failed                      it is told for this failure, or memory was wanted
---     FailsIn outputs fault                      a writer failed, or memory was wanted
+-- What the writers of a run's texts have received.
+--     IsSound writer, AreSound outputs           no requested writer has failed
+--     PutsWanted contents old new result text    a requested text was written, or broke off
+--     Got contents old new whole text            a writer has the whole text, or else a prefix of it
+--     GotTexts summary file old new whole run    each requested writer has its text of the run, or a prefix of it
+--     FailsFor fault failed                      the fault reports this failure, or out of memory
+--     FailsIn outputs fault                      a writer failed, or memory ran out
 --     IsRunIn input run                          it is a run of the script that was read
---     RunsGroup                                  each writer has its text of a run of the script, or a fault has its cause
+--     RunsGroup                                  each writer has its text of a run of the script, or the fault's cause holds
 use Rattle.std.specs.Prelude.{◌≡◌, ℕ, ◌⊎◌, List, Bool, true, false, Option, Some, None, Result, Ok, Err}
 use Rattle.cast_record.specs.Text.{record_text}
 use Rattle.cast_record.specs.Written.{WroteAll}
@@ -44,7 +44,7 @@ GotWanted contents None (Some new) whole text = ⊥
 GotWanted contents (Some old) None whole text = ⊥
 GotWanted contents (Some old) (Some new) whole text = Got contents old new whole text
 
--- the summary, and where they are wanted the record and the script that replays the run
+-- the summary and, if requested, the record and the script that replays the run
 pub record GotTexts {S F : Type 0} (summaries : S → Option (List ℕ)) (files : F → Option (List ℕ)) (old new : RunOutputs S F) (whole : Bool) (run : FinishedRun) : Type 0 where
   pub summary : Got summaries old.summary new.summary whole (summary_of run)
   pub lines : GotWanted files old.«record» new.«record» whole (record_text (record_of_accepted run.report.config (events_of run)))
@@ -81,7 +81,7 @@ pub record StopsWriting {S F : Type 0} (input : Option (List ℕ)) (summaries : 
   pub texts : GotTexts summaries files old new false run
   pub cause : FailsIn new fault
 
--- where there is no run nothing was written
+-- if there is no run, nothing was written
 abbrev pub RunsGroup : {S F : Type 0} → Option (List ℕ) → Bool → (S → Option (List ℕ)) → (F → Option (List ℕ)) → RunOutputs S F → RunOutputs S F → Result FinishedRun TextFault → Type 0
 RunsGroup input read_failed summaries files old new (Ok run) = IsRunIn input run × GotTexts summaries files old new true run
 RunsGroup input read_failed summaries files old new (Err fault) =

@@ -1,7 +1,7 @@
--- The record of a run, and that of the script which says what happened in it.
---     lines_told index events replies     the lines of these events with these replies, counted from an index on
+-- The record of a run, and that of the script that says what happened in it.
+--     lines_told index events replies     the lines of these events with these replies, counted from an index
 --     run_record config events replies    the head, those lines, and the end
---     RecordsReplay config events         running the script of these events writes just that record
+--     RecordsReplay config events         running the script of these events writes exactly that record
 use Rattle.std.specs.Prelude.{◌≡◌, ℕ, ◌+◌, Bool, true, false, List, [], ◌∷◌, ◌++◌, reverse, Option, Some, Result, Err}
 use Rattle.std.specs.List.{All}
 use Rattle.std.specs.Io.KnownBytes.{Appends}
@@ -35,20 +35,20 @@ abbrev pub is_refusal : Line → Bool
 is_refusal (Refused index code) = true
 is_refusal _ = false
 
--- the record of the events with the replies to them
+-- the record of the events and their replies
 abbrev pub record_of_accepted : Config → List Event → List Line
 record_of_accepted config events = run_record config events (replies config events)
 
 pub record RecordsReplay (config : Config) (events : List Event) : Type 0 where
-  -- whatever running the text of that script writes, to its end, is that record (a text that is too long for an input is not run)
+  -- running the text of that script to its end writes that record (a text too long for an input is not run)
   pub replays : (old new : Option (List ℕ))
       → WritesRecord (Some (script_text config events)) old new
       → Appends old new (record_text (record_of_accepted config events))
-  -- that text is refused for want of memory alone
+  -- that text is refused only for lack of memory
   pub not_refused : (read_failed failed : Bool) (old new : Option (List ℕ)) (fault : ScriptFault)
       → Records (Some (script_text config events)) read_failed old new failed (Err (faults.Script fault))
       → fault ≡ Memory
   pub good : verdict (record_text (record_of_accepted config events)) ≡ Good
-  -- where all events are accepted, no line of it is a refusal
+  -- if all events are accepted, no line is a refusal
   pub none_refused : history config events ≡ reverse events
       → All (λ line. is_refusal line ≡ false) (record_of_accepted config events)

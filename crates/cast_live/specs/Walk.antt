@@ -1,6 +1,6 @@
 -- A walk over the merged events of a run.
---     TakesStep old event new answered         the answer is the group's reply, and the world stands for the event too
---     IsWalk config events index left world    so many of the events were taken, these are left, and the world stands for the taken
+--     TakesStep old event new answered         the answer is the group's reply, and the world includes the event
+--     IsWalk config events index left world    `index` events were taken, `left` are left, and the world matches those taken
 use Rattle.std.specs.Prelude.{◌≡◌, ℕ, ◌<◌, ◌^◌, List, ◌++◌, length, Result}
 use Rattle.std.specs.List.{AllByRecursion}
 use Rattle.cast_message.specs.declared.config.Config.{Config}

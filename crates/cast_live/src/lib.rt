@@ -1,4 +1,5 @@
-//! The group of a script, run in threads or by a schedule: what became of it, told as a summary, as a record, and as a script that replays it.
+//! Runs the group of a script, in threads or by a schedule. What happened is reported as a summary, a record, and a
+//! script that replays it.
 #![tactic(auto)]
 
 mod live;

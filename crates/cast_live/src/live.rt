@@ -1,4 +1,4 @@
-//! Running the group of a script, and telling what became of it.
+//! Runs the group of a script, and reports what happened to it.
 ghost use Rattle.std.specs.Prelude.{◌≡◌, ◌<◌, ◌++◌, ◌∷◌, [], false, length, IfOk, IfErr, IsSome, OnOk, map, vec_len};
 ghost use Rattle.cast_run.specs.Faults.{Fits, IsFaultOf};
 ghost use Rattle.cast_run.specs.Jobs.{told_job};
@@ -28,15 +28,15 @@ use std::io::{Read, Write};
 use std::sync::{Arc, Wait};
 use std::thread::Threads;
 
-/// What came back of a group that ran. Its logs, merged, say what happened: the group, as one value, takes those events, and their
-/// record is judged. Neither is kept.
+/// The result of a run. Its merged logs say what happened: the group as a whole takes these events, and their record is
+/// judged. Neither is kept.
 #[derive(Drop)]
 pub struct FinishedRun {
     pub report: GroupReport,
-    /// The group after what happened.
+    /// The group after these events.
     pub world: World,
     pub summary: Summary,
-    /// How many orders the desks of its nodes had left.
+    /// How many orders its nodes' desks had left.
     pub left: u64,
 }
 
@@ -45,16 +45,16 @@ pub struct FinishedRun {
 pub enum Way<S> {
     /// In threads.
     Threads,
-    /// In the calling thread, in the order of a schedule. The run takes as many steps at most as the turns and calls of its script, and
-    /// the parcels of its carriers, may want.
+    /// In the calling thread, in the order of a schedule. The run takes at most as many steps as its turns, its calls
+    /// and its carriers' parcels may need.
     By(S),
 }
 
-/// Reads a script to its end, runs its group one way or the other, with its plan and a client for each of its jobs, and writes what is
-/// wanted of the run. The events of the script are left aside. Nothing is written before the run has ended; until then `progress`
-/// tells another thread how far it is.
+/// Reads a script to its end, runs its group with its plan and a client for each of its jobs, and writes the requested
+/// texts. The script's events are not used. Nothing is written before the run has ended; until then `progress` shows
+/// another thread how far it is.
 ///
-/// After `Write` or `Memory` each writer has a front of its text, or nothing; after any other fault nothing.
+/// After `Write` or `Memory` each writer has a prefix of its text; after any other fault it has nothing.
 pub fn live_text<
     R: Read,
     S: Write,
@@ -70,14 +70,15 @@ pub fn live_text<
     way: Way<C>,
 ) -> Result<FinishedRun, TextFault>
     requires { (reader.old.failed ≡ false) × AreSound outputs.old }
-    // It is a run of the script that was read, and each writer has its text of that run and nothing else; or a fault has its cause.
+    // It is a run of the script that was read, and each writer has exactly its text of that run; or the fault's cause
+    // holds.
     ensures exact { RunsGroup (R.remaining reader.old.inner) reader.new.failed
         S.contents F.contents outputs.old outputs.new result }
-    // Running the script that is written, where it is no longer than an input may be, writes the record of the run, in which no
-    // line is a refusal.
+    // Running the written script, if it is not too long for an input, writes the record of the run, in which no line is
+    // a refusal.
     ensures law { IfOk result (λ run. IsSome outputs.old.replay
         → RecordsReplay run.report.config (events_of run)) }
-    // What failed is told, and nothing else is.
+    // Only what failed is reported.
     ensures told { Tells result reader.new.failed (is_of_output result) }
     ensures taken { TakesInput (R.remaining reader.old.inner) (R.remaining reader.new.inner) }
 {
@@ -88,8 +89,8 @@ pub fn live_text<
     Ok(run)
 }
 
-// How many deliveries a run of the script can make: each item at each node. A run in which a node does not stop by itself, or an
-// item is refused, may end below that.
+// How many deliveries a run of the script can make: each item at each node. A run where a node does not stop by itself,
+// or an item is refused, may make fewer.
 fn count_due(script: &Script) -> u64 {
     let mut items = 0u64;
     for (_node, job) in script.jobs.as_slice() {
@@ -98,16 +99,16 @@ fn count_due(script: &Script) -> u64 {
     items.saturating_mul(script.config.nodes())
 }
 
-// As many steps as the turns and calls of a group, and the parcels of its carriers, may want.
+// The number of steps that a group's turns, calls and carriers' parcels may need.
 fn count_steps(script: &Script) -> u64 {
     let jobs = script.jobs.as_slice().len() as u64;
     let all = jobs.saturating_add(2 * script.config.nodes());
     script.turns.saturating_mul(all)
 }
 
-// Runs the group of a script, with its plan and a client for each of its jobs, and merges its logs. All threads have ended when it
-// returns. Refused are a group that does not fit the script's jobs and plan, or of which a thread was not started, each as `Live`, and
-// want of memory, which is `Memory` alone.
+// Runs the group of a script, with its plan and a client for each of its jobs, and merges its logs. All threads have
+// ended when it returns. `Live` says that the group does not fit the jobs and plan, or a thread did not start. `Memory`
+// is only for lack of memory.
 fn run_script<S: Schedule + Drop, T: Threads + Wait + Copy + Send + 'static>(
     rt: T,
     alloc: Global,
@@ -128,7 +129,7 @@ fn run_script<S: Schedule + Drop, T: Threads + Wait + Copy + Send + 'static>(
         jobs,
         ..
     } = script;
-    // What does not fit is told before any memory is asked for.
+    // A misfit is reported before any memory is requested.
     if let Some(misfit) = find_misfit(&config, &plan, jobs.as_slice(), config.nodes() as usize) {
         return Err(TextFault::from(misfit));
     }
@@ -138,7 +139,7 @@ fn run_script<S: Schedule + Drop, T: Threads + Wait + Copy + Send + 'static>(
     Ok(merge_logs(alloc, run)?)
 }
 
-// Runs the jobs of a script one way or the other.
+// Runs the jobs of a script, in threads or by a schedule.
 fn run_jobs<S: Schedule + Drop, T: Threads + Wait + Copy + Send + 'static>(
     rt: T,
     alloc: Global,
@@ -186,7 +187,6 @@ impl FinishedRun {
     }
 }
 
-// Whether the entry at this place tells a refused order.
 fn is_refused(log: &Log, place: usize) -> bool
     requires { place < length log.now }
 {
@@ -196,7 +196,7 @@ fn is_refused(log: &Log, place: usize) -> bool
     }
 }
 
-// Has the group take what happened, and the judge judge it.
+// Lets the group take the merged events, and the judge judge them.
 fn merge_logs(alloc: Global, run: LiveRun<SubmitAll>) -> Result<FinishedRun, AllocError>
     ensures report { IfOk result (λ finished. finished.report ≡ run.report) }
     ensures ok { IfOk result IsFinished }
@@ -204,7 +204,7 @@ fn merge_logs(alloc: Global, run: LiveRun<SubmitAll>) -> Result<FinishedRun, All
     let left = count_left(run.clients.as_slice());
     let report = run.report;
     let (world, verdict) = judge_run(alloc, &report)?;
-    // Reading them tells a proof that they are linked.
+    // This tells the prover that they are linked.
     let _linked = report.reports();
     let summary = Summary {
         rest: world.at_rest(),
@@ -218,7 +218,6 @@ fn merge_logs(alloc: Global, run: LiveRun<SubmitAll>) -> Result<FinishedRun, All
     })
 }
 
-// How many orders the desks of these clients had left.
 fn count_left(clients: &[ClientReport]) -> u64 {
     let mut left = 0u64;
     for client in clients {
@@ -227,7 +226,7 @@ fn count_left(clients: &[ClientReport]) -> u64 {
     left
 }
 
-// For each job of the script the one that submits its items.
+// For each of the script's jobs, one that submits its items.
 fn submit_all(
     alloc: Global,
     jobs: List<(NodeId, List<Item>)>,

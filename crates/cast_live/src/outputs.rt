@@ -1,4 +1,4 @@
-//! Where the texts of a run go: its summary, and, where they are wanted, its record and the script that replays it.
+//! Where the texts of a run go: its summary and, if requested, its record and the script that replays it.
 ghost use Rattle.std.specs.Prelude.{◌≡◌, ◌⊎◌, true, false, Err, IfErr, IsOk, IsSome, OnOk, OnErr};
 ghost use Rattle.cast_record.specs.Text.{record_text};
 ghost use Rattle.cast_script.specs.Replay.{script_text};
@@ -17,19 +17,18 @@ use cast_text::TextFault;
 use std::alloc::Global;
 use std::io::Write;
 
-/// Where the texts of a run go.
 #[derive(Drop)]
 pub struct RunOutputs<S, F> {
     pub summary: Meter<S>,
-    /// The record of what happened, where it is wanted.
+    /// The record of what happened, if requested.
     pub record: Option<Meter<F>>,
-    /// The script that says what happened, where it is wanted.
+    /// The script that says what happened, if requested.
     pub replay: Option<Meter<F>>,
 }
 
 impl<S: Write, F: Write> RunOutputs<S, F> {
-    /// Writes what is wanted of the run: the record, the replay, the summary. One that fails takes nothing from the others. Want of
-    /// memory is told first, and then that a writer failed.
+    /// Writes the requested texts: the record, the replay, the summary. If one fails, the others are still written. Out
+    /// of memory is reported before a failed writer.
     pub fn write(&mut self, alloc: Global, run: &FinishedRun) -> Result<(), TextFault>
         requires run { IsFinished run.now }
         requires writers { AreSound self.old }
@@ -48,7 +47,7 @@ impl<S: Write, F: Write> RunOutputs<S, F> {
     }
 }
 
-// Want of memory of the other, or else the first fault.
+// The first fault, unless the other result is out of memory.
 fn memory_first(one: Result<(), TextFault>, other: Result<(), TextFault>) -> Result<(), TextFault>
     ensures ok { OnOk result (IsOk one × IsOk other) }
     ensures err { IfErr result (λ fault. (one ≡ Err fault) ⊎ (other ≡ Err fault)) }
@@ -100,8 +99,8 @@ fn put_summary<S: Write>(run: &FinishedRun, writer: &mut Meter<S>) -> Result<(),
     Ok(())
 }
 
-// Writes the script that says what happened in the run: its configuration, and the merged events, of which it makes the list.
-// After a fault of the writer a prefix of it was written, or nothing, and where memory is wanting nothing.
+// Writes the script that says what happened in the run: its configuration and the list of merged events, which it
+// makes. After a writer's fault, a prefix was written; after out of memory, nothing.
 fn write_replay_of<W: Write>(
     alloc: Global,
     run: &FinishedRun,
@@ -110,7 +109,7 @@ fn write_replay_of<W: Write>(
     requires { writer.old.failed ≡ false }
     ensures text { Puts W.contents writer.old writer.new result
         (script_text run.now.report.config (events_of run.now)) }
-    // Running that script, where it is no longer than an input may be, writes the record of the run, in which no line is a
+    // Running that script, if it is not too long for an input, writes the record of the run, in which no line is a
     // refusal.
     ensures law { OnOk result (RecordsReplay run.now.report.config (events_of run.now)) }
 {

@@ -1,4 +1,4 @@
-//! The record of a run, and that of the script which says what happened in it.
+//! The record of a run, and that of the script that says what happened in it.
 ghost use Rattle.std.specs.Prelude.{◌≡◌, ◌^◌, ◌<◌, false, length, IfErr};
 ghost use Rattle.std.specs.List.{All};
 ghost use Rattle.cast_record.specs.Lines.{lines_for};
@@ -19,9 +19,9 @@ use cast_world::World;
 use std::alloc::Global;
 use std::io::Write;
 
-/// A law, by which nothing is computed: running the script that `write_script` writes for this configuration and these events,
-/// where it is no longer than an input may be, writes the record that `write_run_record` writes of them and the replies to
-/// them. That record is good, and where all events are accepted no line of it is a refusal.
+/// A law; it computes nothing. `write_script` writes a script for this configuration and these events. If it is not too
+/// long for an input, running it writes the record that `write_run_record` writes for them and the replies to them.
+/// That record is good, and if all events are accepted, no line of it is a refusal.
 pub fn is_replayed(config: &Config, events: &[Event])
     ensures law { RecordsReplay config.now events.now }
 {
@@ -33,15 +33,15 @@ fn tell_event_ranges(events: &[Event])
     ensures ranges { All HasEventRange events.now }
     ensures few { length events.now < 2 ^ 64 }
 {
-    // Reading it tells a proof that there are fewer than 2^64.
+    // This tells the prover that there are fewer than 2^64.
     let _count = events.len();
     for event in events {
         tell_event_range(event);
     }
 }
 
-/// Writes the record of a run: its head, the lines of its merged events, which the group takes once more, and its end. After a
-/// fault, of the writer or want of memory, a prefix of it was written, or nothing.
+/// Writes the record of a run: its head, the lines of its merged events, which the group takes once more, and its end.
+/// After a writer's fault or out of memory, a prefix was written.
 pub fn write_run_record<W: Write>(
     alloc: Global,
     report: &GroupReport,
@@ -59,7 +59,7 @@ pub fn write_run_record<W: Write>(
     'events: while let Some(event) = merged.take_next()? {
         let reply = take_step(&mut world, &event)?;
         put_lines(index, &event, &reply, writer)?;
-        // (calls, since each kind of event and reply would else be a case of its own for the prover)
+        // (calls, since otherwise each kind of event and reply is a case of its own for the prover)
         drop(event);
         drop(reply);
         index = next_index(index)?;

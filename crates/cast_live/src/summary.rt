@@ -1,5 +1,5 @@
-//! The summary of a group that ran in threads: how each node ended, how many items it delivered from each, whether the group
-//! is at rest, and the verdict on the record of what happened.
+//! The summary of a group that ran: how each node ended, how many items it delivered from each, whether the group is at
+//! rest, and the verdict on the record.
 ghost use Rattle.std.specs.Prelude.{◌≡◌, ◌<◌, ◌++◌, false, IfOk, OnOk, codes, decimal, length};
 ghost use Rattle.cast_model.specs.History.{History};
 ghost use Rattle.cast_model.specs.Delivery.{delivered};
@@ -16,7 +16,7 @@ use cast_record::{Meter, Written, write_bytes, write_number, write_verdict};
 use cast_world::World;
 use std::io::Write;
 
-/// What is told of a group that ran in threads.
+/// What is reported of a group that ran.
 #[derive(Clone, Copy)]
 pub struct Summary {
     /// Whether no live node owes a live node anything after the merged events.
@@ -25,8 +25,8 @@ pub struct Summary {
     pub verdict: Verdict,
 }
 
-/// Writes the summary of the run. It takes no memory. A refusal comes only where the writer failed
-/// or took no byte; a prefix of the text stands then.
+/// Writes the summary of the run. It allocates nothing. It fails only if the writer failed or took no byte; then it has
+/// a prefix of the text.
 pub fn write_summary<W: Write>(run: &FinishedRun, writer: &mut Meter<W>) -> Written
     requires run { IsFinished run.now }
     requires writer { writer.old.failed ≡ false }
@@ -43,7 +43,6 @@ pub fn write_summary<W: Write>(run: &FinishedRun, writer: &mut Meter<W>) -> Writ
     write_verdict(run.summary.verdict, writer)
 }
 
-// The line of each node.
 fn write_nodes<W: Write>(
     config: &Config,
     world: &World,
@@ -97,7 +96,7 @@ fn write_end<W: Write>(node: u64, ended: EngineEnd, writer: &mut Meter<W>) -> Wr
     write_bytes(end_name(ended), writer)
 }
 
-// How many items were delivered from a node, after a blank.
+// A number of deliveries, after a blank.
 fn write_count<W: Write>(count: u64, writer: &mut Meter<W>) -> Written
     requires { writer.old.failed ≡ false }
     ensures { Puts W.contents writer.old writer.new result (codes " " ++ decimal count) }
@@ -106,14 +105,13 @@ fn write_count<W: Write>(count: u64, writer: &mut Meter<W>) -> Written
     write_number(count, writer)
 }
 
-// How many items the node delivered from the sender.
 fn delivered_count(config: &Config, world: &World, node: u8, sender: u8) -> u64
     requires node { node < config.now.nodes }
     requires sender { sender < config.now.nodes }
     ensures { (past : History) → Stands config.now past world.now →
         result ≡ length (delivered config.now past node sender) }
 {
-    // Reading it tells a proof that there are at most 64.
+    // This tells the prover that there are at most 64.
     let _nodes = config.nodes();
     match world.delivered(NodeId(node), NodeId(sender)) {
         Some(items) => items.len() as u64,

@@ -1,5 +1,5 @@
-//! The verdict on the record of a run, whose merged events are taken by the group and judged one after another: neither they, nor
-//! the replies to them, nor the text are kept.
+//! The verdict on the record of a run. The group takes its merged events, and the judge judges them, one after another.
+//! Neither the events, the replies nor the text are kept.
 ghost use Rattle.std.specs.Prelude.{◌≡◌, ℕ, ◌++◌, List, IfOk, OnOk};
 ghost use Rattle.cast_message.specs.declared.config.Config.{Config as Settings};
 ghost use Rattle.cast_model.specs.History.{History};
@@ -21,8 +21,8 @@ use cast_text::tell_event_range;
 use cast_world::World;
 use std::alloc::{AllocError, Global};
 
-/// The group after the merged events of the logs, and the verdict on their record, which is good; or want of memory. The judge is
-/// fed the lines of one event after another.
+/// The group after the merged events of the logs, and the verdict on their record, which is good; or out of memory. The
+/// judge gets the lines of one event after another.
 pub fn judge_run(alloc: Global, report: &GroupReport) -> Result<(World, Verdict), AllocError>
     ensures stands { IfOk result (λ told. StandsFor report.now.config
         (history report.now.config (merged_events report.now.reports)) told.0) }
@@ -36,7 +36,7 @@ pub fn judge_run(alloc: Global, report: &GroupReport) -> Result<(World, Verdict)
     let mut index = 0;
     'events: while let Some(event) = merged.take_next()? {
         judge_event(alloc, &mut world, &mut judging, index, &event)?;
-        // (a call, since each kind of event would else be a case of its own for the prover)
+        // (a call, since otherwise each kind of event is a case of its own for the prover)
         drop(event);
         index = next_index(index)?;
     }
@@ -45,7 +45,8 @@ pub fn judge_run(alloc: Global, report: &GroupReport) -> Result<(World, Verdict)
     Ok((world, verdict))
 }
 
-// Has the group take an event, and the judge its lines. Most events leave none, and for them the group has a shorter way.
+// Lets the group take an event, and the judge its lines. Most events have none, and for them the group has a shorter
+// way.
 fn judge_event(
     alloc: Global,
     world: &mut World,
@@ -69,7 +70,7 @@ fn judge_event(
     feed_event(alloc, judging, index, event, &reply)
 }
 
-// Feeds the judge the lines of an event and its reply, for which no message is copied.
+// Feeds the judge the lines of an event and its reply, without copying a message.
 fn feed_event(
     alloc: Global,
     judging: &mut Judging,
@@ -100,7 +101,7 @@ fn feed_lines(alloc: Global, judging: &mut Judging, lines: &[Line]) -> Result<()
     feed(judging, meter.into_inner().as_slice())
 }
 
-// Feeds the judge a text. One of 2^63 bytes in all finds no memory.
+// Feeds the judge a text. If all texts reach 2^63 bytes, it reports out of memory.
 fn feed(judging: &mut Judging, text: &[u8]) -> Result<(), AllocError>
     ensures { (fed : List ℕ) → Stands fed judging.old →
         OnOk result (Stands (fed ++ text.now) judging.new) }

@@ -8,7 +8,7 @@ use cast_text::tell_event_range;
 use cast_world::{World, is_want_of_memory};
 use std::alloc::AllocError;
 
-/// Has the group take an event; or answers want of memory, where it wants it.
+/// Lets the group take an event. It is an error if the reply is out of memory.
 pub fn take_step(world: &mut World, event: &Event) -> Result<Reply, AllocError>
     ensures step { IfOk result (TakesStep world.old event.now world.new) }
     ensures range { OnOk result (HasEventRange event.now) }
@@ -21,7 +21,7 @@ pub fn take_step(world: &mut World, event: &Event) -> Result<Reply, AllocError>
     Ok(reply)
 }
 
-/// The index of the next event. The event of index 2^64 - 1 has none behind it: want of memory is answered.
+/// The index of the next event. After index 2^64 - 1 there is none, which is reported as out of memory.
 pub fn next_index(index: u64) -> Result<u64, AllocError>
     ensures { IfOk result (λ next. (next ≡ index + 1) × (next < 2 ^ 64)) }
 {

@@ -1,11 +1,11 @@
 -- What a log keeps, and what it lends.
---     Logged                         the entries of a log, and for how many there is room
---     silent event                   the step, by which nothing is delivered or decided
---     kind_of whole brief number     what an entry tells that is kept so; the whole ones stand at their places
+--     Logged                         the entries of a log, and how many it has room for
+--     silent event                   the step of an event that delivers and decides nothing
+--     kind_of whole brief number     what an entry that is kept so says; `whole` has the entries kept whole
 --     entries_of whole rows          the entries that are kept so
---     IsPlaced n brief number        where it names a place, it is one of so many
---     IsShort brief                  it names none
---     IsLog whole rows               each place that is named is there
+--     IsPlaced n brief number        if it refers to a place, the place is below n
+--     IsShort brief                  it refers to no place
+--     IsLog whole rows               each place that a row refers to exists
 --     shown_kind, shown_entry        what is lent
 --     is_step kind, step_event kind  whether it is a step, and its event
 use Rattle.std.specs.Prelude.{◌≡◌, ℕ, ◌<◌, ◌≤◌, ◌^◌, min, List, ◌++◌, length, map, slice_index_or, Bool, true, false, Option, Some, None, refl}
@@ -39,7 +39,7 @@ entry_with stamp kind = record { stamp = stamp; kind = kind }
 abbrev pub silent : Event → EntryKind
 silent event = Step event None nothing
 
--- the default stands where nothing is, and no row names such a place
+-- the default, for a place that holds nothing; no row refers to such a place
 abbrev pub no_kind : EntryKind
 no_kind = silent (Crash 0)
 
@@ -55,7 +55,7 @@ entry_of whole row = entry_with row.stamp (kind_of whole row.brief row.number)
 abbrev pub entries_of : List EntryKind → List Row → List Entry
 entries_of whole rows = map (entry_of whole) rows
 
--- places among those that are kept whole are named by four bytes
+-- four bytes number the places of the entries kept whole
 abbrev pub room_of : ℕ → ℕ → ℕ
 room_of rows whole = min (min rows whole) (2 ^ 32)
 

@@ -1,4 +1,4 @@
-//! The log of a node: what it did, with stamps, and which client's order it was. Contracts see it as the list of its entries.
+//! The log of a node: what it did, with stamps, and for which client. Contracts see the list of its entries.
 #![tactic(auto)]
 
 mod entry;

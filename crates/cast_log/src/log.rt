@@ -1,29 +1,30 @@
-//! The log of a node. Most entries bring no news: the node made a frame, or one arrived by which nothing was delivered or decided.
-//! Such an entry is kept in 16 bytes, and any other beside it, whole.
-ghost use Rattle.std.specs.Prelude.{◌≡◌, ◌+◌, ◌<◌, ◌≤◌, ◌^◌, ◌++◌, ◌∷◌, [], List as Entries, length, vec_len, vec_capacity, slice_get, Some, IsTrue, IfOk, IfSome, OnOk, OnErr};
+//! The log of a node. Most entries have no news: the node made a frame, or a frame arrived and nothing was delivered or
+//! decided. The log keeps such an entry in 16 bytes, and any other one whole, in a second list.
+ghost use Rattle.std.specs.Prelude.{◌≡◌, ◌+◌, ◌<◌, ◌≤◌, ◌^◌, ◌++◌, ◌∷◌, [], length, slice_get, Some, None, IsTrue, IfOk, IfSome, OnOk, OnErr};
 ghost use Rattle.cast_model.specs.OwnSteps.{nothing};
-ghost use Rattle.cast_log.specs.declared.entry.EntryKind.{EntryKind as Kind};
-ghost use Rattle.cast_log.specs.Logged.{silent, kind_of, IsShort, IsPlaced, StartsWith, shown_kind, shown_entry, step_event};
+ghost use Rattle.cast_message.specs.declared.event.Event.TheVariants.{Send, Ack, Arrive};
+ghost use Rattle.cast_log.specs.declared.entry.EntryKind.TheVariants.{Step};
+ghost use Rattle.cast_log.specs.Logged.{entry_with, silent, kind_of, IsShort, IsPlaced, shown_kind, shown_entry, step_event};
 
 use crate::entry::{Entry, EntryKind};
-use cast_message::{Event, NodeId, Outcome};
+use cast_message::{Event, List, NodeId, Outcome};
 use std::alloc::{AllocError, Global};
 use std::marker::Model;
 
-// What an entry tells, beside a number.
+// What an entry says, together with a number.
 #[derive(Clone, Copy)]
 enum Brief {
-    // The node made a frame that carries the message of the slot of this number.
+    // The node made a frame that carries the message in the slot with this number.
     Sent { from: NodeId, to: NodeId },
-    // The node made a frame that tells that the slot of this number was taken.
+    // The node made a frame that says: the slot with this number was taken.
     Acked { from: NodeId, to: NodeId },
-    // The frame of this number arrived, and nothing was delivered or decided.
+    // The frame with this number arrived, and nothing was delivered or decided.
     Arrived { from: NodeId },
-    // What stands at the place of this number among those that are kept whole.
+    // The entry is kept whole, at the place with this number.
     Whole,
 }
 
-// An entry, as a log keeps it.
+// An entry as a log keeps it.
 #[derive(Clone, Copy)]
 struct Row {
     stamp: u64,
@@ -31,16 +32,16 @@ struct Row {
     brief: Brief,
 }
 
-/// What an entry tells, as a log lends it.
+/// What an entry says, as a log lends it.
 #[derive(Clone, Copy)]
 pub enum KindRef<'a> {
     /// `from` made a frame that carries to `to` the message in this slot.
     Sent { from: NodeId, to: NodeId, slot: u64 },
-    /// `from` made a frame that tells `to` that this slot was taken.
+    /// `from` made a frame that tells `to`: this slot was taken.
     Acked { from: NodeId, to: NodeId, slot: u64 },
-    /// The frame number `seq` of `from` arrived, and nothing was delivered or decided.
+    /// Frame number `seq` of `from` arrived, and nothing was delivered or decided.
     Arrived { from: NodeId, seq: u64 },
-    /// Any other, and such a step where its number has no room in four bytes.
+    /// Any other entry, or such a step whose number does not fit into four bytes.
     Whole(&'a EntryKind),
 }
 
@@ -52,11 +53,12 @@ pub struct EntryRef<'a> {
     pub kind: KindRef<'a>,
 }
 
-/// A log to which entries are put. Contracts see its entries, and for how many there is room: no more are put.
+/// A log that takes entries. Contracts see its entries, and how many it has room for. It takes no more than these.
 #[derive(Drop)]
 pub struct OpenLog {
+    alloc: Global,
     rows: Vec<Row>,
-    // What the rows name by place.
+    // The kinds that rows refer to by place.
     whole: Vec<EntryKind>,
 }
 
@@ -97,7 +99,7 @@ impl Model for Log {
 }
 
 impl OpenLog {
-    /// The empty log, with room for so many entries, or want of memory.
+    /// The empty log with room for as many entries as given, or out of memory.
     pub fn with_room(alloc: Global, entries: usize) -> Result<OpenLog, AllocError>
         requires { entries ≤ 2 ^ 32 }
         ensures entries { IfOk result (λ log. log.entries ≡ []) }
@@ -107,10 +109,10 @@ impl OpenLog {
         rows.reserve(entries)?;
         let mut whole = Vec::new(alloc);
         whole.reserve(entries)?;
-        Ok(OpenLog { rows, whole })
+        Ok(OpenLog { alloc, rows, whole })
     }
 
-    /// Makes room for an entry more, or answers want of memory, as it does where it has 2^32 of them. No entry changes.
+    /// Makes room for one more entry, or reports out of memory, as it also does after 2^32 entries. No entry changes.
     pub fn make_room(&mut self) -> Result<(), AllocError>
         ensures entries { self.new.entries ≡ self.old.entries }
         ensures room { OnOk result (length self.new.entries < self.new.room) }
@@ -124,15 +126,87 @@ impl OpenLog {
         Ok(())
     }
 
-    /// Puts an entry at the end. It takes no memory.
-    #[inline(always)]
+    /// Appends an entry, kept whole. It allocates nothing.
     pub fn push(&mut self, entry: Entry)
         requires { length self.old.entries < self.old.room }
         ensures entries { self.new.entries ≡ self.old.entries ++ entry ∷ [] }
         ensures room { self.new.room ≡ self.old.room }
     {
         let Entry { stamp, kind } = entry;
-        let (brief, number) = keep(&mut self.whole, kind);
+        let number = self.whole.len() as u32;
+        self.whole.push_reserved(kind);
+        self.rows.push_reserved(Row {
+            stamp,
+            number,
+            brief: Brief::Whole,
+        });
+    }
+
+    /// Appends an entry: `from` made a frame that carries the message in this slot to `to`. It allocates nothing.
+    #[inline(always)]
+    pub fn push_sent(&mut self, stamp: u64, from: NodeId, to: NodeId, slot: u64)
+        requires { length self.old.entries < self.old.room }
+        ensures entries { self.new.entries
+            ≡ self.old.entries ++ entry_with stamp (silent (Send from to slot)) ∷ [] }
+        ensures room { self.new.room ≡ self.old.room }
+    {
+        match small(slot) {
+            Some(number) => self.push_short(stamp, Brief::Sent { from, to }, number),
+            None => {
+                let kind = without_news(self.alloc, Event::Send { from, to, slot });
+                self.push(Entry { stamp, kind });
+            }
+        }
+    }
+
+    /// Appends an entry: `from` made a frame that acknowledges this slot to `to`. It allocates nothing.
+    #[inline(always)]
+    pub fn push_acknowledged(&mut self, stamp: u64, from: NodeId, to: NodeId, slot: u64)
+        requires { length self.old.entries < self.old.room }
+        ensures entries { self.new.entries
+            ≡ self.old.entries ++ entry_with stamp (silent (Ack from to slot)) ∷ [] }
+        ensures room { self.new.room ≡ self.old.room }
+    {
+        match small(slot) {
+            Some(number) => self.push_short(stamp, Brief::Acked { from, to }, number),
+            None => {
+                let kind = without_news(self.alloc, Event::Ack { from, to, slot });
+                self.push(Entry { stamp, kind });
+            }
+        }
+    }
+
+    /// Appends the arrival of frame number `seq` of `from`, with its outcome. It allocates nothing.
+    #[inline(always)]
+    pub fn push_arrived(&mut self, stamp: u64, from: NodeId, seq: u64, outcome: Outcome)
+        requires { length self.old.entries < self.old.room }
+        ensures entries { self.new.entries
+            ≡ self.old.entries ++ entry_with stamp (Step (Arrive from seq) None outcome) ∷ [] }
+        ensures room { self.new.room ≡ self.old.room }
+    {
+        match small(seq) {
+            Some(number) if is_nothing(&outcome) => {
+                self.push_short(stamp, Brief::Arrived { from }, number);
+            }
+            _ => self.push(Entry {
+                stamp,
+                kind: EntryKind::Step {
+                    event: Event::Arrive { from, seq },
+                    origin: None,
+                    outcome,
+                },
+            }),
+        }
+    }
+
+    // Appends an entry that refers to nothing kept whole.
+    fn push_short(&mut self, stamp: u64, brief: Brief, number: u32)
+        requires room { length self.old.entries < self.old.room }
+        requires short { IsShort brief }
+        ensures entries { self.new.entries
+            ≡ self.old.entries ++ entry_with stamp (kind_of [] brief number) ∷ [] }
+        ensures room { self.new.room ≡ self.old.room }
+    {
         self.rows.push_reserved(Row {
             stamp,
             number,
@@ -140,7 +214,7 @@ impl OpenLog {
         });
     }
 
-    /// How many entries it has.
+    /// How many entries the log has.
     pub fn len(&self) -> usize
         ensures { result ≡ length self.now.entries }
     {
@@ -159,7 +233,7 @@ impl OpenLog {
         }
     }
 
-    /// The log, to which no more is put.
+    /// The log, which takes no more entries.
     pub fn close(self) -> Log
         ensures { result ≡ self.entries }
     {
@@ -168,26 +242,27 @@ impl OpenLog {
 }
 
 impl Log {
-    /// The empty log, which takes no memory.
+    /// The empty log. It allocates nothing.
     pub fn new(alloc: Global) -> Log
         ensures { result ≡ [] }
     {
         Log {
             open: OpenLog {
+                alloc,
                 rows: Vec::new(alloc),
                 whole: Vec::new(alloc),
             },
         }
     }
 
-    /// How many entries it has.
+    /// How many entries the log has.
     pub fn len(&self) -> usize
         ensures { result ≡ length self.now }
     {
         self.open.len()
     }
 
-    /// Puts an entry at the end, or answers want of memory and leaves the log as it was.
+    /// Appends an entry, or reports out of memory and leaves the log as it was.
     pub fn push(&mut self, entry: Entry) -> Result<(), AllocError>
         ensures ok { OnOk result (self.new ≡ self.old ++ entry ∷ []) }
         ensures err { OnErr result (self.new ≡ self.old) }
@@ -206,45 +281,17 @@ impl Log {
     }
 }
 
-// What an entry tells, short where it can be, or else kept whole, for which there is room.
-fn keep(whole: &mut Vec<EntryKind>, kind: EntryKind) -> (Brief, u32)
-    requires room { vec_len whole.old < vec_capacity whole.old }
-    requires few { vec_len whole.old < 2 ^ 32 }
-    ensures kind { kind_of whole.new.items result.0 result.1 ≡ kind }
-    ensures placed { IsPlaced (length whole.new.items) result.0 result.1 }
-    ensures keeps { StartsWith whole.new.items whole.old.items }
-    ensures more { length whole.new.items ≤ length whole.old.items + 1 }
-    ensures capacity { vec_capacity whole.new ≡ vec_capacity whole.old }
+// The step of an event that delivers and decides nothing.
+fn without_news(alloc: Global, event: Event) -> EntryKind
+    ensures { result ≡ silent event }
 {
-    match brief_of(&kind) {
-        Some(short) => short,
-        None => {
-            let number = whole.len() as u32;
-            whole.push_reserved(kind);
-            (Brief::Whole, number)
-        }
-    }
-}
-
-// The short form of what an entry tells, where it has one.
-fn brief_of(kind: &EntryKind) -> Option<(Brief, u32)>
-    ensures short { IfSome result (λ short. IsShort short.0) }
-    ensures kind { IfSome result (λ short. (whole : Entries Kind) →
-        kind_of whole short.0 short.1 ≡ kind.now) }
-{
-    match kind {
-        EntryKind::Step {
-            event,
-            origin: None,
-            outcome,
-        } => {
-            if is_nothing(outcome) {
-                brief_event(event)
-            } else {
-                None
-            }
-        }
-        _ => None,
+    EntryKind::Step {
+        event,
+        origin: None,
+        outcome: Outcome {
+            deliveries: List::new(alloc),
+            decisions: List::new(alloc),
+        },
     }
 }
 
@@ -254,33 +301,7 @@ fn is_nothing(outcome: &Outcome) -> bool
     outcome.deliveries.as_slice().is_empty() && outcome.decisions.as_slice().is_empty()
 }
 
-// The short form of a step without news, where it has one.
-fn brief_event(event: &Event) -> Option<(Brief, u32)>
-    ensures short { IfSome result (λ short. IsShort short.0) }
-    ensures event { IfSome result (λ short. (whole : Entries Kind) →
-        kind_of whole short.0 short.1 ≡ silent event.now) }
-{
-    match event {
-        Event::Send { from, to, slot } => {
-            let number = small(*slot)?;
-            let (from, to) = (*from, *to);
-            Some((Brief::Sent { from, to }, number))
-        }
-        Event::Ack { from, to, slot } => {
-            let number = small(*slot)?;
-            let (from, to) = (*from, *to);
-            Some((Brief::Acked { from, to }, number))
-        }
-        Event::Arrive { from, seq } => {
-            let number = small(*seq)?;
-            let from = *from;
-            Some((Brief::Arrived { from }, number))
-        }
-        _ => None,
-    }
-}
-
-// The number in four bytes, where they have room for it.
+// The number, if it fits into four bytes.
 fn small(number: u64) -> Option<u32>
     ensures { IfSome result (λ small. small ≡ number) }
 {
@@ -291,7 +312,6 @@ fn small(number: u64) -> Option<u32>
     }
 }
 
-// What an entry tells.
 fn kind_ref<'a>(brief: Brief, number: u32, whole: &'a [EntryKind]) -> KindRef<'a>
     requires { IsPlaced (length whole.now) brief number }
     ensures { shown_kind result ≡ kind_of whole.now brief number }
@@ -306,7 +326,7 @@ fn kind_ref<'a>(brief: Brief, number: u32, whole: &'a [EntryKind]) -> KindRef<'a
 }
 
 impl<'a> KindRef<'a> {
-    /// A copy of the step's event, where it tells a step, or want of memory, which only the bytes of an item take.
+    /// A copy of the event if this is a step, or out of memory, which only the bytes of an item cause.
     pub fn copy_event(&self) -> Result<Option<Event>, AllocError>
         ensures { IfOk result (λ copy. copy ≡ step_event (shown_kind self.now)) }
     {
@@ -325,34 +345,8 @@ impl<'a> KindRef<'a> {
                 from: *from,
                 seq: *seq,
             })),
-            KindRef::Whole(EntryKind::Step { event, .. }) => Ok(Some(copy_event(event)?)),
+            KindRef::Whole(EntryKind::Step { event, .. }) => Ok(Some(event.copy()?)),
             KindRef::Whole(EntryKind::Refused { .. }) => Ok(None),
         }
-    }
-}
-
-fn copy_event(event: &Event) -> Result<Event, AllocError>
-    ensures { IfOk result (λ copy. copy ≡ event.now) }
-{
-    match event {
-        Event::Order { node, item } => Ok(Event::Order {
-            node: *node,
-            item: item.copy()?,
-        }),
-        Event::Send { from, to, slot } => Ok(Event::Send {
-            from: *from,
-            to: *to,
-            slot: *slot,
-        }),
-        Event::Ack { from, to, slot } => Ok(Event::Ack {
-            from: *from,
-            to: *to,
-            slot: *slot,
-        }),
-        Event::Arrive { from, seq } => Ok(Event::Arrive {
-            from: *from,
-            seq: *seq,
-        }),
-        Event::Crash { node } => Ok(Event::Crash { node: *node }),
     }
 }

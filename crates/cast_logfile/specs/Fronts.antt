@@ -1,6 +1,6 @@
--- What is left of logs, of which some steps were taken.
---     Taken logs at order        so many steps of each log were taken, in this order
---     HasFront logs at n front   of the first n logs this is the one that comes next, if a step is left
+-- What is left of logs after some steps were taken.
+--     Taken logs at order        as many steps of each log as `at` says were taken, in this order
+--     HasFront logs at n front   this one of the first n logs comes next, if a step is left
 use Rattle.std.specs.Prelude.{◌≡◌, ℕ, ◌<◌, ◌≤◌, List, [], length, take, slice_index_or, Option, MatchOption}
 use Rattle.cast_logfile.specs.declared.merging.Front.{Front}
 use Rattle.cast_logfile.specs.declared.merging.StepPlace.{StepPlace}

@@ -3,7 +3,7 @@
 --     row logs p order                  the steps of node p, in this order
 --     IsWhole logs order                the steps of each node are its log
 --     AreAt order results               a frame that arrived is for the node whose log has the step
---     Tells logs order events results   the events are these steps, each is accepted, and delivers and decides what was logged
+--     Tells logs order events results   the events are these steps; each is accepted, and delivers and decides what was logged
 use Rattle.std.specs.Prelude.{◌≡◌, ℕ, ◌==◌, if◌then◌else◌, List, [], ◌∷◌, length, map, flat_map, slice_get, slice_index_or, Some, Result, Ok, IsOk}
 use Rattle.std.specs.List.{All}
 use Rattle.cast_message.specs.declared.event.Event.{Event}
@@ -23,7 +23,7 @@ Logs = List (List LoggedStep)
 abbrev pub log_of : Logs → ℕ → List LoggedStep
 log_of logs p = slice_index_or logs p []
 
--- the default stands where no step is
+-- the default, where there is no step
 abbrev pub no_step : LoggedStep
 no_step = record { stamp = 0; line = 0; event = Crash 0; outcome = nothing }
 
@@ -56,7 +56,8 @@ abbrev pub AreAt : List StepPlace → List (Result Answer StepFault) → Type 0
 AreAt order results = (i : ℕ) (x : StepPlace) (result : Result Answer StepFault) → slice_get order i ≡ Some x
     → slice_get results i ≡ Some result → IsAt x.node result
 
--- the events are the steps of the logs in this order; the group accepts each, and delivers and decides there what was logged
+-- the events are the steps of the logs in this order; the group accepts each, and delivers and decides what was logged
+-- there
 pub record Tells (logs : Logs) (order : List StepPlace) (events : List Event)
     (results : List (Result Answer StepFault)) : Type 0 where
   pub whole : IsWhole logs order

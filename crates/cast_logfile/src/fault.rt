@@ -3,7 +3,7 @@ use cast_message::StepFault;
 use std::alloc::AllocError;
 use thiserror::Error;
 
-/// What is wrong in a line of a log.
+/// What is wrong with a line of a log.
 #[derive(Clone, Copy, Debug, PartialEq, Eq, Error)]
 pub enum LogCause {
     #[error("the first line of a log is expected: cast-log/1 NODES FAULTS CHOICES MODE ITEMS GROUP NODE")]
@@ -24,7 +24,7 @@ pub enum LogCause {
     Differs,
 }
 
-/// What is wrong in a log, or want of memory.
+/// What is wrong with a log, or out of memory.
 #[derive(Clone, Copy, Debug, PartialEq, Eq, Error)]
 pub enum LogFault {
     #[error("line {line}: {cause}")]
@@ -33,7 +33,7 @@ pub enum LogFault {
     Memory,
 }
 
-/// What is wrong with several logs, of which the file is counted from 0.
+/// What is wrong with several logs; files are counted from 0.
 #[derive(Clone, Copy, Debug, PartialEq, Eq, Error)]
 pub enum MergeFault {
     #[error("log {file}, line {line}: {cause}")]

@@ -7,17 +7,18 @@ use crate::reading::crash_of;
 use cast_message::{Config, List, Mode, NodeId};
 use std::alloc::{AllocError, Global};
 
-/// The logs of a group by node, and from which file each came, counted from 0. A node without a file crashed before its first step.
+/// The logs of a group by node, and the file of each, counted from 0. A node without a file crashed before its first
+/// step.
 #[derive(Drop)]
 pub struct Gathered {
     pub config: Config,
     pub logs: Vec<List<LoggedStep>>,
     pub files: Vec<Option<usize>>,
-    /// Which nodes' logs have their ends.
+    /// Which nodes' logs have an end.
     pub have_ended: Vec<bool>,
 }
 
-/// The logs of these files, one at least, or what is wrong: another group's, or two of one node.
+/// The logs of these files, at least one, or what is wrong: a file of another group, or two of one node.
 pub fn gather(alloc: Global, files: Vec<FileLog>) -> Result<Gathered, MergeFault> {
     let Some(first) = files.as_slice().first() else {
         return Err(fault_in(0, LogCause::Head));
@@ -85,7 +86,7 @@ fn is_uniform(config: &Config) -> bool {
     matches!(config.mode(), Mode::Uniform)
 }
 
-// The first line says of what group and node a log is.
+// The first line says which group and node a log is from.
 fn fault_in(file: usize, cause: LogCause) -> MergeFault {
     MergeFault::Line {
         file,
@@ -94,7 +95,7 @@ fn fault_in(file: usize, cause: LogCause) -> MergeFault {
     }
 }
 
-/// The file and the line at which logs don't merge. A crash without a line stands behind the last.
+/// The file and line where logs don't merge. A crash without a line is after the last line.
 pub fn locate(gathered: &Gathered, misfit: Misfit) -> MergeFault {
     match misfit {
         Misfit::Refused { at, fault } => fault_at(gathered, at, LogCause::Refused(fault)),

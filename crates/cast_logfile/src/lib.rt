@@ -1,8 +1,7 @@
-//! Logs of a group's nodes as files, and what they say together: the text of a log, and the merge of the logs into one run, which
-//! the group accepts with what the nodes logged.
+//! Logs of a group's nodes as files: reads and writes the text of a log, and merges the logs into one run. The group
+//! accepts that run with the outcomes that the nodes logged.
 #![tactic(auto)]
 
-mod copies;
 mod fault;
 mod file_log;
 mod gathered;

@@ -1,21 +1,20 @@
-//! The words of a line, one after another.
+//! The words of a line, one by one.
 use cast_message::{Item, NodeId};
 use cast_record::{ItemWord, number};
 use std::alloc::{AllocError, Global};
 
-/// The words of a line that are left.
 #[derive(Clone, Copy)]
 pub struct LogWords<'a> {
     rest: Option<&'a [u8]>,
 }
 
 impl<'a> LogWords<'a> {
-    /// The words of a line, which one blank parts.
+    /// The words of a line, each separated by one blank.
     pub fn of(line: &'a [u8]) -> LogWords<'a> {
         LogWords { rest: Some(line) }
     }
 
-    /// The next word, if one is left.
+    /// The next word, if there is one.
     pub fn word(&mut self) -> Option<&'a [u8]> {
         let rest = self.rest?;
         match rest.iter().position(|byte| *byte == b' ') {
@@ -30,17 +29,15 @@ impl<'a> LogWords<'a> {
         }
     }
 
-    /// The number that the next word spells.
     pub fn number(&mut self) -> Option<u64> {
         number(self.word()?)
     }
 
-    /// The node that it names.
     pub fn node(&mut self) -> Option<NodeId> {
         NodeId::from_number(self.number()?)
     }
 
-    /// The item that it spells, or want of memory.
+    /// The item that the next word spells. The only error is out of memory.
     pub fn item(&mut self, alloc: Global) -> Result<Option<Item>, AllocError> {
         let Some(word) = self.word() else {
             return Ok(None);
@@ -51,7 +48,6 @@ impl<'a> LogWords<'a> {
         }
     }
 
-    /// Whether no word is left.
     pub fn is_empty(&self) -> bool {
         self.rest.is_none()
     }

@@ -1,25 +1,24 @@
-//! The steps of a group's logs in one list, taken by the group as one value.
+//! The steps of a group's logs in one list, taken by the whole group.
 ghost use Rattle.std.specs.Prelude.{◌≡◌, ℕ, ◌<◌, ◌≤◌, ◌⊎◌, None, MatchOption, IfOk, length, map};
 ghost use Rattle.cast_model.specs.Replies.{replies};
 ghost use Rattle.cast_model.specs.Headline.{DeliversPrefixes, DeliversNothingAfterClose, DecidesProposals, DecidesFewValues, DecidesWithinFaults};
 ghost use Rattle.cast_logfile.specs.Fronts.{taken_of, HasStep};
 ghost use Rattle.cast_logfile.specs.Merging.{IsWhole, Tells, event_at, log_of};
 
-use crate::copies::copy_event;
 use crate::file_log::LoggedStep;
 use crate::misfit::{Misfit, find_misfit};
 use cast_message::{Config, Event, List, Reply};
 use cast_world::{World, run_events};
 use std::alloc::{AllocError, Global};
 
-/// Where a step stands: in the log of this node, at this place.
+/// Where a step is: its node's log, and its place there.
 #[derive(Clone, Copy)]
 pub struct StepPlace {
     pub node: usize,
     pub place: usize,
 }
 
-/// The steps of all logs as events of one group, its replies to them, and the group after them.
+/// The steps of all logs as events of one group, its replies to them, and the group afterwards.
 #[derive(Drop)]
 pub struct Merged {
     pub order: List<StepPlace>,
@@ -28,8 +27,9 @@ pub struct Merged {
     pub world: World,
 }
 
-/// The steps of the logs by stamp, then by node, each taken by the group; or the first step that the group refuses, or by which it
-/// delivers or decides something else than was logged; or want of memory. Nothing is asked of the logs, wherever they come from.
+/// Lets the group take the steps of the logs, by stamp, then by node. An error is the first step that it refuses, or
+/// whose deliveries or decisions differ from the logged ones, or out of memory. Any logs will do, wherever they come
+/// from.
 pub fn merge_steps(
     alloc: Global,
     config: Config,
@@ -45,8 +45,8 @@ pub fn merge_steps(
     ensures closed { IfOk result (λ merged.
         DeliversNothingAfterClose merged.events merged.replies) }
 
-    // Each decided value was proposed in its instance. Where the faults are fewer than k, at most k are decided in it; and whatever k
-    // is, at most one more than there are tolerated faults.
+    // Each decided value was proposed in its instance. If the faults are fewer than k, at most k values are decided in
+    // it. For any k, they are at most one more than the tolerated faults.
     ensures proposed { IfOk result (λ merged.
         DecidesProposals config merged.events merged.replies) }
     ensures few { IfOk result (λ merged. DecidesFewValues config merged.replies) }
@@ -86,7 +86,8 @@ fn order_by_stamp(alloc: Global, logs: &[List<LoggedStep>]) -> Result<List<StepP
     Err(AllocError)
 }
 
-// The node whose step comes next: of those that are left at these places the one with the least stamp, and of equal ones the first.
+// The node whose step comes next: of the steps left at these places, the one with the least stamp, and of equal ones
+// the first.
 fn next_node(logs: &[List<LoggedStep>], at: &[usize]) -> Option<usize>
     requires { length at.now ≡ length logs.now }
     ensures { MatchOption result
@@ -123,7 +124,6 @@ fn front_at(log: &List<LoggedStep>, node: usize, at: usize) -> Option<Front>
     }
 }
 
-// The one that comes first.
 fn first_front(first: Option<Front>, other: Option<Front>) -> Option<Front>
     ensures one { (result ≡ first) ⊎ (result ≡ other) }
     ensures none { result ≡ None → (first ≡ None) × (other ≡ None) }
@@ -135,7 +135,6 @@ fn first_front(first: Option<Front>, other: Option<Front>) -> Option<Front>
     }
 }
 
-// The events of these steps.
 fn events_of(
     alloc: Global,
     logs: &[List<LoggedStep>],
@@ -159,5 +158,5 @@ fn event_of(logs: &[List<LoggedStep>], place: StepPlace) -> Result<Event, AllocE
     let Some(step) = log.as_slice().get(place.place) else {
         return Err(AllocError);
     };
-    copy_event(&step.event)
+    step.event.copy()
 }

@@ -1,4 +1,4 @@
-//! Where the group doesn't agree with the logs.
+//! Where the group disagrees with the logs.
 ghost use Rattle.std.specs.Prelude.{◌≡◌, ◌<◌, IfNone, IsOk, IsTrue, Ok, length, map, slice_index_or};
 ghost use Rattle.std.specs.List.{All};
 ghost use Rattle.cast_node.specs.Linked.{outcome_in};
@@ -14,11 +14,11 @@ use std::alloc::AllocError;
 /// Why logs don't merge into a run of the group.
 #[derive(Clone, Copy)]
 pub enum Misfit {
-    /// The group refuses the step in this place.
+    /// The group refuses the step at this place.
     Refused { at: StepPlace, fault: StepFault },
-    /// It delivers or decides something else there, or the frame is for another node.
+    /// Its deliveries or decisions differ there, or the frame is for another node.
     Differs { at: StepPlace },
-    /// Memory was wanted.
+    /// Memory ran out.
     Memory,
 }
 
@@ -28,8 +28,8 @@ impl From<AllocError> for Misfit {
     }
 }
 
-/// The first step that is refused, by which a frame arrives at another node than that of the log, or by which something else is
-/// delivered or decided than was logged.
+/// The first step that is refused, whose frame arrives at a node other than the log's, or whose deliveries or decisions
+/// differ from the logged ones.
 pub fn find_misfit(
     logs: &[List<LoggedStep>],
     order: &[StepPlace],
@@ -76,7 +76,7 @@ fn misfit_at(logs: &[List<LoggedStep>], at: StepPlace, reply: &Reply) -> Option<
     }
 }
 
-// Whether the step is one of this node: a frame that arrived is for it.
+// Whether the step belongs to this node: a frame that arrived is for it.
 fn is_at(answer: &Answer, node: usize) -> bool
     ensures { IsTrue result → IsAt node (Ok answer.now) }
 {
@@ -86,7 +86,6 @@ fn is_at(answer: &Answer, node: usize) -> bool
     }
 }
 
-// The place at this index.
 fn place_in(order: &[StepPlace], index: usize) -> StepPlace
     requires { index < length order.now }
     ensures { (other : Place) → result ≡ slice_index_or order.now index other }

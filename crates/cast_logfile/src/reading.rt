@@ -1,15 +1,10 @@
-//! The text of a log, read.
+//! Reads the text of a log.
 use crate::fault::{LogCause, LogFault};
 use crate::file_log::{FileLog, LoggedStep};
 use crate::log_words::LogWords;
-use cast_message::{Config, Decision, Event, Item, List, Message, NodeId, Outcome};
+use cast_message::{Config, Decision, Event, Item, List, Message, NodeId, Outcome, Settings};
 use cast_record::mode_named;
 use std::alloc::{AllocError, Global};
-
-// The entries of a log, the places of a box and the first stamp say nothing of the steps.
-const ENTRIES: u64 = 65_536;
-
-const PLACES: u64 = 64;
 
 // The first line of a log.
 #[derive(Drop)]
@@ -19,7 +14,6 @@ struct LogHead {
     me: NodeId,
 }
 
-// What was read so far.
 #[derive(Drop)]
 struct LogReader {
     alloc: Global,
@@ -27,13 +21,13 @@ struct LogReader {
     steps: Vec<LoggedStep>,
     // The last stamp.
     stamp: Option<u64>,
-    // Nothing may follow: the log's end, or the node's crash, was read.
+    // Nothing may follow, because the log's end or the node's crash was read.
     is_closed: bool,
     has_ended: bool,
 }
 
-/// The log whose text this is, or the first line that is wrong. What stands behind the last line feed is no line. A log without an end
-/// gets a crash behind its last step.
+/// The log with this text, or the first wrong line. Bytes after the last line feed are not a line. A log without an end
+/// gets a crash after its last step.
 pub fn read_log(alloc: Global, text: &[u8]) -> Result<FileLog, LogFault> {
     let mut reader = LogReader {
         alloc,
@@ -148,7 +142,6 @@ impl LogReader {
     }
 }
 
-/// The crash of a node.
 pub fn crash_of(alloc: Global, node: NodeId, stamp: u64, line: u64) -> LoggedStep {
     LoggedStep {
         stamp,
@@ -177,7 +170,13 @@ fn head_of(line: &[u8]) -> Option<LogHead> {
     let items = words.number()?;
     let group = words.number()?;
     let me = words.node()?;
-    let config = Config::check(nodes, faults, choices, items, ENTRIES, PLACES, 0, mode).ok()?;
+    let settings = Settings {
+        choices,
+        item_limit: items,
+        mode,
+        ..Settings::of(nodes, faults)
+    };
+    let config = settings.check().ok()?;
     if !words.is_empty() || u64::from(me.0) >= config.nodes() {
         return None;
     }
@@ -188,11 +187,11 @@ fn head_of(line: &[u8]) -> Option<LogHead> {
 #[derive(Drop)]
 enum Entry {
     Step(Event),
-    // An order was refused, which is no step.
+    // A refused order, which is not a step.
     Refused,
 }
 
-// The entry that the next words spell, where they spell one.
+// The entry that the next words spell, if they spell one.
 fn entry_of(
     alloc: Global,
     me: NodeId,
@@ -241,7 +240,7 @@ fn short_entry(name: &[u8], me: NodeId, words: &mut LogWords<'_>) -> Option<Entr
     None
 }
 
-// What the words that are left say came of the entry, where they say it.
+// The outcome that the remaining words spell, if they spell one.
 fn outcome_of(alloc: Global, words: &mut LogWords<'_>) -> Result<Option<Outcome>, AllocError> {
     let mut deliveries = Vec::new(alloc);
     let mut decisions = Vec::new(alloc);

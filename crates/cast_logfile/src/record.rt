@@ -1,4 +1,4 @@
-//! What is told of merged logs: their record, the verdict on it, and the summary.
+//! What is reported about merged logs: their record, the verdict on it, and the summary.
 use crate::gathered::Gathered;
 use crate::merging::Merged;
 use cast_judge::{Judging, Verdict};
@@ -8,7 +8,6 @@ use cast_world::World;
 use itoa::Buffer;
 use std::alloc::{AllocError, Global};
 
-/// The record of the merged events.
 pub fn record_of(alloc: Global, config: &Config, merged: &Merged) -> Result<Vec<u8>, AllocError> {
     let mut text = Vec::new(alloc);
     put_line(alloc, &Line::head(config), &mut text)?;
@@ -44,7 +43,6 @@ fn put_event(
     text.extend_from_slice(writer.into_inner().as_slice())
 }
 
-/// The verdict on a record.
 pub fn judge_record(alloc: Global, text: &[u8]) -> Result<Verdict, AllocError> {
     let mut judging = Judging::new(alloc);
     if text.len() as u64 >= judging.room() {
@@ -54,8 +52,8 @@ pub fn judge_record(alloc: Global, text: &[u8]) -> Result<Verdict, AllocError> {
     judging.finish()
 }
 
-/// The summary of merged logs: how each node ended, how many items it delivered from each, whether the group is at rest, and the
-/// verdict.
+/// The summary of merged logs: how each node ended, how many items it delivered from each, whether the group is at
+/// rest, and the verdict.
 pub fn summary_of(
     alloc: Global,
     gathered: &Gathered,

@@ -1,4 +1,4 @@
-//! The text of a log, written line by line. `docs/FORMATS.md` has the form.
+//! Writes the text of a log, line by line. `docs/FORMATS.md` has the format.
 ghost use Rattle.std.specs.Prelude.{◌<◌, length};
 
 use cast_log::{EntryKind, KindRef, OpenLog};
@@ -7,7 +7,7 @@ use cast_record::{hex_digit, mode_name};
 use itoa::Buffer;
 use std::alloc::AllocError;
 
-/// Appends the first line of a node's log, or wants memory, and then appends nothing.
+/// Appends the first line of a node's log. When out of memory, it appends nothing.
 pub fn append_head(
     out: &mut Vec<u8>,
     config: &Config,
@@ -22,7 +22,7 @@ pub fn append_head(
     appended
 }
 
-/// Appends the line of an entry, with what came of it, or wants memory, and then appends nothing.
+/// Appends the line of an entry, with its outcome. When out of memory, it appends nothing.
 pub fn append_entry(out: &mut Vec<u8>, log: &OpenLog, place: usize) -> Result<(), AllocError>
     requires { place < length log.now.entries }
 {
@@ -34,7 +34,7 @@ pub fn append_entry(out: &mut Vec<u8>, log: &OpenLog, place: usize) -> Result<()
     appended
 }
 
-/// Appends the last line of the log of a node that did not crash, or wants memory, and then appends nothing.
+/// Appends the last line of the log of a node that did not crash. When out of memory, it appends nothing.
 pub fn append_end(out: &mut Vec<u8>) -> Result<(), AllocError> {
     out.extend_from_slice(b"end\n")
 }
@@ -114,13 +114,13 @@ fn put_outcome(out: &mut Vec<u8>, outcome: &Outcome) -> Result<(), AllocError> {
     Ok(())
 }
 
-// A name, a node and a number.
+// Appends a name, a node and a number.
 fn put_pair(out: &mut Vec<u8>, name: &[u8], node: NodeId, number: u64) -> Result<(), AllocError> {
     out.extend_from_slice(name)?;
     put_numbers(out, &[u64::from(node.0), number])
 }
 
-// The word of an item, behind a blank.
+// Appends the word of an item, after a blank.
 fn put_item(out: &mut Vec<u8>, item: &Item) -> Result<(), AllocError> {
     match item {
         Item::Data(payload) => {
@@ -144,7 +144,7 @@ fn put_hex(out: &mut Vec<u8>, bytes: &[u8]) -> Result<(), AllocError> {
     Ok(())
 }
 
-// Numbers, each behind a blank.
+// Appends numbers, each after a blank.
 fn put_numbers(out: &mut Vec<u8>, numbers: &[u64]) -> Result<(), AllocError> {
     for number in numbers {
         out.extend_from_slice(b" ")?;

@@ -1,4 +1,4 @@
--- What a client was told of a sender begins the items that the sender's log took up.
+-- A client's deliveries from a sender are a prefix of the items that the sender's log took.
 use Rattle.std.proofs.Common.{◌≡◌, ℕ, ◌<◌, List, [], ◌∷◌, ◌++◌, map, reverse, sym, refl, ap, ◌∙◌, subst}
 use Rattle.std.specs.Prelude.{slice_get, Some}
 use Rattle.std.proofs.lemmas.Option.{slice_get_within}
@@ -36,8 +36,8 @@ unfolding items_in taken
 of_log [] = refl
 of_log (e ∷ es) = (λ i. of_kind e.stamp e.kind i ++ of_log es i) ∙ sym (items_in-append (taken_of e.stamp e.kind) (taken es))
 
--- The log of the client's node tells what the node delivered, and the sender's log what was ordered there: in the history that the
--- merged logs make, the one is a prefix of the other.
+-- The log of the client's node has what the node delivered, and the sender's log what was ordered there. In the history
+-- of the merged logs, the first is a prefix of the second.
 pub tells_orders : TellsOrders
 tells_orders config reports linked p s c report maker got here there begins =
     let all = merged config reports linked in

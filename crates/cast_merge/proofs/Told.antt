@@ -1,4 +1,4 @@
--- What a log tells a client of deliveries is what its node delivered.
+-- The deliveries that a log reports to a client are those of its node.
 use Rattle.std.proofs.Common.{◌≡◌, ℕ, List, [], ◌∷◌, ◌++◌, map, refl, sym, ap, ◌∙◌, subst, append_assoc}
 use Rattle.std.proofs.lemmas.List.{append-nil, map-append}
 use Rattle.std.proofs.lemmas.List.Elements.{filter-append, filter_map-append}
@@ -84,8 +84,8 @@ front_of_stream config past p s accepted =
 pub prefix_of_prefix : (xs ys zs : List Item) → IsPrefixOf xs ys → IsPrefixOf ys zs → IsPrefixOf xs zs
 prefix_of_prefix xs ys zs one more = (one.0 ++ more.0, sym (append_assoc xs one.0 more.0) ∙ ap (λ front. front ++ more.0) one.1 ∙ more.1)
 
--- What a client was told of a sender begins what that sender broadcast: the log of its node tells what the node delivered, and the
--- node is that of the world.
+-- A client's deliveries from a sender are a prefix of what that sender broadcast. The log of its node has what the node
+-- delivered, and the node is the one in the world.
 pub tells_prefixes : TellsPrefixes
 tells_prefixes config past world p s client got stands has sender =
     let is = has.tells in

@@ -1,7 +1,7 @@
--- Logs merged by stamp, two by two: one after the other, which is the same in whatever order pairs of them are merged.
+-- Logs merged by stamp, one after another; the order in which pairs of them are merged makes no difference.
 --     before key n ys          the first of these, as long as their keys are below n
 --     from key n ys            the others
---     merge key xs ys          both by key; of equal keys the first list's come first
+--     merge key xs ys          both by key; of equal keys, those of the first list come first
 --     logged_steps log         the steps of a log, without their outcomes
 --     merged_logs logs         the steps of the logs: those of the first merged with those of the others
 use Rattle.std.specs.Prelude.{ℕ, nat_lt, if◌then◌else◌, List, [], ◌∷◌, ◌++◌, map}

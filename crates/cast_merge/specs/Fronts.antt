@@ -4,8 +4,8 @@
 --     steps_left front         that step, and those of the entries after it
 --     merged_left fronts       all of these steps, merged
 --     events_left fronts       their events
---     IsFirst fronts place     of the steps at hand the one there has the least stamp, and is the first of those that have it
---     FirstIn fronts from end first      it is so among those from one place to another, and has this stamp
+--     IsFirst fronts place     the step at hand there is the first with the least stamp
+--     FirstIn fronts from end first      the same for the fronts from one place to another; it has this stamp
 --     AreFirsts fronts firsts            these are the firsts of each eight fronts, in order
 use Rattle.std.specs.Prelude.{◌≡◌, ℕ, ◌+◌, ◌-◌, ◌*◌, ◌<◌, ◌≤◌, List, [], ◌∷◌, length, map, drop, slice_get, slice_index_or, Bool, Option, Some, None}
 use Rattle.cast_message.specs.declared.event.Event.{Event}
@@ -16,7 +16,7 @@ use Rattle.cast_merge.specs.declared.merge.First.{First}
 use Rattle.cast_merge.specs.declared.merge.Front.{Front}
 use Rattle.cast_merge.specs.ByStamp.{LoggedStep, merge, stamp_of, event_at, logged_steps}
 
--- the event of a step; the default stands where none is, and no front stands there
+-- the event of a step; the default if there is none, but no front is at such a place
 abbrev pub event_or : Option Event → Event
 event_or (Some event) = event
 event_or None = Crash 0
@@ -32,7 +32,7 @@ first_step front =
 abbrev pub entries_left : Front → List Entry
 entries_left front = drop front.next front.log.now
 
--- whether the entry there tells a step, and that it has this stamp
+-- whether the entry there is a step, and its stamp
 abbrev pub IsStep : Bool → Option Entry → Type 0
 IsStep is None = ⊥
 IsStep is (Some e) = is ≡ is_step e.kind
@@ -51,7 +51,7 @@ merged_left (front ∷ fronts) = merge stamp_of (steps_left front) (merged_left 
 abbrev pub events_left : List Front → List Event
 events_left fronts = map event_at (merged_left fronts)
 
--- each earlier one has a greater stamp, and no later one has a smaller
+-- each earlier one has a greater stamp, and no later one has a smaller stamp
 pub record IsFirst (fronts : List Front) (place : ℕ) : Type 0 where
   pub within : place < length fronts
   pub earlier : (k : ℕ) (d : Front) → k < place

@@ -1,15 +1,15 @@
--- What clients are told of what a group broadcasts and decides.
---     HasGot config world p c got  client c of node p got these notices: they begin the feed of the log of that node of the world
---     told notices                what these notices say was delivered, in order
---     of_sender s messages        the messages of s among these
---     values_told j notices       the values that these notices say were decided in instance j, in order
---     ordered_in log              the items of the orders that a log took up, in order
---     TellsOrders                 what a client got of a sender begins the items that the sender's log took up
---     TellsPrefixes               what a client got tells of each sender a prefix of what that sender broadcast
---     TellsNumbers                where it got a number in reply, the item that it ordered has that number in its node's stream
---     TellsDecisions              of each instance it tells nothing, or the value that the node decided, once
+-- What clients are notified of, compared with what a group broadcasts and decides.
+--     HasGot config world p c got  client c of node p got these notices, a prefix of the feed of that node's log in the world
+--     told notices                the deliveries in these notices, in order
+--     of_sender s messages        those of these messages that s sent
+--     values_told j notices       the values decided in instance j by these notices, in order
+--     ordered_in log              the items of the orders that a log took, in order
+--     TellsOrders                 a client's deliveries from a sender are a prefix of the items that the sender's log took
+--     TellsPrefixes               a client's deliveries from each sender are a prefix of what that sender broadcast
+--     TellsNumbers                if a client's order got a number, its item has that number in its node's stream
+--     TellsDecisions              a client sees nothing of an instance, or the value that the node decided, once
 --     TellsProposals              each value was proposed in its instance
---     TellsFewValues              all clients together are told at most k values, where the faults are fewer than k
+--     TellsFewValues              all clients together see at most k values, if the faults are fewer than k
 use Rattle.std.specs.Prelude.{◌≡◌, ℕ, ◌<◌, ◌≤◌, nat_eq, List, [], ◌∷◌, ◌++◌, length, map, slice_get, Option, Some, None, Ok}
 use Rattle.std.specs.List.{filter, filter_map, cons_option, All, Contains, IsDistinct}
 use Rattle.cast_message.specs.declared.config.Config.{Config}
@@ -53,7 +53,8 @@ abbrev pub ordered_in : List Entry → List Item
 ordered_in [] = []
 ordered_in (e ∷ es) = item_ordered e.kind ++ ordered_in es
 
--- of linked logs: what begins the feed of one tells of each sender a prefix of the items that the sender's log took up
+-- for linked logs: the deliveries from a sender in a prefix of a feed are a prefix of the items that the sender's log
+-- took
 abbrev pub TellsOrders : Type 0
 TellsOrders =
     (config : Config) (reports : List NodeReport) → Linked config reports
@@ -70,7 +71,7 @@ decision_told (Delivered message) = None
 abbrev pub values_told : ℕ → List Notice → List ℕ
 values_told j notices = filter_map (value_for j) (filter_map decision_told notices)
 
--- client c of node p got these notices, with which the feed of a log begins that is the log of that node of the world
+-- client c of node p got these notices, a prefix of the feed of that node's log in the world
 pub record HasGot (config : Config) (world : State) (p c : ℕ) (got : List Notice) : Type 0 where
   pub report : NodeReport
   pub trail : Trail
@@ -84,7 +85,7 @@ TellsPrefixes =
     → Stands config past world → HasGot config world p c got → s < config.nodes
     → IsPrefixOf (map item_of (of_sender s (told got))) (stream past s)
 
--- the log has the step by which the client's order of this item was taken
+-- the log has the step that took the client's order of this item
 pub record HasOrdered (log : List Entry) (client ticket : ℕ) (item : Item) : Type 0 where
   pub place : ℕ
   pub entry : Entry
@@ -94,7 +95,7 @@ pub record HasOrdered (log : List Entry) (client ticket : ℕ) (item : Item) : T
   pub kind : entry.kind ≡ StepEntry (Order node item)
       (Some (record { client = client; ticket = ticket })) outcome
 
--- where the reply to an order is a number, that is the item's number in the stream of its node
+-- if the reply to an order is a number, the item has that number in its node's stream
 abbrev pub TellsNumbers : Type 0
 TellsNumbers =
     (config : Config) (past : History) (world : State) (p c : ℕ) (got : List Notice)
@@ -102,14 +103,14 @@ TellsNumbers =
     → (i ticket number : ℕ) → slice_get got i ≡ Some (Reply ticket (Ok number))
     → (item : Item) × HasOrdered has.report.log c ticket item × (slice_get (stream past p) number ≡ Some item)
 
--- of an instance a client is told nothing, or the value that its node decided there, once
+-- a client sees nothing of an instance, or the value that its node decided there, once
 abbrev pub TellsDecisions : Type 0
 TellsDecisions =
     (config : Config) (past : History) (world : State) (p c : ℕ) (got : List Notice)
     → Stands config past world → HasGot config world p c got
     → (j : ℕ) → IsPrefixOf (values_told j got) (cons_option (decision config past p j) [])
 
--- a value that it is told was proposed in the instance, by a node of the group
+-- each value that it sees was proposed in the instance, by a node of the group
 abbrev pub TellsProposals : Type 0
 TellsProposals =
     (config : Config) (past : History) (world : State) (p c : ℕ) (got : List Notice)
@@ -117,7 +118,7 @@ TellsProposals =
     → (j v : ℕ) → Contains (values_told j got) v
     → (s : ℕ) × (s < config.nodes) × Contains (stream past s) (Propose j v)
 
--- some client of some node is told that the value was decided in instance j
+-- some client of some node sees that the value was decided in instance j
 pub record IsValueTold (config : Config) (world : State) (j v : ℕ) : Type 0 where
   pub node : ℕ
   pub client : ℕ
@@ -125,7 +126,7 @@ pub record IsValueTold (config : Config) (world : State) (j v : ℕ) : Type 0 wh
   pub has : HasGot config world node client got
   pub there : Contains (values_told j got) v
 
--- at most k pairwise different values of an instance are told, where the faults are fewer than k
+-- clients see at most k pairwise different values of an instance, if the faults are fewer than k
 abbrev pub TellsFewValues : Type 0
 TellsFewValues =
     (config : Config) (past : History) (world : State)

@@ -1,15 +1,18 @@
 -- What an item is, what a frame says, and which numbers are those of nodes.
---     byte_sized n            the number, where a byte has room for it
---     is_close item           it is the last of a stream
+--     byte_sized n            the number, if it fits into a byte
+--     is_close item           it is the last item of a stream
 --     proposes_in j item      it proposes in instance j
---     has_bytes item          it is data of some bytes; a copy takes memory for those alone, as they are shared and counted
+--     has_bytes item          it is data with bytes; only these take memory in a copy, as they are shared and counted
 --     kind_of body            the kind of a frame
 --     carries_bytes body      the frame carries a message with such an item
+--     orders_bytes event      the event orders such an item
 use Rattle.std.specs.Prelude.{ℕ, ◌==◌, Bool, true, false, nat_lt, length, if◌then◌else◌, Option, Some, None}
 use Rattle.cast_message.specs.declared.message.Item.{Item}
 use Rattle.cast_message.specs.declared.message.Item.TheVariants.{Data, Propose, Close}
 use Rattle.cast_message.specs.declared.message.FrameBody.{FrameBody}
 use Rattle.cast_message.specs.declared.message.FrameBody.TheVariants as bodies
+use Rattle.cast_message.specs.declared.event.Event.{Event}
+use Rattle.cast_message.specs.declared.event.Event.TheVariants.{Order}
 use Rattle.cast_message.specs.declared.message.FrameKind.{FrameKind}
 use Rattle.cast_message.specs.declared.message.FrameKind.TheVariants.{Carry, Took}
 
@@ -35,3 +38,7 @@ kind_of (bodies.Took slot) = Took
 abbrev pub carries_bytes : FrameBody → Bool
 carries_bytes (bodies.Carry slot message) = has_bytes message.item
 carries_bytes (bodies.Took slot) = false
+
+abbrev pub orders_bytes : Event → Bool
+orders_bytes (Order node item) = has_bytes item
+orders_bytes _ = false

@@ -1,5 +1,5 @@
--- The limits of a configuration and of a group, which are this project's own profile.
---     first_config_fault (config_causes ..)   the first value that is outside its limits
+-- The limits of a configuration and of a group, which this project sets for itself.
+--     first_config_fault (config_causes ..)   the first value outside its limits
 --     config_code fault                       the number of that refusal
 --     most_nodes, most_items, most_entries, most_places, payload_limit, frame_limit
 --                                             the limits themselves
@@ -9,7 +9,7 @@ use Rattle.cast_message.specs.declared.config.ConfigFault.TheVariants.{Nodes, Fa
 use Rattle.cast_message.specs.declared.config.Mode.{Mode}
 use Rattle.cast_message.specs.declared.config.Mode.TheVariants.{Basic, Uniform}
 
--- a mode bounds this many times the faults below the nodes
+-- this many times the faults must be fewer than the nodes in a mode
 abbrev pub fault_factor : Mode → ℕ
 fault_factor Basic = 0
 fault_factor Uniform = 2
@@ -30,7 +30,7 @@ first_config_fault (cause ∷ causes) = if cause.holds then Some cause.refusal e
 abbrev pub most_nodes : ℕ
 most_nodes = 64
 
--- the causes of the counts of nodes, in front of others
+-- the causes of the counts of nodes, before others
 abbrev pub count_causes : ℕ → ℕ → ℕ → List ConfigCause → List ConfigCause
 count_causes nodes faults choices others =
     record { holds = is_outside 1 most_nodes nodes; refusal = Nodes }
@@ -48,7 +48,7 @@ most_entries = 65536
 abbrev pub most_places : ℕ
 most_places = 4096
 
--- the causes of the sizes, in front of others
+-- the causes of the sizes, before others
 abbrev pub size_causes : ℕ → ℕ → ℕ → List ConfigCause → List ConfigCause
 size_causes item_limit log_limit box_size others =
     record { holds = is_outside 1 most_items item_limit; refusal = ItemLimit }
@@ -62,7 +62,6 @@ config_causes nodes faults choices item_limit log_limit box_size mode =
     count_causes nodes faults choices (size_causes item_limit log_limit box_size
     (record { holds = nat_le nodes (fault_factor mode * faults); refusal = NotUniform } ∷ []))
 
--- the number of a refusal
 abbrev pub config_code : ConfigFault → ℕ
 config_code Nodes = 1
 config_code Faults = 2

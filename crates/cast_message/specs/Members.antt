@@ -1,12 +1,12 @@
--- A finite set of numbers, made by a test.
+-- A finite set of numbers that pass a test.
 --     members_below n p            the numbers below n that pass p
 --     contains-members_below       what it contains
---     members_below-same           two tests that agree make one set
---     members_below-insert         one number more
---     members_below-remove         one number fewer
---     members_below-more           one number more to be below
---     members_below-len            it has at most n
---     remove-inserted              a new number that is taken out again
+--     members_below-same           two tests that agree give one set
+--     members_below-insert         one more number passes
+--     members_below-remove         one number fewer passes
+--     members_below-more           one more number is below
+--     members_below-len            it has at most n members
+--     remove-inserted              a new number is added and removed again
 use Rattle.std.specs.Prelude.{◌≡◌, ℕ, zero, suc, ◌+◌, ◌≤◌, ◌<◌, nat_lt, nat_le, nat_eq, Bool, true, false, cond, not, ◌&&◌, ◌||◌, List, [], ◌∷◌, length, refl}
 use Rattle.std.specs.List.{list_any, filter, range_with_len}
 use Rattle.std.specs.Ordering.{nat_cmp, eq_by_cmp}
@@ -116,7 +116,7 @@ members_below-empty n p h = same_set nat_cmp_total nat_cmp-IsAntisymmetric _ _ (
     and_false true y e = e
     and_false false y e = refl
 
--- a member that is put in again
+-- adding a member again changes nothing
 pub insert-member : (s : set.FinSet nat_cmp) (k : ℕ) → set.contains s k ≡ true → s ≡ set.insert s k
 insert-member s k h = same_set nat_cmp_total nat_cmp-IsAntisymmetric _ _ (λ q. held q ∙ sym (contains-insert nat_cmp_total s k q))
   where
@@ -136,7 +136,7 @@ insert-member s k h = same_set nat_cmp_total nat_cmp-IsAntisymmetric _ _ (λ q. 
 pub len-new_member : (s : set.FinSet nat_cmp) (k : ℕ) → set.contains s k ≡ false → set.len (set.insert s k) ≡ set.len s + 1
 len-new_member s k h = len-insert nat_cmp_total s k ∙ ap (λ b. cond b (set.len s) (set.len s + 1)) h
 
--- a number that is no member is taken out in vain
+-- removing a number that is no member changes nothing
 pub remove-absent : (s : set.FinSet nat_cmp) (k : ℕ) → set.contains s k ≡ false → set.remove s k ≡ s
 remove-absent s k h = same_set nat_cmp_total nat_cmp-IsAntisymmetric _ _ (λ q. contains-remove nat_cmp_total s k q ∙ left q)
   where
@@ -150,7 +150,7 @@ remove-absent s k h = same_set nat_cmp_total nat_cmp-IsAntisymmetric _ _ (λ q. 
     left : (q : ℕ) → (not (eq_by_cmp nat_cmp q k) && set.contains s q) ≡ set.contains s q
     left q = kept (eq_by_cmp nat_cmp q k) (set.contains s q) (λ e. ap (set.contains s) (tie q e) ∙ h)
 
--- a new number that is put in and taken out again
+-- adding and removing a new number changes nothing
 pub remove-inserted : (s : set.FinSet nat_cmp) (k : ℕ) → set.contains s k ≡ false → set.remove (set.insert s k) k ≡ s
 remove-inserted s k h = same_set nat_cmp_total nat_cmp-IsAntisymmetric _ _ (λ q. contains-remove nat_cmp_total (set.insert s k) k q ∙ ap (λ b. not (eq_by_cmp nat_cmp q k) && b) (contains-insert nat_cmp_total s k q) ∙ left q)
   where

@@ -1,8 +1,8 @@
-//! The configuration of a group, its limits, and the refusals of its check.
-ghost use Rattle.std.specs.Prelude.{◌≡◌, ◌<◌, ◌≤◌, ◌*◌, List, Some, None, IfOk, OnOk, IfErr};
-ghost use Rattle.cast_message.specs.Limits.{ConfigCause, fault_factor, count_causes, size_causes, config_causes, first_config_fault, config_code};
+//! The configuration of a group, and why it can be refused.
+ghost use Rattle.std.specs.Prelude.{◌≡◌, ◌<◌, ◌≤◌, ◌*◌, Some, None, IfOk, OnOk, IfErr};
+ghost use Rattle.cast_message.specs.Limits.{fault_factor, config_causes, first_config_fault, config_code};
 
-use crate::limits::{MOST_ENTRIES, MOST_ITEMS, MOST_NODES, MOST_PLACES};
+use crate::settings::Settings;
 use thiserror::Error;
 
 /// When a message whose turn has come is delivered.
@@ -10,12 +10,12 @@ use thiserror::Error;
 pub enum Mode {
     /// In the step in which the node holds it.
     Basic,
-    /// In the step in which more nodes than may crash are known to hold it, so that a delivery outlives the node that
-    /// made it (uniform agreement; Hadzilacos and Toueg, TR 94-1425, section 3).
+    /// In the step in which the node knows that more nodes than may crash hold it. So the delivery outlives the node
+    /// that made it (uniform agreement; Hadzilacos and Toueg, TR 94-1425, section 3).
     Uniform,
 }
 
-/// A configuration within the limits, each of which is a fact of the type.
+/// A configuration within its limits. The type itself states each limit.
 #[derive(Clone, Copy)]
 pub struct Config {
     /// How many nodes the group has, 1 to 64. They are numbered from 0.
@@ -48,7 +48,7 @@ pub struct Config {
     pub ghost mode_in_range: { fault_factor mode * faults < nodes },
 }
 
-/// The first value of a configuration that is outside its limits.
+/// The first value outside its limits.
 #[derive(Clone, Copy, Debug, PartialEq, Eq, Error)]
 pub enum ConfigFault {
     #[error("the number of nodes is not 1 to 64")]
@@ -68,7 +68,7 @@ pub enum ConfigFault {
 }
 
 impl ConfigFault {
-    /// The number of the refusal, from 1 on. These numbers never change.
+    /// The number of the refusal, from 1. These numbers never change.
     pub fn code(self) -> u64
         ensures { result ≡ config_code self }
     {
@@ -85,9 +85,8 @@ impl ConfigFault {
 }
 
 impl Config {
-    /// The configuration of these values, where each is within its limits; else the first, in the order of the
-    /// parameters, that is not. The mode is refused where it is uniform and twice the faults are not below the nodes.
-    #[tactic(auto, using(std::proofs::lemmas::Bool::Decides::nat_tests), unfolding(crate::specs::Limits::first_config_fault, crate::specs::Limits::config_causes))]
+    /// The configuration with these values, or the first value outside its limits, in the order of the parameters.
+    /// `Settings::check` takes the same values by name.
     pub fn check(
         nodes: u64,
         faults: u64,
@@ -110,12 +109,7 @@ impl Config {
             (λ fault. first_config_fault
             (config_causes nodes faults choices item_limit log_limit box_size mode) ≡ Some fault) }
     {
-        check_counts(nodes, faults, choices)?;
-        check_sizes(item_limit, log_limit, box_size)?;
-        if mode.fault_factor() * faults >= nodes {
-            return Err(ConfigFault::Mode);
-        }
-        Ok(Config {
+        let settings = Settings {
             nodes,
             faults,
             choices,
@@ -124,7 +118,8 @@ impl Config {
             box_size,
             first_stamp,
             mode,
-        })
+        };
+        settings.check()
     }
 
     /// How many nodes the group has, 1 to 64.
@@ -184,57 +179,9 @@ impl Config {
     }
 }
 
-// Refuses the first of the counts of nodes that is outside its limits.
-#[tactic(auto, using(std::proofs::lemmas::Bool::Decides::nat_tests), unfolding(crate::specs::Limits::first_config_fault))]
-fn check_counts(nodes: u64, faults: u64, choices: u64) -> Result<(), ConfigFault>
-    ensures nodes { OnOk result ((1 ≤ nodes) × (nodes ≤ 64)) }
-    ensures faults { OnOk result (faults < nodes) }
-    ensures choices { OnOk result ((1 ≤ choices) × (choices ≤ nodes)) }
-    ensures none { OnOk result ((others : List ConfigCause) →
-        first_config_fault (count_causes nodes faults choices others)
-        ≡ first_config_fault others) }
-    ensures fault { IfErr result (λ fault. (others : List ConfigCause) →
-        first_config_fault (count_causes nodes faults choices others) ≡ Some fault) }
-{
-    if nodes < 1 || nodes > MOST_NODES {
-        return Err(ConfigFault::Nodes);
-    }
-    if faults >= nodes {
-        return Err(ConfigFault::Faults);
-    }
-    if choices < 1 || choices > nodes {
-        return Err(ConfigFault::Choices);
-    }
-    Ok(())
-}
-
-// Refuses the first of the sizes that is outside its limits.
-#[tactic(auto, using(std::proofs::lemmas::Bool::Decides::nat_tests), unfolding(crate::specs::Limits::first_config_fault))]
-fn check_sizes(item_limit: u64, log_limit: u64, box_size: u64) -> Result<(), ConfigFault>
-    ensures items { OnOk result ((1 ≤ item_limit) × (item_limit ≤ 4096)) }
-    ensures entries { OnOk result ((1 ≤ log_limit) × (log_limit ≤ 65536)) }
-    ensures places { OnOk result ((1 ≤ box_size) × (box_size ≤ 4096)) }
-    ensures none { OnOk result ((others : List ConfigCause) →
-        first_config_fault (size_causes item_limit log_limit box_size others)
-        ≡ first_config_fault others) }
-    ensures fault { IfErr result (λ fault. (others : List ConfigCause) →
-        first_config_fault (size_causes item_limit log_limit box_size others) ≡ Some fault) }
-{
-    if item_limit < 1 || item_limit > MOST_ITEMS {
-        return Err(ConfigFault::ItemLimit);
-    }
-    if log_limit < 1 || log_limit > MOST_ENTRIES {
-        return Err(ConfigFault::LogLimit);
-    }
-    if box_size < 1 || box_size > MOST_PLACES {
-        return Err(ConfigFault::BoxSize);
-    }
-    Ok(())
-}
-
 impl Mode {
-    // How many times the faults must stay below the nodes.
-    fn fault_factor(self) -> u64
+    // The faults, this many times, must be fewer than the nodes.
+    pub(crate) fn fault_factor(self) -> u64
         ensures { result ≡ fault_factor self }
     {
         match self {

@@ -1,4 +1,4 @@
-//! A set of nodes of one group, which has at most 64: a bit for each, in one word.
+//! A set of nodes of one group. A group has at most 64, so each has a bit in one word.
 ghost use Rattle.std.specs.Prelude.{◌≡◌, ◌<◌, ◌↔◌, IsFalse};
 ghost use Rattle.std.specs.FinSet as set;
 
@@ -58,7 +58,7 @@ impl GroupSet {
         self.word |= 1 << node.0;
     }
 
-    /// Takes a node of the group out, one below 64.
+    /// Removes a node of the group, one below 64.
     pub fn remove(&mut self, node: NodeId)
         requires { node < 64 }
         ensures { self.new ≡ set.remove self.old node }

@@ -1,5 +1,5 @@
-//! The messages of a broadcast group: items, frames, events, answers and the configuration, with their limits; the faults of a
-//! plan; and sets of nodes and of numbers, as bits, which contracts see as finite sets.
+//! The messages of a broadcast group: items, frames, events, answers and the configuration, with their limits. Also the
+//! faults of a plan, and sets of nodes and of numbers: bits, which contracts see as finite sets.
 #![tactic(auto)]
 
 mod config;
@@ -13,9 +13,10 @@ mod node_set;
 mod number_set;
 mod payload;
 mod plan;
+mod settings;
 
 pub use config::{Config, ConfigFault, Mode};
-pub use event::{Answer, Event, Outcome, Reply, StepFault};
+pub use event::{Answer, Event, Outcome, REFUSALS, Reply, StepFault};
 pub use group_set::GroupSet;
 pub use limits::{FRAME_LIMIT, MOST_ENTRIES, MOST_ITEMS, MOST_NODES, MOST_PLACES, PAYLOAD_LIMIT};
 pub use list::List;
@@ -25,3 +26,4 @@ pub use node_set::NodeSet;
 pub use number_set::NumberSet;
 pub use payload::Payload;
 pub use plan::{Fault, FaultPlan, Frames};
+pub use settings::Settings;

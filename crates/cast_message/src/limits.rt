@@ -1,12 +1,12 @@
-//! The limits of a group, which are this project's own profile.
+//! The limits of a group, which this project sets for itself.
 
 /// The most nodes in a group.
 pub const MOST_NODES: u64 = 64;
-/// The most items in a stream, and so the greatest item limit.
+/// The most items in a stream, so the greatest item limit.
 pub const MOST_ITEMS: u64 = 4_096;
-/// The most entries in the log of a running node, and so the greatest log limit.
+/// The most entries in the log of a running node, so the greatest log limit.
 pub const MOST_ENTRIES: u64 = 65_536;
-/// The most items in a box between threads, and so the greatest box size.
+/// The most items in a box between threads, so the greatest box size.
 pub const MOST_PLACES: u64 = 4_096;
 /// The most bytes in a payload.
 pub const PAYLOAD_LIMIT: usize = 1_024;

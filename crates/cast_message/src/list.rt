@@ -19,7 +19,7 @@ impl<T> Model for List<T> {
 }
 
 impl<T> List<T> {
-    /// The empty list, which takes no memory.
+    /// The empty list. It allocates nothing.
     pub fn new(alloc: Global) -> List<T>
         ensures { result ≡ [] }
     {
@@ -28,7 +28,7 @@ impl<T> List<T> {
         }
     }
 
-    /// The empty list, or want of memory. Room for so many elements is made at once, which no contract shows.
+    /// The empty list with room for as many elements as given, or out of memory. No contract shows the room.
     pub fn with_capacity(alloc: Global, capacity: usize) -> Result<List<T>, AllocError>
         ensures { IfOk result (λ list. list ≡ []) }
     {
@@ -43,14 +43,14 @@ impl<T> List<T> {
         self.elements.as_slice()
     }
 
-    /// The list of these elements, which takes no memory.
+    /// The list of these elements. It allocates nothing.
     pub fn from_vec(elements: Vec<T>) -> List<T>
         ensures { result ≡ elements.items }
     {
         List { elements }
     }
 
-    /// The elements as a `Vec`, which takes no memory.
+    /// The elements as a `Vec`. It allocates nothing.
     pub fn into_vec(self) -> Vec<T>
         ensures { result.items ≡ self }
     {
@@ -60,7 +60,7 @@ impl<T> List<T> {
 }
 
 impl<T: Drop> List<T> {
-    /// Puts the element at the end, or answers want of memory and leaves the list as it was.
+    /// Appends the element, or reports out of memory and leaves the list as it was.
     pub fn push(&mut self, element: T) -> Result<(), AllocError>
         ensures ok { OnOk result (self.new ≡ self.old ++ element ∷ []) }
         ensures err { OnErr result (self.new ≡ self.old) }

@@ -5,8 +5,8 @@ ghost use Rattle.cast_message.specs.LiveFaults.{live_code};
 use std::alloc::AllocError;
 use thiserror::Error;
 
-/// Why a group is not run. The first three causes are tried in this order, before anything is started, and the first that holds
-/// is answered; then memory or a thread, whichever is refused first.
+/// Why a group is not run. The first three causes are tried in this order before anything starts, and the first that
+/// applies is reported. After them it is memory or a thread, whichever is refused first.
 #[derive(Clone, Copy, Debug, PartialEq, Eq, Error)]
 pub enum LiveFault {
     #[error("a job at no node, or more than 4 jobs at one")]

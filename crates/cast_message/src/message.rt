@@ -6,7 +6,7 @@ use crate::payload::Payload;
 use std::alloc::AllocError;
 use std::marker::Model;
 
-/// The number of a node. Which numbers name nodes is the configuration's to say. Contracts see the number.
+/// The number of a node. The configuration says which numbers name nodes. Contracts see the number.
 #[derive(Clone, Copy, Debug, PartialEq, Eq, PartialOrd, Ord)]
 pub struct NodeId(pub u8);
 
@@ -21,7 +21,7 @@ impl Model for NodeId {
 }
 
 impl NodeId {
-    /// The node of this number, where a byte has room for it.
+    /// The node with this number, if it fits into a byte.
     pub fn from_number(number: u64) -> Option<NodeId>
         ensures { result ≡ byte_sized number }
     {
@@ -36,23 +36,23 @@ impl NodeId {
 /// What a node puts into its stream.
 #[derive(Debug, Drop, PartialEq)]
 pub enum Item {
-    /// Bytes for whoever uses the group, at most 1,024 where they are ordered.
+    /// Bytes for the user of the group, at most 1,024 in an order.
     Data(Payload),
-    /// A value that the node proposes in an instance of agreement, at most once per instance.
+    /// A value that the node proposes in an instance of agreement, at most once in each.
     Propose { instance: u64, value: u64 },
     /// The last item of a stream.
     Close,
 }
 
 impl Item {
-    /// Whether it is the last item of a stream.
+    /// Whether this is the last item of a stream.
     pub fn is_close(&self) -> bool
         ensures { result ≡ is_close self.now }
     {
         matches!(self, Item::Close)
     }
 
-    /// An equal item, or want of memory, which only bytes take: they are shared, not copied, and counted.
+    /// An equal item, or out of memory, which only bytes cause. The bytes are shared and counted, not copied.
     pub fn copy(&self) -> Result<Item, AllocError>
         ensures ok { IfOk result (λ copy. copy ≡ self.now) }
         ensures err { OnErr result (has_bytes self.now ≡ true) }
@@ -68,7 +68,7 @@ impl Item {
     }
 }
 
-/// An item with its sender and its number in the sender's stream, from 0 on.
+/// An item with its sender and its number in the sender's stream, from 0.
 #[derive(Debug, Drop, PartialEq)]
 pub struct Message {
     pub sender: NodeId,
@@ -77,7 +77,7 @@ pub struct Message {
 }
 
 impl Message {
-    /// An equal message, or want of memory, which only bytes take.
+    /// An equal message, or out of memory, which only bytes cause.
     pub fn copy(&self) -> Result<Message, AllocError>
         ensures ok { IfOk result (λ copy. copy ≡ self.now) }
         ensures err { OnErr result (has_bytes self.now.item ≡ true) }
@@ -91,26 +91,26 @@ impl Message {
     }
 }
 
-/// The value on which a node settled in an instance of agreement.
+/// The value that a node decided in an instance of agreement.
 #[derive(Clone, Copy, Debug, PartialEq, Eq)]
 pub struct Decision {
     pub instance: u64,
     pub value: u64,
 }
 
-/// What a node hands to the network.
+/// What a node passes to the network.
 #[derive(Debug, Drop, PartialEq)]
 pub struct Frame {
-    /// The node that made it.
+    /// The node that made the frame.
     pub from: NodeId,
-    /// The node that it is for.
+    /// The node that the frame is for.
     pub to: NodeId,
-    /// Its number among the frames of its maker, from 0 on.
+    /// Its number among the frames of its maker, from 0.
     pub seq: u64,
     pub body: FrameBody,
 }
 
-/// What a frame says. A slot is a place in the list of what one node gives another, from 0 on.
+/// What a frame says. A slot is a place in the list of what one node gives another, from 0.
 #[derive(Debug, Drop, PartialEq)]
 pub enum FrameBody {
     /// The message in this slot of what the maker gives the target.
@@ -120,7 +120,6 @@ pub enum FrameBody {
 }
 
 impl FrameBody {
-    /// The kind of the frame.
     pub fn kind(&self) -> FrameKind
         ensures { result ≡ kind_of self.now }
     {
@@ -131,7 +130,7 @@ impl FrameBody {
     }
 }
 
-/// The kind of a frame, by its body.
+/// What kind of body a frame has.
 #[derive(Clone, Copy, Debug, PartialEq, Eq)]
 pub enum FrameKind {
     Carry,
@@ -139,7 +138,7 @@ pub enum FrameKind {
 }
 
 impl Frame {
-    /// An equal frame, or want of memory, which only bytes take.
+    /// An equal frame, or out of memory, which only bytes cause.
     pub fn copy(&self) -> Result<Frame, AllocError>
         ensures ok { IfOk result (λ copy. copy ≡ self.now) }
         ensures err { OnErr result (carries_bytes self.now.body ≡ true) }

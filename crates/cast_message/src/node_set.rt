@@ -10,7 +10,6 @@ use std::marker::Model;
 pub struct NodeSet {
     // The bit of node i is bit i % 64 of word i / 64.
     words: [u64; 4],
-    // How many bits are set.
     len: u64,
 }
 
@@ -67,7 +66,7 @@ impl NodeSet {
         self.words[usize::from(node.0 / 64)] >> (node.0 % 64) & 1 == 1
     }
 
-    /// Adds a node, and says whether it is new.
+    /// Adds a node, and returns whether it is new.
     pub fn insert(&mut self, node: NodeId) -> bool
         ensures test { result ≡ not (set.contains self.old node) }
         ensures members { self.new ≡ set.insert self.old node }

@@ -1,4 +1,4 @@
-//! A set of numbers: bits for the small ones, grown as they come, and an ordered set for the others.
+//! A set of numbers: bits for the small ones, added as needed, and an ordered set for the others.
 ghost use Rattle.std.specs.Prelude.{◌≡◌, ◌<◌, ◌≤◌, ℕ, length, slice_index, false, not, IfOk, OnOk, OnErr};
 ghost use Rattle.std.specs.FinSet as set;
 
@@ -6,7 +6,7 @@ use std::alloc::{AllocError, Global};
 use std::collections::BTreeSet;
 use std::marker::Model;
 
-// The numbers below it have bits: as many as a stream may have items. The words for them are made as they come.
+// Numbers below this have bits: as many as a stream may have items. Their words are allocated as needed.
 const BITS: u64 = 4096;
 
 /// A set of numbers.
@@ -38,7 +38,7 @@ impl Model for NumberSet {
 }
 
 impl NumberSet {
-    /// The empty set, which takes no memory.
+    /// The empty set. It allocates nothing.
     pub fn new(alloc: Global) -> NumberSet
         ensures { result ≡ set.empty }
     {
@@ -61,7 +61,7 @@ impl NumberSet {
         }
     }
 
-    /// Adds a number, and says whether it is new. One that is in the set takes no memory.
+    /// Adds a number, and returns whether it is new. A number in the set allocates nothing.
     pub fn insert(&mut self, number: u64) -> Result<bool, AllocError>
         ensures test { IfOk result (λ added. added ≡ not (set.contains self.old number)) }
         ensures ok { OnOk result (self.new ≡ set.insert self.old number) }
@@ -81,7 +81,7 @@ impl NumberSet {
         Ok(true)
     }
 
-    /// Takes a number out, and says whether it was in the set. It takes no memory.
+    /// Removes a number, and returns whether it was in the set. It allocates nothing.
     pub fn remove(&mut self, number: u64) -> bool
         ensures test { result ≡ set.contains self.old number }
         ensures members { self.new ≡ set.remove self.old number }
@@ -98,7 +98,7 @@ impl NumberSet {
     }
 }
 
-// Words up to a place, the new ones with no bit set.
+// Adds words up to a place, with no bit set.
 fn make_room(words: &mut Vec<u64>, place: usize) -> Result<(), AllocError>
     requires { place < 64 }
     ensures ok { OnOk result (place < length words.new.items) }

@@ -22,7 +22,7 @@ impl Model for Payload {
 }
 
 impl Payload {
-    /// The payload of these bytes, however many. Whether they are too many is asked where an item is ordered.
+    /// The payload of these bytes, however many. Only an order checks whether they are too many.
     pub fn new(bytes: Bytes) -> Payload
         ensures { result ≡ bytes }
     {
@@ -36,7 +36,7 @@ impl Payload {
         self.bytes.as_slice()
     }
 
-    /// An equal payload over the same bytes, or want of memory, which comes only where there are bytes.
+    /// An equal payload that shares the bytes, or out of memory, which only bytes cause.
     pub fn copy(&self) -> Result<Payload, AllocError>
         ensures ok { IfOk result (λ copy. copy ≡ self.now) }
         ensures err { OnErr result (0 < length self.now) }

@@ -1,4 +1,4 @@
-//! The plan of a group in threads: what becomes of frames, and when engines crash.
+//! The plan of a group in threads: what happens to frames, and when engines crash.
 use crate::list::List;
 use crate::message::{FrameKind, NodeId};
 
@@ -8,9 +8,9 @@ pub struct FaultPlan {
     pub faults: List<Fault>,
 }
 
-/// The frames of this kind from one node to another whose ordinals are `first`, `first + step`, `first + 2 * step` and so on,
-/// or `first` alone where the step is 0. The ordinal of a frame counts, from 0 on, the frames of its kind that the carrier of
-/// its maker has taken for its target.
+/// Frames of one kind from one node to another: those with the ordinals `first`, `first + step`, `first + 2 * step` and
+/// so on. If the step is 0, it is `first` alone. The ordinal of a frame counts, from 0, the frames of its kind that its
+/// maker's carrier has taken for its target.
 #[derive(Clone, Copy, Debug, PartialEq, Eq)]
 pub struct Frames {
     pub kind: FrameKind,
@@ -25,11 +25,11 @@ pub struct Frames {
 pub enum Fault {
     /// These frames are lost.
     Lose(Frames),
-    /// These frames are handed on twice, those that another fault loses not at all.
+    /// These frames are handed on twice, except those that another fault loses.
     Repeat(Frames),
-    /// These frames are kept until `count` more frames of either kind were taken for their target, if no other fault loses
-    /// them. Of several delays of a frame the longest holds.
+    /// These frames are kept until `count` more frames of either kind were taken for their target, unless another fault
+    /// loses them. If several faults delay a frame, the longest delay holds.
     Delay { frames: Frames, count: u64 },
-    /// The engine of the node crashes once its log has so many entries.
+    /// The node's engine crashes after its log has this many entries.
     Crash { node: NodeId, entries: u64 },
 }

@@ -1,4 +1,5 @@
--- At rest, in both modes: all live nodes have delivered the same, the whole stream of a live sender, and decided the same instances.
+-- At rest, in both modes, all live nodes have delivered the same, with the whole stream of each live sender, and
+-- decided the same instances.
 use Rattle.std.proofs.Common.{◌≡◌, ℕ, ◌-◌, ◌≤◌, refl, sym, ◌∙◌, ap, subst, Bool, true, [], length, Some, None, arith}
 use Rattle.std.specs.Prelude.{is_some, nat_le, ◌==◌}
 use Rattle.std.specs.List.{filter, list_any, take_while}

@@ -1,4 +1,5 @@
--- How what a node delivers grows with its own steps: its next number is the least that it may not deliver, and a step delivers what lies between two of them.
+-- How a node's deliveries grow with its own steps. Its next number is the least that it may not deliver; a step
+-- delivers what lies between two of these numbers.
 use Rattle.std.proofs.Common.{◌≡◌, ℕ, zero, suc, ◌+◌, ◌-◌, ◌<◌, ◌≤◌, refl, sym, ◌∙◌, ap, subst, Bool, true, false, ◌&&◌, ◌||◌, cond, List, [], ◌∷◌, ◌++◌, length, map, Option, Some, None, inl, inr, arith}
 use Rattle.std.specs.Prelude.{◌==◌}
 use Rattle.std.specs.List.{filter, list_any, filter_map, cons_option, prefix_len, range_with_len}

@@ -1,4 +1,5 @@
--- After a round in which all events are accepted, each live node holds what some live node held before it, and no more. So two such rounds bring rest.
+-- After a round in which all events are accepted, each live node holds exactly what some live node held before it. So
+-- after two such rounds the group is at rest.
 use Rattle.std.proofs.Common.{◌≡◌, ℕ, ◌*◌, ◌<◌, refl, sym, ◌∙◌, ap, subst, Bool, true, false, not, cond, List, [], ◌∷◌, ◌++◌, length, inl, inr, ◌⊎◌, arith}
 use Rattle.std.specs.Prelude.{IsTrue}
 use Rattle.std.specs.List.{list_any, range_with_len, count_by}

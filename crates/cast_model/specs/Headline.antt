@@ -1,12 +1,12 @@
--- The main promise, of any list of events and the replies to them: its words, and then its clauses.
+-- The main promise, for any list of events and the replies to them: its words, and then its clauses.
 --     answered events replies q s    what q delivered from s, by the replies
 --     decided replies j              the values decided in instance j, by the replies
 --     decided_at events replies q j  those that q decided
 --     DeliversPrefixes               FIFO order and integrity (Hadzilacos and Toueg, TR 94-1425)
---     DeliversNothingAfterClose      a close ends what is delivered (this project's profile)
+--     DeliversNothingAfterClose      nothing is delivered after a close (this project's profile)
 --     DecidesProposals               validity of k-set agreement (Chaudhuri 1993)
---     DecidesFewValues               its agreement, where the faults are fewer than k
---     DecidesWithinFaults            what its agreement comes from, whatever k is
+--     DecidesFewValues               its agreement, if the faults are fewer than k
+--     DecidesWithinFaults            the source of its agreement, for any k
 use Rattle.std.specs.Prelude.{◌≡◌, ℕ, suc, ◌+◌, ◌<◌, ◌≤◌, ◌==◌, nat_eq, Bool, if◌then◌else◌, List, [], ◌∷◌, ◌++◌, length, slice_get, Option, Some, None, Result, Ok, Err}
 use Rattle.std.specs.List.{filter, filter_map, All, Contains, IsDistinct}
 use Rattle.cast_message.specs.declared.config.Config.{Config}
@@ -24,13 +24,13 @@ use Rattle.cast_model.specs.Replies.{history}
 
 -- ---- its words
 
--- of what an answer to an event brought at q, this
+-- this part of the outcome of an answer, if the event is at q
 abbrev pub brought_at : {X : Type 0} → (Outcome → List X) → ℕ → Event → Answer → List X
 brought_at read q (Order node item) (Ordered number outcome) = if node == q then read outcome else []
 brought_at read q event (Arrived node outcome) = if node == q then read outcome else []
 brought_at read q event _ = []
 
--- what an answer to an event delivered at q
+-- what an answer to an event says was delivered at q
 abbrev pub deliveries_at : ℕ → Event → Answer → List Message
 deliveries_at = brought_at (λ outcome. outcome.deliveries)
 
@@ -38,11 +38,11 @@ abbrev pub deliveries_for : ℕ → Event → Result Answer StepFault → List M
 deliveries_for q event (Ok a) = deliveries_at q event a
 deliveries_for q event (Err refusal) = []
 
--- the message is one of s
+-- the message is from s
 abbrev pub is_from : ℕ → Message → Bool
 is_from s message = message.sender == s
 
--- the messages of s in the outcomes answered to q's events, in order
+-- the messages of s in the outcomes of q's events, in order
 unfoldable pub answered : List Event → List (Result Answer StepFault) → ℕ → ℕ → List Message
 answered [] results q s = []
 answered (event ∷ events) [] q s = []
@@ -67,7 +67,7 @@ unfoldable pub decided : List (Result Answer StepFault) → ℕ → List ℕ
 decided [] j = []
 decided (result ∷ results) j = filter_map (value_for j) (decisions_in result) ++ decided results j
 
--- what an answer to an event decided at q
+-- what an answer to an event says was decided at q
 abbrev pub decisions_at : ℕ → Event → Answer → List Decision
 decisions_at = brought_at (λ outcome. outcome.decisions)
 
@@ -82,29 +82,29 @@ decided_at (event ∷ events) [] q j = []
 decided_at (event ∷ events) (result ∷ results) q j =
     filter_map (value_for j) (decisions_for q event result) ++ decided_at events results q j
 
--- the one list is a prefix of the other
+-- the first list is a prefix of the second
 abbrev pub IsPrefixOf : {X : Type 0} → List X → List X → Type 0
 IsPrefixOf {X} xs ys = (rest : List X) × (xs ++ rest ≡ ys)
 
--- a close stands in the last place alone
+-- only the last message may be a close
 abbrev pub IsClosedOnlyAtEnd : List Message → Type 0
 IsClosedOnlyAtEnd messages =
     (i : ℕ) (message : Message) → slice_get messages i ≡ Some message → message.item ≡ Close
     → suc i ≡ length messages
 
--- at most k pairwise different values stand in the list
+-- the list has at most k different values
 abbrev pub AtMost : ℕ → List ℕ → Type 0
 AtMost k values =
     (chosen : List ℕ) → IsDistinct nat_eq chosen → All (Contains values) chosen → length chosen ≤ k
 
 -- ---- its clauses
 
--- what q delivers from s is a prefix of what s broadcast, so each item once, in order and without a gap
+-- what q delivers from s is a prefix of what s broadcast: each item once, in order and without gaps
 abbrev pub DeliversPrefixes : Config → List Event → List (Result Answer StepFault) → Type 0
 DeliversPrefixes config events results =
     (q s : ℕ) → IsPrefixOf (answered events results q s) (broadcast (history config events) s)
 
--- with nothing after its close
+-- nothing from a sender is delivered after its close
 abbrev pub DeliversNothingAfterClose : List Event → List (Result Answer StepFault) → Type 0
 DeliversNothingAfterClose events results = (q s : ℕ) → IsClosedOnlyAtEnd (answered events results q s)
 
@@ -114,11 +114,11 @@ DecidesProposals config events results =
     (j v : ℕ) → Contains (decided results j) v
     → (s : ℕ) × (s < config.nodes) × Contains (stream (history config events) s) (Propose j v)
 
--- at most k values are decided in an instance, where the faults are fewer than k
+-- at most k values are decided in an instance, if the faults are fewer than k
 abbrev pub DecidesFewValues : Config → List (Result Answer StepFault) → Type 0
 DecidesFewValues config results =
     config.faults < config.choices → (j : ℕ) → AtMost config.choices (decided results j)
 
--- at most one value more is decided in an instance than there are tolerated faults
+-- at most one more value is decided in an instance than there are tolerated faults
 abbrev pub DecidesWithinFaults : Config → List (Result Answer StepFault) → Type 0
 DecidesWithinFaults config results = (j : ℕ) → AtMost (config.faults + 1) (decided results j)

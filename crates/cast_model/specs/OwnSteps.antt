@@ -1,6 +1,6 @@
--- What one node gives, knows, delivers, decides and answers, read off its own steps alone.
+-- What one node gives, knows, delivers, decides and answers, given its own steps alone.
 --     own_copies me steps                the pairs that it holds
---     own_given me steps q               what it gives q, with the messages; a slot is a place in it
+--     own_given me steps q               what it gives q, with the messages; a slot is a place in this list
 --     own_taken steps r slot             it took the slot that r gave it
 --     own_acked steps r slot             it has r's acknowledgement of that slot
 --     own_owed me steps q                the slots given to q that q has not acknowledged to it
@@ -14,8 +14,8 @@
 --     own_frames me steps                the frames that it made, in order
 --     own_fault, own_reply               the refusal of a step after these, and its reply
 --     is_possible config me steps frame  some node of a group could have made the frame for this node
---     node_reply, node_after             the reply to whatever is asked, and the steps after it: an impossible frame changes nothing
---     IsOwnAccepted config me steps      no step is refused or skipped where it stands
+--     node_reply, node_after             the reply to any request, and the steps after it: an impossible frame changes nothing
+--     IsOwnAccepted config me steps      no step is refused or skipped at its place
 --     IsStep past me event step          the event after past is this step of the node
 use Rattle.std.specs.Prelude.{◌≡◌, ℕ, ◌-◌, ◌*◌, ◌==◌, is_some, nat_lt, nat_le, take, Bool, true, false, not, ◌&&◌, ◌||◌, if◌then◌else◌, List, [], ◌∷◌, ◌++◌, length, map, slice_get, slice_index_or}
 use Rattle.std.specs.Prelude.{Option, Some, None, Result}
@@ -73,23 +73,23 @@ unfoldable pub own_owed : ℕ → Steps → ℕ → List ℕ
 own_owed me steps q =
     filter (λ slot. not (own_acked steps q slot)) (range_with_len 0 (length (own_given me steps q)))
 
--- of a pair that it holds, it knows that r holds it
+-- it knows that r holds a pair that it holds itself
 unfoldable pub own_knows : ℕ → Steps → ℕ → ℕ → ℕ → Bool
 own_knows me steps s i r = is_told (own_given_copies me steps r) (frames_in steps) me s i r
 
--- how many nodes it knows to hold the pair, which is none where it doesn't
+-- how many nodes it knows to hold the pair: none if it does not hold it
 unfoldable pub own_known_by : Config → ℕ → Steps → ℕ → ℕ → ℕ
 own_known_by config me steps s i = holders config (own_copies me steps) (own_knows me steps s i) s i
 
 unfoldable pub own_known_enough : Mode → Config → ℕ → Steps → ℕ → ℕ → Bool
 own_known_enough mode config me steps s i = are_enough mode config.faults (own_known_by config me steps s i)
 
--- it may deliver the pair once its turn has come
+-- it may deliver the pair when its turn comes
 unfoldable pub own_is_ready : Config → ℕ → Steps → ℕ → ℕ → Bool
 own_is_ready config me steps s i =
     has_pair (own_copies me steps) s i && own_known_enough config.mode config me steps s i
 
--- how many messages of s, from its first on, it may deliver: no more than it holds
+-- how many messages of s, from the first on, it may deliver: no more than it holds
 unfoldable pub own_next : Config → ℕ → Steps → ℕ → ℕ
 own_next config me steps s =
     prefix_len (own_is_ready config me steps s) (range_with_len 0 (length (held me steps)))
@@ -107,7 +107,7 @@ messages_from hs s a b = filter_map (message_at hs s) (range_with_len a (b - a))
 unfoldable pub own_delivered : Config → ℕ → Steps → ℕ → List Message
 own_delivered config me steps s = messages_from (held me steps) s 0 (own_next config me steps s)
 
--- whose pair a step after these brings to notice
+-- the sender of the pair that a step after these is about
 abbrev pub own_concerned : ℕ → Steps → Step → Option ℕ
 own_concerned me steps (Ordered item) = Some me
 own_concerned me steps (Arrived frame) = Some (sender_in (own_given_copies me steps frame.from) frame.body)
@@ -122,7 +122,7 @@ own_turns config me steps step (Some s) =
 unfoldable pub own_deliveries : Config → ℕ → Steps → Step → List Message
 own_deliveries config me steps step = own_turns config me steps step (own_concerned me steps step)
 
--- all that it delivered, in the order in which it did
+-- all that it delivered, in order
 unfoldable pub own_log : Config → ℕ → Steps → List Message
 own_log config me [] = []
 own_log config me (step ∷ steps) = own_log config me steps ++ own_deliveries config me steps step
@@ -132,7 +132,8 @@ abbrev pub is_first_vote : ℕ → List Message → ℕ → Bool
 is_first_vote j seen sender =
     not (list_any (λ message. message.sender == sender && is_some (value_in j message.item)) seen)
 
--- the values proposed in instance j by these messages, in order, where seen came before: a sender's second proposal isn't counted
+-- the values proposed in instance j by these messages, in order, if seen came before; a sender's second proposal is not
+-- counted
 unfoldable pub first_votes : ℕ → List Message → List Message → List ℕ
 first_votes j seen [] = []
 first_votes j seen (message ∷ messages) =
@@ -145,7 +146,7 @@ own_decision_on config log message (Propose instance value) =
     then decision_by config instance (first_votes instance [] (log ++ message ∷ [])) else []
 own_decision_on config log message _ = []
 
--- the decisions by these deliveries, one after another, where log was delivered before
+-- the decisions due to these deliveries, one after another, if log was delivered before
 unfoldable pub own_decisions_of : Config → List Message → List Message → List Decision
 own_decisions_of config log [] = []
 own_decisions_of config log (message ∷ messages) =
@@ -164,7 +165,7 @@ own_decision config me steps j =
     if nat_le (config.nodes - config.faults) (length values)
     then Some (least (take (config.nodes - config.faults) values)) else None
 
--- the message in a slot. The default stands where there is no such slot, and no accepted step names one
+-- the message in a slot; if there is no such slot, the default, but no accepted step names such a slot
 unfoldable pub message_in : List Held → ℕ → Message
 message_in hs slot =
     (slice_index_or hs slot
@@ -216,7 +217,7 @@ own_answer config me steps Stopped = Down
 unfoldable pub own_reply : Config → ℕ → Steps → Step → Result Answer StepFault
 own_reply config me steps step = reply_by (own_fault config me steps step) (own_answer config me steps step)
 
--- what a frame brings could stand in a frame made for this node
+-- the content of a frame is possible in a frame made for this node
 abbrev pub is_possible_body : Config → ℕ → Steps → ℕ → FrameBody → Bool
 is_possible_body config me steps from (Carry slot message) =
     nat_lt message.sender config.nodes && not (message.sender == me) && nat_lt message.number config.item_limit
@@ -236,18 +237,18 @@ is_ignored config me steps _ = false
 abbrev pub nothing : Outcome
 nothing = record { deliveries = []; decisions = [] }
 
--- the reply of the node to whatever is asked of it after these steps: a frame that no node could have made brings nothing
+-- the node's reply to any request after these steps; a frame that no node could have made changes nothing
 unfoldable pub node_reply : Config → ℕ → Steps → Step → Result Answer StepFault
 node_reply config me steps step =
     reply_by (own_fault config me steps step)
     (if is_ignored config me steps step then AnswerArrived me nothing else own_answer config me steps step)
 
--- and its steps after it
+-- the node's steps after that request
 unfoldable pub node_after : Config → ℕ → Steps → Step → Steps
 node_after config me steps step =
     if is_some (own_fault config me steps step) || is_ignored config me steps step then steps else step ∷ steps
 
--- no step is refused or skipped where it stands
+-- no step is refused or skipped at its place
 unfoldable pub IsOwnAccepted : Config → ℕ → Steps → Type 0
 IsOwnAccepted config me [] = Unit {0}
 IsOwnAccepted config me (step ∷ steps) =

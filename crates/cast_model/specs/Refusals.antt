@@ -1,9 +1,9 @@
--- Why a node refuses a step, over what it shows of itself.
---     NodeView                       what a node shows that decides over its steps
---     step_causes config me view step    the causes of a refusal, in the order in which they are tried
+-- Why a node refuses a step, given what it shows of itself.
+--     NodeView                       what a node shows that decides whether a step is refused
+--     step_causes config me view step    the causes of a refusal, in the order in which they are checked
 --     first_fault causes             the refusal of the first cause that holds
--- A history, the steps of a node, and what a node keeps each have a view of a node: `view_of` of Replies, `own_view` of OwnSteps,
--- and `kept_view` of cast_node.
+-- A history, the steps of a node, and what a node keeps each give a view of a node: `view_of` of Replies, `own_view` of
+-- OwnSteps, and `kept_view` of cast_node.
 use Rattle.std.specs.Prelude.{ℕ, ◌-◌, ◌==◌, nat_lt, nat_le, Bool, false, not, ◌&&◌, if◌then◌else◌, List, [], ◌∷◌, length, Option, Some, None}
 use Rattle.std.specs.List.{list_any}
 use Rattle.cast_message.specs.Limits.{payload_limit, frame_limit}
@@ -19,7 +19,7 @@ abbrev pub is_too_long : Item → Bool
 is_too_long (Data bytes) = nat_lt payload_limit (length bytes)
 is_too_long _ = false
 
--- the item proposes in an instance in which one of these does
+-- the item is a proposal in an instance where one of these is a proposal too
 abbrev pub is_second_proposal : List Item → Item → Bool
 is_second_proposal items (Propose instance value) = list_any (proposes_in instance) items
 is_second_proposal items _ = false
@@ -33,8 +33,9 @@ unfoldable pub first_fault : List Cause → Option StepFault
 first_fault [] = None
 first_fault (cause ∷ causes) = if cause.holds then Some cause.refusal else first_fault causes
 
--- What a node shows of itself that decides over its steps: whether it lives, its stream, of each peer how many slots it gave it, which
--- of them are acknowledged and which of the peer's it took, and how many frames it made.
+-- What a node shows of itself that decides whether a step is refused: whether it is live, its stream, and how many
+-- frames it made. For each peer: how many slots it gave it, which of these are acknowledged, and which of the peer's
+-- slots it took.
 pub record NodeView : Type 0 where
   pub live : Bool
   pub stream : List Item
@@ -55,7 +56,7 @@ crashed view = record { holds = not view.live; refusal = Crashed }
 abbrev pub frames_full : NodeView → Cause
 frames_full view = record { holds = nat_le frame_limit view.frames; refusal = FramesFull }
 
--- the causes for which node me, which shows this, refuses a step, in the order in which they are tried
+-- the causes for which node me, with this view, refuses a step, in the order in which they are checked
 abbrev pub step_causes : Config → ℕ → NodeView → Step → List Cause
 step_causes config me view (Ordered item) =
     crashed view

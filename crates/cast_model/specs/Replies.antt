@@ -1,4 +1,4 @@
--- Which events are accepted, and what is answered.
+-- Which events are accepted, and how they are answered.
 --     fault config past event      the first refusal whose cause holds after past
 --     reply config past event      the answer or the refusal
 --     history config events        the accepted ones of these events, the newest first
@@ -29,13 +29,13 @@ view_of past p = record {
   frames = length (frames past p);
 }
 
--- the causes of an arrival, where frame is the one it names
+-- the causes for an arrival; frame is the one that it names
 abbrev pub causes_of_arrival : Config → History → Option Frame → List Cause
 causes_of_arrival config past None = record { holds = true; refusal = NoFrame } ∷ []
 causes_of_arrival config past (Some frame) = step_causes config frame.to (view_of past frame.to) (Arrived frame)
 
--- the causes for which an event after past is refused, in the order in which they are tried: the node that it names is none, and then
--- those of the step that it is for that node
+-- The causes for which an event after past is refused, in the order in which they are checked. First its node does not
+-- exist; then come those for the step that it is at that node.
 unfoldable pub causes : Config → History → Event → List Cause
 causes config past (Order p item) = no_node config p ∷ step_causes config p (view_of past p) (Ordered item)
 causes config past (Send p q slot) = no_node config p ∷ step_causes config p (view_of past p) (Sent q slot)
@@ -74,7 +74,7 @@ abbrev pub after_by : Option StepFault → History → Event → History
 after_by None past event = event ∷ past
 after_by (Some refusal) past event = past
 
--- what has happened once an event was tried
+-- the history after an event was tried
 unfoldable pub after : Config → History → Event → History
 after config past event = after_by (fault config past event) past event
 
@@ -99,17 +99,17 @@ replies_from config past (event ∷ events) =
 abbrev pub replies : Config → List Event → List (Result Answer StepFault)
 replies config events = replies_from config [] events
 
--- no event of the history is refused where it stands
+-- no event of the history is refused at its place
 unfoldable pub IsAccepted : Config → History → Type 0
 IsAccepted config [] = Unit {0}
 IsAccepted config (event ∷ past) = IsAccepted config past × (fault config past event ≡ None)
 
--- refused for its cause or, where there is none, for want of memory
+-- refused for its cause or, if there is none, for lack of memory
 abbrev pub IsRefused : Option StepFault → StepFault → Type 0
 IsRefused None refusal = refusal ≡ Memory
 IsRefused (Some cause) refusal = refusal ≡ cause
 
--- the step wanted memory
+-- the step ran out of memory
 abbrev pub is_want_of_memory : Result Answer StepFault → Bool
 is_want_of_memory (Err Memory) = true
 is_want_of_memory _ = false

@@ -1,4 +1,4 @@
--- The promises on rounds and on rest, over every accepted history.
+-- The promises about rounds and rest, for every accepted history.
 use Rattle.std.specs.Prelude.{◌≡◌, ℕ, ◌-◌, ◌<◌, ◌≤◌, true, [], is_some}
 use Rattle.cast_message.specs.declared.config.Config.{Config}
 use Rattle.cast_message.specs.declared.config.Mode.TheVariants.{Uniform}
@@ -11,7 +11,7 @@ use Rattle.cast_model.specs.Rounds.{owed, Rest, Live, HoldTheSame, HaveFewCrashe
 use Rattle.cast_model.specs.Steps.{Step, steps_of}
 use Rattle.cast_model.specs.OwnSteps.{IsStep, node_reply, node_after, own_frames, own_delivered, own_decision, own_owed, own_knows, own_known_by}
 
--- an event of a round is refused only where its node's frames are full
+-- an event of a round is refused only if its node's frames are full
 abbrev pub RefusesRoundsAsFullAlone : Type 0
 RefusesRoundsAsFullAlone = (config : Config) (past : History) → AcceptedUntilFull config past (plan config past)
 
@@ -21,24 +21,24 @@ RoundsSpread = (config : Config) (past : History) → IsAccepted config past →
     (p q s i : ℕ) → Live config past p → Live config past q → has_pair (first past p) s i ≡ true →
     has_pair (first (after_round config past) q) s i ≡ true
 
--- and nothing else
+-- after a round a live node holds nothing else
 abbrev pub RoundsAddNothing : Type 0
 RoundsAddNothing = (config : Config) (past : History) → IsAccepted config past → AreAccepted config past (plan config past) →
     (q s i : ℕ) → Live config past q → has_pair (first (after_round config past) q) s i ≡ true →
     (p : ℕ) × Live config past p × (has_pair (first past p) s i ≡ true)
 
--- where all live nodes held the same before a round, the group is at rest after it
+-- if all live nodes held the same before a round, the group is at rest after it
 abbrev pub RoundsRest : Type 0
 RoundsRest = (config : Config) (past : History) → IsAccepted config past →
     AreAccepted config past (plan config past) → HoldTheSame config past → Rest config (after_round config past)
 
--- so two rounds bring rest
+-- so after two rounds the group is at rest
 abbrev pub TwoRoundsRest : Type 0
 TwoRoundsRest = (config : Config) (past : History) → IsAccepted config past → AreAccepted config past (plan config past) →
     AreAccepted config (after_round config past) (plan config (after_round config past)) →
     Rest config (after_round config (after_round config past))
 
--- nothing is due exactly at rest
+-- if nothing is due, the group is at rest; and if it is at rest, nothing is due
 abbrev pub RestsWhereNothingIsDue : Type 0
 RestsWhereNothingIsDue = (config : Config) (past : History) → due config past ≡ [] → Rest config past
 
@@ -51,67 +51,68 @@ DeliversTheSameAtRest = (config : Config) (past : History) → IsAccepted config
     FewCrashedIn config.mode config past →
     (p q s : ℕ) → Live config past p → Live config past q → delivered config past p s ≡ delivered config past q s
 
--- the whole stream of a live sender
+-- at rest all live nodes have delivered the whole stream of each live sender
 abbrev pub DeliversWholeStreamsAtRest : Type 0
 DeliversWholeStreamsAtRest = (config : Config) (past : History) → IsAccepted config past → Rest config past →
     FewCrashedIn config.mode config past →
     (p s : ℕ) → Live config past p → Live config past s → delivered config past p s ≡ broadcast past s
 
--- in uniform mode all that any node delivered, a crashed one too, where no more have crashed than are tolerated
+-- at rest in uniform mode, live nodes have delivered all that any node delivered, even a crashed one, if no more have
+-- crashed than are tolerated
 abbrev pub DeliversWhatAnyDeliveredAtRest : Type 0
 DeliversWhatAnyDeliveredAtRest = (config : Config) (past : History) → IsAccepted config past → Rest config past →
     config.mode ≡ Uniform → HaveFewCrashed config past →
     (p q s : ℕ) → Live config past p → IsPrefixOf (delivered config past q s) (delivered config past p s)
 
--- an instance that one live node decided is decided by every live node
+-- at rest, an instance that one live node decided is decided by every live node
 abbrev pub DecidesTheSameAtRest : Type 0
 DecidesTheSameAtRest = (config : Config) (past : History) → IsAccepted config past → Rest config past →
     FewCrashedIn config.mode config past →
     (p q j : ℕ) → Live config past p → Live config past q → is_some (decision config past p j) ≡ is_some (decision config past q j)
 
--- and so is one of which proposals of enough senders stand in the common delivery
+-- at rest, an instance is decided by every live node if enough senders' proposals are among the common deliveries
 abbrev pub DecidesWhatIsProposedAtRest : Type 0
 DecidesWhatIsProposedAtRest = (config : Config) (past : History) → IsAccepted config past → Rest config past →
     FewCrashedIn config.mode config past →
     (p q j : ℕ) → Live config past p → Live config past q →
     config.nodes - config.faults ≤ proposers config past p j → is_some (decision config past q j) ≡ true
 
--- a node answers by its own steps as the group does
+-- a node answers from its own steps as the group does
 abbrev pub NodesAnswerAsTheGroup : Type 0
 NodesAnswerAsTheGroup = (config : Config) (past : History) → IsAccepted config past → (me : ℕ) → me < config.nodes →
     (event : Event) (step : Step) → IsStep past me event step →
     node_reply config me (steps_of past me) step ≡ reply config past event
 
--- and its steps go on as those of the group
+-- a node's steps go on like those in the group
 abbrev pub NodesStepAsTheGroup : Type 0
 NodesStepAsTheGroup = (config : Config) (past : History) → IsAccepted config past → (me : ℕ) → me < config.nodes →
     (event : Event) (step : Step) → IsStep past me event step →
     node_after config me (steps_of past me) step ≡ steps_of (after config past event) me
 
--- it makes the frames that the group says
+-- a node makes the frames that the group says
 abbrev pub NodesMakeTheFrames : Type 0
 NodesMakeTheFrames = (config : Config) (past : History) → IsAccepted config past → (me : ℕ) →
     own_frames me (steps_of past me) ≡ frames past me
 
--- delivers what the group says
+-- a node delivers what the group says
 abbrev pub NodesDeliverAsTheGroup : Type 0
 NodesDeliverAsTheGroup = (config : Config) (past : History) → IsAccepted config past → (me s : ℕ) →
     own_delivered config me (steps_of past me) s ≡ delivered config past me s
 
--- decides what the group says
+-- a node decides what the group says
 abbrev pub NodesDecideAsTheGroup : Type 0
 NodesDecideAsTheGroup = (config : Config) (past : History) → IsAccepted config past → (me j : ℕ) →
     own_decision config me (steps_of past me) j ≡ decision config past me j
 
--- and owes what the group says
+-- a node owes what the group says
 abbrev pub NodesOweAsTheGroup : Type 0
 NodesOweAsTheGroup = (past : History) (me q : ℕ) → own_owed me (steps_of past me) q ≡ owed past me q
 
--- it knows as many holders of a pair as the group says that it does
+-- a node knows as many holders of a pair as the group says
 abbrev pub NodesKnowHoldersAsTheGroup : Type 0
 NodesKnowHoldersAsTheGroup = (config : Config) (past : History) (me s i : ℕ) →
     own_known_by config me (steps_of past me) s i ≡ known_by config past me s i
 
--- and which nodes they are
+-- a node knows the same holders of a pair as the group says
 abbrev pub NodesKnowWhoHoldsAsTheGroup : Type 0
 NodesKnowWhoHoldsAsTheGroup = (past : History) (me s i r : ℕ) → own_knows me (steps_of past me) s i r ≡ knows past me s i r

@@ -3,8 +3,8 @@
 --     Rest config past     no live node owes another live node
 --     plan config past     the events of one round
 --     HoldTheSame config past          all live nodes hold the same pairs
---     AreAccepted config past events   the events are accepted, one after the other
---     AcceptedUntilFull                the same up to the first at a node whose frames are full
+--     AreAccepted config past events   the events are accepted, one after another
+--     AcceptedUntilFull                the same, up to the first at a node whose frames are full
 use Rattle.std.specs.Prelude.{◌≡◌, ◌≢◌, ℕ, ◌+◌, ◌==◌, ◌<◌, ◌≤◌, not, ◌||◌, if◌then◌else◌, IsTrue, Bool, true, false, List, [], ◌∷◌, ◌++◌, length, map}
 use Rattle.std.specs.Prelude.{Some, None, ◌⊎◌}
 use Rattle.std.specs.List.{filter, flat_map, count_by, list_any, range_with_len}
@@ -28,7 +28,7 @@ pub record Rest (config : Config) (past : History) : Type 0 where
   pub settled : (p q : ℕ) → p < config.nodes → q < config.nodes → IsTrue (is_live past p)
       → IsTrue (is_live past q) → p ≢ q → owed past p q ≡ []
 
--- A slot to be sent in a round.
+-- A slot that must be sent in a round.
 pub record Due : Type 0 where
   pub from : ℕ
   pub to : ℕ
@@ -41,12 +41,12 @@ due_between past p q =
 unfoldable pub live_nodes : Config → History → List ℕ
 live_nodes config past = filter (is_live past) (nodes_of config)
 
--- the slots that live nodes owe live nodes, by the giver, then the taker, ascending
+-- the slots that live nodes owe live nodes, by giver, then by taker, ascending
 unfoldable pub due : Config → History → List Due
 due config past =
     flat_map (λ p. flat_map (λ q. due_between past p q) (live_nodes config past)) (live_nodes config past)
 
--- how many frames p makes for these: one by each Send and one by each Ack of its own
+-- how many frames p makes for these: one for each Send and each Ack of its own
 unfoldable pub frames_for : List Due → ℕ → ℕ
 frames_for before p = count_by (λ d. d.from == p || d.to == p) before
 
@@ -73,7 +73,7 @@ makes_frame (Send from to slot) = true
 makes_frame (Ack from to slot) = true
 makes_frame _ = false
 
--- what has happened after a round in which every event of the plan is tried
+-- the history after a round in which every event of the plan is tried
 unfoldable pub after_round : Config → History → History
 after_round config past = history_from config past (plan config past)
 
@@ -88,13 +88,13 @@ HoldTheSame config past =
     (p q s i : ℕ) → Live config past p → Live config past q → has_pair (first past p) s i ≡ true
     → has_pair (first past q) s i ≡ true
 
--- the events are accepted, one after the other
+-- the events are accepted, one after another
 unfoldable pub AreAccepted : Config → History → List Event → Type 0
 AreAccepted config past [] = Unit {0}
 AreAccepted config past (event ∷ events) =
     (fault config past event ≡ None) × AreAccepted config (event ∷ past) events
 
--- the same up to the first at a node whose frames are full
+-- the same, up to the first at a node whose frames are full
 unfoldable pub AcceptedUntilFull : Config → History → List Event → Type 0
 AcceptedUntilFull config past [] = Unit {0}
 AcceptedUntilFull config past (event ∷ events) =
@@ -105,12 +105,12 @@ AcceptedUntilFull config past (event ∷ events) =
 abbrev pub HaveFewCrashed : Config → History → Type 0
 HaveFewCrashed config past = length (filter (λ p. not (is_live past p)) (nodes_of config)) ≤ config.faults
 
--- so it is, in uniform mode, where any fault is tolerated
+-- the same is required in uniform mode, if any fault is tolerated
 abbrev pub FewCrashedIn : Mode → Config → History → Type 0
 FewCrashedIn Basic config past = Unit {0}
 FewCrashedIn Uniform config past = 0 < config.faults → HaveFewCrashed config past
 
--- of how many nodes a proposal of instance j stands in what p delivered
+-- how many nodes' proposals in instance j are among p's deliveries
 unfoldable pub proposers : Config → History → ℕ → ℕ → ℕ
 proposers config past p j =
     count_by (λ s. list_any (λ message. proposes_in j message.item) (delivered config past p s))

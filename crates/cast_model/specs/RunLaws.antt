@@ -1,6 +1,6 @@
--- The main promise, over every list of events and the replies that the definitions give, and what it stands on: what was answered
--- as delivered and as decided is what readers show, what they show as decided keeps the promise too, and only slots that were taken are
--- acknowledged. And where no fault is tolerated, both modes are one.
+-- The main promise, for every list of events and the replies that the definitions give. Then what it depends on: the
+-- answers about deliveries and decisions are what readers show; decisions shown keep the promise too; only slots that
+-- were taken are acknowledged. Last, if no fault is tolerated, both modes are the same.
 use Rattle.std.specs.Prelude.{◌≡◌, ◌<◌, ℕ, ◌*◌, true, List, [], Some}
 use Rattle.std.specs.List.{Contains, cons_option, filter_map}
 use Rattle.cast_message.specs.declared.config.Config.{Config}
@@ -28,12 +28,12 @@ AllRunsDecideFewValues = (config : Config) (events : List Event) → DecidesFewV
 abbrev pub AllRunsDecideWithinFaults : Type 0
 AllRunsDecideWithinFaults = (config : Config) (events : List Event) → DecidesWithinFaults config (replies config events)
 
--- what was answered as delivered is what a node has delivered, one that crashed too
+-- the deliveries in the answers are what a node has delivered, even a crashed one
 abbrev pub AllRunsAnswerWhatIsDelivered : Type 0
 AllRunsAnswerWhatIsDelivered = (config : Config) (events : List Event) (q s : ℕ) →
     answered events (replies config events) q s ≡ delivered config (history config events) q s
 
--- what was answered as decided in an instance is the value that the node shows, once, or nothing
+-- the decision in the answers, once or never, is the value that the node shows for the instance
 abbrev pub AllRunsAnswerWhatIsDecided : Type 0
 AllRunsAnswerWhatIsDecided = (config : Config) (events : List Event) (q j : ℕ) →
     decided_at events (replies config events) q j ≡ cons_option (decision config (history config events) q j) []
@@ -48,21 +48,21 @@ AllNodesShowProposals = (config : Config) (past : History) → IsAccepted config
     (q j v : ℕ) → decision config past q j ≡ Some v →
     (s : ℕ) × (s < config.nodes) × Contains (stream past s) (Propose j v)
 
--- nodes show at most k values of an instance, where the faults are fewer than k
+-- nodes show at most k values of an instance, if the faults are fewer than k
 abbrev pub AllNodesShowFewValues : Type 0
 AllNodesShowFewValues = (config : Config) (past : History) → IsAccepted config past → config.faults < config.choices →
     (j : ℕ) → AtMost config.choices (decisions_shown config past j)
 
--- a slot of which p has q's acknowledgement was taken by q
+-- q took each slot of which p has q's acknowledgement
 abbrev pub OnlyTakenSlotsAreAcknowledged : Type 0
 OnlyTakenSlotsAreAcknowledged = (config : Config) (past : History) → IsAccepted config past →
     (p q slot : ℕ) → acked past p q slot ≡ true → taken past p q slot ≡ true
 
--- the configuration in another mode, of which it is in range
+-- the configuration in another mode, whose range it satisfies
 abbrev pub in_mode : (config : Config) (mode : Mode) → fault_factor mode * config.faults < config.nodes → Config
 in_mode config mode in_range = record config { mode = mode; mode_in_range = in_range }
 
--- where no fault is tolerated, the mode makes no difference to any reply
+-- if no fault is tolerated, the mode makes no difference to any reply
 abbrev pub NoFaultsMakeModesOne : Type 0
 NoFaultsMakeModesOne = (config : Config) → config.faults ≡ 0 → (mode : Mode) (in_range : fault_factor mode * config.faults < config.nodes) →
     (events : List Event) → replies (in_mode config mode in_range) events ≡ replies config events

@@ -1,4 +1,4 @@
--- What one node has done, read off its own steps alone, each arrival with the frame that arrived.
+-- What one node has done, given its own steps alone, each arrival with the frame that arrived.
 --     making kind to slot         the step in which a node makes a frame of this kind for a slot
 --     steps_of past q             q's steps in a history of the group
 --     own_items steps             the items that the node ordered, in order
@@ -49,7 +49,7 @@ unfoldable pub steps_of : History → ℕ → Steps
 steps_of [] q = []
 steps_of (event ∷ past) q = step_of (frames past) event q ++ steps_of past q
 
--- what each step tells, in order
+-- what each step gives, in order
 unfoldable pub each : {A : Type 0} → (Step → List A) → Steps → List A
 each tell [] = []
 each tell (step ∷ steps) = each tell steps ++ tell step
@@ -91,14 +91,14 @@ held_by_body before r (Carry slot message) =
     else record { message = message; source = r } ∷ []
 held_by_body before r (Took slot) = []
 
--- what a step newly brings
+-- what a step newly adds
 abbrev pub held_by : List Held → ℕ → ℕ → Step → List Held
 held_by before me ordered (Ordered item) =
     record { message = record { sender = me; number = ordered; item = item }; source = me } ∷ []
 held_by before me ordered (Arrived frame) = held_by_body before frame.from frame.body
 held_by before me ordered _ = []
 
--- what the node holds, in the order in which it first held it: another's item is that of the first Carry that brought its pair
+-- what the node holds, in the order in which it first held it; another's item comes from the first Carry of its pair
 unfoldable pub held : ℕ → Steps → List Held
 held me [] = []
 held me (step ∷ steps) =

@@ -1,6 +1,6 @@
-//! What a group does, defined, and what follows from the definitions alone, for every configuration and every list of events,
-//! whatever program keeps them. `specs/` has the definitions, the words of the main promise in `specs/Headline`; each function
-//! below does nothing, and its contract is a law.
+//! Defines what a group does, and proves the laws that follow from the definitions alone, whatever the program.
+//! `specs/` has the definitions, and `specs/Headline` the words of the main promise. Each function below does nothing;
+//! its contract is a law, for every configuration and list of events.
 #![tactic(auto)]
 
 ghost use Rattle.cast_model.specs.RunLaws.{AllRunsDeliverPrefixes, AllRunsCloseStreams, AllRunsDecideProposals, AllRunsDecideFewValues, AllRunsDecideWithinFaults};
@@ -10,12 +10,11 @@ ghost use Rattle.cast_model.specs.RestLaws.{RestsWhereNothingIsDue, NothingIsDue
 ghost use Rattle.cast_model.specs.RestLaws.{DecidesTheSameAtRest, DecidesWhatIsProposedAtRest, NodesAnswerAsTheGroup, NodesStepAsTheGroup};
 ghost use Rattle.cast_model.specs.RestLaws.{NodesMakeTheFrames, NodesDeliverAsTheGroup, NodesDecideAsTheGroup, NodesOweAsTheGroup, NodesKnowHoldersAsTheGroup, NodesKnowWhoHoldsAsTheGroup};
 
-/// What a node delivers from a sender is a prefix of what that sender broadcast, with nothing after its close; each
-/// decided value was proposed in its instance; and where the faults are fewer than k, at most k values are decided in it. Whatever
-/// k is, at most one value more is decided than there are tolerated faults (Chaudhuri 1993). What the replies say of deliveries is
-/// what each node has delivered, and what they say of decisions what it shows as decided, each once; that values were proposed and
-/// are at most k holds of what nodes show as decided too, and what is acknowledged was taken. Where no fault is tolerated, the
-/// replies are the same in uniform mode as in basic mode.
+/// A node's deliveries from a sender are a prefix of what that sender broadcast, with nothing after its close. Each
+/// decided value was proposed in its instance. If the faults are fewer than k, at most k values are decided in it; for
+/// any k, at most one more than the tolerated faults (Chaudhuri 1993). The replies' deliveries are what each node has
+/// delivered, and their decisions what it shows, each once. Values shown as decided were also proposed, and are at most
+/// k. What is acknowledged was taken. If no fault is tolerated, both modes have the same replies.
 pub fn keeps_order_and_agrees()
     ensures prefix { AllRunsDeliverPrefixes }
     ensures closed { AllRunsCloseStreams }
@@ -30,8 +29,8 @@ pub fn keeps_order_and_agrees()
     ensures modes { NoFaultsMakeModesOne }
 {}
 
-/// A round is refused only where a node's frames are full. After a round each live node holds exactly what some live
-/// node held before it, and two rounds bring rest.
+/// A round is refused only if a node's frames are full. After a round each live node holds exactly what some live node
+/// held before it. After two rounds the group is at rest.
 pub fn rests_after_two_rounds()
     ensures refused { RefusesRoundsAsFullAlone }
     ensures spread { RoundsSpread }
@@ -40,10 +39,10 @@ pub fn rests_after_two_rounds()
     ensures two { TwoRoundsRest }
 {}
 
-/// Nothing is due exactly at rest. There all live nodes have delivered the same, the whole stream of a live sender, and
-/// decided the same instances, among them each that enough senders proposed in what they delivered; in uniform mode as long
-/// as no more nodes have crashed than are tolerated, or none is tolerated. In uniform mode each live node has delivered what any
-/// node delivered, a crashed one too, where no more have crashed than are tolerated.
+/// Nothing is due exactly when the group is at rest. Then all live nodes have delivered the same, with the whole stream
+/// of each live sender. They have decided the same instances, including each that enough senders proposed in what they
+/// delivered. In uniform mode this needs that no more nodes have crashed than are tolerated, or none is tolerated. In
+/// the first case, each live node has also delivered what any node did, even a crashed one.
 pub fn agrees_at_rest()
     ensures rests { RestsWhereNothingIsDue }
     ensures nothing_due { NothingIsDueAtRest }
@@ -54,8 +53,8 @@ pub fn agrees_at_rest()
     ensures proposed { DecidesWhatIsProposedAtRest }
 {}
 
-/// Each node of a group answers by its own steps as the group does, and makes, delivers, decides and owes what the group
-/// says, and knows of each pair that it holds the holders that the group says.
+/// Each node answers from its own steps as the group does. It makes, delivers, decides and owes what the group says,
+/// and knows the same holders of each pair.
 pub fn answers_by_own_steps()
     ensures reply { NodesAnswerAsTheGroup }
     ensures steps { NodesStepAsTheGroup }

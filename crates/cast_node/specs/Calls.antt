@@ -1,11 +1,11 @@
--- What a node's calls answer, as the answers of steps.
+-- What a node's calls return, as the answers of steps.
 --     is_peer kept q          another node
 --     may_carry kept slot s i      a peer could carry this pair in this slot
---     carry_slot slot s i item     what a frame says that carries the message of these numbers
---     carried_frame me from ..     the frame to this node that carries the message of these numbers; took_frame: a word that a slot
---                                  was taken
---     asked_reply result           the answer to an order that is not refused, for which only memory can be wanting
---     silent_reply me              the answer to an arrival at which nothing is delivered or decided
+--     carry_slot slot s i item     what a frame says that carries the message with these numbers
+--     carried_frame me from ..     the frame to this node that carries the message with these numbers; took_frame: the
+--                                  acknowledgement of a slot
+--     asked_reply result           the answer to an order that is not refused; only memory can be lacking
+--     silent_reply me              the answer to an arrival that delivers and decides nothing
 use Rattle.std.specs.Prelude.{ℕ, ◌*◌, ◌==◌, nat_lt, Bool, not, ◌&&◌, Result, Ok, Err}
 use Rattle.cast_message.specs.declared.event.Outcome.{Outcome}
 use Rattle.cast_message.specs.declared.event.Answer.{Answer}

@@ -1,16 +1,16 @@
--- What a node keeps of the pairs that it holds, beside its links.
+-- What a node keeps about the pairs that it holds, besides its links.
 --     Delivering                     who is known to hold each pair, what waits, and what was delivered and counted
---     nothing_delivered config       of a node that has done nothing
---     knowers_in knowers s i         the nodes that are known to hold the pair, none where it isn't held
---     first_members me s r           those of a pair that is new: the node, the sender, and where it came from
+--     nothing_delivered config       for a node that has done nothing
+--     knowers_in knowers s i         the nodes known to hold the pair, none if it isn't held
+--     first_members me s r           those of a new pair: the node, the sender, and where it came from
 --     is_enough config members       enough nodes that what they hold may be delivered
 --     noted ds s i members           these are known to hold the pair
---     heard_news, heard_by           the messages whose turn comes by a mark of the pair, or by the item that is offered for it,
---                                    and what is held back then
+--     heard_news, heard_by           messages whose turn comes by a mark of the pair, or by the item offered for it,
+--                                    and what is then held back
 --     let_go ds s i                  the messages whose turn comes by a mark of the pair are delivered
---     told_in config ds s i members  both: the second where they are enough
---     outcome_in config ds s i members   what is delivered and decided then
---     waiting_in ds message          a message is kept back
+--     told_in config ds s i members  these are known to hold the pair; if they are enough, messages are let go
+--     outcome_in config ds s i members   what is then delivered and decided
+--     waiting_in ds message          a message is held back
 --     waits_by known message         the call that keeps it, marked or not
 use Rattle.std.specs.Prelude.{ℕ, suc, ◌-◌, ◌++◌, Bool, true, false, List, [], length, replicate, slice_index_or, slice_set, Option, None, if◌then◌else◌}
 use Rattle.std.specs.Ordering.{nat_cmp}
@@ -51,7 +51,7 @@ first_members me sender source = set.insert (set.insert (set.insert set.empty me
 abbrev pub is_enough : Config → set.FinSet nat_cmp → Bool
 is_enough config members = are_enough config.mode config.faults (set.len members)
 
--- a row in which the place has these members; places before it that weren't there are empty
+-- a row whose place has these members; places before it that weren't there are empty
 abbrev pub known_row : List (set.FinSet nat_cmp) → ℕ → set.FinSet nat_cmp →
     List (set.FinSet nat_cmp)
 known_row row i members = slice_set (row ++ replicate (suc i - length row) set.empty) i members

@@ -1,11 +1,11 @@
--- What was given to peers. What a slot keeps of the message is the same to each of them.
+-- What was given to peers. A slot keeps the same of the message for each of them.
 --     given_on q me source sender kept links     given to each peer from number q on to which the message goes
---     bare links                 the links, without what is said of their room
---     HasRoom link               there is room for one slot more, which a number is left for
+--     bare links                 the links, without their room
+--     HasRoom link               there is room for one more slot, and a number left for it
 --     link_in links q            the link to a peer
---     OwesOnly Is links          what is kept of each slot owed is so
+--     OwesOnly Is links          what each owed slot keeps has this property
 --     OwesNoneOf links peers     no slot is owed to any of these peers
---     AreOwed links peers        these are the peers that are owed a slot
+--     AreOwed links peers        exactly these peers are owed a slot
 use Rattle.std.specs.Prelude.{◌≡◌, ℕ, ◌+◌, ◌<◌, ◌^◌, nat_lt, true, if◌then◌else◌, List, [], ◌∷◌, map, slice_index_or, Some}
 use Rattle.std.specs.Ordering.{nat_cmp}
 use Rattle.std.specs.FinMap as finite

@@ -1,8 +1,8 @@
 -- What a node keeps, as callers see it.
---     Kept                           the node's own number, items and frames, its links, and what it keeps of pairs
+--     Kept                           the node's own number, items and frames, its links, and what it keeps about pairs
 --     link_to kept q                 what it gave q
---     taken_from kept r              the slots that it took of what r gave it
---     knowers_of kept s i            the nodes that it knows to hold the pair, none where it doesn't hold it itself
+--     taken_from kept r              the slots that it took from r
+--     knowers_of kept s i            the nodes that it knows to hold the pair, none if it doesn't hold it itself
 --     holds kept s i                 it holds the pair: the pair waits, or had its turn
 --     nothing_kept config me         what a node keeps that has done nothing
 use Rattle.std.specs.Prelude.{ℕ, Bool, true, List, [], replicate, slice_index_or}

@@ -1,16 +1,16 @@
 -- When the logs of a group are linked.
 --     StampedStep, Trail                   a step of a node with its stamp; all of them, the newest first
---     event_of p step                      a step of node p as an event: a frame that arrived by its maker and number
---     steps_in config p trail              the node's steps by these: a frame that no node could have made is none
+--     event_of p step                      a step of node p as an event, with a frame's maker and number
+--     steps_in config p trail              the node's steps by these, without frames that no node could have made
 --     taken_in config p trail              what the log has of them, the newest first
 --     made_in config p trail               the frames that they made, each with the stamp of its step, in order
 --     AreTaken config p trail              each step was taken, and each frame was for the node
 --     taken log                            the steps in a log
 --     IsRising log                         each stamp is greater than those before
---     IsLogOf config p trail log kept      the log tells of these steps, and the node stands for them
---     EachArrival Holds trail              this holds of each frame that arrived, with the stamp of its step
+--     IsLogOf config p trail log kept      the log has these steps, and the node matches them
+--     EachArrival Holds trail              this holds for each frame that arrived, with the stamp of its step
 --     IsMadeBefore config trails stamp frame    the frame was made by its maker with a smaller stamp
---     Linked config reports                each log tells of its node's steps, and each frame that arrived was made before
+--     Linked config reports                each log has its node's steps, and each arrived frame was made before
 use Rattle.std.specs.Prelude.{◌≡◌, ℕ, ◌<◌, List, [], ◌∷◌, ◌++◌, length, map, reverse, slice_get, Some, None, Result, Ok, Err}
 use Rattle.std.specs.List.{AllPairs}
 use Rattle.cast_message.specs.declared.config.Config.{Config}
@@ -40,7 +40,7 @@ pub record StampedStep : Type 0 where
 abbrev pub Trail : Type 0
 Trail = List StampedStep
 
--- A step as a log tells it.
+-- A step as a log has it.
 pub record TakenStep : Type 0 where
   pub stamp : ℕ
   pub event : Event
@@ -108,14 +108,14 @@ abbrev pub IsFor : ℕ → Step → Type 0
 IsFor p (Arrived frame) = frame.to ≡ p
 IsFor p _ = Unit {0}
 
--- no step is refused where it stands
+-- no step is refused in its place
 unfoldable pub AreTaken : Config → ℕ → Trail → Type 0
 AreTaken config p [] = Unit {0}
 AreTaken config p (mark ∷ trail) =
     AreTaken config p trail × (own_fault config p (steps_in config p trail) mark.step ≡ None)
     × IsFor p mark.step
 
--- the steps that an entry tells: an order that was refused is none
+-- the step of an entry; a refused order is none
 abbrev pub taken_of : ℕ → EntryKind → List TakenStep
 taken_of stamp (StepEntry event origin outcome) =
     record { stamp = stamp; event = event; outcome = outcome } ∷ []
@@ -133,7 +133,7 @@ IsBefore earlier later = earlier.stamp < later.stamp
 abbrev pub IsRising : List Entry → Type 0
 IsRising log = AllPairs IsBefore log
 
--- the log of node p tells of these steps, and the node stands for them
+-- the log of node p has these steps, and the node matches them
 pub record IsLogOf (config : Config) (p : ℕ) (trail : Trail) (log : List Entry) (kept : Kept)
     : Type 0 where
   pub rising : IsRising log
@@ -142,24 +142,24 @@ pub record IsLogOf (config : Config) (p : ℕ) (trail : Trail) (log : List Entry
   pub stands : Stands config p (steps_in config p trail) kept
   pub reached : kept ≡ kept_in config p trail
 
--- of a step by which a frame arrived, with its stamp
+-- for a step by which a frame arrived, with its stamp
 abbrev pub OnArrival : (ℕ → Frame → Type 0) → ℕ → Step → Type 0
 OnArrival Holds stamp (Arrived frame) = Holds stamp frame
 OnArrival Holds stamp _ = Unit {0}
 
--- of each such step
+-- for each such step
 unfoldable pub EachArrival : (ℕ → Frame → Type 0) → Trail → Type 0
 EachArrival Holds [] = Unit {0}
 EachArrival Holds (mark ∷ trail) = EachArrival Holds trail × OnArrival Holds mark.stamp mark.step
 
--- the frame that arrived is the one of its number that its maker made, by a step with a smaller stamp
+-- the arrived frame is the one with its number that its maker made, in a step with a smaller stamp
 abbrev pub IsMadeBefore : Config → (ℕ → Trail) → ℕ → Frame → Type 0
 IsMadeBefore config trails stamp frame =
     (sent : ℕ) × (sent < stamp) × (frame.from < config.nodes)
     × (slice_get (made_in config frame.from (trails frame.from)) frame.seq
     ≡ Some (stamped sent frame))
 
--- each log tells of its node's steps, and each frame that arrived was made before
+-- each log has its node's steps, and each arrived frame was made before
 pub record Linked (config : Config) (reports : List NodeReport) : Type 0 where
   pub size : length reports ≡ config.nodes
   pub trails : ℕ → Trail

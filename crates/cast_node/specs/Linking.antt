@@ -1,7 +1,7 @@
--- What each node of a group knows of itself once all have ended, and what is known of the frames between them.
---     WasPutBefore config Put stamp frame     some node put the frame, with the smaller stamp of the step that made it
---     NodeTells config Put p trail report     a node's log tells of these steps; it put frames that they made, each with the
---                                             stamp of its step; each frame that arrived was put before
+-- What each node of a group knows about itself after all have ended, and what is known about the frames between them.
+--     WasPutBefore config Put stamp frame     some node put the frame, and the step that made it has a smaller stamp
+--     NodeTells config Put p trail report     a node's log has these steps; it put frames that they made, each with the
+--                                             stamp of its step; each arrived frame was put before
 use Rattle.std.specs.Prelude.{◌≡◌, ℕ, ◌<◌, slice_get, Some}
 use Rattle.cast_message.specs.declared.config.Config.{Config}
 use Rattle.cast_message.specs.declared.message.Frame.{Frame}

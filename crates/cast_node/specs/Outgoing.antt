@@ -1,13 +1,13 @@
--- What a node gives its peers: each message once, and a link to each peer whose slots keep the places of messages.
---     Outbound                   the messages, how many more there is room for, and the links by peer
+-- What a node gives its peers: each message once, and a link to each peer, whose slots keep the places of messages.
+--     Outbound                   the messages, room for how many more, and the links by peer
 --     outbound_code              how they are told apart
 --     kept_message messages place      the message at a place
---     owed_through messages owed       what is owed, where each slot keeps the place of its message
---     link_through messages link       a link so
+--     owed_through messages owed       what is owed, if each slot keeps the place of its message
+--     link_through messages link       the same for a link
 --     links_of out               the links as their peers see them, with messages
---     HasRoomFor out             there is room for one message more, at each link too
---     OwesBelow n links          each slot that is owed keeps a place below n
---     IsOutgoing n links owed    so it is of links to at most 64 peers, and these are the ones that are owed a slot
+--     HasRoomFor out             there is room for one more message, at each link too
+--     OwesBelow n links          each owed slot keeps a place below n
+--     IsOutgoing n links owed    at most 64 links, with places below n; exactly these peers are owed a slot
 use Rattle.std.specs.Prelude.{ℕ, ◌^◌, ◌<◌, ◌≤◌, List, length, map, slice_index_or, refl}
 use Rattle.std.specs.List.{All}
 use Rattle.std.specs.Ordering.{nat_cmp}
@@ -31,7 +31,7 @@ outbound_code message =
     (λ out. (out.messages, (out.spare, out.links)))
     (λ p. record { messages = p.0; spare = p.1.0; links = p.1.1 }) (λ _. refl)
 
--- the default stands where no message is, and no slot keeps such a place
+-- a default if there is no message there, but no slot keeps such a place
 abbrev pub kept_message : List Message → ℕ → Message
 kept_message messages place =
     slice_index_or messages place (record { sender = 0; number = 0; item = Close })

@@ -1,4 +1,4 @@
--- What is promised of a node, over every list of steps.
+-- What is promised about a node, over every list of steps.
 use Rattle.std.specs.Prelude.{◌≡◌, ◌≢◌, ℕ, ◌<◌, [], ◌∷◌, None, length, map, slice_index_or, Result}
 use Rattle.std.specs.FinSet as set
 use Rattle.std.specs.FinMap as finite

@@ -1,8 +1,8 @@
 -- What a node's fields keep, and how what it keeps is told apart.
---     slots_of links   the slots taken, by peer, without what is said of their room
+--     slots_of links   the slots taken, by peer, without their room
 --     Owes             what is owed to peers has a sender and a number within the limits
 --     with_proposal    the instances of proposals, with that of an item; without_proposal: without it
---     IsNode           the lists have a place for each node, and what is cached of the stream is so
+--     IsNode           the lists have a place for each node, and what is cached about the stream is right
 use Rattle.std.specs.Prelude.{◌≡◌, ℕ, ◌+◌, ◌≤◌, ◌<◌, Bool, false, List, length, map, refl}
 use Rattle.std.specs.List.{list_any}
 use Rattle.std.specs.Ordering.{nat_cmp}

@@ -1,9 +1,9 @@
--- When what a node keeps stands for its steps: each part shows what the definitions say of them.
+-- When what a node keeps matches its steps: each part shows what the definitions say about them.
 --     item_at hs s i                 the item of a held pair
 --     owed_in me steps q slot        what is owed to q in a slot
 --     is_known_in .. s i r           node r is known to hold a pair that the node holds
 --     StandsOut                      what it gave a peer, and owes it
---     Stands config me steps kept    the node has these steps behind it
+--     Stands config me steps kept    the node has taken these steps
 --     Continues                      how a node goes on by a step
 use Rattle.std.specs.Prelude.{◌≡◌, ◌≢◌, ℕ, ◌-◌, ◌<◌, nat_lt, Bool, not, ◌&&◌, if◌then◌else◌, List, [], ◌∷◌, length, map, slice_index_or, Option, Some, None, option_map, Result, Ok, Err}
 use Rattle.std.specs.List.{filter}
@@ -30,7 +30,7 @@ use Rattle.cast_node.specs.Kept.{Kept, link_to, taken_from, knowers_of}
 abbrev pub item_at : List Held → ℕ → ℕ → Option Item
 item_at hs s i = option_map item_of (message_at hs s i)
 
--- what is owed in a slot of these, given to q
+-- what is owed after these steps, in a slot given to q
 abbrev pub owed_in : ℕ → Steps → ℕ → ℕ → Option Message
 owed_in me steps q slot =
     if nat_lt slot (length (own_given me steps q)) && not (own_acked steps q slot)
@@ -42,7 +42,7 @@ abbrev pub is_known_in : Config → ℕ → Steps → ℕ → ℕ → ℕ → Bo
 is_known_in config me steps s i r =
     has_pair (own_copies me steps) s i && (nat_lt r config.nodes && own_knows me steps s i r)
 
--- how many slots were given to q, and the messages of those that q has not acknowledged
+-- how many slots were given to q, and the messages in those that q has not acknowledged
 pub record StandsOut (me : ℕ) (steps : Steps) (q : ℕ) (link : Link Message) : Type 0 where
   pub given : link.given ≡ length (own_given me steps q)
   pub owed : (slot : ℕ) → finite.get link.owed slot ≡ owed_in me steps q slot
@@ -81,7 +81,7 @@ pub record Stands (config : Config) (me : ℕ) (steps : Steps) (kept : Kept) : T
   pub agrees : kept.deliveries.agree
       ≡ counted_of (config.nodes - config.faults) (newest_first [] (own_log config me steps))
 
--- how a node that has these steps behind it goes on by one more: as the definitions say, or it wants memory in place of an answer
+-- how a node goes on from these steps by one more: as the definitions say, or out of memory in place of an answer
 abbrev pub Continues : Config → ℕ → Steps → Step → Result Answer StepFault → Kept → Type 0
 Continues config me steps step (Ok answer) kept =
     (node_reply config me steps step ≡ Ok answer)

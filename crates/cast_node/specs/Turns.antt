@@ -1,13 +1,13 @@
--- What a step changes of what a node keeps, and what is answered.
+-- How a step changes what a node keeps, and its answer.
 --     with_knower kept s i r         r is known to hold the pair
---     taken_up kept message source   the message is given on, kept back and known
---     told kept s i members          these are known to hold the pair: what is delivered and decided by that, and what is kept then
+--     taken_up kept message source   the message is given on, held back and known
+--     told kept s i members          these are known to hold the pair: what is then delivered, decided and kept
 --     kept_fault kept step           why a step is refused
---     kept_answer, kept_after        else the answer, and what is kept then
+--     kept_answer, kept_after        otherwise the answer, and what is then kept
 --     frame_made kind kept to slot   the frame of this kind that a node makes for a slot
 --     may_arrive kept frame          some node could have made the frame for this one
---     may_want kept frame            such a frame, of which something may come, for which memory may be wanting
---     Gives kept step reply new      both: a step answered by this reply leaves this
+--     may_want kept frame            the same, and the frame may change something, so memory may run out
+--     Gives kept step reply new      both: after a step with this reply, the node keeps the new
 use Rattle.std.specs.Prelude.{◌≡◌, ℕ, ◌+◌, ◌*◌, ◌==◌, nat_lt, Bool, true, false, not, ◌&&◌, if◌then◌else◌, List, [], ◌∷◌, ◌++◌, length, slice_set, Option, Some, None, unwrap_or, Result, Ok, Err}
 use Rattle.std.specs.Ordering.{nat_cmp}
 use Rattle.std.specs.FinSet as set
@@ -33,18 +33,18 @@ use Rattle.cast_node.specs.Giving.{given_on}
 use Rattle.cast_node.specs.Kept.{Kept, link_to, taken_from, knowers_of, holds}
 use Rattle.cast_node.specs.Delivering.{first_members, told_in, outcome_in, waiting_in}
 
--- given to each peer from number q on to which it goes
+-- given to each peer, from number q on, to which it goes
 abbrev pub given_from : ℕ → ℕ → ℕ → Message → List (Link Message) → List (Link Message)
 given_from q me source message links = given_on q me source message.sender message links
 
--- a message that wasn't held is given on and kept back
+-- a message that wasn't held is given on and held back
 abbrev pub spread : Kept → Message → ℕ → Kept
 spread kept message source = record kept {
   outgoing = given_from 0 kept.me source message kept.outgoing;
   deliveries = waiting_in kept.deliveries message;
 }
 
--- what is delivered and decided, and what is kept then
+-- what is delivered and decided, and what is then kept
 pub record Told : Type 0 where
   pub outcome : Outcome
   pub kept : Kept
@@ -59,11 +59,11 @@ told kept s i members = record {
   kept = record kept { deliveries = told_in kept.config kept.deliveries s i members };
 }
 
--- one node more is known to hold it
+-- one more node is known to hold it
 abbrev pub told_more : Kept → ℕ → ℕ → ℕ → Told
 told_more kept s i r = told kept s i (set.insert (knowers_of kept s i) r)
 
--- a message that wasn't held, by the node that brought it
+-- a message that wasn't held, from the node that sent it
 abbrev pub taken_up : Kept → Message → ℕ → Told
 taken_up kept message source =
     told (spread kept message source) message.sender message.number
@@ -101,7 +101,7 @@ arrived_body kept from (Carry slot message) = carried (with_taken kept from slot
 arrived_body kept from (Took slot) =
     acknowledged kept from slot (finite.get (link_to kept from).owed slot)
 
--- what a frame brings could stand in a frame made for this node
+-- a frame made for this node could say this
 abbrev pub may_bring : Kept → ℕ → FrameBody → Bool
 may_bring kept from (Carry slot message) =
     nat_lt message.sender kept.config.nodes && not (message.sender == kept.me)
@@ -109,7 +109,7 @@ may_bring kept from (Carry slot message) =
     && nat_lt slot (kept.config.nodes * kept.config.item_limit)
 may_bring kept from (Took slot) = nat_lt slot (link_to kept from).given
 
--- something may come of it: of the acknowledgement of a slot that isn't owed nothing does
+-- it may change something; the acknowledgement of a slot that isn't owed changes nothing
 abbrev pub may_tell : Kept → ℕ → FrameBody → Bool
 may_tell kept from (Carry slot message) = true
 may_tell kept from (Took slot) = finite.contains_key (link_to kept from).owed slot
@@ -153,7 +153,7 @@ kept_answer kept (Acknowledged to slot) = AnswerSent kept.frames
 kept_answer kept (Arrived frame) = AnswerArrived kept.me (arrived kept frame).outcome
 kept_answer kept Stopped = Down
 
--- and what is kept then
+-- what is then kept
 abbrev pub kept_after : Kept → Step → Kept
 kept_after kept (Ordered item) = (ordered kept item).kept
 kept_after kept (Sent to slot) = record kept { frames = kept.frames + 1 }
@@ -161,7 +161,7 @@ kept_after kept (Acknowledged to slot) = record kept { frames = kept.frames + 1 
 kept_after kept (Arrived frame) = (arrived kept frame).kept
 kept_after kept Stopped = record kept { live = false }
 
--- the message in a slot that is owed. The default stands where none is, and no accepted step names such a slot
+-- the message in an owed slot; a default if it isn't owed, but no accepted step names such a slot
 abbrev pub message_owed : Kept → ℕ → ℕ → Message
 message_owed kept to slot =
     unwrap_or (finite.get (link_to kept to).owed slot)
@@ -180,7 +180,7 @@ abbrev pub frame_made : FrameKind → Kept → ℕ → ℕ → Frame
 frame_made kinds.Carry kept to slot = carry_of kept to slot
 frame_made kinds.Took kept to slot = took_of kept to slot
 
--- what a step answers and leaves; a refused one leaves all as it was
+-- the answer to a step, and what is then kept; a refused step changes nothing
 abbrev pub Gives : Kept → Step → Result Answer StepFault → Kept → Type 0
 Gives kept step (Ok answer) new =
     (kept_fault kept step ≡ None) × (answer ≡ kept_answer kept step) × (new ≡ kept_after kept step)

@@ -1,5 +1,5 @@
-//! Which nodes are known to hold each pair, what waits for its turn, and what was delivered and decided. A call makes room first,
-//! asks last for what can't be reserved, and then nothing is refused.
+//! Which nodes are known to hold each pair, what waits for its turn, and what was delivered and decided. A call first
+//! makes room, then allocates what no room can be made for. After that nothing is refused.
 ghost use Rattle.std.specs.Prelude.{◌≡◌, ◌≢◌, ◌+◌, ◌-◌, ◌<◌, ◌≤◌, ◌++◌, true, suc, [], length, map, vec_len, vec_capacity, slice_get, option_map, IsSome, IsTrue, IsFalse, IfOk, OnOk, OnErr};
 ghost use Rattle.std.specs.FinSet as set;
 ghost use Rattle.cast_model.specs.OwnSteps.{nothing};
@@ -15,7 +15,6 @@ use cast_message::{Config, GroupSet, Item, List, Message, Mode, NodeId, Outcome}
 use std::alloc::{AllocError, Global};
 use std::marker::Model;
 
-/// Which nodes are known to hold each pair, what waits, and what was delivered and decided.
 #[derive(Drop)]
 pub struct Deliveries {
     alloc: Global,
@@ -50,7 +49,7 @@ impl Model for Deliveries {
 }
 
 impl Deliveries {
-    /// Nothing is held.
+    /// Deliveries in which no pair is held.
     pub fn new(alloc: Global, config: &Config) -> Result<Deliveries, AllocError>
         ensures { IfOk result (λ deliveries. deliveries ≡ nothing_delivered config.now) }
     {
@@ -99,21 +98,21 @@ impl Deliveries {
         knowers
     }
 
-    /// The items delivered of a sender, in order, where it is a node.
+    /// The items delivered from a sender, in order, if it is a node.
     pub fn delivered(&self, sender: NodeId) -> Option<&[Item]>
         ensures { option_map (λ items. items.now) result ≡ slice_get self.now.delivered sender }
     {
         Some(self.delivered.get(usize::from(sender.0))?.as_slice())
     }
 
-    /// The value decided in an instance, if it is.
+    /// The value decided in an instance, if there is one.
     pub fn decision(&self, instance: u64) -> Option<u64>
         ensures { result ≡ decision self.now.agree instance }
     {
         self.agree.decision(instance)
     }
 
-    /// These nodes are known to hold a pair. Where they are enough, what has its turn by it is delivered.
+    /// Notes that these nodes are known to hold a pair. If they are enough, delivers what then has its turn.
     pub fn tell(
         &mut self,
         config: &Config,
@@ -149,8 +148,8 @@ impl Deliveries {
         Ok(no_news(self.alloc))
     }
 
-    /// These nodes are known to hold a pair, where nothing has its turn by that. Says whether it did so. It may always say that it
-    /// did not: then nothing changed, and `tell` says what comes of it.
+    /// The same as `tell`, if it delivers nothing. Returns whether it did so. It may always return `false`: then
+    /// nothing changed.
     #[inline(always)]
     pub fn tell_silently(
         &mut self,
@@ -179,7 +178,7 @@ impl Deliveries {
         true
     }
 
-    /// Keeps a message back, and these nodes are known to hold it. One whose turn it is passes at once.
+    /// Holds a message back, and notes that these nodes are known to hold it. Delivers it at once if it is its turn.
     pub fn take_up(
         &mut self,
         config: &Config,
@@ -219,7 +218,7 @@ impl Deliveries {
     }
 }
 
-// Whether these nodes are enough that a message they hold may be delivered.
+// Whether a message may be delivered that these nodes hold.
 fn is_enough(config: &Config, members: &GroupSet) -> bool
     ensures { result ≡ is_enough config.now members.now }
 {
@@ -239,7 +238,7 @@ pub fn no_news(alloc: Global) -> Outcome
     }
 }
 
-// Room for a place of this number.
+// Makes room for the place of a number.
 fn make_place(row: &mut Vec<GroupSet>, number: u64) -> Result<(), AllocError>
     requires { number < 4096 }
     ensures same { row.new.items ≡ row.old.items }
@@ -249,7 +248,7 @@ fn make_place(row: &mut Vec<GroupSet>, number: u64) -> Result<(), AllocError>
     row.reserve((number as usize + 1).saturating_sub(row.len()))
 }
 
-// These nodes are known to hold the pair of this number. There is room for its place.
+// Notes that these nodes are known to hold the pair with this number. There is room for its place.
 fn note(row: &mut Vec<GroupSet>, number: u64, members: GroupSet)
     requires number { number < 4096 }
     requires room { vec_len row.old + (suc number - vec_len row.old) ≤ vec_capacity row.old }
@@ -262,7 +261,7 @@ fn note(row: &mut Vec<GroupSet>, number: u64, members: GroupSet)
     row[place] = members;
 }
 
-// Keeps a message back, marked where enough nodes are known to hold it. Nothing has its turn by that.
+// Holds a message back, and marks it if enough nodes are known to hold it. That gives nothing its turn.
 fn keep(hold_back: &mut HoldBack, message: Message, is_known: bool) -> Result<(), AllocError>
     requires sender { message.sender < length hold_back.old }
     requires number { message.number < 4096 }
@@ -280,7 +279,7 @@ fn keep(hold_back: &mut HoldBack, message: Message, is_known: bool) -> Result<()
     Ok(())
 }
 
-// Delivers what has its turn by a mark of the pair, or by the item that is offered for it, which is the next, and counts it.
+// Delivers and counts what has its turn if the pair is marked, or if an item is offered for it, the next.
 fn deliver(
     hold_back: &mut HoldBack,
     items: &mut Vec<Item>,

@@ -1,5 +1,5 @@
-//! A message goes to the peers of a node: room is made at each link first, then it is given to those to which it goes. A slot
-//! keeps the place of its message.
+//! Giving a message to peers: room is made at each link first, then it is given to those to which it goes. A slot keeps the place of
+//! its message.
 ghost use Rattle.std.specs.Prelude.{◌≡◌, ◌+◌, ◌≤◌, if◌then◌else◌, length, OnOk};
 ghost use Rattle.std.specs.List.{All};
 ghost use Rattle.cast_link.specs.Links.{with_given};
@@ -10,7 +10,7 @@ use cast_message::{GroupSet, NodeId};
 use cast_relay::goes_on;
 use std::alloc::AllocError;
 
-/// Makes room for one slot more at each of these links.
+/// Makes room for one more slot at each of these links.
 pub fn reserve_all(links: &mut [LinkOut<u32>]) -> Result<(), AllocError>
     ensures same { bare links.new ≡ bare links.old }
     ensures room { OnOk result (All HasRoom links.new) }
@@ -18,7 +18,7 @@ pub fn reserve_all(links: &mut [LinkOut<u32>]) -> Result<(), AllocError>
     let Some((link, rest)) = links.split_first_mut() else {
         return Ok(());
     };
-    // As many slots as a `u64` counts are never given: a message that is held takes one at most.
+    // There are never 2^64 slots: a message takes at most one.
     if link.given() == u64::MAX {
         return Err(AllocError);
     }
@@ -26,8 +26,8 @@ pub fn reserve_all(links: &mut [LinkOut<u32>]) -> Result<(), AllocError>
     reserve_all(rest)
 }
 
-/// Gives what stands at this place to each of these peers to which a message of the sender goes that came to the node `me`
-/// from the source. The first of them has the number `first`.
+/// Gives the message at this place to each of these peers to which it goes on. It is of this sender, and came to the node `me` from
+/// the source. The first peer has the number `first`.
 pub fn give_all(
     links: &mut [LinkOut<u32>],
     first: u64,
@@ -51,7 +51,7 @@ pub fn give_all(
     give_all(rest, first + 1, me, source, sender, place);
 }
 
-// Gives what stands at a place to a peer, where it goes there.
+// Gives the message at a place to a peer, if it goes there.
 fn give(link: &mut LinkOut<u32>, goes: bool, place: u32)
     requires { HasRoom link.old }
     ensures { link.new.link

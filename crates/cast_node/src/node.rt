@@ -29,14 +29,14 @@ use cast_message::{
 use std::alloc::{AllocError, Global};
 use std::marker::Model;
 
-/// A frame that carries a message, told by numbers.
+/// The numbers of a frame that carries a message.
 #[derive(Clone, Copy)]
 pub struct Numbers {
-    /// Its number among the frames of its maker.
+    /// The frame's number among those of its maker.
     pub seq: u64,
     /// The message's sender.
     pub sender: NodeId,
-    /// The message's number in the sender's stream.
+    /// The message's number in the stream of its sender.
     pub number: u64,
 }
 
@@ -46,19 +46,17 @@ pub struct Node {
     alloc: Global,
     config: Config,
     me: NodeId,
-    // It has not crashed.
     live: bool,
-    // How many frames it made.
+    // How many frames the node made.
     frames: u64,
-    // The items that it ordered.
+    // The items that the node ordered.
     stream: Vec<Item>,
-    // One of them is a close.
+    // Whether the stream has a close.
     closed: bool,
-    // The instances in which they propose.
+    // The instances in which the node proposed.
     proposed: NumberSet,
-    // What it gives each peer.
     outgoing: Outgoing,
-    // What it took of each peer.
+    // What the node took from each peer.
     incoming: Vec<LinkIn>,
     deliveries: Deliveries,
 }
@@ -93,7 +91,8 @@ impl Model for Node {
 }
 
 impl Node {
-    /// The node of this number, which has done nothing. Refused is a number that is no node's; else, want of memory.
+    /// The node with this number, which has done nothing. It is refused if there is no such node, or else only if it is
+    /// out of memory.
     pub fn new(alloc: Global, config: &Config, id: NodeId) -> Result<Node, StepFault>
         ensures ok { IfOk result (λ node. node ≡ nothing_kept config.now id) }
         ensures refusal { IfErr result (λ refusal.
@@ -106,10 +105,10 @@ impl Node {
         Ok(Node::make(alloc, config, id)?)
     }
 
-    /// Takes up an item of the node's own, and answers its number in the node's stream with what is delivered and decided.
-    /// Refused is an order of a crashed node, after a close, of a payload that is too long, of a second proposal in an
-    /// instance, or where the stream is full, and else want of memory; the first of these that holds is answered. A refusal
-    /// changes nothing.
+    /// Adds an item to the node's stream, and returns its number there, and what is delivered and decided. An order is
+    /// refused at a crashed node, after a close, for a payload that is too long, for a second proposal in an instance,
+    /// or if the stream is full; else only if it is out of memory. The first cause is returned. A refusal changes
+    /// nothing.
     pub fn order(&mut self, item: Item) -> Result<(u64, Outcome), StepFault>
         ensures exact { Gives self.old (Ordered item) (ordered_reply result) self.new }
     {
@@ -120,7 +119,7 @@ impl Node {
         Ok(told)
     }
 
-    /// Takes up an item as `order` does, of which `order_fault` says that it is not refused: only memory can be wanting.
+    /// Takes an item as `order` does, if `order_fault` finds no cause to refuse it. It can only be out of memory.
     pub fn order_asked(&mut self, item: Item) -> Result<(u64, Outcome), AllocError>
         requires { kept_fault self.old (Ordered item) ≡ None }
         ensures exact { Gives self.old (Ordered item) (asked_reply result) self.new }
@@ -130,34 +129,31 @@ impl Node {
         Ok((number, outcome))
     }
 
-    /// Makes a frame that carries to a peer the message in a slot of what the node gives it. Refused is a peer that is no
-    /// node, or this node, a send of a crashed node, of a slot that was not given, or was acknowledged, or where the node has
-    /// made all frames that it can, and else want of memory. A refusal changes nothing.
+    /// Makes a frame as `send_numbers` does, with the message in it. It can also be out of memory.
     pub fn send(&mut self, to: NodeId, slot: u64) -> Result<Frame, StepFault>
         ensures exact { Gives self.old (Sent to slot) (sent_reply result) self.new }
         ensures frame { IfOk result (λ frame. frame ≡ carry_of self.old to slot) }
     {
         let message = self.message_to_send(to, slot)?.copy()?;
-        Ok(self.make_frame(to, FrameBody::Carry { slot, message }))
+        let Numbers { seq, .. } = self.send_numbers(to, slot)?;
+        Ok(self.frame(seq, to, FrameBody::Carry { slot, message }))
     }
 
-    /// Makes a frame that tells a peer that the node took a slot of what the peer gave it. Refused is a peer that is no node,
-    /// or this node, an acknowledgement of a crashed node, of a slot that was not taken, or where the node has made all frames
-    /// that it can; never for want of memory. A refusal changes nothing.
+    /// Makes a frame as `ack_number` does, and returns it. It allocates nothing.
     pub fn ack(&mut self, to: NodeId, slot: u64) -> Result<Frame, StepFault>
         ensures exact { Gives self.old (Acknowledged to slot) (sent_reply result) self.new }
         ensures frame { IfOk result (λ frame. frame ≡ took_of self.old to slot) }
         ensures refused { IfErr result (λ fault.
             kept_fault self.old (Acknowledged to slot) ≡ Some fault) }
     {
-        if let Some(refusal) = self.ack_fault(to, slot) {
-            return Err(refusal);
-        }
-        Ok(self.make_frame(to, FrameBody::Took { slot }))
+        let seq = self.ack_number(to, slot)?;
+        Ok(self.frame(seq, to, FrameBody::Took { slot }))
     }
 
-    /// Makes a frame as `send` does, for who knows the items of each stream: the frame's number, and the sender and the number
-    /// of its message, are all that is answered. It takes no memory. A refusal changes nothing.
+    /// Makes a frame that carries the message in a slot to a peer, and returns its numbers, for a caller that knows the
+    /// items of each stream. It is refused if the peer is no node, or this node, or if this node has crashed. It is
+    /// also refused if the slot was not given, or was acknowledged, or if the node has made all its frames. It
+    /// allocates nothing. A refusal changes nothing.
     pub fn send_numbers(&mut self, to: NodeId, slot: u64) -> Result<Numbers, StepFault>
         ensures exact { Gives self.old (Sent to slot) (numbered_reply result) self.new }
         ensures message { IfOk result (λ sent.
@@ -177,7 +173,9 @@ impl Node {
         })
     }
 
-    /// Makes a frame as `ack` does, and answers its number. It takes no memory. A refusal changes nothing.
+    /// Makes a frame that tells a peer that the node took a slot, and returns the frame's number. It is refused if the
+    /// peer is no node, or this node, if this node has crashed, if it did not take the slot, or if it has made all its
+    /// frames. It allocates nothing. A refusal changes nothing.
     pub fn ack_number(&mut self, to: NodeId, slot: u64) -> Result<u64, StepFault>
         ensures exact { Gives self.old (Acknowledged to slot) (number_reply result) self.new }
         ensures refused { IfErr result (λ fault.
@@ -189,10 +187,10 @@ impl Node {
         Ok(self.count_frame())
     }
 
-    /// Takes a frame that arrives, and answers what is delivered and decided. The frame is for this node. Refused is an arrival
-    /// at a crashed node, and else want of memory. A refusal changes nothing, nor does a frame that no node of the group could
-    /// have made for this node, of which nothing comes, not even want of memory; nor does memory want the acknowledgement of a
-    /// slot that is not owed, such as a second one.
+    /// Takes a frame that arrives for this node, and returns what is delivered and decided. It is refused if the node
+    /// has crashed, and else only if it is out of memory. A refusal changes nothing. A live node never refuses a frame
+    /// that no node of the group could have made; such a frame changes nothing. The same holds for the acknowledgement
+    /// of a slot that is not owed, such as a second one.
     #[tactic(auto, using(std::proofs::lemmas::Bool::Decides::nat_tests), unfolding(cast_model::specs::Refusals::first_fault, crate::specs::Turns::kept_fault))]
     pub fn arrive(&mut self, frame: &Frame) -> Result<Outcome, StepFault>
         requires { frame.now.to ≡ self.old.me }
@@ -214,35 +212,10 @@ impl Node {
         Ok(outcome)
     }
 
-    /// Takes a frame that arrives from a peer with a message that the node holds, told by its slot and its numbers, as `arrive`
-    /// does whatever the message's item.
-    #[tactic(auto, using(std::proofs::lemmas::Bool::Decides::nat_tests), unfolding(cast_model::specs::Refusals::first_fault, crate::specs::Turns::kept_fault))]
-    pub fn arrive_again(
-        &mut self,
-        from: NodeId,
-        slot: u64,
-        sender: NodeId,
-        number: u64,
-    ) -> Result<Outcome, StepFault>
-        requires { holds self.old sender number ≡ true }
-        ensures exact { (seq : ℕ) (item : Carried) → Gives self.old
-            (Arrived (carried_frame self.old.me from seq slot sender number item))
-            (arrived_reply self.old.me result) self.new }
-    {
-        if !self.live {
-            return Err(StepFault::Crashed);
-        }
-        if !(self.is_peer(from) && self.may_carry(slot, sender, number)) {
-            return Ok(no_news(self.alloc));
-        }
-        let outcome = self.take_again(from, slot, sender, number)?;
-        Ok(outcome)
-    }
-
-    /// Takes a frame that arrives from a peer with a message that the node holds, told by its slot and its numbers, as `arrive`
-    /// does whatever the message's item, where nothing is delivered or decided by it. Says whether it did. It may always say
-    /// that it did not: then nothing changed, and `arrive_again` says what comes of the frame. It tries it where the pair had
-    /// its turn, or too few nodes are known to hold it.
+    /// Takes a frame from a peer with a message that the node holds, by its numbers, as `arrive` does whatever the
+    /// message's item. Returns whether it did so without a delivery or decision. It may always return `false`: then
+    /// nothing changed, and `arrive` takes the frame. It returns `true` if there is memory, and the pair had its turn
+    /// or too few nodes are known to hold it.
     #[tactic(auto, using(std::proofs::lemmas::Bool::Decides::nat_tests), unfolding(cast_model::specs::Refusals::first_fault, crate::specs::Turns::kept_fault))]
     pub fn arrive_again_silently(
         &mut self,
@@ -266,9 +239,8 @@ impl Node {
         self.take_again_silently(from, slot, sender, number)
     }
 
-    /// Takes a frame that arrives from a peer with its word that it took a slot, as `arrive` does, where nothing is delivered or
-    /// decided by it. Says whether it did. It may always say that it did not: then nothing changed, and `arrive` says what comes
-    /// of the frame. It tries it where the pair had its turn, or too few nodes are known to hold it.
+    /// Takes a peer's acknowledgement of a slot, as `arrive` does. Returns whether it did so without a delivery or
+    /// decision. It may always return `false`, as `arrive_again_silently` may.
     #[tactic(auto, using(std::proofs::lemmas::Bool::Decides::nat_tests), unfolding(cast_model::specs::Refusals::first_fault, crate::specs::Turns::kept_fault))]
     pub fn arrive_took_silently(&mut self, from: NodeId, slot: u64) -> bool
         ensures took { IsTrue result → (seq : ℕ) → Gives self.old
@@ -285,7 +257,7 @@ impl Node {
         self.take_acknowledged_silently(from, slot)
     }
 
-    /// Stops for good. Refused is a second crash.
+    /// Stops for good. A second crash is refused.
     #[tactic(auto, using(std::proofs::lemmas::Bool::Decides::nat_tests), unfolding(cast_model::specs::Refusals::first_fault, crate::specs::Turns::kept_fault))]
     pub fn crash(&mut self) -> Result<(), StepFault>
         ensures exact { Gives self.old Stopped (crashed_reply result) self.new }
@@ -305,42 +277,42 @@ impl Node {
         self.me
     }
 
-    /// Whether it has not crashed.
+    /// Whether the node has not crashed.
     pub fn live(&self) -> bool
         ensures { result ≡ self.now.live }
     {
         self.live
     }
 
-    /// How many frames it made.
+    /// How many frames the node made.
     pub fn frames(&self) -> u64
         ensures { result ≡ self.now.frames }
     {
         self.frames
     }
 
-    /// The items that it ordered, in order.
+    /// The items that the node ordered, in order.
     pub fn stream(&self) -> &[Item]
         ensures { result.now ≡ self.now.stream }
     {
         self.stream.as_slice()
     }
 
-    /// The items that it delivered from a sender, in order, where that is a node.
+    /// The items that the node delivered from a sender, in order, if the sender is a node.
     pub fn delivered(&self, sender: NodeId) -> Option<&[Item]>
         ensures { option_map (λ items. items.now) result ≡ slice_get self.now.deliveries.delivered sender }
     {
         self.deliveries.delivered(sender)
     }
 
-    /// The value that it decided in an instance, if it did.
+    /// The value that the node decided in an instance, if it did.
     pub fn decision(&self, instance: u64) -> Option<u64>
         ensures { result ≡ decision self.now.deliveries.agree instance }
     {
         self.deliveries.decision(instance)
     }
 
-    /// How many slots of what it gives a peer are not acknowledged, where that is another node.
+    /// How many slots the node owes a peer, if that is another node.
     pub fn owed(&self, to: NodeId) -> Option<u64>
         ensures { result
             ≡ (if is_peer self.now to then Some (finite.len (link_to self.now to).owed) else None) }
@@ -351,8 +323,7 @@ impl Node {
         Some(self.outgoing.owed(to))
     }
 
-    /// The least slot not below `from` of what it gives a peer that is not acknowledged, where there is one, and that is
-    /// another node.
+    /// The least slot, `from` or above, that the node owes a peer, if there is one and the peer is another node.
     pub fn least_owed(&self, to: NodeId, from: u64) -> Option<u64>
         ensures peer { is_peer self.now to ≡ true →
             IsLeastFrom (link_to self.now to).owed from result }
@@ -364,21 +335,21 @@ impl Node {
         self.outgoing.least_owed(to, from)
     }
 
-    /// Whether it owes one of these peers a slot. It takes no memory, and looks at no link.
+    /// Whether the node owes one of these peers a slot. It looks at no link, and allocates nothing.
     pub fn owes_one_of(&self, peers: &GroupSet) -> bool
         ensures { IsFalse result ↔ OwesNoneOf self.now.outgoing peers.now }
     {
         self.outgoing.owes_one_of(peers)
     }
 
-    /// Whether it holds a pair. It takes no memory.
+    /// Whether the node holds a pair. It allocates nothing.
     pub fn holds(&self, sender: NodeId, number: u64) -> bool
         ensures { result ≡ holds self.now sender number }
     {
         u64::from(sender.0) < self.config.nodes() && self.deliveries.holds(sender, number)
     }
 
-    /// How many nodes it knows to hold a pair: none where it doesn't hold it itself.
+    /// How many nodes are known to hold a pair: none if this node doesn't hold it itself.
     pub fn known_by(&self, sender: NodeId, number: u64) -> u64
         ensures { result ≡ set.len (knowers_of self.now sender number) }
     {
@@ -388,7 +359,7 @@ impl Node {
         self.deliveries.knowers(sender, number).len()
     }
 
-    // Takes a slot of a peer with the message in it.
+    // Takes a slot of a peer, with its message.
     fn take_carried(
         &mut self,
         from: NodeId,
@@ -417,7 +388,7 @@ impl Node {
         Ok(outcome)
     }
 
-    // Takes a slot of a peer with a message that the node holds in it.
+    // Takes a slot of a peer; the node holds its message.
     fn take_again(
         &mut self,
         from: NodeId,
@@ -442,7 +413,7 @@ impl Node {
         Ok(outcome)
     }
 
-    // Takes a peer's word that it took a slot.
+    // Takes a peer's acknowledgement of a slot.
     fn take_acknowledged(&mut self, from: NodeId, slot: u64) -> Result<Outcome, AllocError>
         requires { from < self.old.config.nodes }
         ensures outcome { IfOk result (λ outcome.
@@ -463,7 +434,7 @@ impl Node {
         Ok(outcome)
     }
 
-    // Takes a slot of a peer with a message that the node holds in it, where nothing comes of that.
+    // The same as `take_again`, if it delivers nothing.
     fn take_again_silently(&mut self, from: NodeId, slot: u64, sender: NodeId, number: u64) -> bool
         requires from { from < self.old.config.nodes }
         requires fits { may_carry self.old slot sender number ≡ true }
@@ -489,7 +460,7 @@ impl Node {
         true
     }
 
-    // Takes a peer's word that it took a slot, where nothing comes of that.
+    // The same as `take_acknowledged`, if it delivers nothing.
     fn take_acknowledged_silently(&mut self, from: NodeId, slot: u64) -> bool
         requires { from < self.old.config.nodes }
         ensures outcome { IsTrue result →
@@ -513,7 +484,7 @@ impl Node {
         true
     }
 
-    // The node of this number, which has done nothing, or want of memory.
+    // The node with this number, which has done nothing.
     fn make(alloc: Global, config: &Config, id: NodeId) -> Result<Node, AllocError>
         requires { id < config.now.nodes }
         ensures { IfOk result (λ node. node ≡ nothing_kept config.now id) }
@@ -537,7 +508,7 @@ impl Node {
         })
     }
 
-    // Counts one frame more, and answers its number.
+    // Counts one more frame, and returns its number.
     fn count_frame(&mut self) -> u64
         requires { self.old.frames < 1048576 }
         ensures number { result ≡ self.old.frames }
@@ -548,14 +519,9 @@ impl Node {
         seq
     }
 
-    // Makes a frame for a peer.
-    fn make_frame(&mut self, to: NodeId, body: FrameBody) -> Frame
-        requires { self.old.frames < 1048576 }
-        ensures frame { result
-            ≡ record { from = self.old.me; seq = self.old.frames; to = to; body = body } }
-        ensures after { self.new ≡ record self.old { frames = self.old.frames + 1 } }
+    fn frame(&self, seq: u64, to: NodeId, body: FrameBody) -> Frame
+        ensures { result ≡ record { from = self.now.me; seq = seq; to = to; body = body } }
     {
-        let seq = self.count_frame();
         Frame {
             from: self.me,
             seq,
@@ -564,8 +530,8 @@ impl Node {
         }
     }
 
-    // Takes up an item of the node's own, which is not refused. The instance of a proposal may be any number, so that no room for
-    // it can be made ahead: where memory is wanting after it was noted, that is taken back.
+    // Adds an item, which is not refused, to the node's stream. A proposal may be in any instance, so no room can be
+    // made ahead for noting it. If memory runs out after the note, the note is removed.
     fn take_own(&mut self, item: Item) -> Result<Outcome, AllocError>
         requires { kept_fault self.old (Ordered item) ≡ None }
         ensures outcome { IfOk result (λ outcome. outcome ≡ (ordered self.old item).outcome) }
@@ -618,8 +584,7 @@ fn make_room(link: &mut LinkIn, slot: u64, outgoing: &mut Outgoing) -> Result<()
     outgoing.reserve()
 }
 
-// Those that are known to hold a message once the node `me` does: itself, the sender, and where it came from. They are nodes of
-// one group.
+// The nodes known to hold a message when the node `me` first holds it: `me`, the sender, and the node it came from.
 fn first_members(me: NodeId, sender: NodeId, source: NodeId) -> GroupSet
     requires me { me < 64 }
     requires sender { sender < 64 }
@@ -633,7 +598,7 @@ fn first_members(me: NodeId, sender: NodeId, source: NodeId) -> GroupSet
     members
 }
 
-// Notes the instance in which an item proposes, if it does.
+// Notes the instance of a proposal.
 fn propose(proposed: &mut NumberSet, item: &Item) -> Result<(), AllocError>
     ensures ok { OnOk result (proposed.new ≡ with_proposal proposed.old item.now) }
     ensures err { OnErr result (proposed.new ≡ proposed.old) }
@@ -644,7 +609,7 @@ fn propose(proposed: &mut NumberSet, item: &Item) -> Result<(), AllocError>
     Ok(())
 }
 
-// Takes that back.
+// Removes that note.
 fn withdraw(proposed: &mut NumberSet, item: Item)
     ensures { proposed.new ≡ without_proposal proposed.old item }
 {

@@ -1,5 +1,5 @@
-//! What a node gives its peers. A message goes to many of them and stands here once: the slots of a link keep its place, in
-//! eight bytes, and no count of its payload moves where a slot is given, acknowledged or dropped.
+//! What a node gives its peers. A message that goes to several is kept once: the slots of a link keep its place, in
+//! eight bytes. No reference count changes when a slot is given, acknowledged or dropped.
 ghost use Rattle.std.specs.Prelude.{◌≡◌, ◌<◌, ◌≤◌, ◌↔◌, IsFalse, length, replicate, slice_set, IfOk, OnOk, OnErr};
 ghost use Rattle.std.specs.FinMap as finite;
 ghost use Rattle.std.specs.Option.{option_copied};
@@ -17,11 +17,11 @@ use std::marker::Model;
 /// What a node gives each peer.
 #[derive(Drop)]
 pub struct Outgoing {
-    // The messages that it gave, in the order in which it came to hold them.
+    // The messages given, in the order in which the node came to hold them.
     messages: Vec<Message>,
-    // By peer. A slot keeps the place of its message.
+    // By peer.
     links: Vec<LinkOut<u32>>,
-    // The peers that are owed a slot, so that no link need be looked at to know whether one of some peers is.
+    // The peers that are owed a slot, so that `owes_one_of` needs no look at links.
     owed: GroupSet,
 }
 
@@ -45,7 +45,7 @@ impl Model for Outgoing {
 }
 
 impl Outgoing {
-    /// Nothing was given to any of so many peers.
+    /// The outgoing part for as many peers as given, with nothing given to any.
     pub fn new(alloc: Global, peers: u64) -> Result<Outgoing, AllocError>
         requires { peers ≤ 64 }
         ensures { IfOk result (λ outgoing. links_of outgoing
@@ -62,12 +62,12 @@ impl Outgoing {
         })
     }
 
-    /// Makes room for one message more, at each link too.
+    /// Makes room for one more message, at each link too.
     pub fn reserve(&mut self) -> Result<(), AllocError>
         ensures same { links_of self.new ≡ links_of self.old }
         ensures room { OnOk result (HasRoomFor self.new) }
     {
-        // As many messages as a `u32` counts are never given: a node holds at most 64 times 4,096, and gives each once.
+        // There are never 2^32 messages: a node holds at most 64 times 4,096, and gives each once.
         if self.messages.len() > u32::MAX as usize {
             return Err(AllocError);
         }
@@ -75,8 +75,8 @@ impl Outgoing {
         reserve_all(self.links.as_mut_slice())
     }
 
-    /// Gives a message for which there is room to each peer to which it goes, where it came to the node `me` from the source.
-    /// It takes no memory.
+    /// Gives a message that came to the node `me` from the source to each peer to which it goes on. There is room for
+    /// it. It allocates nothing.
     pub fn give(&mut self, me: NodeId, source: NodeId, message: Message)
         requires room { HasRoomFor self.old }
         requires peers { length (links_of self.old) ≤ 256 }
@@ -89,7 +89,7 @@ impl Outgoing {
         self.owed = owed_peers(self.links.as_slice());
     }
 
-    /// The message in a slot of a peer that is owed.
+    /// The message in a slot that a peer is owed.
     pub fn message(&self, to: NodeId, slot: u64) -> Option<&Message>
         requires { to < length (links_of self.now) }
         ensures { option_copied result ≡ finite.get (link_in (links_of self.now) to).owed slot }
@@ -120,7 +120,7 @@ impl Outgoing {
         self.links[usize::from(to.0)].given()
     }
 
-    /// How many slots of a peer are owed.
+    /// How many slots a peer is owed.
     pub fn owed(&self, to: NodeId) -> u64
         requires { to < length (links_of self.now) }
         ensures { result ≡ finite.len (link_in (links_of self.now) to).owed }
@@ -128,7 +128,7 @@ impl Outgoing {
         self.links[usize::from(to.0)].owed()
     }
 
-    /// The least slot of a peer that is owed and not below `from`.
+    /// The least slot, `from` or above, that a peer is owed.
     pub fn least_owed(&self, to: NodeId, from: u64) -> Option<u64>
         requires { to < length (links_of self.now) }
         ensures { IsLeastFrom (link_in (links_of self.now) to).owed from result }
@@ -136,7 +136,7 @@ impl Outgoing {
         self.links[usize::from(to.0)].least_owed(from)
     }
 
-    /// Whether a slot is owed to one of these peers.
+    /// Whether one of these peers is owed a slot.
     pub fn owes_one_of(&self, peers: &GroupSet) -> bool
         ensures { IsFalse result ↔ OwesNoneOf (links_of self.now) peers.now }
     {

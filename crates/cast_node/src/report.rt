@@ -7,22 +7,20 @@ use cast_log::Log;
 use cast_message::Config;
 use std::marker::Model;
 
-/// Why a node's engine ended.
 #[derive(Clone, Copy, Debug, PartialEq, Eq)]
 pub enum EngineEnd {
-    /// All engines were quiet or had ended, and its clients were done. That is no evidence of rest.
+    /// All engines were quiet or had ended, and its clients were done. That does not show rest.
     Stopped,
     /// The plan crashed the node.
     Crashed,
-    /// Its turns were used up, or it stopped with a client that was not done.
+    /// Its turns were used up, or it stopped while a client was not done.
     TurnLimit,
-    /// The log had as many entries as it may have.
+    /// The log was full.
     LogFull,
-    /// No greater stamp was left: its clock had the last, or a frame came with it.
+    /// There was no greater stamp: its clock had the last one, or a frame came with it.
     ClockFull,
 }
 
-/// What comes back of one node.
 #[derive(Drop)]
 pub struct NodeReport {
     pub log: Log,
@@ -30,8 +28,7 @@ pub struct NodeReport {
     pub node: Node,
 }
 
-/// What comes back of a group: a report of each node. Each log tells the steps of its node, and each frame that arrived was
-/// made by its maker with a smaller stamp.
+/// A report of each node. Each log has the steps of its node, and each frame that arrived was made with a smaller stamp.
 #[derive(Drop)]
 pub struct GroupReport {
     config: Config,
@@ -54,7 +51,7 @@ impl Model for GroupReport {
 }
 
 impl GroupReport {
-    /// The report of a group whose nodes reported this, in the order of their numbers. It takes no memory.
+    /// The report of a group, by the reports of its nodes in order. It takes no memory.
     pub fn link(config: Config, reports: Vec<NodeReport>) -> GroupReport
         requires { Linked config reports.items }
         ensures { result ≡ record { config = config; reports = reports.items } }
@@ -62,7 +59,7 @@ impl GroupReport {
         GroupReport { config, reports }
     }
 
-    /// The reports, in the order of the nodes. It takes no memory.
+    /// The reports, by number of the node. It allocates nothing.
     pub fn reports(&self) -> &[NodeReport]
         ensures shown { result.now ≡ self.now.reports }
         ensures linked { Linked self.now.config self.now.reports }
@@ -70,7 +67,6 @@ impl GroupReport {
         self.reports.as_slice()
     }
 
-    /// The configuration of the group. It takes no memory.
     pub fn config(&self) -> &Config
         ensures { result.now ≡ self.now.config }
     {

@@ -15,7 +15,7 @@ use Rattle.cast_carrier.proofs.Lists.{has_left, has_last, has_none, has_snoc}
 use Rattle.cast_journal.specs.Journals.{JournalState, LogsStep, LogsRefusal, LogsOrder, OnlyEnds, Halts, Rises, is_arrival_event, KeepsOf}
 use Rattle.cast_journal.specs.Runs.{origin_of}
 use Rattle.cast_journal.proofs.Journaling.{rises_more}
-use Rattle.cast_journal.proofs.Running.{halt_kept, arrival_kept, same_me, order_kept, made_kept}
+use Rattle.cast_journal.proofs.Running.{halt_kept, came_kept, same_me, order_kept, made_kept}
 use Rattle.cast_journal.proofs.RunLogs.{keeps_new}
 use Rattle.cast_wire.specs.Law.{HasNumbers}
 use Rattle.cast_peer.specs.Peers.{packet_of, bytes_of, Takes}
@@ -25,7 +25,7 @@ pub record Known (group : ℕ) (config : Config) (me : ℕ) (ds : List Did) (j :
   pub put : List Parcel
   pub came : List (ℕ × Parcel)
   pub orders : List (ℕ × OrderIn)
-  pub keeps : KeepsOf j put None came orders
+  pub keeps : KeepsOf j put None came None orders
   pub took : (m : ℕ × Parcel) → Has came m → Has ds (Took (bytes_of group m.1)) × HasNumbers (packet_of group m.1)
   pub given : (b : List ℕ) → Has ds (Gave b) → (x : Parcel) × Has put x × (b ≡ bytes_of group x) × HasNumbers (packet_of group x)
   pub same_config : j.config ≡ config
@@ -63,13 +63,13 @@ module _ (group : ℕ) (config : Config) (me : ℕ) (ds : List Did) (old new : J
         put = k.put ++ x ∷ [];
         came = k.came;
         orders = k.orders;
-        keeps = made_kept old new k.put (k.put ++ x ∷ []) None None k.came k.orders k.keeps x old.clock m.makes.2 refl (inl (refl, refl)) m.kind m.to m.slot l m.makes.1;
+        keeps = made_kept old new k.put (k.put ++ x ∷ []) None None k.came None k.orders k.keeps x old.clock m.makes.2 refl (inl (refl, refl)) m.kind m.to m.slot l m.makes.1;
         took = λ n h. let t = k.took n h in (has_more d ds _ t.0, t.1);
         given = λ b h. ⊎_elim
             (λ (o : Has ds (Gave b)). let g = k.given b o in (g.0, has_left k.put (x ∷ []) g.0 g.1, g.2, g.3))
             (λ (e : b ≡ bytes_of group x). (x, has_last k.put x, e, m.numbers)) (news b h);
         same_config = l.logs.same_config ∙ k.same_config;
-        same_me = same_me old new k.put None k.came k.orders k.keeps (making m.kind m.to m.slot) None old.clock l ∙ k.same_me;
+        same_me = same_me old new k.put None k.came None k.orders k.keeps (making m.kind m.to m.slot) None old.clock l ∙ k.same_me;
         rises = rise_step config.first_stamp old new (making m.kind m.to m.slot) None old.clock l (quiet_making old.node.me old.clock m.kind m.to m.slot) k.rises;
       }
 
@@ -106,16 +106,16 @@ module _ (group : ℕ) (config : Config) (me : ℕ) (ds : List Did) (old new : J
         put = k.put;
         came = k.came ++ m ∷ [];
         orders = k.orders;
-        keeps = arrival_kept old new k.put None k.came k.orders k.keeps 0 t.x l t.takes.1;
+        keeps = came_kept old new k.put None k.came k.orders m k.keeps t.takes.1 l;
         took = λ n h. ⊎_elim (λ (o : Has k.came n). let g = k.took n o in (has_more (Took bytes) ds _ g.0, g.1)) (λ (e : m ≡ n). subst Tells e last) (has_snoc k.came m n h);
         given = λ b h. k.given b (before_took bytes b h);
         same_config = l.logs.same_config ∙ k.same_config;
-        same_me = same_me old new k.put None k.came k.orders k.keeps (Arrived t.x.frame) None t.x.stamp l ∙ k.same_me;
+        same_me = same_me old new k.put None k.came None k.orders k.keeps (Arrived t.x.frame) None t.x.stamp l ∙ k.same_me;
         rises = rise_step config.first_stamp old new (Arrived t.x.frame) None t.x.stamp l (λ h. absurd cc) k.rises;
       }
 
   asked_me : (order : OrderIn) → LogsOrder old new order → new.node.me ≡ old.node.me
-  asked_me order h = ⊎_elim (λ l. same_me old new k.put None k.came k.orders k.keeps _ _ old.clock l) (λ (l : LogsRefusal old new order). ap (λ n. n.me) l.gives.1) h
+  asked_me order h = ⊎_elim (λ l. same_me old new k.put None k.came None k.orders k.keeps _ _ old.clock l) (λ (l : LogsRefusal old new order). ap (λ n. n.me) l.gives.1) h
 
   asked_config : (order : OrderIn) → LogsOrder old new order → new.config ≡ old.config
   asked_config order h = ⊎_elim (λ l. l.logs.same_config) (λ (l : LogsRefusal old new order). l.logs.same_config) h
@@ -125,7 +125,7 @@ module _ (group : ℕ) (config : Config) (me : ℕ) (ds : List Did) (old new : J
     put = k.put;
     came = k.came;
     orders = k.orders ++ (0, order) ∷ [];
-    keeps = order_kept old new k.put None k.came k.orders k.keeps order 0 h;
+    keeps = order_kept old new k.put None k.came None k.orders k.keeps order 0 h;
     took = λ n o. let t = k.took n o in (has_more (Asked order) ds _ t.0, t.1);
     given = λ b o. k.given b (before_asked order b o);
     same_config = asked_config order h ∙ k.same_config;
@@ -134,7 +134,7 @@ module _ (group : ℕ) (config : Config) (me : ℕ) (ds : List Did) (old new : J
   }
 
   halted_me : Halts old new → new.node.me ≡ old.node.me
-  halted_me h = ⊎_elim (λ (e : OnlyEnds old new). ap (λ (j : JournalState). j.node.me) e) (λ l. same_me old new k.put None k.came k.orders k.keeps Stopped None old.clock l) h
+  halted_me h = ⊎_elim (λ (e : OnlyEnds old new). ap (λ (j : JournalState). j.node.me) e) (λ l. same_me old new k.put None k.came None k.orders k.keeps Stopped None old.clock l) h
 
   halted_config : Halts old new → new.config ≡ old.config
   halted_config h = ⊎_elim (λ (e : OnlyEnds old new). ap (λ (j : JournalState). j.config) e) (λ l. l.logs.same_config) h
@@ -147,7 +147,7 @@ module _ (group : ℕ) (config : Config) (me : ℕ) (ds : List Did) (old new : J
     put = k.put;
     came = k.came;
     orders = k.orders;
-    keeps = halt_kept old new k.put None k.came k.orders k.keeps h;
+    keeps = halt_kept old new k.put None k.came None k.orders k.keeps h;
     took = λ n o. let t = k.took n o in (has_more Ended ds _ t.0, t.1);
     given = λ b o. k.given b (before_ended b o);
     same_config = halted_config h ∙ k.same_config;

@@ -14,8 +14,9 @@ use Rattle.cast_carrier.specs.declared.parcel.Parcel.{Parcel}
 use Rattle.cast_carrier.specs.Lists.{Has}
 use Rattle.cast_carrier.proofs.Lists.{has_left}
 use Rattle.cast_journal.specs.Journals.{JournalState}
-use Rattle.cast_journal.specs.Runs.{EngineKeeps, parcel, trail_of, made_of, CameBefore}
-use Rattle.cast_journal.proofs.RunLogs.{rises_pairs, run_tells, run_taken, run_received, handed_made}
+use Rattle.cast_journal.specs.Runs.{EngineKeeps, parcel, trail_of, parcels_of, made_of, CameBefore}
+use Rattle.cast_journal.proofs.RunLogs.{rises_pairs, run_tells, run_taken, run_arrivals, handed_made}
+use Rattle.cast_journal.proofs.Arrivals.{was_taken, arrivals_came}
 use Rattle.cast_wire.specs.declared.packet.Packet.{Packet}
 use Rattle.cast_wire.specs.Law.{HasNumbers}
 use Rattle.cast_wire.proofs.Cutting.{same_packet}
@@ -41,9 +42,9 @@ module _ (group : ℕ) (config : Config) (did : ℕ → List Did) (reports : Lis
     k : Known group config p (did p) is.j
     k = known group config p lt (did p) is.j is.runs
 
-    keeps : EngineKeeps config p is.j.node is.j.log is.j.clock k.put None k.came k.orders
+    keeps : EngineKeeps config p is.j.node is.j.log is.j.clock k.put None k.came None k.orders
     keeps =
-        let P : Config → ℕ → Type 0 = λ c m. EngineKeeps c m is.j.node is.j.log is.j.clock k.put None k.came k.orders in
+        let P : Config → ℕ → Type 0 = λ c m. EngineKeeps c m is.j.node is.j.log is.j.clock k.put None k.came None k.orders in
         subst (λ c. P c p) k.same_config (subst (P is.j.config) k.same_me k.keeps)
 
     abbrev trail : Trail
@@ -75,7 +76,8 @@ module _ (group : ℕ) (config : Config) (did : ℕ → List Did) (reports : Lis
     tells = record {
       log = subst (λ (n : Kept). IsLogOf config p trail report.log n) is.node (subst (λ (l : List Entry). IsLogOf config p trail l is.j.node) is.log own_log);
       puts = puts;
-      came = each_arrival (CameBefore k.came) (WasPutBefore config Put) was_put trail (run_received k.came config.first_stamp keeps.run keeps.received);
+      came = each_arrival (CameBefore k.came) (WasPutBefore config Put) was_put trail
+          (arrivals_came k.came trail (parcels_of keeps.run) (run_arrivals config p config.first_stamp keeps.run keeps.runs keeps.stamped) (was_taken p k.came (parcels_of keeps.run) None keeps.taken_in));
     }
 
 pub links : ArePeersLinked

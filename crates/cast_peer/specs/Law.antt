@@ -1,7 +1,7 @@
--- What the peers of a group did, each with its journal, and when that makes their logs linked.
+-- What the peers of a group did, each with its journal, and when their logs are linked.
 --     Did                                    what a peer did
 --     Does group old d new                   a journal does this
---     IsRunOf group config me did j          it did all of these, the newest first, from nothing on
+--     IsRunOf group config me did j          from nothing on, it did all of these, the newest first
 --     TookNoOthers config did                what a peer took, some peer made
 --     ArePeersLinked                         then the logs are linked
 use Rattle.std.specs.Prelude.{◌≡◌, ℕ, ◌<◌, List, [], ◌∷◌, length, slice_get, Option, Some, None}
@@ -18,10 +18,10 @@ use Rattle.cast_wire.specs.Law.{HasNumbers}
 use Rattle.cast_peer.specs.Peers.{packet_of, bytes_of, MakesFrame, Takes}
 
 pub data Did : Type 0 where
-  Gave : List ℕ → Did  -- it made a frame of these bytes, to be given out
-  Lost : Did  -- it made a frame, for whose bytes there was no memory
+  Gave : List ℕ → Did  -- it made a frame of these bytes, to be sent
+  Lost : Did  -- it made a frame, but had no memory for its bytes
   Took : List ℕ → Did  -- it took these bytes, which the network brought
-  Asked : OrderIn → Did  -- it took up an order, or refused it
+  Asked : OrderIn → Did  -- it took an order, or refused it
   Ended : Did  -- it noted that it ended, or logged a crash that was due
 
 -- it made this frame, with the stamp of the step
@@ -56,7 +56,7 @@ IsRunOf group config me [] j = (turns : ℕ) × (j ≡ begun config me turns)
 IsRunOf group config me (d ∷ ds) j =
     (old : JournalState) × IsRunOf group config me ds old × Does group old d j
 
--- no packet is made by anyone else: what a peer took, some peer made
+-- nobody else makes a packet: what a peer took, some peer made
 abbrev pub TookNoOthers : Config → (ℕ → List Did) → Type 0
 TookNoOthers config did =
     (p : ℕ) (bytes : List ℕ) → p < config.nodes → Has (did p) (Took bytes)

@@ -1,3 +1,3 @@
--- What the contracts of a peer speak of.
+-- The definitions that a peer's contracts use.
 pub mod Peers
 pub mod Law

@@ -1,7 +1,7 @@
 -- What a call of a peer does to its journal.
 --     bytes_of group x                        the bytes of a frame with its stamp
 --     may_be_made config me frame             some other node could have made the frame for this one
---     Takes group old bytes new               the arrival of the frame of these bytes was logged
+--     Takes group old bytes new               the arrival of the frame with these bytes was logged
 --     Drops fault old new                     what a refusal leaves
 --     MakesFrame old kind to slot x new       a frame of this kind was made and logged
 use Rattle.std.specs.Prelude.{◌≡◌, ℕ, ◌*◌, ◌<◌, ◌==◌, Bool, true, not, ◌&&◌, nat_lt, List, None, ◌⊎◌, ⊤}
@@ -52,25 +52,25 @@ abbrev pub TakesParcel : JournalState → Parcel → JournalState → Type 0
 TakesParcel old x new =
     LogsStep old new (Arrived x.frame) None x.stamp × (x.frame.to ≡ old.node.me)
 
--- the arrival of the frame of these bytes was logged
+-- the arrival of the frame with these bytes was logged
 pub record Takes (group : ℕ) (old : JournalState) (bytes : List ℕ) (new : JournalState) : Type 0 where
   pub x : Parcel
   pub is : bytes ≡ bytes_of group x
   pub takes : TakesParcel old x new
   pub numbers : HasNumbers (packet_of group x)
 
--- a parcel was taken by its arrival, or was known and nothing changed
+-- a parcel was taken by its arrival; or it was known, and nothing changed
 abbrev pub TakesIn : JournalState → Parcel → Received → JournalState → Type 0
 TakesIn old x received.Taken new = TakesParcel old x new
 TakesIn old x received.Known new = new ≡ old
 
--- the same of the bytes of a packet, which some other node of the group could have made
+-- the same for the bytes of a packet that some other node of the group could have made
 abbrev pub Receives : Config → ℕ → JournalState → List ℕ → Received → JournalState → Type 0
 Receives config group old bytes received.Taken new =
     (t : Takes group old bytes new) × (may_be_made config old.node.me t.x.frame ≡ true)
 Receives config group old bytes received.Known new = new ≡ old
 
--- nothing changed, but that the log or the clock was found full, where that is the cause
+-- nothing changed, except that the log or the clock was found full if that is the fault
 abbrev pub Drops : PeerFault → JournalState → JournalState → Type 0
 Drops faults.Ended old new = Halts old new
 Drops _ old new = new ≡ old
@@ -89,7 +89,7 @@ MakesSome old new =
 abbrev pub LogsFrameAtMost : JournalState → JournalState → Type 0
 LogsFrameAtMost old new = Halts old new ⊎ MakesSome old new
 
--- a packet that is given out is told of by an entry that is saved
+-- the entry that has the step of this packet is saved
 abbrev pub IsSaved : ℕ → NextPacket → Type 0
 IsSaved saved (next.Packet to entry) = entry < saved
 IsSaved saved _ = ⊤

@@ -1,35 +1,33 @@
-//! The acknowledgements that a peer was sent last. No contract speaks of this. One that is wanted again is the same packet, and no
-//! step.
+//! The last acknowledgements sent to a peer. No contract speaks of them. To send one again is no step: it is the same
+//! packet.
 use std::alloc::{AllocError, Global};
 use std::collections::VecDeque;
 
-// So many are kept for a peer.
+// The most that are kept for a peer.
 const KEPT: usize = 128;
 
 #[derive(Drop)]
 struct Acknowledgement {
     slot: u64,
     entry: usize,
-    // It is to be sent again.
     due: bool,
     bytes: Vec<u8>,
 }
 
-/// The acknowledgements that a peer was sent last.
 #[derive(Drop)]
 pub struct Acknowledged {
     kept: VecDeque<Acknowledgement>,
 }
 
 impl Acknowledged {
-    /// None was sent.
+    /// No acknowledgement.
     pub fn new(alloc: Global) -> Acknowledged {
         Acknowledged {
             kept: VecDeque::new(alloc),
         }
     }
 
-    /// Has the acknowledgement of a slot sent again, if it is kept; says whether it is.
+    /// Marks the acknowledgement of a slot to be sent again, if it is kept. Returns whether it is.
     pub fn ask_again(&mut self, slot: u64) -> bool {
         for acknowledgement in self.kept.iter_mut() {
             if acknowledgement.slot == slot {
@@ -40,7 +38,7 @@ impl Acknowledged {
         false
     }
 
-    /// Keeps an acknowledgement that was made, in place of the oldest, if there is memory.
+    /// Keeps an acknowledgement, unless memory runs out. If `KEPT` are kept, the oldest goes.
     pub fn keep(&mut self, slot: u64, entry: usize, bytes: Vec<u8>) {
         if self.kept.len() >= KEPT {
             self.kept.pop_front();
@@ -55,7 +53,7 @@ impl Acknowledged {
         }
     }
 
-    /// Appends one that is to be sent again, if one is, and answers which entry of the log tells of it.
+    /// Appends one that should be sent again, if there is one, and returns the log entry that made it.
     pub fn send_again(&mut self, out: &mut Vec<u8>) -> Result<Option<usize>, AllocError> {
         for acknowledgement in self.kept.iter_mut() {
             if acknowledgement.due {

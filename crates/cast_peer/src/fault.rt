@@ -23,8 +23,8 @@ pub enum PeerFault {
 }
 
 impl PeerFault {
-    /// Its number: 1 to 6 no packet (foreign, version, kind, short, long, out of memory), 11 another group, 12 another node, 13 the
-    /// last stamp, 14 impossible, 15 ended, and 20 and the code of a refusal.
+    /// Its number. 1 to 6: no packet (foreign, version, kind, short, long, out of memory). 11: another group; 12:
+    /// another node; 13: the last stamp; 14: impossible; 15: ended. From 20: a refusal, at 20 and its code.
     pub fn code(self) -> u64 {
         match self {
             PeerFault::Wire(fault) => wire_code(fault),

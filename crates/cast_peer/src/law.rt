@@ -1,8 +1,8 @@
-//! What is so of peers: a law of the definitions. The function does nothing; its contract is the law.
+//! A law of the definitions about peers. The function does nothing; its contract is the law.
 ghost use Rattle.cast_peer.specs.Law.{ArePeersLinked};
 
-/// Peers that took no packet but those that peers of the group made have linked logs, whatever was lost, repeated, reordered or cut
-/// off, and whichever peers stopped for good. So the clauses of `assemble` hold of them.
+/// Peers have linked logs if they took only packets that peers of the group made. It doesn't matter what was lost,
+/// repeated, reordered or cut off, or which peers stopped for good. So the clauses of `assemble` hold for them.
 pub fn links_peers()
     ensures { ArePeersLinked }
 {}

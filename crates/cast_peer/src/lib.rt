@@ -1,5 +1,5 @@
-//! A peer: a node of a group between processes, with its log and its clock. It takes bytes that a network brought, and gives bytes
-//! that a network is to take. It knows no sockets and no time, so that its user brings both.
+//! A peer: a node of a group between processes, with its log and its clock. It takes bytes from a network, and gives
+//! bytes to it. It knows neither sockets nor time; its user supplies both.
 #![tactic(auto)]
 
 mod acknowledged;

@@ -1,31 +1,29 @@
-//! What the application is told.
+//! What the application learns.
 use cast_log::{EntryKind, KindRef, OpenLog};
 use cast_message::{Decision, Event, Message};
 use std::alloc::AllocError;
 
-/// What came of a step.
+/// What a step did.
 #[derive(Debug, Drop, PartialEq)]
 pub enum News {
     /// An item that was ordered here has this number in the node's stream.
     Ordered { number: u64 },
-    /// An item was delivered.
     Delivered(Message),
-    /// A value was decided.
     Decided(Decision),
 }
 
-/// How far the application was told.
+/// How much the application has learned.
 #[derive(Drop)]
 pub struct Place {
     entry: usize,
-    // In the entry: an order's number, then its deliveries, then its decisions.
+    // In the entry: first an order's number, then its deliveries, then its decisions.
     number: usize,
-    // How many items were ordered before.
+    // The number of items ordered before.
     ordered: u64,
 }
 
 impl Place {
-    /// It was told nothing.
+    /// Nothing was learned yet.
     pub fn first() -> Place {
         Place {
             entry: 0,
@@ -35,8 +33,8 @@ impl Place {
     }
 }
 
-/// The next news of the first entries of a log from this place on, which moves behind it, or want of memory, and then it doesn't
-/// move.
+/// The next news of a log's first `entries` entries, from this place on. The place moves past it, unless memory runs
+/// out.
 pub fn next_news(
     place: &mut Place,
     log: &OpenLog,

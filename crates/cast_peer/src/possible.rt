@@ -4,7 +4,7 @@ ghost use Rattle.cast_peer.specs.Peers.{is_other, may_be_made};
 
 use cast_message::{Config, Frame, FrameBody, NodeId};
 
-/// Whether some other node of a group of this configuration could have made the frame for this one.
+/// Whether some other node of a group with this configuration could have made the frame for this one.
 #[tactic(auto, using(std::proofs::lemmas::Bool::Decides::nat_tests))]
 pub fn may_be_made(config: &Config, me: NodeId, frame: &Frame) -> bool
     ensures { result ≡ may_be_made config.now me frame.now }
@@ -22,7 +22,6 @@ pub fn may_be_made(config: &Config, me: NodeId, frame: &Frame) -> bool
     }
 }
 
-// Whether a number is that of another node of the group.
 #[tactic(auto, using(std::proofs::lemmas::Bool::Decides::nat_tests))]
 fn is_other(config: &Config, me: NodeId, node: NodeId) -> bool
     ensures { result ≡ is_other config.now me node }

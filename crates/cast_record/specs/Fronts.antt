@@ -1,5 +1,5 @@
 -- What the front of a text says.
---     BeginsWithDelivery bytes d  the bytes are `d`, words of these two nodes and this number, and the rest, each after a blank
+--     BeginsWithDelivery bytes d  the bytes are `d`, words of these nodes and number, and the rest, each after a blank
 --     SaysDelivery bytes d        the bytes begin with this line `d`, if a word at the front of its rest spells an item
 use Rattle.std.specs.Prelude.{◌≡◌, ℕ, ◌^◌, ◌<◌, ◌≤◌, true, List, ◌∷◌, ◌++◌, length, take, Some}
 use Rattle.std.specs.Str.{all_ascii_digits}
@@ -35,7 +35,7 @@ pub record BeginsWithNumber (bytes : List ℕ) (number : ℕ) (rest : List ℕ) 
   pub cut : bytes ≡ word ++ 32 ∷ rest
   pub spells : number_of word ≡ Some number
 
--- the first bytes are digits of this value
+-- the first bytes are digits with this value
 pub record IsNumberSoFar (bytes : List ℕ) (at value : ℕ) : Type 0 where
   pub within : at ≤ length bytes
   pub digits : all_ascii_digits (take at bytes) ≡ true

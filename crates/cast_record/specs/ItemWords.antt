@@ -1,6 +1,6 @@
--- What a word of an item says of it.
+-- What an item's word says about the item.
 --     item_in word               the item that the word spells
---     SpellsItem word kind       the word spells an item, of this kind
+--     SpellsItem word kind       the word spells an item of this kind
 use Rattle.std.specs.Prelude.{◌≡◌, ℕ, Bool, true, false, List, Option, Some, None, unwrap_or}
 use Rattle.cast_message.specs.declared.message.Item.{Item}
 use Rattle.cast_message.specs.declared.message.Item.TheVariants as items
@@ -32,6 +32,6 @@ is_known (Some x) = true
 abbrev pub is_hex_digit : ℕ → Bool
 is_hex_digit code = is_known (digit_of code)
 
--- the digits stand for bytes
+-- the digits spell bytes
 abbrev pub is_hex : List ℕ → Bool
 is_hex digits = is_known (unhex digits)

@@ -1,6 +1,6 @@
--- A record under the new head.
---     Migrates text result     the text with its head changed, or a refusal where it begins with no head `cast/1`; where it
---                              begins with one, only memory can be wanting
+-- A record with the new head.
+--     Migrates text result     the text with its head changed, or a refusal if it has no `cast/1` head; if it has one,
+--                              only memory can be lacking
 use Rattle.std.specs.Prelude.{◌≡◌, ℕ, List, ◌∷◌, ◌++◌, codes, drop, Result, Ok, Err}
 use Rattle.std.specs.Global.{Vec}
 use Rattle.cast_message.specs.declared.config.Mode.TheVariants.{Basic}
@@ -10,7 +10,7 @@ use Rattle.cast_record.specs.declared.migration.MigrateFault.TheVariants.{NotV1,
 use Rattle.cast_record.specs.Ranges.{IsWithin}
 use Rattle.cast_record.specs.Text.{line_text}
 
--- the bytes are the text of a head `cast/1` within its ranges
+-- the bytes are the text of a `cast/1` head within its ranges
 pub record IsHeadIn (bytes : List ℕ) : Type 0 where
   pub nodes : ℕ
   pub faults : ℕ
@@ -21,7 +21,7 @@ pub record IsHeadIn (bytes : List ℕ) : Type 0 where
 abbrev pub IsNoHead : List ℕ → Type 0
 IsNoHead bytes = IsHeadIn bytes → ⊥
 
--- the text begins with a head `cast/1` and its line feed
+-- the text begins with a `cast/1` head and its line feed
 pub record HasHead (text : List ℕ) : Type 0 where
   pub nodes : ℕ
   pub faults : ℕ
@@ -46,6 +46,6 @@ Migrates text (Ok new) = IsMigrated text new.items
 Migrates text (Err NotV1) = HasNoHead text
 Migrates text (Err Memory) = HasHead text
 
--- the bytes of a head `cast/1`, changed, and what stands after its line feed
+-- the bytes of a `cast/1` head, changed, and what follows its line feed
 abbrev pub new_text : List ℕ → List ℕ → List ℕ
 new_text first rest = codes "cast/2" ++ drop 6 first ++ codes " basic" ++ 10 ∷ rest

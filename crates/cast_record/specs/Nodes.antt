@@ -1,4 +1,4 @@
--- The number of a node that a word spells: decimal, with no zero in front, below 256.
+-- The number of a node that a word spells: decimal, without a leading zero, below 256.
 use Rattle.std.specs.Prelude.{ℕ, List, Option, option_and_then}
 use Rattle.cast_message.specs.Items.{byte_sized}
 use Rattle.cast_record.specs.Numbers.{number_of}

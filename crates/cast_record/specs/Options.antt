@@ -1,4 +1,4 @@
--- What `do` means of values that may be missing: where one of them is, so is what is made of them.
+-- What `do` means for values that may be missing: if one is missing, so is the result.
 use Rattle.std.specs.Prelude.{Option, option_and_then}
 
 infixl 10 ◌>>=◌

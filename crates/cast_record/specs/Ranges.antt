@@ -1,4 +1,4 @@
--- The ranges of a line, without the comparison of its nodes with the head's.
+-- The ranges of a line, without comparing its nodes to the head's.
 use Rattle.std.specs.Prelude.{ℕ, ◌*◌, ◌^◌, ◌<◌, ◌≤◌, length}
 use Rattle.cast_message.specs.declared.config.Mode.{Mode}
 use Rattle.cast_message.specs.declared.config.Mode.TheVariants.{Basic, Uniform}
@@ -9,7 +9,7 @@ use Rattle.cast_record.specs.Hex.{AreBytes}
 use Rattle.cast_record.specs.declared.line.Line.{Line}
 use Rattle.cast_record.specs.declared.line.Line.TheVariants.{Head, Head2, Broadcast, Delivered, Decided, Crashed, Refused, End}
 
--- 0 to 1,024 bytes, and numbers of 64 bits
+-- 0 to 1,024 bytes, and 64-bit numbers
 abbrev pub IsItemWithin : Item → Type 0
 IsItemWithin (Data payload) = AreBytes payload × (length payload ≤ 1024)
 IsItemWithin (Propose instance value) = (instance < 2 ^ 64) × (value < 2 ^ 64)
@@ -18,12 +18,12 @@ IsItemWithin Close = Unit {0}
 abbrev pub IsMessageWithin : Message → Type 0
 IsMessageWithin m = (m.sender < 256) × (m.number < 2 ^ 64) × IsItemWithin m.item
 
--- 1 to `most` nodes, of which fewer may crash, and 1 to that many values
+-- 1 to `most` nodes, fewer faults than nodes, and 1 to as many choices as nodes
 abbrev pub IsGroupWithin : ℕ → ℕ → ℕ → ℕ → Type 0
 IsGroupWithin most nodes faults choices =
     (1 ≤ nodes) × (nodes ≤ most) × (faults < nodes) × (1 ≤ choices) × (choices ≤ nodes)
 
--- uniform mode, only where fewer than half may crash
+-- uniform mode only if fewer than half may crash
 abbrev pub IsModeWithin : Mode → ℕ → ℕ → Type 0
 IsModeWithin Basic nodes faults = Unit {0}
 IsModeWithin Uniform nodes faults = 2 * faults < nodes

@@ -1,8 +1,8 @@
 -- The line that bytes spell.
 --     item_of word     the item that a word spells, if it spells one
 --     line_of bytes    the line that the bytes spell without a line feed, if they spell one
---     IsReadOf bytes o     o is the line within its ranges whose text the bytes are, or none where there is none
---     HasData item     there is an item, and it is data; `LineHasData` says the same of a line that brings one
+--     IsReadOf bytes o     o is the line within its ranges whose text the bytes are, or None if there is no such line
+--     HasData item     there is an item, and it is data; `LineHasData` says the same of a line with an item
 use Rattle.std.specs.Prelude.{◌≡◌, ℕ, ◌-◌, ◌==◌, ◌||◌, nat_lt, nat_le, if◌then◌else◌, IsSomeAnd, List, [], ◌∷◌, length, take, drop, codes, Bool, true, false, Option, Some, None, option_map, option_and_then}
 use Rattle.std.specs.Str.{bytes_eq}
 use Rattle.std.specs.List.{slice_split}
@@ -21,7 +21,7 @@ use Rattle.cast_record.specs.Unhex.{unhex}
 use Rattle.cast_record.specs.Ranges.{IsWithin}
 use Rattle.cast_record.specs.Text.{line_text}
 
--- ---- exactly so many words
+-- ---- exactly this many words
 
 abbrev pub Words : Type 0
 Words = List (List ℕ)
@@ -54,7 +54,7 @@ proposal_by words = do
   value ← number_of words.1
   Some (Propose instance value)
 
--- two numbers, parted by a colon
+-- two numbers with a colon between them
 abbrev pub proposal_of : List ℕ → Option Item
 proposal_of word = option_and_then proposal_by (two_of (slice_split (λ b. b == 58) word))
 
@@ -126,7 +126,7 @@ head_by words = do
   choices ← number_of words.2
   head_within nodes faults choices
 
--- uniform mode is for groups of which fewer than half may crash
+-- uniform mode is for groups where fewer than half may crash
 abbrev pub is_mode_outside : Mode → ℕ → ℕ → Bool
 is_mode_outside Basic nodes faults = false
 is_mode_outside Uniform nodes faults = nat_le (nodes - faults) faults
@@ -144,7 +144,7 @@ head2_by words = do
   mode ← mode_named words.3
   head2_within nodes faults choices mode
 
--- a line that has no item
+-- a line without an item
 abbrev pub short_line_named : List ℕ → Words → Option Line
 short_line_named name words =
     if bytes_eq name (codes "v") then option_and_then decided_by (three_of words) else (
@@ -153,7 +153,7 @@ short_line_named name words =
     if bytes_eq name (codes "cast/1") then option_and_then head_by (three_of words) else (
     if bytes_eq name (codes "cast/2") then option_and_then head2_by (four_of words) else None))))
 
--- the line of this name with these words after it
+-- the line with this name and these words after it
 abbrev pub line_named : List ℕ → Words → Option Line
 line_named name words =
     if bytes_eq name (codes "d") then option_and_then delivered_by (four_of words) else (
@@ -169,16 +169,16 @@ line_of_words [] = None
 line_of_words (name ∷ []) = end_named name
 line_of_words (name ∷ word ∷ words) = line_named name (word ∷ words)
 
--- the words of a line are parted by one blank
+-- one blank separates the words of a line
 unfoldable pub line_of : List ℕ → Option Line
 line_of bytes = line_of_words (slice_split (λ b. b == 32) bytes)
 
--- the bytes are the text of this line, which is within its ranges, or of no such line
+-- the bytes are the text of this line, which is within its ranges; or they are the text of no such line
 abbrev pub IsReadOf : List ℕ → Option Line → Type 0
 IsReadOf bytes (Some line) = IsWithin line × (line_text line ≡ bytes)
 IsReadOf bytes None = (line : Line) → IsWithin line → line_text line ≡ bytes → ⊥
 
--- ---- data, for which alone memory is taken
+-- ---- data, the only item that takes memory
 
 abbrev pub is_data : Item → Bool
 is_data (Data payload) = true

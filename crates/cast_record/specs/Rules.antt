@@ -1,5 +1,5 @@
--- Which rule a line breaks, read off all the lines before it. These stand with the newest first: `line ∷ past` is `past`,
--- and then `line`.
+-- Which rule a line breaks, given all lines before it. The newest line comes first: `line ∷ past` is `past` and then
+-- `line`.
 --     broken past line     the least rule that the line breaks after those lines, if it breaks one
 use Rattle.std.specs.Prelude.{ℕ, ◌+◌, ◌==◌, ◌&&◌, ◌||◌, not, nat_lt, if◌then◌else◌, Bool, true, false, List, [], ◌∷◌, length, Option, Some, None}
 use Rattle.std.specs.List.{filter, list_any, filter_map}
@@ -56,7 +56,7 @@ abbrev pub is_end : Line → Bool
 is_end End = true
 is_end _ = false
 
--- the line names no node but those below n
+-- the line names only nodes below n
 abbrev pub names_below : ℕ → Line → Bool
 names_below n (Broadcast message) = nat_lt message.sender n
 names_below n (Delivered node message) = nat_lt node n && nat_lt message.sender n
@@ -77,7 +77,7 @@ group_at (Head nodes faults choices) rest = record { nodes = nodes; faults = fau
 group_at (Head2 nodes faults choices mode) rest = record { nodes = nodes; faults = faults; choices = choices }
 group_at _ rest = rest
 
--- of the lines that hold a head, its numbers
+-- the numbers of the head among the lines
 unfoldable pub group_of : List Line → Group
 group_of [] = record { nodes = 0; faults = 0; choices = 0 }
 group_of (line ∷ past) = group_at line (group_of past)
@@ -118,31 +118,31 @@ abbrev pub is_ended : List Line → Bool
 is_ended [] = false
 is_ended (line ∷ past) = is_end line
 
--- The first line is a head, and no other; nothing stands after the end; each node is one of the group.
+-- The first line is a head, and no other line is. Nothing follows the end. Each node belongs to the group.
 abbrev pub is_out_of_place : List Line → Line → Bool
 is_out_of_place [] line = not (is_head line)
 is_out_of_place (last ∷ past) line =
     is_end last || is_head line || not (names_below (group_of (last ∷ past)).nodes line)
 
--- A broadcast has the number of broadcasts of its node before it. A delivery has the number of deliveries there from that
--- sender before it, and was broadcast before it.
+-- A broadcast's number is the number of earlier broadcasts of its node. A delivery's number is the number of earlier
+-- deliveries from that sender there, and its message was broadcast earlier.
 abbrev pub breaks_prefix : List Line → Line → Bool
 breaks_prefix past (Broadcast message) = not (message.number == broadcasts_of past message.sender)
 breaks_prefix past (Delivered node message) =
     not (message.number == deliveries_of past node message.sender) || not (has_broadcast past message)
 breaks_prefix past _ = false
 
--- a broadcast of a node that closed before it
+-- a broadcast of a node that closed earlier
 abbrev pub is_after_close : List Line → Line → Bool
 is_after_close past (Broadcast message) = has_closed past message.sender
 is_after_close past _ = false
 
--- a decision for what was not proposed before it
+-- a decision for a value that was not proposed earlier
 abbrev pub is_not_proposed : List Line → Line → Bool
 is_not_proposed past (Decided node decision) = not (is_proposed past decision.instance decision.value)
 is_not_proposed past _ = false
 
--- a decision with which more than k values are decided in its instance, where fewer than k nodes may crash
+-- a decision that makes more than k values decided in its instance, if fewer than k nodes may crash
 abbrev pub is_of_too_many : List Line → Line → Bool
 is_of_too_many past (Decided node decision) =
     let group = group_of past in
@@ -150,7 +150,7 @@ is_of_too_many past (Decided node decision) =
     (length (different (decision.value ∷ values_in past decision.instance)))
 is_of_too_many past _ = false
 
--- something of a node that crashed before it
+-- something of a node that crashed earlier
 abbrev pub is_after_crash : List Line → Line → Bool
 is_after_crash past (Broadcast message) = has_crashed past message.sender
 is_after_crash past (Delivered node message) = has_crashed past node
@@ -173,7 +173,7 @@ rules past line =
     is_out_of_place past line ∷ breaks_prefix past line ∷ is_after_close past line ∷ is_not_proposed past line
     ∷ is_of_too_many past line ∷ is_after_crash past line ∷ is_proposed_twice past line ∷ []
 
--- the number of the first that is broken, counted from a number on
+-- the first broken rule, counted from `number`
 abbrev pub first_broken : ℕ → List Bool → Option ℕ
 first_broken number [] = None
 first_broken number (is_broken ∷ rules) = if is_broken then Some number else first_broken (number + 1) rules

@@ -1,4 +1,4 @@
--- The text of a record: the words of a line are parted by one blank, and each line ends with a line feed.
+-- The text of a record. One blank separates the words of a line, and each line ends with a line feed.
 --     line_text line       a line without its line feed
 --     record_text lines    the lines, each with its line feed
 use Rattle.std.specs.Prelude.{ℕ, List, [], ◌∷◌, ◌++◌, codes, decimal, flat_map}

@@ -1,6 +1,6 @@
--- The bytes that digits stand for, two digits a byte.
---     unhex digits             the bytes, if they stand for some
---     AreDigitsOf bytes digits the digits are those of the bytes, or, where there are none, of no bytes
+-- The bytes that digits spell, two digits a byte.
+--     unhex digits             the bytes, if the digits spell some
+--     AreDigitsOf bytes digits the digits are those of the bytes; or there are none, and the digits spell no bytes
 use Rattle.std.specs.Prelude.{◌≡◌, ◌≢◌, ℕ, ◌+◌, ◌-◌, ◌*◌, ◌&&◌, List, [], ◌∷◌, nat_le, if◌then◌else◌, Option, Some, None, option_map}
 use Rattle.cast_record.specs.Hex.{AreBytes, hex}
 
@@ -22,7 +22,7 @@ unhex [] = Some []
 unhex (h ∷ []) = None
 unhex (h ∷ l ∷ rest) = before (byte_of (digit_of h) (digit_of l)) (unhex rest)
 
--- what is written of bytes is read back as those bytes, and nothing else is read as bytes
+-- the text of bytes is read back as those bytes, and nothing else is read as bytes
 abbrev pub AreDigitsOf : Option (List ℕ) → List ℕ → Type 0
 AreDigitsOf None digits = (bytes : List ℕ) → AreBytes bytes → digits ≢ hex bytes
 AreDigitsOf (Some bytes) digits = digits ≡ hex bytes

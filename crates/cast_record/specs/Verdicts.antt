@@ -1,5 +1,5 @@
 -- The verdict on a text.
---     verdict text     Good, or the first line that offends, counted from 1, and the least rule that it breaks
+--     verdict text     Good, or the first line that breaks a rule, counted from 1, and the least rule that it breaks
 use Rattle.std.specs.Prelude.{ℕ, ◌+◌, ◌==◌, ◌&&◌, if◌then◌else◌, List, [], ◌∷◌, length, Option, Some, None, Result, Ok, Err}
 use Rattle.std.specs.List.{slice_split}
 use Rattle.cast_record.specs.declared.line.Line.{Line}
@@ -17,11 +17,11 @@ abbrev pub with_line : List Line → Option Line → Result (List Line) ℕ
 with_line past None = Err 0
 with_line past (Some line) = kept_by past line (broken past line)
 
--- What stands after the last line feed: nothing, and the line before it is the end.
+-- Good if nothing follows the last line feed, and the line before it is the end.
 abbrev pub verdict_at_end : List Line → List ℕ → Verdict
 verdict_at_end past rest = if is_ended past && length rest == 0 then Good else Bad (length past + 1) 0
 
--- the verdict on these parts of a text, where those lines stood before them, the newest first
+-- the verdict on these parts of a text that come after those lines, the newest first
 unfoldable pub verdict_after : List Line → List (List ℕ) → Verdict
 verdict_after past [] = verdict_at_end past []
 verdict_after past (rest ∷ []) = verdict_at_end past rest

@@ -1,4 +1,4 @@
--- What a line says whose item stands as its word.
+-- What a line says, if its item is given as its word.
 --     line_said line     the line
 use Rattle.cast_record.specs.declared.line.Line.{Line}
 use Rattle.cast_record.specs.declared.line.Line.TheVariants.{Head, Head2, Broadcast, Delivered, Decided, Crashed, Refused, End}

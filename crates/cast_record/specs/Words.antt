@@ -1,4 +1,4 @@
--- What a word of a line is written as.
+-- How a word of a line is written.
 use Rattle.std.specs.Prelude.{ℕ, List, decimal}
 use Rattle.cast_record.specs.declared.words.Word.{Word}
 use Rattle.cast_record.specs.declared.words.Word.TheVariants.{Number, Mode, Item}

@@ -1,5 +1,4 @@
-//! Writing the lines that an event and its reply leave in a record, from the two of them: no line is made, and no message is
-//! copied.
+//! Writing the lines of an event and its reply: no line is made, and no message is copied.
 ghost use Rattle.std.specs.Prelude.{◌≡◌, ◌∷◌, [], false};
 ghost use Rattle.cast_record.specs.Written.{Puts};
 ghost use Rattle.cast_record.specs.Lines.{answer_lines, lines_for, outcome_lines};
@@ -12,9 +11,8 @@ use crate::written::Written;
 use cast_message::{Answer, Event, NodeId, Outcome, Reply};
 use std::io::Write;
 
-/// Writes the lines of the event, which has this index in its script, and its reply, each with its line feed: those that
-/// `lines_of` makes. It takes no memory. A refusal comes only where the writer failed or took no byte; the meter tells so from
-/// then on, and a prefix of the text stands.
+/// Writes the lines that `lines_of` makes, each with its line feed. It takes no memory. It is refused only if the writer failed or
+/// took no byte. The meter then says so, and a prefix of the text was written.
 pub fn write_lines_of<W: Write>(
     index: u64,
     event: &Event,

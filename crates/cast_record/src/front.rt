@@ -1,5 +1,5 @@
-//! Lines read from the front, number by number. What is read so is what the words of the line say; where a line is not read so,
-//! that says nothing of it.
+//! Lines read from the front, number by number, as frequent lines are. A line that is read so says what `read_words` reads. If a line
+//! is not read so, that says nothing about it.
 ghost use Rattle.std.specs.Prelude.{◌≡◌, ◌<◌, ◌∷◌, length, slice_index, Some, IfSome};
 ghost use Rattle.cast_record.specs.Reading.{line_of};
 ghost use Rattle.cast_record.specs.WordLines.{line_said};
@@ -11,7 +11,7 @@ use crate::parts::BLANK;
 use crate::word_line::WordLine;
 use cast_message::{Decision, NodeId};
 
-/// A line `d` at the front of a text, up to its last word. That word, and whatever follows the line, were not looked at.
+/// A line `d` at the front of a text, up to its last word, which was not looked at.
 #[derive(Drop)]
 pub struct Delivery<'a> {
     pub node: NodeId,
@@ -21,8 +21,8 @@ pub struct Delivery<'a> {
     pub rest: &'a [u8],
 }
 
-/// `d`, two nodes and a number at the front of these bytes, and so the line there if a word at the front of the rest spells an
-/// item. None says nothing of the bytes: `read_words` does.
+/// `d`, two nodes and a number at the front of these bytes. If a word at the front of the rest spells an item, this is the line there.
+/// `None` says nothing about the bytes.
 pub fn read_delivery<'a>(bytes: &'a [u8]) -> Option<Delivery<'a>>
     ensures words { IfSome result (λ delivery. BeginsWithDelivery bytes.now delivery) }
     ensures says { IfSome result (λ delivery. SaysDelivery bytes.now delivery) }
@@ -41,8 +41,8 @@ pub fn read_delivery<'a>(bytes: &'a [u8]) -> Option<Delivery<'a>>
     })
 }
 
-/// The line that these bytes spell, where it is a broadcast or a decision: these are frequent, and take less time so than where
-/// they are cut into words first. None says nothing of the bytes.
+/// The line that these bytes spell, if it is a broadcast or a decision. These are frequent, and this is faster than to cut them into
+/// words first. `None` says nothing about the bytes.
 pub fn frequent_line<'a>(bytes: &'a [u8]) -> Option<WordLine<'a>>
     ensures { IfSome result (λ line. line_of bytes.now ≡ Some (line_said line)) }
 {
@@ -78,8 +78,8 @@ fn decision_from<'a>(rest: &[u8]) -> Option<WordLine<'a>>
     })
 }
 
-// The node that the first word names, with one digit or two, and what stands after the blank behind it. A compiler need not
-// branch by how many digits there are, which no processor can foresee.
+// The node that the first word names, with one digit or two, and what is after its blank. A compiler need not branch by the number of
+// digits, which no processor can predict.
 fn split_node(bytes: &[u8]) -> Option<(u8, &[u8])>
     ensures { IfSome result (λ parts. BeginsWithNode bytes.now parts.0 parts.1.now) }
 {
@@ -99,7 +99,7 @@ fn split_node(bytes: &[u8]) -> Option<(u8, &[u8])>
     Some((node, &bytes[length..]))
 }
 
-// The number that the first word spells, and what stands after the blank behind it.
+// The number that the first word spells, and what is after its blank.
 fn split_number(bytes: &[u8]) -> Option<(u64, &[u8])>
     ensures { IfSome result (λ parts. BeginsWithNumber bytes.now parts.0 parts.1.now) }
 {
@@ -119,7 +119,7 @@ fn split_number(bytes: &[u8]) -> Option<(u64, &[u8])>
     None
 }
 
-// The number, where a blank stands after so many digits.
+// The number, if there is a blank after this many digits.
 fn end_number(bytes: &[u8], digits: usize, value: u64) -> Option<(u64, &[u8])>
     requires within { digits < length bytes.now }
     requires blank { slice_index bytes.now digits ≡ 32 }

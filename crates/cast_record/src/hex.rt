@@ -2,8 +2,7 @@
 ghost use Rattle.std.specs.Prelude.{◌≡◌, ◌*◌, ◌<◌, length};
 ghost use Rattle.cast_record.specs.Hex.{hex, hex_digit};
 
-/// Puts the digits of the bytes into a place that is twice as long. Each byte goes the same way, and none ends the loop, so that
-/// the compiler may take many at once.
+/// Puts the digits of the bytes into a place that is twice as long. No byte ends the loop, so the compiler may take many at once.
 pub fn put_hex(bytes: &[u8], digits: &mut [u8])
     requires { length digits.old ≡ 2 * length bytes.now }
     ensures { digits.new ≡ hex bytes.now }

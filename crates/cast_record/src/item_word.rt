@@ -16,10 +16,10 @@ use std::marker::Model;
 /// The most hexadecimal digits of a payload.
 const MOST_DIGITS: usize = 2 * PAYLOAD_LIMIT;
 
-/// How long the name is that stands before the value of an item, `data:` or `prop:`.
+/// How long the name before the value of an item is, `data:` or `prop:`.
 const NAME_LENGTH: usize = 5;
 
-/// How many digits are looked at before the first of them that is none may end it.
+/// How many bytes are looked at before one that is no digit may end the loop.
 const BLOCK: usize = 64;
 
 /// What an item is, without the bytes of its data.
@@ -50,7 +50,7 @@ impl<'a> Model for ItemWord<'a> {
 }
 
 impl<'a> ItemWord<'a> {
-    /// The item within its ranges whose word this is, if there is one. It takes no memory.
+    /// The item within its ranges whose word this is, if there is one. It allocates nothing.
     pub fn read(word: &'a [u8]) -> Option<ItemWord<'a>>
         ensures { result ≡ item_of word.now }
     {
@@ -60,7 +60,6 @@ impl<'a> ItemWord<'a> {
         })
     }
 
-    /// The word.
     pub fn as_slice(&self) -> &[u8]
         ensures { item_of result.now ≡ Some self.now }
     {
@@ -74,7 +73,7 @@ impl<'a> ItemWord<'a> {
         matches!(self.kind, ItemKind::Close)
     }
 
-    /// The instance and the value, where it is a proposal.
+    /// The instance and the value, if it is a proposal.
     pub fn proposal(&self) -> Option<(u64, u64)>
         ensures { result ≡ proposal_in self.now }
     {
@@ -84,7 +83,7 @@ impl<'a> ItemWord<'a> {
         }
     }
 
-    /// The item. Memory is taken only where it is data.
+    /// The item. It takes memory only if it is data.
     pub fn to_item(&self, alloc: Global) -> Result<Item, AllocError>
         ensures exact { IfOk result (λ item. item ≡ self.now) }
         ensures err { OnErr result (is_data self.now ≡ true) }
@@ -151,7 +150,7 @@ fn proposal(word: &[u8]) -> Option<ItemKind>
     })
 }
 
-// Whether the digits stand for bytes, two digits a byte.
+// Whether these are the digits of bytes, two for each.
 fn is_hex(digits: &[u8]) -> bool
     ensures { result ≡ is_hex digits.now }
 {
@@ -174,7 +173,7 @@ fn are_digits(digits: &[u8]) -> bool
     is_block(rest)
 }
 
-// Whether all of these are digits. It looks at each, so that a processor can look at many at once.
+// Whether all of these are digits. It looks at each, so a processor can look at many at once.
 fn is_block(digits: &[u8]) -> bool
     ensures { result ≡ list_all is_hex_digit digits.now }
 {

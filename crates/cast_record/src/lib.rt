@@ -1,6 +1,6 @@
-//! The record of a run: its lines, and their one text. `specs/Text` says what a line is written as, `specs/Lines` which
-//! lines an event and its reply leave. And the words that records, scripts and pictures share: numbers as decimal digits, bytes as
-//! two digits each, which are written, without memory, to a writer that may fail, and read back; and the words of modes.
+//! The record of a run: its lines, and their text. `specs/Text` says how a line is written, `specs/Lines` which lines an event and its
+//! reply have. And the words that records, scripts and pictures share: numbers in decimal digits, bytes as two digits each, and the
+//! names of modes.
 #![tactic(auto)]
 
 mod event_lines;

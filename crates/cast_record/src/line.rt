@@ -6,13 +6,12 @@ use cast_message::{Config, Decision, Message, Mode, NodeId};
 /// The most nodes in the group of a record `cast/1`.
 pub const FIRST_MOST_NODES: u64 = 16;
 
-/// The greatest code of a refusal in a record. That of want of memory is greater: it ends a record, and has no line.
+/// The greatest code of a refusal in a record. That of out of memory is greater: it ends a record, and has no line.
 pub const MOST_CODE: u64 = 12;
 
-/// A line of a record.
 #[derive(Debug, Drop, PartialEq)]
 pub enum Line {
-    /// The first line of a record `cast/1`: a group in basic mode of at most 16 nodes.
+    /// The first line of a record `cast/1`: a group in basic mode with at most 16 nodes.
     Head {
         nodes: u64,
         faults: u64,
@@ -25,23 +24,20 @@ pub enum Line {
         choices: u64,
         mode: Mode,
     },
-    /// The message's sender has put it into its stream.
+    /// The message's sender appended it to its stream.
     Broadcast(Message),
-    /// The node delivered the message.
     Delivered {
         node: NodeId,
         message: Message,
     },
-    /// The node decided.
     Decided {
         node: NodeId,
         decision: Decision,
     },
-    /// The node crashed.
     Crashed {
         node: NodeId,
     },
-    /// The event of the script that has this index, from 0 on, was refused with this code, 1 to 12.
+    /// The event of this index in the script, from 0 on, was refused with this code, 1 to 12.
     Refused {
         index: u64,
         code: u64,
@@ -53,8 +49,8 @@ pub enum Line {
 impl Line {
     ghost use Rattle.cast_record.specs.Lines.{head_of};
 
-    /// The first line of a record of a group of this configuration: `cast/1` where the mode is basic and there are at
-    /// most 16 nodes, else `cast/2`.
+    /// The first line of a record of a group of this configuration: `cast/1` if the mode is basic and there are at most 16 nodes,
+    /// else `cast/2`.
     pub fn head(config: &Config) -> Line
         ensures { result ≡ head_of config.now }
     {

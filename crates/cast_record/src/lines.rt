@@ -1,4 +1,4 @@
-//! The lines that an event and its reply leave in a record.
+//! The lines that an event and its reply have in a record.
 ghost use Rattle.std.specs.Prelude.{◌≡◌, ◌<◌, ◌++◌, length, IfOk, OnOk, OnErr};
 ghost use Rattle.cast_message.specs.StepCode.{step_code};
 ghost use Rattle.cast_record.specs.Lines.{answer_lines, lines_for, outcome_lines, refusal_lines};
@@ -7,10 +7,10 @@ use crate::line::{Line, MOST_CODE};
 use cast_message::{Answer, Event, List, Message, NodeId, Outcome, Reply, StepFault};
 use std::alloc::{AllocError, Global};
 
-/// The lines of the event, which has this index in its script, and its reply: of an accepted order the broadcast, then
-/// what it delivered and decided; of an accepted arrival what it delivered and decided; of an accepted crash the crash;
-/// of an accepted send or acknowledgement none. Of a refusal the refusal, but none of want of memory, which ends a
-/// record. A reply that is not one to the event has no lines. Only where there are lines is memory asked for.
+/// The lines of an event, which has this index in its script, and its reply. An accepted order has its broadcast, and then what it
+/// delivered and decided; an arrival has what it delivered and decided; a crash has itself; a send or an acknowledgement has none.
+/// A refusal has itself, but none if it is out of memory, which ends a record. A reply that does not fit the event has no lines. It
+/// takes memory only if there are lines.
 pub fn lines_of(
     alloc: Global,
     index: u64,

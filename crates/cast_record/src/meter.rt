@@ -6,7 +6,7 @@ ghost use Rattle.std.specs.Io.KnownBytes.{ReadConsumes, WriteAppends};
 use std::io::{Read, Write};
 use thiserror::Error;
 
-/// The reader or writer answered an error.
+/// The reader or writer returned an error.
 #[derive(Clone, Copy, Debug, PartialEq, Eq, Error)]
 #[error("the reader or writer answered an error")]
 pub struct Failed;
@@ -30,14 +30,13 @@ impl<S> Meter<S> {
         }
     }
 
-    /// Whether the reader or writer ever answered an error, or a write ever took no byte of a slice that isn't empty.
+    /// Whether the reader or writer ever returned an error, or a write ever took no byte of a slice that isn't empty.
     pub fn failed(&self) -> bool
         ensures { result ≡ self.now.failed }
     {
         self.failed
     }
 
-    /// The reader or writer itself.
     pub fn into_inner(self) -> S
         ensures { result ≡ self.inner }
     {
@@ -47,8 +46,7 @@ impl<S> Meter<S> {
 }
 
 impl<S: Read> Meter<S> {
-    /// Hands the call on, and answers what the reader answers: how many bytes it read, or `Failed` where it answered an
-    /// error.
+    /// Reads, and returns how many bytes the reader read, or `Failed` if it returned an error.
     pub fn read(&mut self, buf: &mut [u8]) -> Result<usize, Failed>
         ensures bound { ReadsAtMost result buf.new }
         ensures bytes { ReadConsumes (S.remaining self.old.inner)
@@ -67,8 +65,7 @@ impl<S: Read> Meter<S> {
 }
 
 impl<S: Write> Meter<S> {
-    /// Hands the call on, and answers what the writer answers: how many bytes it took, or `Failed` where it answered an
-    /// error.
+    /// Writes, and returns how many bytes the writer took, or `Failed` if it returned an error.
     pub fn write(&mut self, buf: &[u8]) -> Result<usize, Failed>
         ensures bound { WritesAtMost result buf.now }
         ensures bytes { WriteAppends (S.contents self.old.inner)

@@ -1,4 +1,4 @@
-//! Giving an old record the new head.
+//! Gives an old record the new head.
 ghost use Rattle.std.specs.Prelude.{◌≡◌, ◌≤◌, length, true, false, IfOk};
 ghost use Rattle.cast_record.specs.Migration.{Migrates, IsHeadIn, IsNoHead, new_text};
 ghost use Rattle.cast_record.specs.Verdicts.{verdict};
@@ -11,16 +11,16 @@ use thiserror::Error;
 /// Why a text was not migrated.
 #[derive(Clone, Copy, Debug, PartialEq, Eq, Error)]
 pub enum MigrateFault {
-    /// It does not begin with a `cast/1` head within its ranges and its line feed.
+    /// It doesn't begin with a `cast/1` head within its ranges and its line feed.
     #[error("the text is no record cast/1")]
     NotV1,
-    /// A growth was refused.
+    /// It is out of memory.
     #[error("out of memory")]
     Memory,
 }
 
-/// The text with its head `cast/1 N F K` changed to `cast/2 N F K basic`, and no other byte. The verdict on it is that on
-/// the text before. Memory is wanting only where there is such a head.
+/// The text with its head `cast/1 N F K` changed to `cast/2 N F K basic`, and no other byte. The verdict on it is that on the text
+/// before. It can be out of memory only if there is such a head.
 pub fn migrate(alloc: Global, text: &[u8]) -> Result<Vec<u8>, MigrateFault>
     ensures exact { Migrates text.now result }
     ensures law { IfOk result (λ new. verdict new.items ≡ verdict text.now) }
@@ -35,7 +35,7 @@ pub fn migrate(alloc: Global, text: &[u8]) -> Result<Vec<u8>, MigrateFault>
     with_new_head(alloc, first, rest).map_err(|_| MigrateFault::Memory)
 }
 
-// Whether the bytes spell a head `cast/1` within its ranges.
+// Whether the bytes spell a `cast/1` head within its ranges.
 fn is_head(bytes: &[u8]) -> bool
     ensures yes { result ≡ true → IsHeadIn bytes.now }
     ensures no { result ≡ false → IsNoHead bytes.now }
@@ -47,7 +47,7 @@ fn is_head(bytes: &[u8]) -> bool
     }
 }
 
-// What stands under the new head.
+// The text under the new head.
 fn with_new_head(alloc: Global, first: &[u8], rest: &[u8]) -> Result<Vec<u8>, AllocError>
     requires { 6 ≤ length first.now }
     ensures { IfOk result (λ new. new.items ≡ new_text first.now rest.now) }

@@ -14,7 +14,6 @@ pub fn mode_name(mode: Mode) -> &'static [u8]
     }
 }
 
-/// The mode that a word names, if it names one.
 pub fn mode_named(word: &[u8]) -> Option<Mode>
     ensures { result ≡ mode_named word.now }
 {

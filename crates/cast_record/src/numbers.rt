@@ -1,10 +1,9 @@
-//! Words that spell numbers, read.
+//! Reads words that spell numbers.
 ghost use Rattle.std.specs.Prelude.{◌≡◌, ◌+◌, ◌*◌, ◌^◌, ◌<◌};
 ghost use Rattle.std.specs.Option.{SomeIff};
 ghost use Rattle.cast_record.specs.Numbers.{number_of, value_of, IsWordOf};
 
-/// The number below 2^64 that a word spells: decimal, with no zero in front. So the digits of a number are read back as that
-/// number, and nothing else is read as one.
+/// The number below 2^64 that a word spells: decimal, with no zero in front.
 #[tactic(auto, using(crate::proofs::NumberLemmas::is_word))]
 pub fn number(word: &[u8]) -> Option<u64>
     ensures exact { result ≡ number_of word.now }
@@ -16,7 +15,7 @@ pub fn number(word: &[u8]) -> Option<u64>
     }
 }
 
-// Ten times a number below this, and a digit, fit 64 bits.
+// Ten times a number below this, and a digit, fit into 64 bits.
 const SMALL: u64 = 1_844_674_407_370_955_161;
 
 #[tactic(auto, using(crate::proofs::NumberLemmas::too_large))]
@@ -33,7 +32,7 @@ fn value_of_digits(digits: &[u8]) -> Option<u64>
     Some(value)
 }
 
-// The number with one more digit, if it fits. Almost every number is small, and then nothing has to be tested.
+// The number with one more digit, if it fits. Almost every number is small, and then nothing is tested.
 fn with_digit(value: u64, digit: u64) -> Option<u64>
     requires { digit < 10 }
     ensures { SomeIff result (value * 10 + digit < 2 ^ 64) (value * 10 + digit) }

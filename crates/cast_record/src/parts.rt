@@ -1,4 +1,4 @@
-//! The parts of bytes that one byte parts from one another, without memory.
+//! The parts of bytes between separators, without memory.
 ghost use Rattle.std.specs.Prelude.{◌≡◌, ◌∷◌, ◌==◌, option_map, position};
 ghost use Rattle.std.specs.List.{slice_split};
 ghost use Rattle.cast_record.specs.Parts.{parts_of};
@@ -7,14 +7,14 @@ ghost use Rattle.cast_record.specs.Reading.{one_of, two_of, three_of, four_of};
 /// The byte between words.
 pub const BLANK: u8 = b' ';
 
-/// The place of the first byte that is this one, if there is one.
+/// The place of the first such byte, if there is one.
 pub fn find_byte(bytes: &[u8], byte: u8) -> Option<usize>
     ensures { result ≡ position (λ b. b == byte) bytes.now }
 {
     bytes.iter().position(|other| *other == byte)
 }
 
-/// The first part, and what stands after its separator, if one does.
+/// The first part, and what is after its separator, if there is one.
 pub fn split_part(bytes: &[u8], separator: u8) -> (&[u8], Option<&[u8]>)
     ensures { slice_split (λ b. b == separator) bytes.now ≡ result.0.now ∷ parts_of separator
         (option_map (λ rest. rest.now) result.1) }
@@ -25,7 +25,7 @@ pub fn split_part(bytes: &[u8], separator: u8) -> (&[u8], Option<&[u8]>)
     }
 }
 
-/// The one part, where there is exactly one.
+/// The one part, if there is exactly one.
 pub fn one_part(bytes: &[u8], separator: u8) -> Option<&[u8]>
     ensures { option_map (λ part. part.now) result ≡ one_of
         (slice_split (λ b. b == separator) bytes.now) }
@@ -36,7 +36,6 @@ pub fn one_part(bytes: &[u8], separator: u8) -> Option<&[u8]>
     }
 }
 
-/// The two parts, where there are exactly two.
 pub fn two_parts(bytes: &[u8], separator: u8) -> Option<(&[u8], &[u8])>
     ensures { option_map (λ parts. (parts.0.now, parts.1.now)) result ≡ two_of
         (slice_split (λ b. b == separator) bytes.now) }
@@ -46,7 +45,6 @@ pub fn two_parts(bytes: &[u8], separator: u8) -> Option<(&[u8], &[u8])>
     Some((first, second))
 }
 
-/// The three parts, where there are exactly three.
 pub fn three_parts(bytes: &[u8], separator: u8) -> Option<(&[u8], &[u8], &[u8])>
     ensures { option_map (λ parts. (parts.0.now, parts.1.now, parts.2.now)) result ≡ three_of
         (slice_split (λ b. b == separator) bytes.now) }
@@ -56,7 +54,6 @@ pub fn three_parts(bytes: &[u8], separator: u8) -> Option<(&[u8], &[u8], &[u8])>
     Some((first, second, third))
 }
 
-/// The four parts, where there are exactly four.
 pub fn four_parts(bytes: &[u8], separator: u8) -> Option<(&[u8], &[u8], &[u8], &[u8])>
     ensures { option_map (λ parts. (parts.0.now, parts.1.now, parts.2.now, parts.3.now)) result
         ≡ four_of (slice_split (λ b. b == separator) bytes.now) }

@@ -14,9 +14,8 @@ use crate::word_line::{WordLine, read_words};
 use cast_message::{Decision, MOST_NODES, Mode, NodeId};
 use std::alloc::{AllocError, Global};
 
-/// The line within its ranges whose text these bytes are, without its line feed; none where there is none. A node is a
-/// number below 256, whatever group the line stands in, and a head has its own ranges. Memory is taken only where they are a
-/// line with data.
+/// The line within its ranges whose text these bytes are, without its line feed, if there is one: `read_words`, with the item in place
+/// of its word. A node is a number below 256, whatever the group, and a head has its own ranges. It takes memory only for data.
 pub fn read_line(alloc: Global, bytes: &[u8]) -> Result<Option<Line>, AllocError>
     ensures exact { IfOk result (IsReadOf bytes.now) }
     ensures value { IfOk result (λ line. line ≡ line_of bytes.now) }
@@ -28,7 +27,7 @@ pub fn read_line(alloc: Global, bytes: &[u8]) -> Result<Option<Line>, AllocError
     }
 }
 
-/// The line of this name whose other words stand in the rest, if it is one that has no item.
+/// The line of this name with these other words, if it is one without an item.
 pub fn short_line<'a>(name: &[u8], rest: &[u8]) -> Option<WordLine<'a>>
     ensures { option_map line_said result
         ≡ short_line_named name.now (slice_split (λ b. b == 32) rest.now) }
@@ -107,7 +106,7 @@ fn refusal_within<'a>(index: u64, code: u64) -> Option<WordLine<'a>>
     Some(WordLine::Refused { index, code })
 }
 
-/// The head of a record `cast/1` with these words after its name, where its numbers are within their ranges.
+/// The head of a record `cast/1` with these words after its name, if its numbers are within their ranges.
 pub fn head<'a>(rest: &[u8]) -> Option<WordLine<'a>>
     ensures { option_map line_said result
         ≡ option_and_then head_by (three_of (slice_split (λ b. b == 32) rest.now)) }

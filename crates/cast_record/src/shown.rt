@@ -1,10 +1,10 @@
-//! Bytes as they are shown to a reader: printing ASCII as it is, all else by its number; and the first of them.
+//! Bytes as they are shown to a reader: printing ASCII as it is, all else by its number.
 ghost use Rattle.std.specs.Prelude.{◌≡◌, ◌++◌, ◌<◌, IfOk, OnOk, OnErr, length, string_bytes, take};
 ghost use Rattle.cast_record.specs.Shown.{shown, shown_byte, by_number, is_printing};
 
 use std::alloc::{AllocError, Global};
 
-/// All bytes as they are shown. Where there are no bytes, it takes no memory.
+/// All bytes as they are shown. It takes no memory if there are no bytes.
 pub fn escaped(alloc: Global, bytes: &[u8]) -> Result<String, AllocError>
     ensures exact { IfOk result (λ text. string_bytes text ≡ shown bytes.now) }
     ensures err { OnErr result (0 < length bytes.now) }
@@ -40,7 +40,7 @@ fn put_number(text: &mut String, byte: u8) -> Result<(), AllocError>
     write!(text, "\\x{byte:02x}")
 }
 
-/// The first bytes, at most so many.
+/// The first bytes, at most this many.
 pub fn prefix(bytes: &[u8], room: usize) -> &[u8]
     ensures { result.now ≡ take room bytes.now }
 {

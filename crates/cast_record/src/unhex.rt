@@ -1,11 +1,10 @@
-//! Bytes that are written as two digits each.
+//! Reads bytes that are written as two digits each.
 ghost use Rattle.std.specs.Prelude.{◌≡◌, ◌*◌, ◌%◌, ◌<◌, if◌then◌else◌, length, IfOk, OnErr, Some, None, option_map, unwrap_or};
 ghost use Rattle.cast_record.specs.Unhex.{unhex, digit_of, AreDigitsOf};
 
 use std::alloc::{AllocError, Global};
 
-/// The bytes that the digits stand for, two digits a byte, if they stand for bytes. So the digits of bytes are read back as those
-/// bytes, and nothing else is read as bytes. Memory is taken only where there are digits that come in pairs.
+/// The bytes that have these digits, two for each, if there are such bytes. It takes memory only if there are digits, in pairs.
 #[tactic(auto, using(crate::proofs::UnhexLemmas::are_digits))]
 pub fn bytes_of(alloc: Global, digits: &[u8]) -> Result<Option<Vec<u8>>, AllocError>
     ensures exact { IfOk result (λ o. option_map (λ bytes. bytes.items) o ≡ unhex digits.now) }
@@ -35,8 +34,8 @@ fn unhexed(alloc: Global, digits: &[u8]) -> Result<Option<Vec<u8>>, AllocError>
     }
 }
 
-// Puts the bytes that the digits stand for into a place that is half as long, and answers whether all are digits. Each byte
-// goes the same way, and none ends the loop, so that the compiler may take many at once; so what is no digit shows at the end.
+// Puts the bytes that have these digits into a place that is half as long, and returns whether all are digits. No byte ends the loop,
+// so the compiler may take many at once.
 fn put_bytes(digits: &[u8], bytes: &mut [u8]) -> bool
     requires { length digits.now ≡ 2 * length bytes.old }
     ensures { unhex digits.now ≡ (if result then Some bytes.new else None) }
@@ -51,7 +50,7 @@ fn put_bytes(digits: &[u8], bytes: &mut [u8]) -> bool
     greatest < 16
 }
 
-// The number that a digit stands for, or 255.
+// The number of a digit, or 255.
 fn digit(code: u8) -> u8
     ensures { result ≡ unwrap_or (digit_of code) 255 }
 {

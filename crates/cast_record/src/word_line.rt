@@ -1,4 +1,4 @@
-//! Lines whose items stand as the words that spell them, read without memory.
+//! Lines with the words of their items, read without memory.
 ghost use Rattle.std.specs.Prelude.{◌≡◌, ◌==◌, true, IfOk, OnErr, option_map, option_and_then};
 ghost use Rattle.std.specs.List.{slice_split};
 ghost use Rattle.cast_record.specs.Reading.{line_of, line_named, broadcast_by, delivered_by, three_of, four_of, is_data, brings_data};
@@ -54,7 +54,7 @@ pub enum WordLine<'a> {
 }
 
 impl<'a> WordLine<'a> {
-    /// The line with its item in place of the word. Memory is taken only where the item is data.
+    /// The line with its item in place of the word. It takes memory only if the item is data.
     pub fn into_line(self, alloc: Global) -> Result<Line, AllocError>
         ensures exact { IfOk result (λ line. line ≡ line_said self.entry) }
         ensures err { OnErr result (brings_data (line_said self.entry) ≡ true) }
@@ -144,7 +144,7 @@ fn any_line<'a>(bytes: &'a [u8]) -> Option<WordLine<'a>>
     }
 }
 
-// The line of this name whose other words stand in the rest.
+// The line of this name with these other words.
 fn words<'a>(name: &[u8], rest: &'a [u8]) -> Option<WordLine<'a>>
     ensures { option_map line_said result
         ≡ line_named name.now (slice_split (λ b. b == 32) rest.now) }

@@ -1,4 +1,4 @@
-//! Writing lines: without memory, each text whole or a prefix of it.
+//! Writes lines without allocation, each text whole or a prefix of it.
 ghost use Rattle.std.specs.Prelude.{◌≡◌, ◌++◌, [], ◌∷◌, false, map};
 ghost use Rattle.std.specs.List.{join_with_byte};
 ghost use Rattle.cast_record.specs.Written.{Puts};
@@ -14,8 +14,7 @@ use crate::written::{Written, write_bytes, write_hex, write_number};
 use cast_message::{Decision, Item, Message, NodeId};
 use std::io::Write;
 
-/// Writes the lines, each with a line feed. It takes no memory. A refusal comes only where the writer failed or took no
-/// byte; the meter tells so from then on, and a prefix of the text stands.
+/// Writes the lines, each with a line feed. It takes no memory. It is refused as `write_bytes` is.
 pub fn write_record<W: Write>(lines: &[Line], writer: &mut Meter<W>) -> Written
     requires { writer.old.failed ≡ false }
     ensures { Puts W.contents writer.old writer.new result (record_text lines.now) }
@@ -26,8 +25,7 @@ pub fn write_record<W: Write>(lines: &[Line], writer: &mut Meter<W>) -> Written
     Ok(())
 }
 
-/// Writes the line with its line feed. It takes no memory. A refusal comes only where the writer failed or took no byte;
-/// the meter tells so from then on, and a prefix of the text stands.
+/// Writes the line with its line feed. It takes no memory. It is refused as `write_bytes` is.
 pub fn write_line<W: Write>(line: &Line, writer: &mut Meter<W>) -> Written
     requires { writer.old.failed ≡ false }
     ensures { Puts W.contents writer.old writer.new result (line_text line.now ++ 10 ∷ []) }
@@ -117,7 +115,7 @@ pub fn write_decided<W: Write>(node: NodeId, decision: &Decision, writer: &mut M
     write_words(b"v", &words, writer)
 }
 
-/// Writes the name and the words, parted by one blank, and a line feed.
+/// Writes the name and the words, with a blank between them, and a line feed.
 pub fn write_words<W: Write>(name: &[u8], words: &[Word<'_>], writer: &mut Meter<W>) -> Written
     requires { writer.old.failed ≡ false }
     ensures { Puts W.contents writer.old writer.new result

@@ -1,4 +1,4 @@
-//! Writing words: without memory, each whole or a prefix of it.
+//! Writes words without allocation, each whole or a prefix of it.
 ghost use Rattle.std.specs.Prelude.{◌≡◌, false, decimal};
 ghost use Rattle.cast_record.specs.Hex.{hex};
 ghost use Rattle.cast_record.specs.Written.{Puts};
@@ -9,20 +9,20 @@ use itoa::Buffer;
 use std::io::Write;
 use thiserror::Error;
 
-// So many that the writer is called seldom, and so few that a short text doesn't pay for the room.
+// Enough that the writer is seldom called, and not so many that a short text pays for the room.
 const BYTES_AT_ONCE: usize = 128;
 
-/// Why a text was not written: the writer failed, or took no byte, in this call.
+/// Why a text was not written: in this call the writer failed, or took no byte.
 #[derive(Clone, Copy, Debug, PartialEq, Eq, Error)]
 pub enum WriteFault {
     #[error("the writer failed or took no byte")]
     Write,
 }
 
-/// What comes of writing a text.
+/// The result of writing a text.
 pub type Written = Result<(), WriteFault>;
 
-/// Writes the number in decimal digits. It takes no memory; a refusal comes as in `write_bytes`.
+/// Writes the number in decimal digits. It takes no memory. It is refused as `write_bytes` is.
 pub fn write_number<W: Write>(number: u64, writer: &mut Meter<W>) -> Written
     requires { writer.old.failed ≡ false }
     ensures { Puts W.contents writer.old writer.new result (decimal number) }
@@ -30,7 +30,7 @@ pub fn write_number<W: Write>(number: u64, writer: &mut Meter<W>) -> Written
     write_bytes(Buffer::new().format(number).as_bytes(), writer)
 }
 
-/// Writes each byte as two digits. It takes no memory; a refusal comes as in `write_bytes`.
+/// Writes each byte as two digits. It takes no memory. It is refused as `write_bytes` is.
 pub fn write_hex<W: Write>(bytes: &[u8], writer: &mut Meter<W>) -> Written
     requires { writer.old.failed ≡ false }
     ensures { Puts W.contents writer.old writer.new result (hex bytes.now) }
@@ -47,8 +47,8 @@ pub fn write_hex<W: Write>(bytes: &[u8], writer: &mut Meter<W>) -> Written
     Ok(())
 }
 
-/// Writes all the bytes. It takes no memory. A refusal comes only where the writer failed or took no byte; the meter tells
-/// so from then on, and a prefix of the bytes stands.
+/// Writes all the bytes. It takes no memory. It is refused only if the writer failed or took no byte. The meter then says so, and a
+/// prefix of the bytes was written.
 pub fn write_bytes<W: Write>(bytes: &[u8], writer: &mut Meter<W>) -> Written
     requires { writer.old.failed ≡ false }
     ensures { Puts W.contents writer.old writer.new result bytes.now }

@@ -1,4 +1,4 @@
--- What an arrival is answered: Known exactly where the pair was held.
+-- What an arrival returns: Known if and only if the pair was held.
 use Rattle.std.specs.Prelude.{ℕ, if◌then◌else◌}
 use Rattle.cast_relay.specs.Pairs.{Pairs, holds}
 use Rattle.cast_relay.specs.declared.Taken.{Taken}

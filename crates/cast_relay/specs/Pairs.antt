@@ -1,11 +1,11 @@
 -- What a node holds, by sender.
---     Pairs                    the node, how many messages are its own, and the numbers held of each sender
+--     Pairs                    the node, how many messages are its own, and the numbers held, by sender
 --     holds held s i           the node holds the pair
---     with_pair held s i       the same with one pair more
---     with_own held            the same with one message more of the node's own
---     goes_on me s r q         a message of s that came to the node from r goes on from there to q
+--     with_pair held s i       the same with one more pair
+--     with_own held            the same with one more message of the node's own
+--     goes_on me s r q         a message of s that came to the node from r goes on to q
 --     relays_to held s r q     a pair of s that first came from r goes on to q
---     by_sender sets           sets for the first senders, as a list for all 256 that a `NodeId` can name
+--     by_sender sets           sets for the first senders, as a list for all 256 numbers of a `NodeId`
 use Rattle.std.specs.Prelude.{ℕ, ◌+◌, ◌-◌, ◌==◌, Bool, not, ◌&&◌, List, ◌++◌, length, replicate, slice_index_or, slice_set, refl}
 use Rattle.std.specs.Ordering.{nat_cmp}
 use Rattle.std.specs.FinSet as set
@@ -35,7 +35,7 @@ with_pair held sender number =
 abbrev pub with_own : Pairs → Pairs
 with_own held = record (with_pair held held.me held.own) { own = held.own + 1 }
 
--- not to the node itself, nor to the sender, nor to the peer that brought it
+-- not to the node itself, the sender, or the peer that passed it on
 abbrev pub goes_on : ℕ → ℕ → ℕ → ℕ → Bool
 goes_on me sender from q = not (q == me) && not (q == sender) && not (q == from)
 

@@ -1,6 +1,6 @@
-//! The pairs of sender and number that a node holds, and to whom they go on. This is the diffusion of reliable
-//! broadcast (after Hadzilacos and Toueg, TR 94-1425): on the first receipt a node holds a message and sends it on to all
-//! but its sender and the peer that brought it.
+//! The pairs of sender and number that a node holds, and where they go on. This is the diffusion of reliable broadcast
+//! (after Hadzilacos and Toueg, TR 94-1425). A node sends a message that is new to it to all but its sender and the
+//! peer that passed it on.
 #![tactic(auto)]
 
 ghost use Rattle.std.specs.Prelude.{◌≡◌, ◌≢◌, ◌+◌, ◌<◌, ◌≤◌, ◌^◌, length, replicate, IfOk, OnOk, OnErr};
@@ -12,12 +12,12 @@ use cast_message::{Item, Message, NodeId, NumberSet};
 use std::alloc::{AllocError, Global};
 use std::marker::Model;
 
-/// Whether the pair of a message was held when it arrived.
+/// Whether the node held the pair of a message when it arrived.
 #[derive(Clone, Copy, PartialEq, Eq)]
 pub enum Taken {
-    /// It was not, and is from now on.
+    /// It did not, and does from now on.
     New,
-    /// It was.
+    /// It did.
     Known,
 }
 
@@ -28,7 +28,7 @@ pub struct Relay {
     me: NodeId,
     // How many messages are the node's own.
     own: u64,
-    // The numbers held of each sender. A sender without a place here has none.
+    // The numbers held, by sender. None is held of a sender without a place here.
     numbers: Vec<NumberSet>,
 }
 
@@ -46,7 +46,7 @@ impl Model for Relay {
 }
 
 impl Relay {
-    /// The node `me` of a group of this many nodes, which holds nothing. The group has the node: `me` is below `nodes`.
+    /// The node `me` of a group of this many nodes, holding nothing. `me` is below `nodes`.
     pub fn new(alloc: Global, me: NodeId, nodes: u64) -> Result<Relay, AllocError>
         requires { me < nodes }
         ensures { IfOk result (λ relay.
@@ -64,8 +64,8 @@ impl Relay {
         })
     }
 
-    /// Holds an item of the node's own under its next number, from 0 on, and answers it as a message. Fewer than `u64::MAX`
-    /// items of its own are held before.
+    /// Holds an item of the node's own under its next number, from 0, and returns it as a message. Fewer than
+    /// `u64::MAX` of its own items were held before.
     pub fn own(&mut self, item: Item) -> Result<Message, AllocError>
         requires { self.old.own + 1 < 2 ^ 64 }
         ensures message { IfOk result
@@ -85,8 +85,7 @@ impl Relay {
         })
     }
 
-    /// Holds the pair of another node's message that arrived from a peer, and says whether it was held before, by whichever
-    /// peer.
+    /// Holds the pair of another node's message that arrived from a peer, and returns whether it was new.
     pub fn arrive(&mut self, message: &Message, _from: NodeId) -> Result<Taken, AllocError>
         requires { message.now.sender ≢ self.old.me }
         ensures taken { IfOk result
@@ -104,7 +103,7 @@ impl Relay {
         Ok(Taken::New)
     }
 
-    /// Whether the node holds the pair. It takes no memory.
+    /// Whether the node holds the pair. It allocates nothing.
     pub fn holds(&self, sender: NodeId, number: u64) -> bool
         ensures { result ≡ holds self.now sender number }
     {
@@ -114,7 +113,7 @@ impl Relay {
         }
     }
 
-    /// Whether a pair of `sender` that first came from the peer `from` goes on to `to`. It takes no memory.
+    /// Whether a pair of `sender` that first came from the peer `from` goes on to `to`. It allocates nothing.
     pub fn relays_to(&self, sender: NodeId, from: NodeId, to: NodeId) -> bool
         ensures { result ≡ relays_to self.now sender from to }
     {
@@ -122,15 +121,15 @@ impl Relay {
     }
 }
 
-/// Whether a message of `sender` that came to the node `me` from the peer `from` goes on from there to `to`: to all but
-/// itself, the sender, and the peer that brought it. It takes no memory.
+/// Whether a message of `sender` that came to the node `me` from the peer `from` goes on to `to`. It goes on to all but
+/// these three. It allocates nothing.
 pub fn goes_on(me: NodeId, sender: NodeId, from: NodeId, to: NodeId) -> bool
     ensures { result ≡ goes_on me sender from to }
 {
     to.0 != me.0 && to.0 != sender.0 && to.0 != from.0
 }
 
-// Where a node stands in a list of all nodes.
+// The place of a node in a list of all nodes.
 fn place_of(node: NodeId) -> usize
     ensures value { result ≡ node }
     ensures within { result < 256 }
@@ -138,7 +137,7 @@ fn place_of(node: NodeId) -> usize
     usize::from(node.0)
 }
 
-// Places up to this one, the new ones with no number.
+// Adds places with no number up to this one.
 fn make_places(alloc: Global, numbers: &mut Vec<NumberSet>, place: usize) -> Result<(), AllocError>
     requires place { place < 256 }
     requires few { length numbers.old.items ≤ 256 }

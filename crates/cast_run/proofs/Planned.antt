@@ -16,7 +16,8 @@ use Rattle.cast_node.proofs.Logging.{choose, each_arrival, made_numbered}
 use Rattle.cast_carrier.specs.declared.parcel.Parcel.{Parcel}
 use Rattle.cast_carrier.specs.declared.fate.Ordinals.{Ordinals}
 use Rattle.cast_carrier.specs.Lists.{Has}
-use Rattle.cast_journal.specs.Runs.{HasTakenEach, parcel, made_of}
+use Rattle.cast_journal.specs.Runs.{parcel, made_of}
+use Rattle.cast_journal.proofs.Arrivals.{HasTakenEach, was_taken, arrivals_came, no_more_arrived}
 use Rattle.cast_carrier.specs.Fates.{fate_in, counted_in}
 use Rattle.cast_carrier.specs.Copies.{none_taken, copies, is_for, frames_for, counted_all, due}
 use Rattle.cast_engine.specs.Engines.{EngineState}
@@ -125,8 +126,8 @@ module _ (config : Config) (engines : List EngineState) (carriers : List Carrier
           node = n;
           log = subst (λ c. L c p) n.config_is (subst (L n.e.config) n.me_is t.tells);
           handed = subst (λ c. S c p) n.config_is (subst (S n.e.config) n.me_is t.handed);
-          came = t.received;
-          each_taken = t.each_taken;
+          came = arrivals_came n.e.inbox.taken t.trail t.parcels t.arrived (was_taken n.e.me n.e.inbox.taken t.parcels n.e.waiting t.taken_in);
+          each_taken = λ test. no_more_arrived test n.e.me n.e.inbox.taken n.e.waiting t.trail t.parcels t.arrived t.taken_in;
         },
       )
 

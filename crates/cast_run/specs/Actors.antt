@@ -1,9 +1,9 @@
 -- What takes steps, in a thread of its own or in turn with others.
---     ComesFrom from x          it came from one that it was before
---     StaysFrom from x y        wherever x came from, y comes from there
+--     ComesFrom from x          x came from some earlier state
+--     StaysFrom from x y        whatever x came from, y comes from too
 --     AreStill Same old new     as many as before, and each is the same as the one in its place
 --     HaveBegun fact jobs       no job has taken a step
---     CameBack fact old new     the engines, carriers and jobs of a group are those that they were, some steps on
+--     CameBack fact old new     the engines, carriers and jobs of a group are the same, some steps later
 use Rattle.std.specs.Prelude.{◌≡◌, ℕ, Bool, List, length, slice_get, Some}
 use Rattle.cast_desk.specs.declared.desk.OrderIn.{OrderIn}
 use Rattle.cast_desk.specs.declared.notice.Notice.{Notice}

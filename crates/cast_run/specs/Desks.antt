@@ -10,7 +10,7 @@ IsNewDeskOf size clients (Some d) cs =
     IsDeskOf cs d.orders d.trays.items × (length cs ≡ clients)
     × IsNewDesk size 0 cs d.orders d.trays.items
 
--- for each count a desk with that many clients
+-- a desk for each count, with that many clients
 abbrev pub AreNewDesks : ℕ → List ℕ → List (Option Desk) → List (List ClientState) → Type 0
 AreNewDesks size counts desks rows =
     (length desks ≡ length counts) × (length rows ≡ length counts)

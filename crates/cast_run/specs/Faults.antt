@@ -1,8 +1,8 @@
 -- Why a group is not run.
---     Fits nodes jobs gates faults                what was handed in for so many nodes fits: the jobs, the number of gates, the plan
---     IsFaultOf nodes jobs gates faults fault     the first cause that holds; where all fits, memory or threads were wanting
---     IsMisfit nodes jobs gates faults fault      the first cause that holds in what was handed in, which does not fit
---     fault_by fault                               the refusal that threads which were not started are
+--     Fits nodes jobs gates faults                the jobs, the number of gates and the plan fit a group of this many nodes
+--     IsFaultOf nodes jobs gates faults fault     the first cause that holds; if all fits, memory or threads were lacking
+--     IsMisfit nodes jobs gates faults fault      the first cause that holds, of those that lie in what was handed in
+--     fault_by fault                               the refusal for threads that were not started
 use Rattle.std.specs.Prelude.{◌≡◌, ◌≢◌, ◌≤◌, ◌<◌, ℕ, List, length, slice_get, Some}
 use Rattle.cast_message.specs.declared.plan.Fault.{Fault}
 use Rattle.cast_box.specs.Lists.{of}
@@ -34,7 +34,7 @@ abbrev pub IsMisfit : {J : Type 0} → ℕ → List (ℕ × J) → ℕ → List 
 IsMisfit nodes jobs gates faults fault =
     IsFaultOf nodes jobs gates faults fault × ¬ Fits nodes jobs gates faults
 
--- threads that are not started are a group that is not run
+-- the refusal for threads that were not started
 abbrev pub fault_by : StartFault → LiveFault
 fault_by NoMemory = Memory
 fault_by NoThread = Threads

@@ -1,13 +1,13 @@
--- What arrives in a group whose frames go by a plan of faults, by the end of a run.
+-- What has arrived by the end of a run, in a group whose frames meet a plan of faults.
 --     faults_of faults p                     the faults of the frames that node p makes
 --     HaveFaults faults carriers             each carrier acts on those of its node's frames
 --     ordinals_of nodes frames               how many frames of each kind were made for each node
 --     frames_to q frames                     how many were made for node q
---     frames_made config p trail             the frames that node p made by these steps
---     is_same_frame frame other              it is the frame of this maker and number
+--     frames_made config p trail             the frames that node p made in these steps
+--     is_same_frame frame other              it is the frame with this maker and number
 --     times_arrived frame trail              how often a frame arrived
---     Allows fate later times                a frame with this fate may arrive so often, where so many are made after it
---     LetsThrough faults nodes made times frame   the frame, of those that its maker made, may arrive so often
+--     Allows fate later times                a frame with this fate may arrive this often, if `later` were made after it
+--     LetsThrough faults nodes made times frame   the frame, among those its maker made, may arrive this often
 --     KeepsTo config faults reports          each frame that arrived at a node was let through
 use Rattle.std.specs.Prelude.{◌≡◌, ℕ, ◌<◌, ◌≤◌, ◌==◌, Bool, false, ◌&&◌, List, ◌∷◌, ◌++◌, length, map, replicate, slice_get, Some}
 use Rattle.std.specs.List.{filter, fold, count_by}
@@ -42,7 +42,7 @@ is_same_frame frame other = other.from == frame.from && other.seq == frame.seq
 abbrev pub times_arrived : Frame → Trail → ℕ
 times_arrived frame trail = count_by (is_same_frame frame) (arrivals_in trail)
 
--- it is not lost; as many are made for its target after it as it is delayed by; and it arrives at most once, or twice where it is
+-- it is not lost; after it, as many are made for its target as delay it; and it arrives at most once, or twice if it is
 -- repeated
 abbrev pub Allows : Fate → ℕ → ℕ → Type 0
 Allows fate later times = (fate.lost ≡ false) × (fate.delay ≤ later) × (times ≤ copies fate.twice)
@@ -52,19 +52,20 @@ LetsThrough faults nodes made times frame =
     (before after : List Frame) × (made ≡ before ++ frame ∷ after)
     × Allows (fate_in faults (ordinals_of nodes before) frame) (frames_to frame.to after) times
 
--- the frames that node p made by these steps, in order
+-- the frames that node p made in these steps, in order
 abbrev pub frames_made : Config → ℕ → Trail → List Frame
 frames_made config p trail = map (λ made. made.frame) (made_in config p trail)
 
--- a frame that arrived at a node, which took these steps, is of a node of the group, and the faults of that node's frames let it
--- through
+-- a frame that arrived at a node with these steps comes from a node of the group, and the faults of that node's frames
+-- let it through
 abbrev pub Arrives : Config → (ℕ → List Fault) → (ℕ → Trail) → Trail → Frame → Type 0
 Arrives config faults trails trail frame =
     (frame.from < config.nodes)
     × LetsThrough (faults frame.from) config.nodes
     (frames_made config frame.from (trails frame.from)) (times_arrived frame trail) frame
 
--- each node has a report, its log tells of the steps that it took, and the plan let each frame through that arrived by them
+-- each node has a report, its log describes the steps that it took, and the plan let each frame through that arrived in
+-- them
 pub record KeepsTo (config : Config) (faults : ℕ → List Fault) (reports : List NodeReport) : Type 0 where
   pub size : length reports ≡ config.nodes
   pub trails : ℕ → Trail

@@ -1,6 +1,6 @@
--- All that is known of a group that has run.
+-- All that is known about a group that has run.
 --     LogsEnd config faults reports        each log ends as the plan and the limit say
---     IsRun config faults fact jobs run    what a group of these jobs gives back, in threads or by a schedule
+--     IsRun config faults fact jobs run    what a group with these jobs returns, run in threads or by a schedule
 use Rattle.std.specs.Prelude.{◌≡◌, ◌≤◌, ℕ, Bool, List, None, Some, slice_get}
 use Rattle.cast_message.specs.declared.config.Config.{Config}
 use Rattle.cast_message.specs.declared.plan.Fault.{Fault}
@@ -15,7 +15,7 @@ use Rattle.cast_run.specs.Serves.{AreStamped, AreServed, HaveOrigins}
 use Rattle.cast_run.specs.declared.reports.ClientReport.{ClientReport}
 use Rattle.cast_run.specs.declared.run.LiveRun.{LiveRun}
 
--- where a node stopped, no crash is due, nor is its log full
+-- a node that stopped has no crash due, and its log is not full
 abbrev pub LogsEnd : Config → List Fault → List NodeReport → Type 0
 LogsEnd config faults reports =
     (p : ℕ) (report : NodeReport) → slice_get reports p ≡ Some report
@@ -27,15 +27,15 @@ pub record IsRun {J : Type 0} (config : Config) (faults : List Fault)
   pub config_is : run.report.config ≡ config
   -- the logs are one history of the group
   pub linked : Linked config run.report.reports
-  -- no frame arrives that the plan loses, or delays by more frames than its maker made for that target after it, and none
-  -- twice but what it repeats
+  -- no frame arrives that the plan loses, or delays by more frames than its maker made for the target after it; none
+  -- arrives twice unless the plan repeats it
   pub planned : KeepsTo config (faults_of faults) run.report.reports
   pub logs : LogsEnd config faults run.report.reports
   -- the clocks are Lamport's
   pub stamps : AreStamped config run.report.reports
-  -- of each job and the one that came back in its place its fact holds, and the logs have what it submitted and got
+  -- for each job and the one that came back in its place, its fact holds; the logs have what it submitted and got
   pub served : AreServed config fact jobs run.report.reports run.jobs.items run.clients.items
-  -- each order in a log is of a client of its node
+  -- each order in a log comes from a client of its node
   pub origins : HaveOrigins jobs run.report.reports
   -- no more orders of a client are left than a box has places
   pub room : (i : ℕ) (r : ClientReport) → slice_get run.clients.items i ≡ Some r

@@ -1,6 +1,6 @@
--- A group that is ready to run, and what is known of it after it has.
+-- A group that is ready to run, and what is known about it after the run.
 --     IsReady config faults jobs actors room            these actors run these jobs, and there is room for what they leave
---     HasRun config faults fact jobs actors room        these are such actors, some steps on
+--     HasRun config faults fact jobs actors room        these are such actors, some steps later
 use Rattle.std.specs.Prelude.{◌≡◌, ℕ, Bool, List, [], length, map, slice_get, Some}
 use Rattle.cast_message.specs.declared.config.Config.{Config}
 use Rattle.cast_message.specs.declared.plan.Fault.{Fault}

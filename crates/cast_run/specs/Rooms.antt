@@ -1,6 +1,6 @@
--- Lists whose room is made before the threads start.
+-- Lists that get their room before the threads start.
 --     HasEndRoom n room          room for what n engines leave
---     HasRoom n k room           and for what is gathered of k jobs
+--     HasRoom n k room           and for what is gathered from k jobs
 use Rattle.std.specs.Prelude.{ℕ}
 use Rattle.cast_carrier.specs.Lists.{IsRoomFor}
 use Rattle.cast_run.specs.declared.room.EndRoom.{EndRoom}

@@ -1,7 +1,7 @@
 -- The items that a job submits, one after another.
---     AreFirst given left sent           what was submitted are the first of the items given, and what is left the others
+--     AreFirst given left sent           the first of the items given were submitted, and the others are left
 --     SubmitsNext left left' .. ..       the next item was submitted, or the desk refused it
---     IsTicketOf client client' ticket   the ticket of the order that was put, or None where none was
+--     IsTicketOf client client' ticket   the ticket of the order that was put, or None if none was
 use Rattle.std.specs.Prelude.{◌≡◌, ◌+◌, ℕ, ◌⊎◌, List, [], ◌∷◌, ◌++◌, length, map, Option, Some, None}
 use Rattle.cast_message.specs.declared.message.Item.{Item}
 use Rattle.cast_desk.specs.Desk.{ClientState, IsRefusal, next_ticket}
@@ -9,7 +9,7 @@ use Rattle.cast_desk.specs.declared.client.DeskFault.{DeskFault}
 use Rattle.cast_desk.specs.declared.client.DeskFault.TheVariants.{Full, Tickets}
 use Rattle.cast_desk.specs.declared.desk.OrderIn.{OrderIn}
 
--- these orders are of the first of the items, and these are left
+-- these orders have the first of the items, and these items are left
 abbrev pub AreFirst : List Item → List Item → List OrderIn → Type 0
 AreFirst given left sent = map (λ o. o.item) sent ++ left ≡ given
 
@@ -18,7 +18,7 @@ abbrev pub item_in : DeskFault → Item
 item_in (Full item) = item
 item_in (Tickets item) = item
 
--- the client's next order, of this item
+-- the client's next order, with this item
 abbrev pub order_of : ClientState → Item → OrderIn
 order_of client item = record { client = client.number; ticket = next_ticket client; item = item }
 

@@ -11,7 +11,7 @@ use Rattle.cast_run.specs.Submissions.{AreFirst}
 abbrev pub HasReplies : SubmitAll → List Notice → Type 0
 HasReplies job got = (replies_in got ≡ job.replies) × (job.replies ≤ job.count)
 
--- it has submitted the first of the items that it was given, and when it is done, all of them, and has as many replies
+-- it has submitted the first of its items; when it is done, it has submitted all and has as many replies
 pub record SubmitsGiven (given job : SubmitAll) (sent : List OrderIn) (got : List Notice)
     (done : Bool) : Type 0 where
   pub count : (job.count ≡ given.count) × (given.count ≡ length given.left)

@@ -1,4 +1,4 @@
-//! What takes steps until it has ended: in a thread of its own, or in turn with others.
+//! What takes steps until it has ended, in a thread of its own or in turn with others.
 ghost use Rattle.std.specs.Prelude.{◌≡◌};
 ghost use Rattle.cast_box.specs.Lists.{HasTakenOfEnded};
 ghost use Rattle.cast_carrier.specs.Carriers.{IsSameCarrier};
@@ -8,23 +8,23 @@ ghost use Rattle.cast_run.specs.declared.actor.Step.TheVariants.{Ended};
 use cast_carrier::{Board, CARRIER_PAUSE, Carrier, Pause, Waiting};
 use std::sync::Wait;
 
-/// What came of a step.
+/// The result of a step.
 #[derive(Clone, Copy)]
 pub enum Step {
     /// Something was done.
     Moved,
-    /// There was nothing to do, or others are to have the processor.
+    /// There was nothing to do, or others should have the processor.
     Idle,
-    /// It takes no step any more, and the board says so.
+    /// It takes no more steps, and the board says so.
     Ended,
 }
 
-/// An engine, a carrier or a job, which takes one step after another.
+/// An engine, a carrier or a job: it takes one step after another.
 pub trait Actor {
-    /// The second is the first, some steps on.
+    /// The second is the first, some steps later.
     ghost from: { Self → Self → Type 0 };
 
-    /// Takes a step. One that has ended does nothing, and answers so again.
+    /// Takes a step. An actor that has ended does nothing, and returns `Ended` again.
     fn step<R: Wait>(&mut self, rt: &R, board: &Board) -> Step
         requires { ComesFrom from self.old }
         ensures same { StaysFrom from self.old self.new };
@@ -33,7 +33,7 @@ pub trait Actor {
     fn pause(&self) -> Pause;
 }
 
-/// Has an actor take steps until it has ended.
+/// Runs an actor's steps until it has ended.
 pub fn run_actor<A: Actor, R: Wait>(rt: &R, mut actor: A, board: &Board) -> A
     requires { A.from actor actor }
     ensures { A.from actor result }
@@ -47,7 +47,7 @@ pub fn run_actor<A: Actor, R: Wait>(rt: &R, mut actor: A, board: &Board) -> A
     actor
 }
 
-// Has an actor take a step, and waits after it where it was idle. Answers whether the actor has not ended.
+// Runs one step of an actor, and waits if it was idle. Returns whether the actor goes on.
 fn step_on<A: Actor, R: Wait>(rt: &R, actor: &mut A, board: &Board, waiting: &mut Waiting) -> bool
     requires { ComesFrom A.from actor.old }
     ensures { StaysFrom A.from actor.old actor.new }
@@ -65,8 +65,8 @@ impl Actor for Carrier {
 
     ghost from = { IsSameCarrier };
 
-    // Carries a parcel. Where there was none although its engine had ended before it looked, or the run was given up, the carrier
-    // has ended, and its outbox is empty.
+    // Carries a parcel. If there was none, although its engine had ended before or the run was given up, the carrier
+    // has ended and its outbox is empty.
     fn step<R: Wait>(&mut self, rt: &R, board: &Board) -> Step
         requires { ComesFrom IsSameCarrier self.old }
         ensures same { StaysFrom IsSameCarrier self.old self.new }

@@ -1,4 +1,4 @@
-//! All that take steps in a group, and how they do so in the order of a schedule.
+//! Everything in a group that takes steps, and how it takes them in the order of a schedule.
 ghost use Rattle.std.specs.Prelude.{◌<◌, IfOk, IfSome};
 ghost use Rattle.cast_run.specs.Actors.{AreStill, CameBack, ComesFrom, HaveBegun, StaysFrom};
 
@@ -20,7 +20,7 @@ pub struct Actors<J, G> {
     pub jobs: Vec<Seat<J>>,
 }
 
-// One of them: an engine or a carrier, by its node, or a job, by its place.
+// An engine or carrier by its node, or a job by its place.
 #[derive(Clone, Copy)]
 enum Place {
     Engine(usize),
@@ -29,7 +29,7 @@ enum Place {
 }
 
 impl<J: ClientJob + Drop, G: Gate + Drop> Actors<J, G> {
-    // One of them takes a step. Answers whether it has another to take.
+    // Runs one step of one actor. Returns whether it has another.
     fn step<R: Wait>(&mut self, rt: &R, board: &Board, place: Place) -> bool
         requires { ComesFrom (CameBack J.fact) self.old }
         ensures { StaysFrom (CameBack J.fact) self.old self.new }
@@ -42,7 +42,6 @@ impl<J: ClientJob + Drop, G: Gate + Drop> Actors<J, G> {
     }
 }
 
-// The actor at this place takes a step. Answers whether it has another to take.
 fn step_at<A: Actor, R: Wait>(rt: &R, board: &Board, actors: &mut Vec<A>, place: usize) -> bool
     requires { ComesFrom (AreStill A.from) actors.old.items }
     ensures { StaysFrom (AreStill A.from) actors.old.items actors.new.items }
@@ -57,7 +56,6 @@ fn step_at<A: Actor, R: Wait>(rt: &R, board: &Board, actors: &mut Vec<A>, place:
     }
 }
 
-// All of so many nodes and jobs.
 fn everyone(alloc: Global, nodes: usize, jobs: usize) -> Result<Vec<Place>, AllocError> {
     let mut all = Vec::new(alloc);
     for node in 0..nodes {
@@ -70,7 +68,7 @@ fn everyone(alloc: Global, nodes: usize, jobs: usize) -> Result<Vec<Place>, Allo
     Ok(all)
 }
 
-// One of so many places, unless there is none.
+// One of the places, unless there is none.
 fn choose<S: Schedule>(schedule: &mut S, places: usize) -> Option<usize>
     ensures { IfSome result (λ place. place < places) }
 {
@@ -80,7 +78,7 @@ fn choose<S: Schedule>(schedule: &mut S, places: usize) -> Option<usize>
     Some(schedule.next(places as u64) as usize)
 }
 
-/// Has each actor take one step after another in this thread, in the order that the schedule says, until all have ended or so many
+/// Runs the actors in this thread, one step at a time in the order of the schedule, until all have ended or `steps`
 /// steps were taken.
 pub fn run_by<J: ClientJob + Drop, G: Gate + Drop, S: Schedule, R: Wait>(
     rt: &R,

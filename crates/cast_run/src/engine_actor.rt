@@ -1,4 +1,4 @@
-//! An engine with what it meets in its turns.
+//! An engine with what it uses in its turns.
 ghost use Rattle.std.specs.Prelude.{◌≡◌, IfOk};
 ghost use Rattle.cast_box.specs.Ends.{IsNextToEnd};
 ghost use Rattle.cast_engine.specs.Engines.{IsSameEngine, Leaves, Tells, WereTold, trays_at, with_ended};
@@ -12,7 +12,7 @@ use std::alloc::{AllocError, Global};
 use std::marker::Model;
 use std::sync::Wait;
 
-/// An engine with its gate, and its word on the board. To contracts it is the engine.
+/// An engine with its gate, and its word on the board. Contracts see the engine.
 #[derive(Drop)]
 pub struct EngineActor<G> {
     engine: Engine,
@@ -29,7 +29,7 @@ impl<G> Model for EngineActor<G> {
 }
 
 impl<G: Drop> EngineActor<G> {
-    /// The engine of a node, behind this gate.
+    /// The engine of a node, with this gate.
     pub fn new(
         alloc: Global,
         engine: Engine,
@@ -55,7 +55,6 @@ impl<G: Drop> EngineActor<G> {
         self.engine.end_inbox(putter);
     }
 
-    /// What the engine leaves.
     pub fn into_parts(self) -> EngineParts
         ensures ends { (result.outbox ≡ self.outbox) × (result.inbox ≡ self.inbox)
             × (result.desk ≡ self.desk) }

@@ -1,4 +1,4 @@
-//! Whether what was handed in for a group fits: its jobs, its gates and its plan.
+//! Whether the jobs, gates and plan given for a group fit it.
 ghost use Rattle.std.specs.Prelude.{IfOk, IfErr, IfSome, IfNone, OnOk, OnErr};
 ghost use Rattle.cast_run.specs.Faults.{Fits, IsFaultOf, IsMisfit};
 ghost use Rattle.cast_run.specs.Jobs.{IsCount};
@@ -7,8 +7,8 @@ use crate::jobs::{JobCounts, count_jobs};
 use cast_carrier::is_planned;
 use cast_message::{Config, FaultPlan, LiveFault, NodeId};
 
-/// How many jobs each node has, or why the group is not run: the first cause that holds, as `find_misfit` answers it. It takes no
-/// memory.
+/// How many jobs each node has, or why the group is not run: the same cause that `find_misfit` returns. It allocates
+/// nothing.
 pub fn count_fitting<J>(
     config: &Config,
     plan: &FaultPlan,
@@ -33,8 +33,8 @@ pub fn count_fitting<J>(
     Ok(counts)
 }
 
-/// Why no group is run with these, of what is seen before anything is started: the first cause that holds; none where all fits.
-/// It takes no memory.
+/// Why a group is not run with these, as far as that shows before anything is started: the first cause that holds, or
+/// none if all fits. It allocates nothing.
 pub fn find_misfit<J>(
     config: &Config,
     plan: &FaultPlan,

@@ -1,10 +1,10 @@
-//! How long a group runs at most, counted in steps, as nothing in it reads a clock.
+//! How long a group may run, counted in steps, since nothing in it reads a clock.
 
-/// How many turns an engine takes at most, and how often a job is called at most.
+/// How many turns an engine may take, and how often a job may be called.
 ///
-/// An engine that finds nothing to do sleeps, and a job does not, as nothing tells what it waits for: in threads one that waits for
-/// another node's news makes its calls some hundred times as fast as its engine takes turns. So a job that waits wants more calls
-/// than there are turns.
+/// An engine that finds nothing to do sleeps, but a job does not, since nothing says what it waits for. In threads, a
+/// job that waits for another node's news is called some hundred times as often as its engine takes turns. So a job
+/// that waits needs more calls than there are turns.
 #[derive(Clone, Copy)]
 pub struct Limits {
     pub turns: u64,

@@ -1,4 +1,4 @@
-//! All that a run needs before its first step.
+//! Everything a run needs before its first step.
 ghost use Rattle.std.specs.Prelude.{◌≡◌, ℕ, length, map, slice_get, Some, IfOk, IfErr, OnOk, vec_len};
 ghost use Rattle.cast_run.specs.declared.jobs.Seat.{Seat};
 ghost use Rattle.cast_run.specs.Faults.{JobsFit, Fits, IsFaultOf};
@@ -24,7 +24,7 @@ use cast_message::{Config, Fault, FaultPlan, LiveFault, NodeId};
 use std::alloc::{AllocError, Global};
 use std::sync::Arc;
 
-/// The actors of a group, the board on which they tell one another that they have ended, and room for what they leave.
+/// The actors of a group, the board where they post that they have ended, and room for what they leave.
 #[derive(Drop)]
 pub struct Prepared<J, G> {
     pub actors: Actors<J, G>,
@@ -32,7 +32,7 @@ pub struct Prepared<J, G> {
     pub room: Room<J>,
 }
 
-/// What runs these jobs, behind these gates, or why they are not run.
+/// What runs these jobs with these gates, or why they are not run.
 pub fn prepare<J: Drop, G: Drop>(
     alloc: Global,
     config: &Config,
@@ -71,8 +71,8 @@ fn make_board(alloc: Global, counts: &[u64]) -> Result<Arc<Board, Global>, Alloc
     Ok(board)
 }
 
-// A group for these jobs, of which each node has as many as its count says, with boxes of the configuration's size; and the jobs with
-// their clients.
+// A group with boxes of the configuration's size, and the jobs with their clients. Each node has as many jobs as its
+// count says.
 fn make_actors<J: Drop>(
     alloc: Global,
     config: &Config,

@@ -1,4 +1,5 @@
-//! The lists that the end of a run fills, whose room is made before the threads start: once they have ended, nothing wants memory.
+//! The lists that the end of a run fills. They get their room before the threads start, so that the end allocates
+//! nothing.
 ghost use Rattle.std.specs.Prelude.{IfOk, length};
 ghost use Rattle.cast_run.specs.Reports.{AreNewRows};
 ghost use Rattle.cast_run.specs.Rooms.{HasEndRoom, HasRoom};
@@ -22,7 +23,7 @@ pub struct Room<J> {
     pub rows: Vec<Row>,
 }
 
-/// Lists with room for what engines leave, and for each node whether all jobs of its clients are done.
+/// Lists with room for what engines leave, and for each node whether all its clients' jobs are done.
 #[derive(Drop)]
 pub struct EndRoom {
     pub takers: Vec<Taker<Parcel>>,
@@ -32,7 +33,7 @@ pub struct EndRoom {
 }
 
 impl EndRoom {
-    /// Room for the reports of so many nodes.
+    /// Room for the reports of this many nodes.
     fn new(alloc: Global, nodes: usize) -> Result<EndRoom, AllocError>
         ensures { IfOk result (HasEndRoom nodes) }
     {
@@ -50,7 +51,7 @@ impl EndRoom {
 }
 
 impl<J: Drop> Room<J> {
-    /// Room for the reports of nodes with so many clients each, and of so many clients in all.
+    /// Room for the reports of nodes with these numbers of clients, and of this many clients in all.
     pub fn new(alloc: Global, counts: &[u64], clients: usize) -> Result<Room<J>, AllocError>
         ensures room { IfOk result (HasRoom (length counts.now) clients) }
         ensures rows { IfOk result (λ room. AreNewRows counts.now room.rows.items) }

@@ -1,38 +1,39 @@
-//! Schedules, which say who takes the next step of a run.
-ghost use Rattle.std.specs.Prelude.{◌<◌};
+//! Schedules, which choose who takes the next step of a run.
+ghost use Rattle.std.specs.Prelude.{◌≡◌, ◌<◌, ◌%◌, ◌++◌, ◌∷◌, [], ℕ, List, false, true, IfOk, OnErr};
 
 use rand_core::{Rng, SeedableRng};
 use rand_xoshiro::Xoshiro256PlusPlus;
 use std::alloc::{AllocError, Global};
 use std::vec::IntoIter;
 
-/// Chooses who takes the next step of a run. Whoever runs the same group by the same choices has the same run.
+/// Chooses who takes the next step of a run. The same group with the same choices has the same run.
 pub trait Schedule {
-    /// One of so many choices, which are numbered from 0 on.
+    /// One of this many choices, numbered from 0.
     fn next(&mut self, choices: u64) -> u64
         requires { 0 < choices }
         ensures { result < choices };
 }
 
-/// The schedule of a seed, which makes the same choices for ever. They are numbers of xoshiro256++ (Blackman and Vigna 2019), whose
-/// state SplitMix64 fills from the seed, each modulo the number of choices. Behind each stands one that says how long it stays.
+/// The schedule of a seed; its choices never change. They are numbers of xoshiro256++ (Blackman and Vigna 2019), modulo
+/// the number of choices; SplitMix64 fills its state from the seed. Each is followed by a number that says how long it
+/// stays.
 #[derive(Drop)]
 pub struct Seeded {
     rng: Xoshiro256PlusPlus,
     longest: u64,
     choice: u64,
-    // How often the choice is still made.
+    // How many more times the choice is made.
     left: u64,
 }
 
 impl Seeded {
-    /// The schedule of this seed in which each choice is as likely as any other.
+    /// The schedule of this seed that makes all choices equally likely.
     pub fn new(seed: u64) -> Seeded {
         Seeded::lingering(seed, 1)
     }
 
-    /// The schedule of this seed that stays with a choice up to `longest` times, and goes on to another at random places. The
-    /// others stand still meanwhile, which brings rare orders about.
+    /// The schedule of this seed that keeps a choice up to `longest` times, and changes to another at random places.
+    /// Meanwhile the others stand still, which causes rare orders.
     pub fn lingering(seed: u64, longest: u64) -> Seeded {
         Seeded {
             rng: Xoshiro256PlusPlus::seed_from_u64(seed),
@@ -42,8 +43,8 @@ impl Seeded {
         }
     }
 
-    /// The schedule of this seed by which `castgroup live` runs a group: an even seed's choices are alike, and an odd seed's stay up
-    /// to 64 times.
+    /// The schedule of this seed that `castgroup live` uses. An even seed's choices are equally likely; an odd seed
+    /// keeps each up to 64 times.
     pub fn mixed(seed: u64) -> Seeded {
         let longest = if seed % 2 == 0 { 1 } else { 64 };
         Seeded::lingering(seed, longest)
@@ -62,17 +63,17 @@ impl Schedule for Seeded {
     }
 }
 
-/// A schedule that keeps the choices that another one makes, so that they can be made again as a list.
+/// A schedule that records another's choices, so that they can be made again from a list.
 #[derive(Drop)]
 pub struct Recorded<S> {
     inner: S,
     choices: Vec<u64>,
-    // Memory was wanted for a choice, so that those that are kept would make another run.
+    // A choice could not be kept for lack of memory, so the kept ones would make a different run.
     is_cut: bool,
 }
 
 impl<S> Recorded<S> {
-    /// Keeps what this schedule chooses.
+    /// Records the choices of this schedule.
     pub fn new(alloc: Global, inner: S) -> Recorded<S> {
         Recorded {
             inner,
@@ -83,8 +84,11 @@ impl<S> Recorded<S> {
 }
 
 impl<S: Drop> Recorded<S> {
-    /// The choices that were made, of which `Listed` makes the same run, or want of memory, where some could not be kept.
-    pub fn into_choices(self) -> Result<Vec<u64>, AllocError> {
+    /// The choices made; `Listed` repeats the run from them. Out of memory if some could not be kept.
+    pub fn into_choices(self) -> Result<Vec<u64>, AllocError>
+        ensures ok { IfOk result (λ choices. (self.is_cut ≡ false) × (choices ≡ self.choices)) }
+        ensures cut { OnErr result (self.is_cut ≡ true) }
+    {
         if self.is_cut {
             return Err(AllocError);
         }
@@ -93,15 +97,20 @@ impl<S: Drop> Recorded<S> {
 }
 
 impl<S: Schedule> Schedule for Recorded<S> {
-    fn next(&mut self, choices: u64) -> u64 {
+    fn next(&mut self, choices: u64) -> u64
+        requires { 0 < choices }
+        ensures { result < choices }
+        ensures kept { self.new.is_cut ≡ false → (self.old.is_cut ≡ false)
+            × (self.new.choices.items ≡ self.old.choices.items ++ result ∷ []) }
+    {
         let choice = self.inner.next(choices);
         self.is_cut = self.is_cut || self.choices.push(choice).is_err();
         choice
     }
 }
 
-/// The schedule of a list of numbers, of each of which the rest is taken that the number of choices leaves. After the last all
-/// take their steps in turn, so that a run goes on whatever is cut off the list.
+/// The schedule of a list of numbers, each taken modulo the number of choices. After the last number all take turns, so
+/// that a run goes on however much of the list is cut off.
 #[derive(Drop)]
 pub struct Listed {
     numbers: IntoIter<u64>,
@@ -110,7 +119,7 @@ pub struct Listed {
 }
 
 impl Listed {
-    /// The schedule of these numbers. An empty list has all take their steps in turn.
+    /// The schedule of these numbers. With an empty list, all take turns.
     pub fn new(numbers: Vec<u64>) -> Listed {
         Listed {
             numbers: numbers.into_iter(),
@@ -120,7 +129,12 @@ impl Listed {
 }
 
 impl Schedule for Listed {
-    fn next(&mut self, choices: u64) -> u64 {
+    fn next(&mut self, choices: u64) -> u64
+        requires { 0 < choices }
+        ensures { result < choices }
+        ensures listed { (number : ℕ) (rest : List ℕ) → self.old.numbers.rest.items ≡ number ∷ rest →
+            (result ≡ number % choices) × (self.new.numbers.rest.items ≡ rest) }
+    {
         let number = match self.numbers.next() {
             Some(number) => number,
             None => {

@@ -10,11 +10,11 @@ use std::marker::Model;
 use std::sync::Wait;
 use std::vec::IntoIter;
 
-/// Items to submit, in order. One that the desk hands back is the next again: none is lost, and none is copied. To contracts it
-/// is the list of what is left.
+/// Items to submit, in order. If the desk hands an item back, it is the next again: none is lost, and none is copied.
+/// Contracts see the list of what is left.
 #[derive(Drop)]
 pub struct Submissions {
-    // The item that the desk handed back last.
+    // The item that the desk last handed back.
     refused: Option<Item>,
     // What was not tried yet.
     later: IntoIter<Item>,
@@ -31,7 +31,6 @@ impl Model for Submissions {
 }
 
 impl Submissions {
-    /// All of these items are left.
     pub fn new(items: List<Item>) -> Submissions
         ensures { result ≡ items }
     {
@@ -41,7 +40,7 @@ impl Submissions {
         }
     }
 
-    /// Submits the next item, where one is left, and answers the ticket of its order, which the reply to it will name. An item
+    /// Submits the next item, if one is left, and returns the ticket of its order, which the reply will name. An item
     /// that the desk refuses is kept for the next call, and has no ticket yet.
     pub fn submit_next<R: Wait>(&mut self, rt: &R, client: &mut Client) -> Option<u64>
         ensures same { IsSameClient client.old client.new }
@@ -67,7 +66,7 @@ impl Submissions {
     }
 }
 
-// Takes the item that was refused last, or else the first of the later ones.
+// Takes the last refused item, or else the first of the later ones.
 fn take_first(refused: &mut Option<Item>, later: &mut IntoIter<Item>) -> Option<Item>
     ensures first { option_to_list refused.old ++ into_iter_items later.old
         ≡ option_to_list result ++ into_iter_items later.new }
@@ -80,7 +79,6 @@ fn take_first(refused: &mut Option<Item>, later: &mut IntoIter<Item>) -> Option<
     }
 }
 
-// Keeps the item that was handed back for the next call.
 fn keep(refused: &mut Option<Item>, fault: DeskFault)
     ensures { refused.new ≡ Some (item_in fault) }
 {

@@ -20,11 +20,11 @@ use Rattle.serde_json.proofs.Numbers.{number_of-decimal}
 use Rattle.serde_json.proofs.Views.{get_member-put, get_member-put_other}
 use Rattle.cast_script.specs.declared.element.Unread.{Unread}
 use Rattle.cast_script.specs.declared.script.ScriptEvent.{ScriptEvent}
-use Rattle.cast_script.specs.declared.script.Settings.{Settings}
+use Rattle.cast_script.specs.declared.script.RunSettings.{RunSettings}
 use Rattle.cast_script.specs.Places.{places}
 use Rattle.cast_script.specs.Element.{event_of, event_at}
 use Rattle.cast_script.specs.Faults.{elements_from}
-use Rattle.cast_script.specs.Members.{is_member, all_known, has_known_members, settings_of, list_of, or_empty}
+use Rattle.cast_script.specs.Members.{is_member, all_known, has_known_members, group_of, settings_of, list_of, or_empty}
 use Rattle.cast_script.specs.Plain.{IsCell, AreCells, IsEvent, AreEvents, IsValueOf, IsLike, SaysMembers}
 use Rattle.cast_script.specs.Script.{checked, script_in, script_of}
 use Rattle.cast_script.specs.Unread.{Gives}
@@ -319,7 +319,7 @@ pub plain_value : (text : List ℕ) (ts : List Token) (shown : Data) (events : L
 plain_value text ts shown events opened says = rw (text_says (tokens text) ts opened shown events says) (rw says.4 refl)
 
 settings_like : (found : Members) (shown : Data) (events : List ScriptEvent) → IsLike found shown events → settings_of (value.object found) ≡ settings_of shown
-unfolding settings_of
+unfolding settings_of group_of
 settings_like found shown events like =
     rw (
       like.same (codes "nodes") refl,
@@ -333,7 +333,7 @@ settings_like found shown events like =
       like.same (codes "mode") refl,
     ) refl
 
-pub plain_script : (found : Members) (shown : Data) (events : List ScriptEvent) (settings within : Settings) → IsLike found shown events → has_known_members shown ≡ true → settings_of shown ≡ Some settings
+pub plain_script : (found : Members) (shown : Data) (events : List ScriptEvent) (settings within : RunSettings) → IsLike found shown events → has_known_members shown ≡ true → settings_of shown ≡ Some settings
     → list_of (codes "plan") shown ≡ Some [] → list_of (codes "jobs") shown ≡ Some [] → checked settings ≡ Ok within
     → script_of (value.object found) ≡ Ok (record { settings = within; events = events; plan = []; jobs = [] })
 unfolding script_of script_in

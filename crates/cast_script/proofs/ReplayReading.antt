@@ -30,7 +30,7 @@ use Rattle.cast_record.proofs.UnhexLemmas.{unhex_again}
 use Rattle.cast_script.specs.Places.{places}
 use Rattle.cast_script.specs.Faults.{elements_from}
 use Rattle.cast_script.specs.Element.{event_of}
-use Rattle.cast_script.specs.Members.{settings_of}
+use Rattle.cast_script.specs.Members.{group_of, settings_of}
 use Rattle.cast_script.specs.Script.{settings_in, checked, script_in, script_of, said}
 use Rattle.cast_script.specs.Replay.{Atom, word, number, digits, word_text, atom_text, event_atoms, event_text, others_text, events_text, members, member_text, members_text, script_text, replay, SaysReplay, IsReplayIn}
 use Rattle.cast_script.specs.ReplayRanges.{IsAtomWithin, AreAtomsWithin, AreMembersWithin, IsEventWithin}
@@ -221,7 +221,7 @@ mode_again Basic = refl
 mode_again Uniform = refl
 
 settings_again : (config : Checked) (events : List Event) → settings_of (script_data config events) ≡ Some (settings_in config 4000000)
-unfolding settings_of
+unfolding settings_of group_of
 settings_again config events = rw (mode_again config.mode) refl
 
 data_again : (config : Checked) (events : List Event) → AllByRecursion IsEventWithin events → script_of (script_data config events) ≡ Ok (replay config events)

@@ -4,11 +4,12 @@ use Rattle.json.specs.Json.{value}
 use Rattle.json.specs.Lex.{lex, punctuate}
 use Rattle.serde_json.specs.Data.{Data}
 use Rattle.serde_json.specs.Read.{read}
-use Rattle.cast_message.specs.Limits.{config_causes, first_config_fault}
+use Rattle.cast_message.specs.Limits.{first_config_fault}
+use Rattle.cast_message.specs.Settings.{causes_of}
 use Rattle.cast_message.specs.declared.config.ConfigFault.{ConfigFault}
 use Rattle.cast_message.specs.declared.message.Item.{Item}
 use Rattle.cast_script.specs.declared.script.ScriptEvent.{ScriptEvent}
-use Rattle.cast_script.specs.declared.script.Settings.{Settings}
+use Rattle.cast_script.specs.declared.script.RunSettings.{RunSettings}
 use Rattle.cast_message.specs.declared.plan.Fault.{Fault}
 use Rattle.cast_script.specs.declared.script.ScriptFault.{ScriptFault}
 use Rattle.cast_script.specs.declared.script.ScriptFault.TheVariants.{NotJson, Shape, Config, Memory}
@@ -23,7 +24,7 @@ part_refused (Shape index) part next h = rw h refl
 part_refused (Config cause) part next h = rw h refl
 part_refused Memory part next h = tt
 
-pub jobs_refused : (settings : Settings) (es fs js : List Data) (events : List ScriptEvent) (faults : List Fault) (m n : ℕ) (fault : ScriptFault)
+pub jobs_refused : (settings : RunSettings) (es fs js : List Data) (events : List ScriptEvent) (faults : List Fault) (m n : ℕ) (fault : ScriptFault)
     → m ≡ 1 + length es → n ≡ 1 + length es + length fs
     → elements_from event_of 1 es ≡ Ok events → elements_from fault_of m fs ≡ Ok faults
     → Refuses fault (elements_from job_of n js) → Refuses fault (script_in settings es fs js)
@@ -34,19 +35,19 @@ jobs_refused settings es fs js events faults m n fault first_fault first_job eve
     rw (events_read, faults_read') (part_refused fault _ _ refused')
 
 -- the check of a configuration has a cause for each refusal
-config_cause : (settings : Settings) (fault : ScriptFault) → checked settings ≡ Err fault → (cause : ConfigFault) × (fault ≡ Config cause)
-config_cause s fault e = by_cause (first_config_fault (config_causes s.nodes s.faults s.choices s.item_limit s.log_limit s.box_size s.mode)) e
+config_cause : (settings : RunSettings) (fault : ScriptFault) → checked settings ≡ Err fault → (cause : ConfigFault) × (fault ≡ Config cause)
+config_cause s fault e = by_cause (first_config_fault (causes_of s.group)) e
   where
     by_cause : (o : Option ConfigFault) → unless o s ≡ Err fault → (cause : ConfigFault) × (fault ≡ Config cause)
     by_cause None e = absurd (cc)
     by_cause (Some cause) e = (cause, cc)
 
-pub checked_refused : (settings : Settings) (fault : ScriptFault) → checked settings ≡ Err fault → Refuses fault (checked settings)
+pub checked_refused : (settings : RunSettings) (fault : ScriptFault) → checked settings ≡ Err fault → Refuses fault (checked settings)
 checked_refused settings fault e =
     let cause = config_cause settings fault e in
     subst (λ f. Refuses f (checked settings)) (sym cause.1) (e ∙ ap Err cause.1)
 
-pub config_refused : (settings : Settings) (es fs js : List Data) (events : List ScriptEvent) (faults : List Fault) (jobs : List (ℕ × List Item)) (m n : ℕ) (fault : ScriptFault)
+pub config_refused : (settings : RunSettings) (es fs js : List Data) (events : List ScriptEvent) (faults : List Fault) (jobs : List (ℕ × List Item)) (m n : ℕ) (fault : ScriptFault)
     → m ≡ 1 + length es → n ≡ 1 + length es + length fs
     → elements_from event_of 1 es ≡ Ok events → elements_from fault_of m fs ≡ Ok faults → elements_from job_of n js ≡ Ok jobs
     → Refuses fault (checked settings) → Refuses fault (script_in settings es fs js)

@@ -1,4 +1,4 @@
--- What the code writes at a place, as the definitions name it.
+-- What the code writes at a place, by the names of the definitions.
 use Rattle.std.specs.Prelude.{ℕ, List}
 use Rattle.cast_script.specs.declared.replay.Cell.{Cell}
 use Rattle.cast_script.specs.declared.replay.Cell.TheVariants.{Word, Number, Digits}

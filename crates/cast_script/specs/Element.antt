@@ -1,6 +1,7 @@
--- What an element of a script stands for: a value that is an array, with exactly these places.
+-- What an element of a script means: a value that is an array, with exactly these places.
 --     item_of places     "data",HEX or "propose",j,v or "close"
---     event_of d         ["order",p,ITEM..], ["send",p,q,slot], ["ack",p,q,slot], ["arrive",from,seq], ["crash",p], ["settle"]
+--     event_of d         ["order",p,ITEM..], ["send",p,q,slot], ["ack",p,q,slot], ["arrive",from,seq], ["crash",p],
+--                        ["settle"]
 --     fault_of d         ["lose",KIND,p,q,o,m], ["repeat",KIND,p,q,o,m], ["delay",KIND,p,q,o,m,c], ["crash",p,e]
 --     job_of d           [p,[[ITEM..],[ITEM..],..]]
 use Rattle.std.specs.Prelude.{ℕ, List, [], ◌∷◌, codes, if◌then◌else◌, Option, Some, None, option_map, option_and_then}
@@ -36,7 +37,7 @@ number_of d = option_and_then as_u64 (as_number d)
 abbrev pub node_of : Data → Option ℕ
 node_of d = option_and_then byte_sized (number_of d)
 
--- what the first reader of this name makes of the places
+-- what the first reader with this name makes of the places
 abbrev pub among : {A : Type 0} → List (List ℕ × (List Data → Option A)) → List ℕ → List Data → Option A
 among [] name ds = None
 among (reader ∷ others) name ds = if bytes_eq name reader.0 then reader.1 ds else among others name ds
@@ -46,7 +47,7 @@ abbrev pub by_name : {A : Type 0} → (List ℕ → List Data → Option A) → 
 by_name read [] = None
 by_name read (word ∷ ds) = option_and_then (λ name. read name ds) (as_str word)
 
--- what two places, each read so, are together
+-- two places, each read in its way, joined
 abbrev pub both : {A B C : Type 0} → (Data → Option A) → (Data → Option B) → (A → B → C) → List Data → Option C
 both first second make (d ∷ e ∷ []) = do
   a ← first d
@@ -83,7 +84,7 @@ order_of (p ∷ ds) = do
   item ← item_of ds
   Some (Order node item)
 
--- a link, and a slot of it
+-- a link, and one of its slots
 abbrev pub link_slot_of : List Data → Option LinkSlot
 link_slot_of (p ∷ q ∷ s ∷ []) = do
   from ← node_of p

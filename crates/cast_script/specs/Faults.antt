@@ -1,4 +1,4 @@
--- Lists of elements, of which the first bad one is named; and what the code returns, beside what there is to be read.
+-- Lists of elements, where a fault names the first bad one; and what the code returns, given what it should read.
 use Rattle.std.specs.Prelude.{◌≡◌, ℕ, ◌+◌, List, [], ◌∷◌, Option, Some, None, Result, Ok, Err}
 use Rattle.serde_json.specs.Data.{Data}
 use Rattle.cast_script.specs.declared.script.ScriptFault.{ScriptFault}
@@ -14,7 +14,7 @@ abbrev pub onto : {A : Type 0} → A → Result (List A) ScriptFault → Result 
 onto x (Ok xs) = Ok (x ∷ xs)
 onto x (Err fault) = Err fault
 
--- the element, if there is one, before the others; the index names it where there is none
+-- the element, if there is one, before the others; otherwise the index names it
 abbrev pub at_index : {A : Type 0} → ℕ → Option A → Result (List A) ScriptFault →
     Result (List A) ScriptFault
 at_index index None others = Err (Shape index)
@@ -27,20 +27,20 @@ elements_from element index [] = Ok []
 elements_from element index (d ∷ ds) =
     at_index index (element d) (elements_from element (index + 1) ds)
 
--- a refusal is for its cause, and want of memory may come whatever there is to be read
+-- a refusal has its cause, but memory may always run out
 abbrev pub Refuses : {B : Type 0} → ScriptFault → Result B ScriptFault → Type 0
 Refuses NotJson read = ⊥
 Refuses (Shape index) read = read ≡ Err (Shape index)
 Refuses (Config fault) read = read ≡ Err (Config fault)
 Refuses Memory read = Unit {0}
 
--- What the code returns is what there is to be read, by its view, or a refusal.
+-- The code returns what it should read, by its view, or a refusal.
 abbrev pub AnswersBy : {A B : Type 0} → (A → B) → Result A ScriptFault → Result B ScriptFault →
     Type 0
 AnswersBy seen (Ok x) read = read ≡ Ok (seen x)
 AnswersBy seen (Err fault) read = Refuses fault read
 
--- the same of code that takes no memory, which never wants any
+-- the same for code that allocates nothing, and so never runs out of memory
 abbrev pub TellsBy : {A B : Type 0} → (A → B) → Result A ScriptFault → Result B ScriptFault → Type 0
 TellsBy seen (Ok x) read = read ≡ Ok (seen x)
 TellsBy seen (Err fault) read = read ≡ Err fault

@@ -1,14 +1,16 @@
 -- The members of a script's object.
 --     has_known_members d     d is an object, and has no other members than a script's
+--     group_of d              the values of the configuration
 --     settings_of d           what the members say that aren't lists
---     list_of name d          the values in the list of this name, which is empty where it is absent
+--     list_of name d          the values in the list of this name, or none if it is absent
 use Rattle.std.specs.Prelude.{ℕ, List, [], codes, ◌||◌, ◌&&◌, Bool, true, false, Option, Some, None, option_and_then}
 use Rattle.std.specs.Str.{bytes_eq}
 use Rattle.serde_json.specs.Data.{Data, Members, no_members, member}
 use Rattle.serde_json.specs.Find.{get, as_object, as_str}
 use Rattle.cast_message.specs.declared.config.Mode.{Mode}
 use Rattle.cast_message.specs.declared.config.Mode.TheVariants.{Basic}
-use Rattle.cast_script.specs.declared.script.Settings.{Settings}
+use Rattle.cast_message.specs.declared.settings.Settings.{Settings}
+use Rattle.cast_script.specs.declared.script.RunSettings.{RunSettings}
 use Rattle.cast_record.specs.Modes.{mode_named}
 use Rattle.cast_record.specs.Options.{◌>>=◌}
 use Rattle.cast_script.specs.Element.{number_of, places_of}
@@ -33,7 +35,7 @@ known_in (Some members) = all_known members
 abbrev pub has_known_members : Data → Bool
 has_known_members d = known_in (as_object d)
 
--- a number that has to be there
+-- a number that must be there
 abbrev pub needed : List ℕ → Data → Option ℕ
 needed name d = option_and_then number_of (get name d)
 
@@ -41,7 +43,7 @@ abbrev pub or_number : ℕ → Option Data → Option ℕ
 or_number absent None = Some absent
 or_number absent (Some d) = number_of d
 
--- a number with what stands for it where it is absent
+-- a number, or its default if it is absent
 abbrev pub number_else : List ℕ → ℕ → Data → Option ℕ
 number_else name absent d = or_number absent (get name d)
 
@@ -59,8 +61,8 @@ or_empty (Some d) = places_of d
 abbrev pub list_of : List ℕ → Data → Option (List Data)
 list_of name d = or_empty (get name d)
 
-unfoldable pub settings_of : Data → Option Settings
-settings_of d = do
+unfoldable pub group_of : Data → Option Settings
+group_of d = do
   nodes ← needed (codes "nodes") d
   faults ← needed (codes "faults") d
   choices ← needed (codes "choices") d
@@ -68,7 +70,6 @@ settings_of d = do
   log_limit ← number_else (codes "log_limit") 65536 d
   box_size ← number_else (codes "box_size") 64 d
   first_stamp ← number_else (codes "first_stamp") 0 d
-  turns ← number_else (codes "turns") 4000000 d
   mode ← mode_of d
   Some (record {
     nodes = nodes;
@@ -78,6 +79,11 @@ settings_of d = do
     log_limit = log_limit;
     box_size = box_size;
     first_stamp = first_stamp;
-    turns = turns;
     mode = mode;
   })
+
+unfoldable pub settings_of : Data → Option RunSettings
+settings_of d = do
+  group ← group_of d
+  turns ← number_else (codes "turns") 4000000 d
+  Some (record { group = group; turns = turns })

@@ -1,14 +1,14 @@
--- The plain case of a script, told by its tokens: an object of words, numbers, empty lists and one list of events, each of
--- these an array of words and numbers.
+-- The plain case of a script, by its tokens: an object of words, numbers, empty lists and one list of events, each an
+-- array of words and numbers.
 --     IsCell old d rest            the first token is the word or the number d, and these are the others
 --     AreCells old ds rest         the first tokens are these, up to the end of their array
---     GivesCells said old result rest   where an answer is given, the first tokens are cells that say it
+--     GivesCells said old result rest   if there is an answer, the first tokens are cells that say it
 --     IsEvent old event rest       the first tokens are an array that is this event
 --     AreEvents old events rest    the first tokens are these events, up to the end of their array
 --     IsValueOf old d rest         the first tokens are those of the value d
---     IsLike found shown events    the members say what `shown` says, but for the events, which are these
---     SaysMembers old d events rest     the first tokens are those of members that are so like d
---     SaysPlain shown settings     members that are so like it say these settings, and nothing but the events
+--     IsLike found shown events    the members say what `shown` says, except that these are the events
+--     SaysMembers old d events rest     the first tokens are those of members that are like d in this way
+--     SaysPlain shown settings     members that are like it say these settings, and nothing else but the events
 use Rattle.std.specs.Prelude.{◌≡◌, ℕ, ◌≤◌, List, [], ◌∷◌, ◌++◌, codes, false, Option, Some, Result, Ok, IfOk}
 use Rattle.std.specs.Str.{bytes_eq}
 use Rattle.json.specs.Token.{Token}
@@ -21,7 +21,7 @@ use Rattle.cast_script.specs.declared.element.Unread.{Unread}
 use Rattle.cast_script.specs.declared.script.ScriptEvent.{ScriptEvent}
 use Rattle.cast_script.specs.Element.{event_at, event_of}
 use Rattle.cast_script.specs.Faults.{elements_from}
-use Rattle.cast_script.specs.declared.script.Settings.{Settings}
+use Rattle.cast_script.specs.declared.script.RunSettings.{RunSettings}
 use Rattle.cast_script.specs.Members.{has_known_members, list_of}
 use Rattle.cast_script.specs.Script.{script_of}
 
@@ -38,7 +38,7 @@ abbrev pub AreCells : List Token → List Data → List Token → Type 0
 AreCells old [] rest = old ≡ Token.end_array ∷ rest
 AreCells old (d ∷ ds) rest = (next : List Token) × IsCell old d next × AreCells next ds rest
 
--- where an answer is given, the first tokens are cells that say it, up to the end of their array
+-- if there is an answer, the first tokens are cells that say it, up to the end of their array
 abbrev pub GivesCells : {A : Type 0} → (List Data → Option A) → List Token → Result A Unread
     → List Token → Type 0
 GivesCells said old result rest =
@@ -72,7 +72,7 @@ SaysMembers old shown events rest =
     × (members_depth ms ≤ 2) × (value.of_members ms no_members ≡ Some found)
     × IsLike found shown events
 
-abbrev pub SaysPlain : Data → Settings → Type 0
+abbrev pub SaysPlain : Data → RunSettings → Type 0
 SaysPlain shown settings =
     (found : Members) (events : List ScriptEvent) → IsLike found shown events
     → script_of (object found)

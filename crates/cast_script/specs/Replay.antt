@@ -2,8 +2,8 @@
 --     event_text event               an event, an array of words, numbers and bytes
 --     script_text config events      the whole text, one event a line
 --     replay config events           what it says
---     SaysReplay text config events  the text is JSON of a value that says so
---     IsReplayIn text config events  whatever is read of the text is that, or memory was wanted
+--     SaysReplay text config events  the text is JSON of a value that says that
+--     IsReplayIn text config events  whatever reading the text yields is that, or memory ran out
 use Rattle.std.specs.Prelude.{◌≡◌, ℕ, List, [], ◌∷◌, ◌++◌, map, codes, decimal, flat_map, Result, Ok, Err}
 use Rattle.std.specs.List.{join_with_byte}
 use Rattle.serde_json.specs.Data.{Data}
@@ -20,7 +20,7 @@ use Rattle.cast_script.specs.declared.script.ScriptFault.{ScriptFault}
 use Rattle.cast_script.specs.declared.script.ScriptFault.TheVariants.{Memory}
 use Rattle.cast_script.specs.Script.{Said, settings_in, said, script_of, IsValue, Reads}
 
--- What stands at a place of an array, or is the value of a member.
+-- What is at a place of an array, or is the value of a member.
 pub data Atom : Type 0 where
   word : List ℕ → Atom
   number : ℕ → Atom
@@ -50,7 +50,7 @@ event_atoms (Crash node) = word (codes "crash") ∷ number node ∷ []
 abbrev pub event_text : Event → List ℕ
 event_text event = 91 ∷ join_with_byte 44 (map atom_text (event_atoms event)) ++ 93 ∷ []
 
--- the events after the first, each on a line of its own
+-- the events after the first, each on its own line
 abbrev pub others_text : List Event → List ℕ
 others_text events = flat_map (λ event. 44 ∷ 10 ∷ event_text event) events
 
@@ -85,7 +85,7 @@ script_text config events =
 
 -- ---- what the text says
 
--- the configuration and the events, and what stands for the members that are absent
+-- the configuration and the events, and the defaults of the members that are absent
 abbrev pub replay : Checked → List Event → Said
 replay config events = record {
   settings = settings_in config 4000000;
@@ -94,18 +94,18 @@ replay config events = record {
   jobs = [];
 }
 
--- the text is JSON of a value that says so
+-- the text is JSON of a value that says that
 pub record SaysReplay (text : List ℕ) (config : Checked) (events : List Event) : Type 0 where
   pub value : Data
   pub is : IsValue text value
   pub says : script_of value ≡ Ok (replay config events)
 
--- the script is that, or memory was wanted
+-- the script is that, or memory ran out
 abbrev pub IsReplay : Checked → List Event → Result Script ScriptFault → Type 0
 IsReplay config events (Ok script) = said script ≡ replay config events
 IsReplay config events (Err fault) = fault ≡ Memory
 
--- whatever reading the text answers is that, and an answer there may be
+-- whatever reading the text yields is that, and reading may yield it
 abbrev pub IsReplayIn : List ℕ → Checked → List Event → Type 0
 IsReplayIn text config events =
     (result : Result Script ScriptFault) → Reads result text → IsReplay config events result

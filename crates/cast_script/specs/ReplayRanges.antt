@@ -1,4 +1,4 @@
--- The ranges of what a replay writes, which the types of the code keep.
+-- The ranges of what a replay writes, which the types of the code guarantee.
 use Rattle.std.specs.Prelude.{ℕ, ◌^◌, ◌<◌, List, [], ◌∷◌}
 use Rattle.std.specs.List.{All}
 use Rattle.cast_message.specs.declared.event.Event.{Event}
@@ -19,7 +19,7 @@ abbrev pub AreMembersWithin : List (List ℕ × Atom) → Type 0
 AreMembersWithin [] = Unit {0}
 AreMembersWithin (m ∷ ms) = IsAtomWithin m.1 × AreMembersWithin ms
 
--- nodes are named by a byte
+-- each node's number is a byte
 abbrev pub HasNodes : Event → Type 0
 HasNodes (Order node item) = node < 256
 HasNodes (Send from to slot) = (from < 256) × (to < 256)

@@ -1,9 +1,9 @@
--- What a reader of one element returns, beside the element that is to be read.
+-- What a reader of one element returns, given the element that it should read.
 use Rattle.std.specs.Prelude.{◌≡◌, Option, Some, None, Result, Ok, Err}
 use Rattle.cast_script.specs.declared.element.Unread.{Unread}
 use Rattle.cast_script.specs.declared.element.Unread.TheVariants.{Shape, Memory}
 
--- a shape is refused where there is no element, and memory may be wanting whatever there is
+-- `Shape` if there is no element; memory may always run out
 abbrev pub Fails : {B : Type 0} → Unread → Option B → Type 0
 Fails Shape element = element ≡ None
 Fails Memory element = Unit {0}

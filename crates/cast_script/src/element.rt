@@ -1,4 +1,4 @@
-//! Elements of a script's lists: how one is read, and how a list of them is.
+//! Elements of a script's lists, and how one or a list of them is read.
 ghost use Rattle.std.specs.Prelude.{◌≡◌, ◌+◌, ◌<◌, ◌^◌, length, map, option_map, Option, OnErr};
 ghost use Rattle.serde_json.specs.Data.{Data};
 ghost use Rattle.serde_json.specs.View.{view};
@@ -15,12 +15,12 @@ use std::alloc::{AllocError, AllocFailed, Global};
 /// Why an element wasn't read.
 #[derive(Clone, Copy, PartialEq, Eq)]
 pub enum Unread {
-    /// It is not of its form.
+    /// It has the wrong form.
     Shape,
     Memory,
 }
 
-/// A slot of what a node gives another.
+/// A slot that a node gives another.
 #[derive(Clone, Copy)]
 pub struct LinkSlot {
     pub from: NodeId,
@@ -44,16 +44,15 @@ impl<T: Drop> From<AllocFailed<T>> for Unread {
     }
 }
 
-/// What stands in a list of a script.
+/// An element of a script's list.
 pub trait Element: Sized {
     ghost element: { Data → Option Self };
 
-    /// The element that the value is.
     fn read(alloc: Global, value: &Value) -> Result<Self, Unread>
         ensures { Gives result (element (view value.now)) };
 }
 
-/// The elements that the values are. A value that is none is named by its place, counted from `first` on.
+/// The elements that the values are. A fault names a bad value by its place, counted from `first`.
 pub fn read_elements<E: Element + Drop>(
     alloc: Global,
     first: u64,

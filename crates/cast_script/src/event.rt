@@ -24,7 +24,7 @@ impl Element for ScriptEvent {
     }
 }
 
-// The event of this name that stands in these places, where it is no order.
+// The event with this name and these places, if it is no order.
 fn other_event(name: &str, places: &[Value]) -> Option<ScriptEvent>
     ensures { result ≡ among other_events name.now (map view places.now) }
 {

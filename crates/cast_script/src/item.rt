@@ -13,7 +13,6 @@ use cast_record::bytes_of;
 use serde_json::Value;
 use std::alloc::Global;
 
-/// The item that stands in these places.
 pub fn item(alloc: Global, places: &[Value]) -> Result<Item, Unread>
     ensures { Gives result (item_of (map view places.now)) }
 {
@@ -35,7 +34,6 @@ fn data(alloc: Global, places: &[Value]) -> Result<Item, Unread>
     data_item(alloc, place.as_str().ok_or(Unread::Shape)?)
 }
 
-/// The item of the bytes that the digits say.
 pub fn data_item(alloc: Global, digits: &str) -> Result<Item, Unread>
     ensures { Gives result (option_map Data (unhex digits.now)) }
 {

@@ -1,4 +1,4 @@
-//! What is proved of the text of a replay. Nothing is computed.
+//! What is proved about the text of a replay. Nothing is computed.
 ghost use Rattle.std.specs.Prelude.{◌^◌, ◌<◌};
 ghost use Rattle.cast_record.specs.Hex.{AreBytes};
 ghost use Rattle.cast_script.specs.Replay.{script_text, item_atoms, SaysReplay, IsReplayIn};
@@ -6,8 +6,8 @@ ghost use Rattle.cast_script.specs.ReplayRanges.{AreAtomsWithin, IsEventWithin, 
 
 use cast_message::{Config, Event, Item, NodeId};
 
-/// Of the script that `write_script` writes for this configuration and these events, `read_script` answers a script with
-/// just these, and with what stands for absent members elsewhere, or want of memory.
+/// `read_script` reads back what `write_script` writes: a script with just this configuration and these events, and
+/// with the defaults of absent members. Otherwise it is out of memory.
 pub fn is_read_back(config: &Config, events: &[Event])
     ensures says { SaysReplay (script_text config.now events.now) config.now events.now }
     ensures law { IsReplayIn (script_text config.now events.now) config.now events.now }

@@ -1,5 +1,5 @@
-//! Scripts: what a group is to be and what is to happen to it, read from JSON. `specs/Script` says which script a value is,
-//! `specs/Element` what each element of its lists stands for.
+//! Scripts, read from JSON: what a group should be, and what should happen to it. `specs/Script` says which script a
+//! value is, `specs/Element` what each element of its lists means.
 #![tactic(auto)]
 
 mod element;

@@ -3,15 +3,15 @@ ghost use Rattle.std.specs.Prelude.{◌≡◌, map, option_map, string_bytes};
 ghost use Rattle.std.specs.List.{list_all};
 ghost use Rattle.std.specs.BTreeMap.{keys};
 ghost use Rattle.serde_json.specs.View.{view};
-ghost use Rattle.cast_script.specs.Members.{is_member, has_known_members, needed, number_else, mode_of, settings_of, list_of};
+ghost use Rattle.cast_script.specs.Members.{is_member, has_known_members, needed, number_else, mode_of, group_of, settings_of, list_of};
 
 use crate::element::places;
-use crate::script::Settings;
-use cast_message::{MOST_ENTRIES, MOST_ITEMS, Mode};
+use crate::script::RunSettings;
+use cast_message::{MOST_ENTRIES, MOST_ITEMS, Mode, Settings};
 use cast_record::mode_named;
 use serde_json::{Map, Value};
 
-/// Whether the value is an object and has no other members than a script's.
+/// Whether the value is an object that has no other members than a script's.
 #[tactic(auto, using(crate::proofs::MemberLemmas::all_known_keys))]
 pub fn has_known_members_only(value: &Value) -> bool
     ensures { result ≡ has_known_members (view value.now) }
@@ -50,8 +50,18 @@ fn is_known(name: &str) -> bool
 
 /// What the members say that aren't lists.
 #[tactic(auto, unfolding(crate::specs::Members::settings_of))]
-pub fn settings(value: &Value) -> Option<Settings>
+pub fn settings(value: &Value) -> Option<RunSettings>
     ensures { result ≡ settings_of (view value.now) }
+{
+    Some(RunSettings {
+        group: group(value)?,
+        turns: number_or(value, "turns", 4_000_000)?,
+    })
+}
+
+#[tactic(auto, unfolding(crate::specs::Members::group_of))]
+fn group(value: &Value) -> Option<Settings>
+    ensures { result ≡ group_of (view value.now) }
 {
     Some(Settings {
         nodes: number(value, "nodes")?,
@@ -61,12 +71,11 @@ pub fn settings(value: &Value) -> Option<Settings>
         log_limit: number_or(value, "log_limit", MOST_ENTRIES)?,
         box_size: number_or(value, "box_size", 64)?,
         first_stamp: number_or(value, "first_stamp", 0)?,
-        turns: number_or(value, "turns", 4_000_000)?,
         mode: mode(value)?,
     })
 }
 
-/// The values in the list of this name, which is empty where it is absent.
+/// The values in the list of this name, or none if it is absent.
 pub fn list<'a>(value: &'a Value, name: &str) -> Option<&'a [Value]>
     ensures { option_map (λ s. map view s.now) result ≡ list_of name.now (view value.now) }
 {

@@ -1,6 +1,6 @@
-//! The plain case of a script, read off its tokens, one event after another, so that the value of the whole text is never
-//! kept: an object of words, numbers, empty lists and one list of events, each of these an array of words and numbers.
-//! What isn't so plain is read as a value by `reading`, which also says what is wrong with it.
+//! The plain case of a script: an object of words, numbers, empty lists and one list of events, each an array of words
+//! and numbers. Its events are read from tokens one by one, so the value of the whole text is never kept. Any other
+//! script is read as a value by `reading`, which also says what is wrong with it.
 ghost use Rattle.std.specs.Prelude.{◌≡◌, ◌∷◌, List as Tokens, Some, Ok, IfOk, IfSome, OnOk, option_map};
 ghost use Rattle.json.specs.Json.{read_key};
 ghost use Rattle.json.specs.Token.{Token as Read, begin_array, end_array, string};
@@ -21,14 +21,14 @@ use json::{Reader, Scratch, Token};
 use serde_json::{Map, Value};
 use std::alloc::Global;
 
-// The members of a script: all but its events, in whose place an empty list stands, and the events.
+// The members of a script. Its events are kept apart, and `others` has an empty list in their place.
 #[derive(Drop)]
 struct Parts {
     others: Value,
     events: List<ScriptEvent>,
 }
 
-/// The script that the bytes say, where it is plain.
+/// The script that the bytes say, if it is plain.
 pub fn read_plain(alloc: Global, bytes: &[u8]) -> Result<Script, Unread>
     ensures { IfOk result (λ script. Reads (Ok script) bytes.now) }
 {
@@ -64,7 +64,7 @@ fn script(alloc: Global, parts: Parts) -> Option<Script>
     })
 }
 
-// The configuration and the turns that the members say, where plan and jobs are empty.
+// The configuration and the turns that the members say, if plan and jobs are empty.
 fn limits(others: &Value) -> Option<(Config, u64)>
     ensures { IfSome result (λ r. SaysPlain (view others.now) (settings_in r.0 r.1)) }
 {
@@ -104,7 +104,7 @@ fn members(alloc: Global, reader: &mut Reader<'_>) -> Result<Parts, Unread>
     })
 }
 
-// A member of this name has the value, which takes the place of the one that it had.
+// Gives the member with this name the value, in place of any earlier one.
 fn set_member(
     alloc: Global,
     name: &str,
@@ -118,7 +118,7 @@ fn set_member(
     Ok(())
 }
 
-// The name of the next member, or none at the end of the object.
+// The name of the next member, or None at the end of the object.
 fn next_name<'a>(reader: &mut Reader<'a>) -> Result<Option<&'a str>, Unread>
     ensures { IfOk result (λ name. read_key reader.old
         ≡ Some (option_map (λ s. s.now) name, reader.new)) }
@@ -169,7 +169,7 @@ fn event(alloc: Global, reader: &mut Reader<'_>) -> Result<ScriptEvent, Unread>
     event_by(alloc, name, reader)
 }
 
-// The event of this name with the cells after it.
+// The event with this name and the cells after it.
 fn event_by(alloc: Global, name: &str, reader: &mut Reader<'_>) -> Result<ScriptEvent, Unread>
     ensures { GivesCells (event_named name.now) reader.old result reader.new }
 {
@@ -206,7 +206,7 @@ fn ack(reader: &mut Reader<'_>) -> Result<ScriptEvent, Unread>
     Ok(ScriptEvent::Core(Event::Ack { from, to, slot }))
 }
 
-// The last cells of an array, which are a link and a slot of it.
+// The last cells of an array: a link and one of its slots.
 fn link_slot(reader: &mut Reader<'_>) -> Result<LinkSlot, Unread>
     ensures { GivesCells link_slot_of reader.old result reader.new }
 {
@@ -248,7 +248,7 @@ fn item(alloc: Global, reader: &mut Reader<'_>) -> Result<Item, Unread>
     item_by(alloc, name, reader)
 }
 
-// The item of this name with the cells after it.
+// The item with this name and the cells after it.
 fn item_by(alloc: Global, name: &str, reader: &mut Reader<'_>) -> Result<Item, Unread>
     ensures { GivesCells (item_named name.now) reader.old result reader.new }
 {
@@ -311,7 +311,8 @@ fn number(reader: &mut Reader<'_>) -> Result<u64, Unread>
     unsigned(text)
 }
 
-// Decimal digits with no zero in front. A number with a sign, a point or an exponent isn't so plain, nor is one past 64 bits.
+// Decimal digits without a leading zero. A number with a sign, a point or an exponent isn't plain, nor is one above 64
+// bits.
 fn unsigned(text: &str) -> Result<u64, Unread>
     ensures { IfOk result (λ number. number_in text.now ≡ Some (unsigned_num number)) }
 {

@@ -7,7 +7,7 @@ ghost use Rattle.cast_script.specs.Script.{Reads, said, settings_in, checked, sc
 use crate::element::{Unread, read_elements};
 use crate::members::{has_known_members_only, list, settings};
 use crate::plain::read_plain;
-use crate::script::{Script, ScriptFault, Settings};
+use crate::script::{RunSettings, Script, ScriptFault};
 use cast_message::{Config, FaultPlan};
 use serde_json::Value;
 use std::alloc::Global;
@@ -61,7 +61,7 @@ fn script_from(alloc: Global, value: &Value) -> Result<Script, ScriptFault>
 #[tactic(auto, unfolding(crate::specs::Script::script_in))]
 fn script_in(
     alloc: Global,
-    settings: &Settings,
+    settings: &RunSettings,
     event_values: &[Value],
     fault_values: &[Value],
     job_values: &[Value],
@@ -88,20 +88,10 @@ fn script_in(
     })
 }
 
-/// The configuration of the settings, where it is within its limits.
-pub fn check(settings: &Settings) -> Result<Config, ScriptFault>
+/// The configuration of the settings, if it is within its limits.
+pub fn check(settings: &RunSettings) -> Result<Config, ScriptFault>
     ensures { TellsBy (λ config. settings_in config settings.now.turns) result
         (checked settings.now) }
 {
-    Config::check(
-        settings.nodes,
-        settings.faults,
-        settings.choices,
-        settings.item_limit,
-        settings.log_limit,
-        settings.box_size,
-        settings.first_stamp,
-        settings.mode,
-    )
-    .map_err(ScriptFault::Config)
+    settings.group.check().map_err(ScriptFault::Config)
 }

@@ -1,4 +1,4 @@
-//! Writing the script of a run: its configuration, and what happened, as core events. `specs/Replay` says what its text is.
+//! Writes the script of a run: its configuration, and what happened, as core events. `specs/Replay` defines its text.
 ghost use Rattle.std.specs.Prelude.{◌≡◌, ◌++◌, ◌∷◌, [], false, map};
 ghost use Rattle.std.specs.List.{join_with_byte};
 ghost use Rattle.cast_message.specs.declared.event.Event.TheVariants.{Order};
@@ -11,7 +11,7 @@ use cast_message::{Config, Event, Item, NodeId};
 use cast_record::{Meter, Written, mode_name, write_bytes, write_hex, write_number};
 use std::io::Write;
 
-/// What stands at a place of an array, or is the value of a member.
+/// What is at a place of an array, or is the value of a member.
 #[derive(Drop)]
 pub enum Cell<'a> {
     Word(&'a [u8]),
@@ -26,8 +26,8 @@ pub struct Member<'a> {
     pub value: Cell<'a>,
 }
 
-/// Writes the script with this configuration, in which these events happen. It takes no memory. A refusal comes only where
-/// the writer failed or took no byte; the meter tells so from then on, and a prefix of the text stands.
+/// Writes the script with this configuration, in which these events happen. It allocates nothing. It fails only if the
+/// writer fails or takes no byte; the meter remembers this, and a prefix of the text remains.
 pub fn write_script<W: Write>(config: &Config, events: &[Event], writer: &mut Meter<W>) -> Written
     requires { writer.old.failed ≡ false }
     ensures { Puts W.contents writer.old writer.new result (script_text config.now events.now) }
@@ -62,7 +62,6 @@ fn write_settings<W: Write>(config: &Config, writer: &mut Meter<W>) -> Written
     )
 }
 
-// The member of this name whose value is the number.
 fn number_member(name: &[u8], value: u64) -> Member<'_>
     ensures { member_in result ≡ (name.now, number value) }
 {
@@ -94,7 +93,7 @@ fn write_member<W: Write>(member: &Member<'_>, writer: &mut Meter<W>) -> Written
     write_bytes(b",", writer)
 }
 
-// Writes the events, each on a line of its own, parted by commas.
+// Writes the events, each on its own line, with commas between them.
 fn write_events<W: Write>(events: &[Event], writer: &mut Meter<W>) -> Written
     requires { writer.old.failed ≡ false }
     ensures { Puts W.contents writer.old writer.new result (events_text events.now) }
@@ -140,7 +139,6 @@ fn write_event<W: Write>(event: &Event, writer: &mut Meter<W>) -> Written
     }
 }
 
-// The number of the node, at a place.
 fn place<'a>(node: NodeId) -> Cell<'a>
     ensures { atom_in result ≡ number node }
 {

@@ -1,18 +1,18 @@
 //! What a script says, and why a text is none.
-use cast_message::{Config, ConfigFault, Event, FaultPlan, Item, List, Mode, NodeId};
+use cast_message::{Config, ConfigFault, Event, FaultPlan, Item, List, NodeId, Settings};
 use thiserror::Error;
 
-/// What a group is to be, and what is to happen to it.
+/// The configuration of a group, and what is to happen to it.
 #[derive(Drop)]
 pub struct Script {
     pub config: Config,
-    /// How many turns an engine may take, and a client's job, where the script is run by threads.
+    /// How many turns an engine may take, and a client's job, in a run in threads or by a seed.
     pub turns: u64,
-    /// What happens, in order, where the script is run step by step.
+    /// What happens, in order, in a run step by step.
     pub events: List<ScriptEvent>,
-    /// What goes wrong, where the script is run by threads.
+    /// What goes wrong in a run in threads or by a seed.
     pub plan: FaultPlan,
-    /// The clients, where the script is run by threads: the node of each, and the items that it orders, in order.
+    /// The clients of a run in threads or by a seed: the node of each, and the items that it orders, in order.
     pub jobs: List<(NodeId, List<Item>)>,
 }
 
@@ -25,9 +25,9 @@ pub enum ScriptEvent {
     Settle,
 }
 
-/// Why a text is no script. The index of a shape is 0 for the value as a whole, else 1 and the place of the first bad
-/// element in the list made of the events, the plan and the jobs. The limits of the configuration are asked for once all
-/// is of its form.
+/// Why a text is no script. The index of a shape is 0 for the value as a whole. Otherwise it is the place of the first bad
+/// element in the list of the events, the plan and the jobs, counted from 1. The limits of the configuration are checked
+/// last.
 #[derive(Clone, Copy, Debug, PartialEq, Eq, Error)]
 pub enum ScriptFault {
     #[error("the text is not JSON")]
@@ -40,16 +40,11 @@ pub enum ScriptFault {
     Memory,
 }
 
-/// What a script says beside its lists, before any limit is asked for.
+/// What a script says besides its lists, before any limit is checked.
 #[derive(Clone, Copy)]
-pub struct Settings {
-    pub nodes: u64,
-    pub faults: u64,
-    pub choices: u64,
-    pub item_limit: u64,
-    pub log_limit: u64,
-    pub box_size: u64,
-    pub first_stamp: u64,
+pub struct RunSettings {
+    /// The values of the configuration.
+    pub group: Settings,
+    /// How many turns an engine may take, and a client's job.
     pub turns: u64,
-    pub mode: Mode,
 }

@@ -21,7 +21,7 @@ pub record DrawingBreaksOff (window : Window) (input old new : Option (List ℕ)
   pub broken : failed ≡ true
   pub front : WroteFront old new (picture_of script window)
 
--- The picture was written, or a fault has its cause, and nothing was written but where the writing broke off.
+-- The picture was written, or a fault has its cause. After a fault nothing was written, unless the writing broke off.
 abbrev pub Draws : Window → Option (List ℕ) → Bool → Option (List ℕ) → Option (List ℕ) → Bool
     → Result (Unit {0}) TextFault → Type 0
 Draws window input read_failed old new failed (Ok done) = WritesDrawing window input old new

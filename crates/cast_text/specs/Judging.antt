@@ -8,7 +8,7 @@ use Rattle.cast_text.specs.declared.fault.TextFault.{TextFault}
 use Rattle.cast_text.specs.declared.fault.TextFault.TheVariants as faults
 use Rattle.cast_text.specs.Text.{input_limit, IsOfInput, WroteFront}
 
--- the verdict is that on the bytes, where they are known
+-- the verdict is that on the bytes, if they are known
 abbrev pub JudgesInput : Option (List ℕ) → Verdict → Type 0
 JudgesInput input said = IfSome input (λ bytes. (length bytes ≤ input_limit) × (said ≡ verdict bytes))
 
@@ -24,7 +24,7 @@ pub record VerdictBreaksOff (input old new : Option (List ℕ)) (failed : Bool) 
   pub broken : failed ≡ true
   pub front : WroteFront old new (verdict_text said ++ 10 ∷ [])
 
--- The line was written, or a fault has its cause, and nothing was written but where the line broke off.
+-- The line was written, or a fault has its cause. After a fault nothing was written, unless the line broke off.
 abbrev pub Judges : Option (List ℕ) → Bool → Option (List ℕ) → Option (List ℕ) → Bool
     → Result Verdict TextFault → Type 0
 Judges input read_failed old new failed (Ok said) = SaysVerdict input old new said

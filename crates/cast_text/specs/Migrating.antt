@@ -6,7 +6,7 @@ use Rattle.cast_text.specs.declared.fault.TextFault.{TextFault}
 use Rattle.cast_text.specs.declared.fault.TextFault.TheVariants as faults
 use Rattle.cast_text.specs.Text.{input_limit, IsOfInput, WroteFront}
 
--- these are the bytes with their head changed, where they are known
+-- these are the bytes with their head changed, if they are known
 abbrev pub IsInputMigrated : Option (List ℕ) → List ℕ → Type 0
 IsInputMigrated input migrated =
     IfSome input (λ bytes. (length bytes ≤ input_limit) × IsMigrated bytes migrated)
@@ -24,7 +24,7 @@ pub record MigratedBreaksOff (input old new : Option (List ℕ)) (failed : Bool)
   pub broken : failed ≡ true
   pub front : WroteFront old new migrated
 
--- The text was written, or a fault has its cause, and nothing was written but where the writing broke off.
+-- The text was written, or a fault has its cause. After a fault nothing was written, unless the writing broke off.
 abbrev pub Migrates : Option (List ℕ) → Bool → Option (List ℕ) → Option (List ℕ) → Bool
     → Result (Unit {0}) TextFault → Type 0
 Migrates input read_failed old new failed (Ok done) = WritesMigrated input old new

@@ -1,4 +1,4 @@
--- What is asked of the making of a page: it fails only where memory is wanted. Of its bytes nothing is said.
+-- How a page may fail: only out of memory. Nothing is said about its bytes.
 use Rattle.std.specs.Prelude.{◌≡◌, ◌++◌, List, Result, Ok, Err, refl}
 use Rattle.cast_text.specs.declared.fault.TextFault.{TextFault}
 use Rattle.cast_text.specs.declared.fault.TextFault.TheVariants.{Memory}

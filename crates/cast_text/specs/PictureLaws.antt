@@ -1,4 +1,4 @@
--- The picture comes together as the script is played: what is seen is drawn.
+-- The picture grows as the script is played: what is seen is drawn.
 use Rattle.std.proofs.Common.{◌≡◌, List, [], ◌∷◌, ◌++◌, Result, Ok, Err, refl, sym, ap, ◌∙◌}
 use Rattle.cast_draw.specs.declared.picture.Picture.{Picture}
 use Rattle.cast_draw.specs.Sheet.{Sheet, sheet_of}

@@ -1,4 +1,4 @@
--- The picture of a script: that of what is taken as it is played.
+-- The picture of a script: the picture of what is taken as it is played.
 --     picture_of script window    the text of the whole
 use Rattle.std.specs.Prelude.{◌≡◌, ℕ, List, [], ◌∷◌, Result, Ok, Err}
 use Rattle.cast_draw.specs.declared.picture.Picture.{Picture}
@@ -26,7 +26,7 @@ sheet_of_script script window = drawn (blank script.config window) (played scrip
 abbrev pub picture_of : Script → Window → List ℕ
 picture_of script window = picture_text (sheet_of_script script window)
 
--- The picture shows this too, or memory was wanted.
+-- The picture shows this too, or memory ran out.
 abbrev pub Shows : Picture → Picture → Result (Unit {0}) TextFault → List Played → Type 0
 Shows old new (Ok done) more = sheet_of new ≡ drawn (sheet_of old) more
 Shows old new (Err fault) more = fault ≡ faults.Memory

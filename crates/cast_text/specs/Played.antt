@@ -1,7 +1,7 @@
--- What is taken as a script is played, in its order: its events, and those of its settles.
---     tried config index past events    what these events leave, up to the first that is refused
---     settled config index past         what a settle leaves: two rounds, the second planned after the first
---     played script                     all that is taken
+-- What is taken as a script is played, in order: its events, and those of its settles.
+--     tried config index past events    the result of these events, up to the first that is refused
+--     settled config index past         the result of a settle: two rounds, the second planned after the first
+--     played script                     everything that is taken
 use Rattle.std.specs.Prelude.{◌≡◌, ℕ, ◌+◌, Bool, true, false, not, is_some, is_ok, ◌⊎◌, if◌then◌else◌, List, [], ◌∷◌, ◌++◌, Option, Some, None, Result, Ok, Err}
 use Rattle.cast_message.specs.declared.config.Config.{Config}
 use Rattle.cast_message.specs.declared.event.Event.{Event}
@@ -24,7 +24,7 @@ pub data Played : Type 0 where
   SettleBegun : Played
   SettleEnded : (index : ℕ) → Played
 
--- What some events leave: what was taken, what has happened after them, and whether one of them was refused.
+-- The result of some events: what was taken, what has happened after them, and whether one of them was refused.
 pub record Left : Type 0 where
   pub took : List Played
   pub past : History
@@ -41,7 +41,7 @@ tried config index past (event ∷ events) =
     tried_by (fault config past event) (Taken index event (reply config past event)) past
     (tried config index (event ∷ past) events)
 
--- what one event leaves
+-- the result of one event
 abbrev pub one_left : Config → ℕ → History → Event → Left
 one_left config index past event =
     record {
@@ -50,7 +50,7 @@ one_left config index past event =
       stopped = is_some (fault config past event);
     }
 
--- what one round leaves
+-- the result of one round
 abbrev pub round_left : Config → ℕ → History → Left
 round_left config index past = tried config index past (plan config past)
 
@@ -65,7 +65,7 @@ settled config index past =
     then round_left config index past
     else joined (round_left config index past) (round_left config index (round_left config index past).past)
 
--- what the event of a script leaves that has this index
+-- the result of the script's event with this index
 abbrev pub left_by : Config → ℕ → History → ScriptEvent → Left
 left_by config index past (Core event) = one_left config index past event
 left_by config index past Settle =
@@ -84,11 +84,11 @@ played_from config index past (event ∷ events) =
 abbrev pub played : Script → List Played
 played script = played_from script.config 0 [] script.events
 
--- what came of showing these to an observer: its states before and after, and whether it failed
+-- how these were shown to an observer: its states before and after, and whether it failed
 abbrev pub Seeing : Type 0 → Type 1
 Seeing O = O → O → Result (Unit {0}) TextFault → List Played → Type 0
 
--- What an observer sees comes to the end of what it saw, and after a failure nothing is seen. Memory may be wanted at any time.
+-- What an observer sees is appended to what it saw; after a failure it sees nothing. Memory may run out at any time.
 pub record Observes {O : Type 0} (saw : Seeing O) (ready : O → Type 0) : Type 0 where
   pub none : (o : O) → ready o → saw o o (Ok tt) []
   pub more : (o p q : O) (result : Result (Unit {0}) TextFault) (first rest : List Played)
@@ -97,25 +97,27 @@ pub record Observes {O : Type 0} (saw : Seeing O) (ready : O → Type 0) : Type 
       → saw o p (Err why) (first ++ rest)
   pub wants : (o : O) (whole : List Played) → ready o → saw o o (Err Memory) whole
 
--- a send, an acknowledgement, or an arrival that delivers and decides nothing, which is accepted, is nothing to it
+-- it ignores an accepted silent event: a send, an acknowledgement, or an arrival that delivers and decides nothing
 abbrev pub Overlooks : {O : Type 0} → Seeing O → (O → Type 0) → O → Type 0
 Overlooks saw ready o =
     (index : ℕ) (event : Event) (answer : Answer) → ready o → IsSilent (Ok answer)
     → saw o o (Ok tt) (Taken index event (Ok answer) ∷ [])
 
--- Some events were taken, up to the first that is refused, and an observer saw them: whether none was, and what they left.
+-- Some events were taken, up to the first that is refused, and an observer saw them. It is known whether all were
+-- accepted, and their result.
 abbrev pub Plays : {O : Type 0} → Seeing O → Config → Left → State → O → O → Result Bool TextFault → Type 0
 Plays saw config left world old new (Ok all) =
     (all ≡ not left.stopped) × Stands config left.past world × saw old new (Ok tt) left.took
 Plays saw config left world old new (Err fault) = saw old new (Err fault) left.took
 
--- the same of what a script's event leaves
+-- the same for the result of a script's event
 abbrev pub PlaysAll : {O : Type 0} → Seeing O → Config → Left → State → O → O
     → Result (Unit {0}) TextFault → Type 0
 PlaysAll saw config left world old new (Ok done) = Stands config left.past world × saw old new (Ok tt) left.took
 PlaysAll saw config left world old new (Err fault) = saw old new (Err fault) left.took
 
--- An event was taken with this reply, and an observer saw it, unless memory was wanted: whether it was accepted.
+-- An event was taken with this reply, and an observer saw it, unless memory ran out. It is known whether it was
+-- accepted.
 abbrev pub ShowsReply : {O : Type 0} → Seeing O → ℕ → Event → Result Answer StepFault → O → O
     → Result Bool TextFault → Type 0
 ShowsReply saw index event reply old new (Ok accepted) =

@@ -1,4 +1,4 @@
--- The ranges of the numbers and bytes that a script holds, which its types keep.
+-- The ranges of a script's numbers and bytes, which its types guarantee.
 use Rattle.std.specs.Prelude.{◌^◌, ◌<◌, List}
 use Rattle.std.specs.List.{All}
 use Rattle.cast_message.specs.declared.event.Event.{Event}

@@ -1,4 +1,4 @@
--- A writer observes: the lines of what is seen are written one after another, until the writing breaks off.
+-- A writer observes: the lines of what it sees are written one after another, until the writing breaks off.
 use Rattle.std.proofs.Common.{◌≡◌, ℕ, List, [], ◌∷◌, ◌++◌, Bool, false, Option, Result, Ok, Err, sym, ap, ◌∙◌, subst, append_assoc, refl}
 use Rattle.std.proofs.KnownBytes.{Appends-nil, Appends-trans}
 use Rattle.cast_record.specs.Text.{record_text}

@@ -6,7 +6,7 @@ use Rattle.cast_record.specs.Lines.{head_of, lines_for}
 use Rattle.cast_script.specs.declared.script.Script.{Script}
 use Rattle.cast_text.specs.Played.{Played, Taken, played}
 
--- where a settle begins and ends no line says
+-- no line says where a settle begins and ends
 abbrev pub lines_at : Played → List Line
 lines_at (Taken index event reply) = lines_for index event reply
 lines_at _ = []

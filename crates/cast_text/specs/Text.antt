@@ -19,19 +19,19 @@ use Rattle.cast_text.specs.Recorded.{record_of, unended_of}
 abbrev pub input_limit : ℕ
 input_limit = 67108864
 
--- of a group that is not run want of memory is told as such
+-- for a group that is not run, out of memory is reported as `Memory`
 abbrev pub fault_of_live : LiveFault → TextFault
 fault_of_live lives.Memory = faults.Memory
 fault_of_live why = faults.Live why
 
--- the known bytes grew by a front of the text
+-- the known bytes grew by a prefix of the text
 pub record WroteFront (old new : Option (List ℕ)) (text : List ℕ) : Type 0 where
   pub front : List ℕ
   pub rest : List ℕ
   pub parts : text ≡ front ++ rest
   pub appends : Appends old new front
 
--- A text broke off: the writer failed, or memory was wanted and the writer did not fail.
+-- A text broke off: the writer failed, or memory ran out and the writer did not fail.
 abbrev pub BreaksOff : TextFault → Option (List ℕ) → Option (List ℕ) → Bool → List ℕ → Type 0
 BreaksOff faults.Write old new failed text = (failed ≡ true) × WroteFront old new text
 BreaksOff faults.Memory old new failed text = (failed ≡ false) × WroteFront old new text
@@ -42,12 +42,12 @@ abbrev pub Writes : Option (List ℕ) → Option (List ℕ) → Bool → Result 
 Writes old new failed (Ok done) text = WroteAll old new failed text
 Writes old new failed (Err broken) text = BreaksOff broken old new failed text
 
--- the same of a meter before and after a call, by what its writer contains
+-- the same for a meter before and after a call, given what its writer contains
 abbrev pub Puts : {W : Type 0} → (W → Option (List ℕ)) → Meter W → Meter W → Result (Unit {0}) TextFault
     → List ℕ → Type 0
 Puts contents old new result text = Writes (contents old.inner) (contents new.inner) new.failed result text
 
--- the script is what the bytes say, where they are known
+-- the script is what the bytes say, if they are known
 abbrev pub IsScriptIn : Option (List ℕ) → Script → Type 0
 IsScriptIn input script = IfSome input (λ bytes. (length bytes ≤ input_limit) × Reads (Ok script) bytes)
 
@@ -58,7 +58,7 @@ pub record WritesRecord (input old new : Option (List ℕ)) : Type 0 where
   pub good : verdict (record_text (record_of script)) ≡ Good
   pub appends : Appends old new (record_text (record_of script))
 
--- where memory was wanted, the last line of the record was not begun
+-- if memory ran out, the last line of the record was not begun
 abbrev pub StopsBeforeEnd : TextFault → Option (List ℕ) → Option (List ℕ) → Script → Type 0
 StopsBeforeEnd broken old new script =
     broken ≡ faults.Memory → WroteFront old new (record_text (unended_of script))
@@ -70,20 +70,20 @@ pub record RecordBreaksOff (broken : TextFault) (input old new : Option (List �
   pub breaks : BreaksOff broken old new failed (record_text (record_of script))
   pub before_end : StopsBeforeEnd broken old new script
 
--- the faults of reading an input, each with its cause; where it is empty memory is never wanted
+-- the faults of reading an input, each with its cause; an empty input never runs out of memory
 abbrev pub IsOfInput : Option (List ℕ) → Bool → TextFault → Type 0
 IsOfInput input read_failed faults.Read = read_failed ≡ true
 IsOfInput input read_failed faults.TooLong = IfSome input (λ bytes. input_limit < length bytes)
 IsOfInput input read_failed faults.Memory = IfSome input (λ bytes. 0 < length bytes)
 IsOfInput input read_failed fault = ⊥
 
--- the same of reading a script
+-- the same for reading a script
 abbrev pub IsOfScript : Option (List ℕ) → Bool → TextFault → Type 0
 IsOfScript input read_failed (faults.Script fault) =
     IfSome input (λ bytes. (length bytes ≤ input_limit) × Reads (Err fault) bytes)
 IsOfScript input read_failed fault = IsOfInput input read_failed fault
 
--- The record was written, or a fault has its cause, and nothing was written but where the record broke off.
+-- The record was written, or a fault has its cause. After a fault nothing was written, unless the record broke off.
 abbrev pub Records : Option (List ℕ) → Bool → Option (List ℕ) → Option (List ℕ) → Bool
     → Result (Unit {0}) TextFault → Type 0
 Records input read_failed old new failed (Ok done) = WritesRecord input old new
@@ -93,7 +93,7 @@ Records input read_failed old new failed (Err faults.Memory) =
     ⊎ RecordBreaksOff faults.Memory input old new failed
 Records input read_failed old new failed (Err fault) = IsOfScript input read_failed fault × Keeps old new
 
--- What failed is told, and nothing else is: a fault names the stream that failed, and no other did; want of memory is `Memory` alone.
+-- A fault names the stream that failed, and no other stream failed. Out of memory is `Memory` alone.
 abbrev pub Tells : {T : Type 0} → Result T TextFault → Bool → Bool → Type 0
 Tells (Ok done) read_failed write_failed = (read_failed ≡ false) × (write_failed ≡ false)
 Tells (Err faults.Read) read_failed write_failed = (read_failed ≡ true) × (write_failed ≡ false)
@@ -102,11 +102,11 @@ Tells (Err (faults.Script scripts.Memory)) read_failed write_failed = ⊥
 Tells (Err (faults.Live lives.Memory)) read_failed write_failed = ⊥
 Tells (Err fault) read_failed write_failed = (read_failed ≡ false) × (write_failed ≡ false)
 
--- of the reader's bytes no more were taken than tell that there are too many
+-- no more of the reader's bytes were taken than show that there are too many
 abbrev pub TakesInput : Option (List ℕ) → Option (List ℕ) → Type 0
 TakesInput old new = (bytes : List ℕ) × Consumes old new bytes × (length bytes ≤ input_limit + 1)
 
--- both, of a call that has a writer too
+-- both, for a call that also has a writer
 abbrev pub UsesStreams : {R T : Type 0} → (R → Option (List ℕ)) → Meter R → Meter R → Bool
     → Result T TextFault → Type 0
 UsesStreams remaining old new write_failed result =

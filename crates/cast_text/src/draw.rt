@@ -1,4 +1,4 @@
-//! Drawing the run of a script, as the world takes its events.
+//! Draws the run of a script while the world takes its events.
 ghost use Rattle.std.specs.Prelude.{◌≡◌, false, IfErr, IfOk};
 ghost use Rattle.cast_draw.specs.Sheet.{sheet_of};
 ghost use Rattle.cast_text.specs.Pictured.{sheet_of_script};
@@ -16,8 +16,8 @@ use cast_world::World;
 use std::alloc::Global;
 use std::io::{Read, Write};
 
-/// Reads a script to its end, and writes the picture of its events, of which those of the window are drawn. Nothing is written
-/// before all events were taken: after `Write` a prefix of the picture stands, or nothing, after any other fault nothing.
+/// Reads a script to its end, and writes the picture of the events in the window. It writes only after all events were
+/// taken. After `Write` only a prefix was written; after any other fault nothing.
 pub fn draw_text<R: Read, W: Write>(
     alloc: Global,
     window: Window,
@@ -28,7 +28,7 @@ pub fn draw_text<R: Read, W: Write>(
     // The writer has the picture of the script that was read, and nothing else, or a fault has its cause.
     ensures exact { Draws window (R.remaining reader.old.inner) reader.new.failed
         (W.contents writer.old.inner) (W.contents writer.new.inner) writer.new.failed result }
-    // What failed is told, and nothing else is; no more is read than tells that there is too much.
+    // Exactly what failed is reported. At most one byte past the limit is read.
     ensures streams { UsesStreams R.remaining reader.old reader.new writer.new.failed result }
 {
     let script = read_script_text(alloc, reader)?;
@@ -38,7 +38,6 @@ pub fn draw_text<R: Read, W: Write>(
     Ok(())
 }
 
-// The picture of all events of the script.
 fn draw_script(alloc: Global, script: &Script, window: Window) -> Result<Picture, TextFault>
     ensures ok { IfOk result (λ picture. sheet_of picture ≡ sheet_of_script script.now window) }
     ensures err { IfErr result (λ fault. fault ≡ TextFault.Memory) }
@@ -49,7 +48,7 @@ fn draw_script(alloc: Global, script: &Script, window: Window) -> Result<Picture
     Ok(picture)
 }
 
-// What is taken is drawn.
+// It draws what it sees.
 impl Observer for Picture {
     ghost use Rattle.cast_text.specs.Pictured.{Shows};
     ghost use Rattle.cast_text.specs.PictureLaws.{observes};

@@ -7,25 +7,24 @@ use thiserror::Error;
 /// Why a text was not read or written.
 #[derive(Clone, Copy, Debug, PartialEq, Eq, Error)]
 pub enum TextFault {
-    /// The reader failed.
     #[error("the input could not be read")]
     Read,
     /// The input has more than 67,108,864 bytes.
     #[error("the input is too long")]
     TooLong,
-    /// The input is no script. Want of memory while it is read is `Memory`.
+    /// The input is no script. Out of memory during the reading is `Memory`.
     #[error("the input is no script: {0}")]
     Script(ScriptFault),
-    /// The group of the script does not run. Want of memory while it runs is `Memory`.
+    /// The group of the script does not run. Out of memory during the run is `Memory`.
     #[error("the group does not run: {0}")]
     Live(LiveFault),
     /// The writer failed, or took no byte.
     #[error("the output could not be written")]
     Write,
-    /// A growth was refused.
+    /// Out of memory.
     #[error("out of memory")]
     Memory,
-    /// The input does not begin with a head `cast/1`.
+    /// The input does not begin with a `cast/1` head.
     #[error("the input is no record cast/1")]
     NotV1,
 }

@@ -1,4 +1,4 @@
-//! Reading an input to its end, or to the byte past its limit.
+//! Reads an input to its end, or to the byte past its limit.
 ghost use Rattle.std.specs.Prelude.{◌≡◌, ◌≤◌, length, false, IfOk, IfSome, IfErr};
 ghost use Rattle.cast_text.specs.Text.{IsOfInput, TakesInput, Tells};
 
@@ -10,11 +10,10 @@ use std::io::Read;
 /// The most bytes of an input.
 pub const INPUT_LIMIT: usize = 67_108_864;
 
-/// How many bytes of an input are asked for at once.
+/// The number of bytes asked for at once.
 pub const PIECE: usize = 65_536;
 
-/// All that the reader has left. No byte is asked for past the one that tells that there are too many, and memory is wanted
-/// only once a byte was read.
+/// All that the reader has left. It reads at most one byte past the limit, and allocates only after it has read a byte.
 pub fn read_input<R: Read>(alloc: Global, reader: &mut Meter<R>) -> Result<Vec<u8>, TextFault>
     requires { reader.old.failed ≡ false }
     ensures whole { IfOk result

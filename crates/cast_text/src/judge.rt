@@ -1,4 +1,4 @@
-//! Judging the text of a record as it is read.
+//! Judges the text of a record as it is read.
 ghost use Rattle.std.specs.Prelude.{◌≡◌, false, IfOk, IfErr};
 ghost use Rattle.cast_text.specs.Judging.{JudgesInput, Judges};
 ghost use Rattle.cast_text.specs.Text.{IsOfInput, TakesInput, Tells, UsesStreams};
@@ -10,9 +10,8 @@ use cast_record::{Meter, write_verdict};
 use std::alloc::Global;
 use std::io::{Read, Write};
 
-/// Reads a text to its end, judges it as a record, and writes the verdict as a line. Of the text are kept the items that were
-/// broadcast, and an unfinished line. After `Write` a prefix of the line was written, or nothing, and after any other fault
-/// nothing.
+/// Reads a text to its end, judges it as a record, and writes the verdict as a line. It keeps the broadcast items, and
+/// an unfinished line. After `Write` only a prefix was written; after any other fault nothing.
 pub fn judge_text<R: Read, W: Write>(
     alloc: Global,
     reader: &mut Meter<R>,
@@ -22,7 +21,7 @@ pub fn judge_text<R: Read, W: Write>(
     // The verdict is that on the bytes, and the writer has its line and nothing else, or a fault has its cause.
     ensures exact { Judges (R.remaining reader.old.inner) reader.new.failed
         (W.contents writer.old.inner) (W.contents writer.new.inner) writer.new.failed result }
-    // What failed is told, and nothing else is; no more is read than tells that there is too much.
+    // Exactly what failed is reported. At most one byte past the limit is read.
     ensures streams { UsesStreams R.remaining reader.old reader.new writer.new.failed result }
 {
     let verdict = judge_input(alloc, reader)?;
@@ -30,7 +29,7 @@ pub fn judge_text<R: Read, W: Write>(
     Ok(verdict)
 }
 
-// The verdict on all that the reader has left. No byte is asked for past the one that tells that there are too many.
+// The verdict on all that the reader has left. It reads at most one byte past the limit.
 fn judge_input<R: Read>(alloc: Global, reader: &mut Meter<R>) -> Result<Verdict, TextFault>
     requires { reader.old.failed ≡ false }
     ensures ok { IfOk result (JudgesInput (R.remaining reader.old.inner)) }

@@ -1,4 +1,4 @@
-//! Giving the text of an old record the new head.
+//! Gives the text of an old record the new head.
 ghost use Rattle.std.specs.Prelude.{◌≡◌, false};
 ghost use Rattle.cast_text.specs.Migrating.{Migrates};
 ghost use Rattle.cast_text.specs.Text.{UsesStreams};
@@ -9,8 +9,8 @@ use cast_record::{Meter, MigrateFault, migrate, write_bytes};
 use std::alloc::Global;
 use std::io::{Read, Write};
 
-/// Reads a record `cast/1` to its end, and writes it with the head of `cast/2`. After `Write` a prefix of the text was written,
-/// or nothing, and after any other fault nothing.
+/// Reads a `cast/1` record to its end, and writes it with a `cast/2` head. After `Write` only a prefix was written;
+/// after any other fault nothing.
 pub fn migrate_text<R: Read, W: Write>(
     alloc: Global,
     reader: &mut Meter<R>,
@@ -20,7 +20,7 @@ pub fn migrate_text<R: Read, W: Write>(
     // The writer has the bytes with their head changed, and nothing else, or a fault has its cause.
     ensures exact { Migrates (R.remaining reader.old.inner) reader.new.failed
         (W.contents writer.old.inner) (W.contents writer.new.inner) writer.new.failed result }
-    // What failed is told, and nothing else is; no more is read than tells that there is too much.
+    // Exactly what failed is reported. At most one byte past the limit is read.
     ensures streams { UsesStreams R.remaining reader.old reader.new writer.new.failed result }
 {
     let input = read_input(alloc, reader)?;

@@ -1,5 +1,5 @@
-//! A page that steps through the run of a script: its picture, the steps as lines of words, and a program of the browser that
-//! shows what each step does.
+//! A page that steps through the run of a script. It has the script's picture, the steps as lines of words, and a
+//! browser program that shows what each step does.
 ghost use Rattle.std.specs.Prelude.{◌≡◌, true, false, IfErr, OnErr, OnOk};
 ghost use Rattle.cast_text.specs.Text.{UsesStreams};
 
@@ -16,9 +16,9 @@ use cast_world::World;
 use std::alloc::Global;
 use std::io::{Read, Write};
 
-/// Reads a script to its end, and writes one HTML page, which holds the picture of the events of the window and steps through
-/// them. Nothing is written before all events were taken: after `Write` a prefix of the page stands, or nothing, after any
-/// other fault nothing.
+/// Reads a script to its end, and writes one HTML page, which has the picture of the events in the window and steps
+/// through them. It writes only after all events were taken. After `Write` only a prefix was written; after any other
+/// fault nothing.
 pub fn page_text<R: Read, W: Write>(
     alloc: Global,
     window: Window,
@@ -26,7 +26,7 @@ pub fn page_text<R: Read, W: Write>(
     writer: &mut Meter<W>,
 ) -> Result<(), TextFault>
     requires { (reader.old.failed ≡ false) × (writer.old.failed ≡ false) }
-    // What failed is told, and nothing else is; no more is read than tells that there is too much.
+    // Exactly what failed is reported. At most one byte past the limit is read.
     ensures streams { UsesStreams R.remaining reader.old reader.new writer.new.failed result }
 {
     let script = read_script_text(alloc, reader)?;
@@ -37,7 +37,7 @@ pub fn page_text<R: Read, W: Write>(
     Ok(())
 }
 
-// The picture and the steps of a run as they grow.
+// The picture and the steps of a run while they grow.
 #[derive(Drop)]
 struct Page {
     picture: Picture,
@@ -53,7 +53,7 @@ fn play_page(alloc: Global, script: &Script, window: Window) -> Result<Page, Tex
         steps: Steps::new(alloc, &script.config, window)?,
     };
     play(&mut world, script, &mut page)?;
-    // (where no event is shown, the page shows how the run ends)
+    // (if the window has no event, the page shows how the run ends)
     page.steps.begin()?;
     Ok(page)
 }
@@ -70,7 +70,7 @@ fn write_page<W: Write>(drawing: &Drawing, steps: &[u8], writer: &mut Meter<W>) 
     write_bytes(AFTER_STEPS, writer)
 }
 
-// What is taken is drawn, and is a step.
+// What it sees is drawn, and is a step.
 impl Observer for Page {
     ghost use Rattle.cast_text.specs.Paged.{FailsByMemory, observes};
 

@@ -55,20 +55,15 @@ pub const AFTER_STEPS: &[u8] = br##"</script>
 <script>
 "use strict";
 const COLOURS = ["#0072b2", "#d55e00", "#009e73", "#cc79a7", "#e69f00", "#56b4e9", "#7a5195", "#6b6b00"];
-const REFUSALS = [
-  "", "there is no such node", "a node has no link to itself", "the node has crashed", "its stream is closed",
-  "the payload is too long", "the node proposed in this instance before", "the stream is full",
-  "that slot was not given", "that slot was acknowledged", "that slot was not taken", "there is no such frame",
-  "the node can make no more frames", "out of memory",
-];
 const MOST_LETTERS = 40;
 const find = (id) => document.getElementById(id);
 const svg = document.querySelector("#picture svg");
 
 // ---- what the lines say
 
-// The group before the first step, and each step with what it changes.
+// The group before the first step, each step with what it changes, and by its code what a refusal means.
 const group = [];
+const refusals = [];
 const steps = [{ deliveries: [], decisions: [] }];
 
 const READERS = {
@@ -101,7 +96,7 @@ function readStep(words) {
     index, x: Number(x), kind, places: rest.slice(0, sign),
     isRefused: rest[sign] === "!", reply: Number(rest[sign + 1]), deliveries: [], decisions: [],
   };
-  step.node = kind === "a" ? (step.isRefused ? undefined : step.reply) : Number(step.places[0]);
+  step.node = kind === "arrive" ? (step.isRefused ? undefined : step.reply) : Number(step.places[0]);
   steps.push(step);
 }
 
@@ -112,6 +107,7 @@ function readLines(text) {
     if (kind === "e") readStep(words);
     else if (kind === "w") readOwed(words.slice(1).map(Number), owed, Number(words[0]));
     else if (kind === "v") READERS.v(Number(words[0]), words[1], words[2]);
+    else if (kind === "r") refusals[Number(words[0])] = words.slice(1).join(" ");
     else if (READERS[kind]) READERS[kind](...words.map(Number));
   }
 }
@@ -145,37 +141,37 @@ function shownItem(word) {
 }
 
 const TRIED = {
-  o: (step, [node, item]) => `node ${node} would broadcast ${shownItem(item)}`,
-  s: (step, [node, to, slot]) => `node ${node} would send slot ${slot} to node ${to}`,
-  k: (step, [node, to, slot]) => `node ${node} would acknowledge slot ${slot} to node ${to}`,
-  a: (step, [node, seq]) => `frame ${seq} of node ${node} would arrive`,
-  x: (step, [node]) => `node ${node} would crash`,
+  order: (step, [node, item]) => `node ${node} would broadcast ${shownItem(item)}`,
+  send: (step, [node, to, slot]) => `node ${node} would send slot ${slot} to node ${to}`,
+  ack: (step, [node, to, slot]) => `node ${node} would acknowledge slot ${slot} to node ${to}`,
+  arrive: (step, [node, seq]) => `frame ${seq} of node ${node} would arrive`,
+  crash: (step, [node]) => `node ${node} would crash`,
 };
 
 const DONE = {
-  o: (step, [node, item]) => `node ${node} broadcasts ${node}.${step.reply}, ${shownItem(item)}`,
-  s(step, [node, to, slot]) {
+  order: (step, [node, item]) => `node ${node} broadcasts ${node}.${step.reply}, ${shownItem(item)}`,
+  send(step, [node, to, slot]) {
     const message = frames.get(`${node} ${step.reply}`)?.message;
     return `node ${node} sends ${message ?? "a message"} to node ${to} (frame ${step.reply}, slot ${slot})`;
   },
-  k: (step, [node, to, slot]) => `node ${node} acknowledges slot ${slot} to node ${to} (frame ${step.reply})`,
-  a(step, [node, seq]) {
+  ack: (step, [node, to, slot]) => `node ${node} acknowledges slot ${slot} to node ${to} (frame ${step.reply})`,
+  arrive(step, [node, seq]) {
     const frame = frames.get(`${node} ${seq}`);
     const cargo = frame?.message ?? `the acknowledgement of slot ${frame?.slot}`;
     return `${cargo} from node ${node} arrives at node ${step.reply} (frame ${seq})`;
   },
-  x: (step, [node]) => `node ${node} crashes`,
+  crash: (step, [node]) => `node ${node} crashes`,
 };
 
 function carriesMessage(step) {
-  return step.kind === "a" && frames.get(step.places.join(" "))?.message !== undefined;
+  return step.kind === "arrive" && frames.get(step.places.join(" "))?.message !== undefined;
 }
 
 function wordsOf(step) {
   if (!step.kind) return "Before the first event.";
   const event = `Event ${step.index}${settles.has(step.index) ? " (settle)" : ""}: `;
   if (step.isRefused) {
-    return `${event}${TRIED[step.kind](step, step.places)}; refused with code ${step.reply}: ${REFUSALS[step.reply]}.`;
+    return `${event}${TRIED[step.kind](step, step.places)}; refused with code ${step.reply}: ${refusals[step.reply]}.`;
   }
   const parts = [DONE[step.kind](step, step.places)];
   const delivered = step.deliveries.map(([, sender, number]) => `${sender}.${number}`);
@@ -196,14 +192,14 @@ function stepOn(step) {
   for (const [node, sender] of step.deliveries) group[node].delivered[sender] += 1;
   for (const [node, decision] of step.decisions) group[node].decided.push(decision);
   if (step.owed) group[step.owed.node].owed = step.owed.row;
-  if (step.kind === "x" && !step.isRefused) group[step.node].isLive = false;
+  if (step.kind === "crash" && !step.isRefused) group[step.node].isLive = false;
 }
 
 function stepBack(step) {
   for (const [node, sender] of step.deliveries) group[node].delivered[sender] -= 1;
   for (const [node] of step.decisions) group[node].decided.pop();
   if (step.owed) group[step.owed.node].owed = step.owed.before;
-  if (step.kind === "x" && !step.isRefused) group[step.node].isLive = true;
+  if (step.kind === "crash" && !step.isRefused) group[step.node].isLive = true;
 }
 
 function go(wanted) {

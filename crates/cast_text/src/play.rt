@@ -1,4 +1,4 @@
-//! Playing a script: its events are taken one by one, of a settle those of two rounds, and an observer is shown each.
+//! Plays a script: takes its events one by one, and two rounds for a settle, and shows each event to an observer.
 ghost use Rattle.std.specs.Prelude.{List, [], ◌∷◌, Result, Ok, OnOk, IsTrue};
 ghost use Rattle.cast_world.specs.Group.{Stands, StandingFor};
 ghost use Rattle.cast_world.specs.Plans.{events_from};
@@ -10,45 +10,45 @@ use cast_message::{Event, Reply};
 use cast_script::{Script, ScriptEvent};
 use cast_world::{DueSlot, World, is_want_of_memory};
 
-/// Is shown what is taken as a script is played. `saw` says what came of calls from one state of it to another: what they
-/// showed, in order, and whether one failed. By the laws of `Observes` what is shown comes to the end of what was, and after a
-/// failure nothing is; so `play` promises of any observer that it was shown all that the script plays, unless it failed or
-/// memory was wanting.
+/// Sees what is taken as a script is played. `saw` describes calls that led from one of its states to another: what
+/// they showed, in order, and whether one failed. By the laws of `Observes`, what is shown is appended to what was
+/// shown before, and a failed observer sees nothing more. So `play` promises for every observer that it saw everything
+/// played, unless it failed or memory ran out.
 pub trait Observer {
-    /// What came of calls that showed this.
+    /// The outcome of calls that showed this.
     ghost saw: { Self → Self → Result (Unit {0}) AnyFault → List Played → Type 0 };
 
-    /// It has not failed, and can be shown more.
+    /// It has not failed, and can see more.
     ghost ready: { Self → Type 0 };
 
-    /// An event was taken, and this is the reply to it.
+    /// An event was taken, with this reply.
     fn see_event(&mut self, index: u64, event: &Event, reply: &Reply) -> Result<(), TextFault>
         requires { ready self.old }
         ensures ready { OnOk result (ready self.new) }
         ensures saw { saw self.old self.new result (Taken index event.now reply.now ∷ []) };
 
-    /// The events from here on are those of a settle.
+    /// The next events are those of a settle.
     fn see_settle_begin(&mut self)
         requires { ready self.old }
         ensures ready { ready self.new }
         ensures saw { saw self.old self.new (Ok tt) (SettleBegun ∷ []) };
 
-    /// The settle is over, which has this place in the script.
+    /// The settle in this place of the script is over.
     fn see_settle_end(&mut self, index: u64) -> Result<(), TextFault>
         requires { ready self.old }
         ensures ready { OnOk result (ready self.new) }
         ensures saw { saw self.old self.new result (SettleEnded index ∷ []) };
 
-    /// Whether it need not be shown a send, an acknowledgement, or an arrival at which nothing is delivered or decided, that is
-    /// accepted.
+    /// Whether it need not see accepted silent events: sends, acknowledgements, and arrivals that deliver and decide
+    /// nothing.
     fn overlooks_silence(&self) -> bool
         ensures { IsTrue result → Overlooks saw ready self.now };
 
     ghost laws: { Observes saw ready };
 }
 
-/// Plays the events of a script in a new world of its group, and shows them to an observer. Where memory is wanting, or the
-/// observer fails, the rest is not taken.
+/// Plays the events of a script in a new world of its group, and shows them to an observer. It stops if memory runs out
+/// or the observer fails.
 pub fn play<O: Observer>(
     world: &mut World,
     script: &Script,
@@ -89,7 +89,7 @@ fn play_script_event<O: Observer>(
     }
 }
 
-// Plays two rounds, or one of which an event was refused.
+// Plays two rounds, or one in which an event was refused.
 fn play_rounds<O: Observer>(
     world: &mut World,
     index: u64,
@@ -106,7 +106,7 @@ fn play_rounds<O: Observer>(
     Ok(())
 }
 
-// Plays one round, slot by slot of those that are due when it begins. Answers whether no event was refused.
+// Plays one round, slot by slot of those that are due at its beginning. Returns whether no event was refused.
 fn play_round<O: Observer>(
     world: &mut World,
     index: u64,
@@ -126,7 +126,7 @@ fn play_round<O: Observer>(
     Ok(true)
 }
 
-// Plays the four events that settle a slot, up to the first that is refused. Answers whether none was refused.
+// Plays the four events that settle a slot, up to the first that is refused. Returns whether none was refused.
 #[inline(always)]
 fn play_slot<O: Observer>(
     world: &mut World,
@@ -143,7 +143,7 @@ fn play_slot<O: Observer>(
     let took = world.frame_count(slot.to);
     let mut taken = 0;
     if observer.overlooks_silence() {
-        // (most slots bring no news)
+        // (most slots yield no news)
         taken = world.settle_silently(slot, carry, took);
         if taken == 4 {
             return Ok(true);
@@ -154,7 +154,7 @@ fn play_slot<O: Observer>(
     play_events(world, index, &events[taken..], observer)
 }
 
-// Plays these events up to the first that is refused. Answers whether none was refused.
+// Plays these events up to the first that is refused. Returns whether none was refused.
 fn play_events<O: Observer>(
     world: &mut World,
     index: u64,
@@ -174,7 +174,7 @@ fn play_events<O: Observer>(
     Ok(true)
 }
 
-// Takes one event. Answers whether it was accepted.
+// Takes one event. Returns whether it was accepted.
 #[inline(always)]
 fn play_event<O: Observer>(
     world: &mut World,
@@ -193,11 +193,11 @@ fn play_event<O: Observer>(
             return Ok(true);
         }
     }
-    // (the reply is read where it lies, since nothing here keeps it)
+    // (the reply is not moved, since nothing here keeps it)
     show_reply(index, event, &world.step(event), observer)
 }
 
-// Shows the reply to an event. Answers whether it was accepted.
+// Shows the reply to an event. Returns whether it was accepted.
 fn show_reply<O: Observer>(
     index: u64,
     event: &Event,

@@ -1,4 +1,4 @@
-//! What the types of a script say of its numbers and bytes, told to proofs. Nothing is computed.
+//! What the types of a script guarantee about its numbers and bytes, for proofs alone. Nothing is computed.
 ghost use Rattle.std.specs.Prelude.{◌^◌, ◌<◌, length};
 ghost use Rattle.cast_record.specs.Hex.{AreBytes};
 ghost use Rattle.cast_text.specs.Ranges.{HasItemRange, HasEventRange, HasScriptRange, HaveScriptRanges};
@@ -6,7 +6,7 @@ ghost use Rattle.cast_text.specs.Ranges.{HasItemRange, HasEventRange, HasScriptR
 use cast_message::{Event, Item};
 use cast_script::ScriptEvent;
 
-/// The numbers in the items that these events order have 64 bits and their bytes eight, and there are fewer than 2^64 events.
+/// Items that these events order have 64-bit numbers and 8-bit bytes, and there are fewer than 2^64 events.
 pub fn tell_ranges(events: &[ScriptEvent])
     ensures ranges { HaveScriptRanges events.now }
     ensures few { length events.now < 2 ^ 64 }
@@ -27,7 +27,7 @@ fn tell_script_range(event: &ScriptEvent)
     }
 }
 
-/// The same of the item that one event of the group orders, where it does.
+/// The same for the item that one event orders, if it does.
 pub fn tell_event_range(event: &Event)
     ensures { HasEventRange event.now }
 {

@@ -1,4 +1,4 @@
-//! Making the record of a script, line by line, as it is played.
+//! Writes the record of a script, line by line, as it is played.
 ghost use Rattle.std.specs.Prelude.{◌≡◌, ◌++◌, ◌∷◌, [], false, IfErr};
 ghost use Rattle.cast_record.specs.Lines.{head_of};
 ghost use Rattle.cast_record.specs.Text.{record_text, line_text};
@@ -23,7 +23,7 @@ pub fn write_script_record<W: Write>(
     requires { writer.old.failed ≡ false }
     ensures text { Puts W.contents writer.old writer.new result
         (record_text (record_of script.now)) }
-    // Where memory is wanted, nothing of the end was written.
+    // If memory runs out, nothing of the end was written.
     ensures memory { IfErr result (λ fault. StopsBeforeEnd fault
         (W.contents writer.old.inner) (W.contents writer.new.inner) script.now) }
 {
@@ -33,7 +33,7 @@ pub fn write_script_record<W: Write>(
     put_line(&Line::End, writer)
 }
 
-/// Writes the head of a record of this group. It takes no memory. After a fault a prefix of the line was written, or nothing.
+/// Writes the head of a record of this group. It allocates nothing. After a fault only a prefix was written.
 pub fn put_head<W: Write>(config: &Config, writer: &mut Meter<W>) -> Result<(), TextFault>
     requires { writer.old.failed ≡ false }
     ensures text { Puts W.contents writer.old writer.new result
@@ -44,7 +44,7 @@ pub fn put_head<W: Write>(config: &Config, writer: &mut Meter<W>) -> Result<(), 
     put_line(&head, writer)
 }
 
-/// Writes the line, and a line feed. It takes no memory. After a fault a prefix of that was written, or nothing.
+/// Writes the line, and a line feed. It allocates nothing. After a fault only a prefix was written.
 pub fn put_line<W: Write>(line: &Line, writer: &mut Meter<W>) -> Result<(), TextFault>
     requires { writer.old.failed ≡ false }
     ensures text { Puts W.contents writer.old writer.new result (line_text line.now ++ 10 ∷ []) }
@@ -54,7 +54,7 @@ pub fn put_line<W: Write>(line: &Line, writer: &mut Meter<W>) -> Result<(), Text
     Ok(())
 }
 
-// The lines of what is taken are written at once.
+// It writes the lines of what it sees at once.
 impl<W: Write> Observer for Meter<W> {
     ghost use Rattle.std.specs.Prelude.{◌≡◌, false};
     ghost use Rattle.cast_record.specs.Text.{record_text};
@@ -80,7 +80,7 @@ impl<W: Write> Observer for Meter<W> {
         Ok(())
     }
 
-    // (an event that is silent leaves no line)
+    // (a silent event has no line)
     fn overlooks_silence(&self) -> bool {
         true
     }

@@ -2,20 +2,22 @@
 //!
 //! | line | what it says |
 //! |---|---|
+//! | `r CODE WORDS` | what a refusal with this code means |
 //! | `g N` | the group has N nodes |
-//! | `n P C ..` | before the first step node P has delivered so many items of each sender |
+//! | `n P C ..` | before the first step node P has delivered this many items of each sender |
 //! | `c P` | before the first step node P has crashed |
 //! | `e E X EVENT = REPLY` | a step: event E of the script, whose column is at X, was accepted |
 //! | `e E X EVENT ! CODE` | a step: it was refused |
 //! | `d P S I` | the step delivers item I of S at node P |
 //! | `v P J W` | the step, or an event before the first, decides W in J at node P |
-//! | `w P C ..` | from here on node P owes each node so many slots |
+//! | `w P C ..` | from here on node P owes each node this many slots |
 //!
-//! An event is `o P ITEM`, `s P Q SLOT`, `k P Q SLOT`, `a P SEQ` or `x P`; a reply is the item's or the frame's number, or the
-//! node at which the frame arrives. No line has a letter that HTML has other uses for.
+//! An event has the words that it has in a script, with its item as in a record: `order P ITEM`, `send P Q SLOT`,
+//! `ack P Q SLOT`, `arrive P SEQ` or `crash P`. A reply is the number of the item or of the frame, or the node at which the
+//! frame arrives. No line has a letter that HTML has other uses for.
 use cast_draw::Piece::{Number, Text, Word};
 use cast_draw::{Ink, Window};
-use cast_message::{Answer, Config, Decision, Event, Message, NodeId, Outcome, Reply};
+use cast_message::{Answer, Config, Decision, Event, Message, NodeId, Outcome, REFUSALS, Reply};
 use cast_world::{World, is_want_of_memory};
 use std::alloc::{AllocError, Global};
 
@@ -33,6 +35,7 @@ impl Steps {
     /// No steps of a group in which nothing has happened.
     pub fn new(alloc: Global, config: &Config, window: Window) -> Result<Steps, AllocError> {
         let mut lines = Ink::new(alloc);
+        put_refusals(&mut lines)?;
         lines.put(&[Text(b"g "), Number(config.nodes()), Text(b"\n")])?;
         Ok(Steps {
             lines,
@@ -124,7 +127,7 @@ impl Steps {
         self.put_owed(node)
     }
 
-    // Of an event before the first step are kept the decisions, since a world does not list them.
+    // The decisions of an event before the first step are kept, since a world does not list them.
     fn put_earlier(&mut self, event: &Event, reply: &Reply) -> Result<(), AllocError> {
         if self.has_begun {
             return Ok(());
@@ -138,6 +141,19 @@ impl Steps {
     }
 }
 
+fn put_refusals(lines: &mut Ink) -> Result<(), AllocError> {
+    for fault in REFUSALS.iter() {
+        lines.put(&[
+            Text(b"r "),
+            Number(fault.code()),
+            Text(b" "),
+            Text(fault.words().as_bytes()),
+            Text(b"\n"),
+        ])?;
+    }
+    Ok(())
+}
+
 fn delivered_count(world: &World, node: NodeId, sender: NodeId) -> u64 {
     match world.delivered(node, sender) {
         Some(items) => items.len() as u64,
@@ -145,7 +161,7 @@ fn delivered_count(world: &World, node: NodeId, sender: NodeId) -> u64 {
     }
 }
 
-// What came of an event at a node, if it delivers there.
+// The outcome of an event and its node, if it can deliver there.
 fn outcome_of<'a>(event: &Event, reply: &'a Reply) -> Option<(NodeId, &'a Outcome)> {
     match (event, reply) {
         (Event::Order { node, .. }, Ok(Answer::Ordered { outcome, .. })) => Some((*node, outcome)),
@@ -157,20 +173,20 @@ fn outcome_of<'a>(event: &Event, reply: &'a Reply) -> Option<(NodeId, &'a Outcom
 fn put_event(lines: &mut Ink, event: &Event) -> Result<(), AllocError> {
     match event {
         Event::Order { node, item } => lines.put(&[
-            Text(b" o "),
+            Text(b" order "),
             Number(u64::from(node.0)),
             Text(b" "),
             Word(item),
         ]),
-        Event::Send { from, to, slot } => put_link(lines, b" s ", *from, *to, *slot),
-        Event::Ack { from, to, slot } => put_link(lines, b" k ", *from, *to, *slot),
+        Event::Send { from, to, slot } => put_link(lines, b" send ", *from, *to, *slot),
+        Event::Ack { from, to, slot } => put_link(lines, b" ack ", *from, *to, *slot),
         Event::Arrive { from, seq } => lines.put(&[
-            Text(b" a "),
+            Text(b" arrive "),
             Number(u64::from(from.0)),
             Text(b" "),
             Number(*seq),
         ]),
-        Event::Crash { node } => lines.put(&[Text(b" x "), Number(u64::from(node.0))]),
+        Event::Crash { node } => lines.put(&[Text(b" crash "), Number(u64::from(node.0))]),
     }
 }
 

@@ -11,18 +11,19 @@ use cast_script::{Script, ScriptFault, read_script};
 use std::alloc::Global;
 use std::io::{Read, Write};
 
-/// Reads a script to its end, and writes the record of its events. After `Write` a prefix of the record was written, or
-/// nothing, after `Memory` the same without the last line, and after any other fault nothing.
+/// Reads a script to its end, and writes the record of its events. After `Write` only a prefix was written; after
+/// `Memory` too, but without the last line; after any other fault nothing.
 pub fn run_text<R: Read, W: Write>(
     alloc: Global,
     reader: &mut Meter<R>,
     writer: &mut Meter<W>,
 ) -> Result<(), TextFault>
     requires { (reader.old.failed ≡ false) × (writer.old.failed ≡ false) }
-    // The bytes are a script's, and the writer has its record, which is good, and nothing else, or a fault has its cause.
+    // The bytes are a script's, and the writer has its record, which is good, and nothing else, or a fault has its
+    // cause.
     ensures exact { Records (R.remaining reader.old.inner) reader.new.failed
         (W.contents writer.old.inner) (W.contents writer.new.inner) writer.new.failed result }
-    // What failed is told, and nothing else is; no more is read than tells that there is too much.
+    // Exactly what failed is reported. At most one byte past the limit is read.
     ensures streams { UsesStreams R.remaining reader.old reader.new writer.new.failed result }
 {
     let script = read_script_text(alloc, reader)?;
@@ -30,8 +31,8 @@ pub fn run_text<R: Read, W: Write>(
     write_script_record(alloc, &script, writer)
 }
 
-/// The script that is all the reader has left. Refused are a reader that fails, more than 67,108,864 bytes, bytes that are no
-/// script, each with its fault, and want of memory, which is `Memory` alone.
+/// The script that is all the reader has left. It fails if the reader fails, if there are more than 67,108,864 bytes,
+/// or if they are no script, each with its fault. Out of memory is always `Memory`.
 pub fn read_script_text<R: Read>(alloc: Global, reader: &mut Meter<R>) -> Result<Script, TextFault>
     requires { reader.old.failed ≡ false }
     ensures ok { IfOk result (IsScriptIn (R.remaining reader.old.inner)) }

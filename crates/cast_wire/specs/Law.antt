@@ -1,4 +1,4 @@
--- What is so of all packets: no two have the same bytes, and the bytes of none are refused.
+-- Laws of all packets: no two have the same bytes, and none is refused.
 use Rattle.std.specs.Prelude.{◌≡◌, ℕ, ◌<◌, ◌≤◌, ◌^◌, length, None, ⊤}
 use Rattle.cast_message.specs.Limits.{payload_limit}
 use Rattle.cast_message.specs.declared.message.Item.{Item}
@@ -21,14 +21,14 @@ HasBodyNumbers (Carry slot message) =
     IsNumber slot × IsNumber message.number × HasItemNumbers message.item
 HasBodyNumbers (Took slot) = IsNumber slot
 
--- its numbers are below 2^64, as those of every packet that a program has
+-- its numbers are below 2^64, like those of every packet that a program has
 pub record HasNumbers (x : Packet) : Type 0 where
   pub group : IsNumber x.group
   pub stamp : IsNumber x.stamp
   pub seq : IsNumber x.frame.seq
   pub body : HasBodyNumbers x.frame.body
 
--- its item has no more bytes than an item may have
+-- its item is no longer than an item may be
 abbrev pub FitsItem : Item → Type 0
 FitsItem (Data bytes) = length bytes ≤ payload_limit
 FitsItem _ = ⊤

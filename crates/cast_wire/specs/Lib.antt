@@ -1,3 +1,3 @@
--- What a packet is as bytes.
+-- A packet as bytes.
 pub mod Law
 pub mod Wire

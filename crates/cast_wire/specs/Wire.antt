@@ -1,4 +1,4 @@
--- The bytes of a packet, and why bytes are none. Numbers have eight bytes, the least first.
+-- The bytes of a packet, and why bytes are not a packet. Numbers have eight bytes, the least first.
 --     0 'c' 'g' 1 kind    4 group    12 stamp    20 from    21 to    22 seq    30 slot
 --     of a carried message    38 sender    39 number    47 the bytes of the item
 use Rattle.std.specs.Prelude.{ℕ, ◌==◌, Bool, not, ◌||◌, nat_lt, if◌then◌else◌, List, [], ◌∷◌, ◌++◌, length, Option, Some, None, slice_index_or}
@@ -45,14 +45,14 @@ packet_bytes x =
     head_bytes (body_kind x.frame.body) x.group x.stamp x.frame.from x.frame.to x.frame.seq
     ++ body_bytes x.frame.body
 
--- how many bytes a packet of a kind has at least, and at most
+-- the least and the greatest length of a packet of a kind
 abbrev pub least_bytes : ℕ → ℕ
 least_bytes kind = if kind == 0 then 38 else if kind == 2 then 63 else 47
 
 abbrev pub most_bytes : ℕ → ℕ
 most_bytes kind = if kind == 1 then 1071 else least_bytes kind
 
--- why bytes are no packet: whether the cause holds, and the fault
+-- why bytes are not a packet: whether the cause holds, and the fault
 pub record WireCause : Type 0 where
   pub holds : Bool
   pub fault : WireFault
@@ -64,7 +64,7 @@ first_wire_fault (cause ∷ causes) = if cause.holds then Some cause.fault else 
 abbrev pub byte_at : List ℕ → ℕ → ℕ
 byte_at bytes place = slice_index_or bytes place 0
 
--- the causes, in the order in which they are tried
+-- the causes, in the order in which they are checked
 unfoldable pub wire_causes : List ℕ → List WireCause
 wire_causes bytes =
     record { holds = nat_lt (length bytes) 4; fault = Short }
@@ -75,6 +75,6 @@ wire_causes bytes =
     ∷ record { holds = nat_lt (most_bytes (byte_at bytes 3)) (length bytes); fault = Long }
     ∷ []
 
--- why bytes are no packet, if they are none
+-- why bytes are not a packet, if they are not
 abbrev pub wire_fault : List ℕ → Option WireFault
 wire_fault bytes = first_wire_fault (wire_causes bytes)

@@ -1,4 +1,4 @@
-//! Packets: a frame with its stamp and the number of its group as bytes, as one datagram of a user's network has it.
+//! Packets: a frame with its stamp and its group's number, as the bytes of one datagram of a user's network.
 #![tactic(auto)]
 
 mod law;

@@ -1,12 +1,12 @@
-//! What a datagram has, and why one is refused.
+//! What a datagram holds, and why one is refused.
 use cast_message::Frame;
 use std::alloc::AllocError;
 use thiserror::Error;
 
-/// The most bytes of a packet: 47 before the bytes of a data item, of which there are at most 1,024.
+/// The most bytes of a packet: 47, and up to 1,024 of data.
 pub const MOST_BYTES: usize = 1_071;
 
-/// A frame with the stamp of the step that made it, and the number of the group for which it was made.
+/// A frame with its step's stamp and its group's number.
 #[derive(Debug, Drop, PartialEq)]
 pub struct Packet {
     pub group: u64,
@@ -14,8 +14,8 @@ pub struct Packet {
     pub frame: Frame,
 }
 
-/// Why bytes are no packet, the first of these that holds, but that fewer than four bytes are too short before all else; or want of
-/// memory.
+/// Why bytes are not a packet: the first of these causes that holds, except that fewer than four bytes are always
+/// `Short`; or out of memory.
 #[derive(Clone, Copy, Debug, PartialEq, Eq, Error)]
 pub enum WireFault {
     #[error("the bytes don't begin as a packet does")]

@@ -1,4 +1,4 @@
-//! A packet of bytes.
+//! Reads a packet from bytes.
 ghost use Rattle.std.specs.Prelude.{◌≡◌, ◌+◌, ◌<◌, ◌≤◌, ◌⊎◌, ◌++◌, ◌∷◌, length, Some, None, IfOk, IfErr};
 ghost use Rattle.std.specs.Int.{w64, to_le_bytes};
 ghost use Rattle.cast_wire.specs.declared.packet.WireFault.TheVariants.{Memory};
@@ -10,14 +10,14 @@ use bytes::Bytes;
 use cast_message::{Frame, FrameBody, Item, Message, NodeId, Payload};
 use std::alloc::{AllocError, Global};
 
-// How many bytes an acknowledgement, a message with no data, and a proposal have.
+// The sizes of an acknowledgement, a message without data, and a proposal.
 const TOOK_BYTES: usize = 38;
 
 const CARRY_BYTES: usize = 47;
 
 const PROPOSAL_BYTES: usize = 63;
 
-/// The packet of these bytes, all of them, or why they are none.
+/// The packet that these bytes are, all of them, or why they are not one.
 pub fn read_packet(alloc: Global, bytes: &[u8]) -> Result<Packet, WireFault>
     ensures exact { IfOk result (λ packet. bytes.now ≡ packet_bytes packet) }
     ensures numbers { IfOk result HasNumbers }
@@ -29,7 +29,7 @@ pub fn read_packet(alloc: Global, bytes: &[u8]) -> Result<Packet, WireFault>
     Ok(read_fit(alloc, bytes)?)
 }
 
-// Why these bytes are no packet, if they are none.
+// Why these bytes are not a packet, if they are not.
 #[tactic(auto, using(std::proofs::lemmas::Bool::Decides::nat_tests), unfolding(crate::specs::Wire::first_wire_fault, crate::specs::Wire::wire_causes))]
 fn find_fault(bytes: &[u8]) -> Option<WireFault>
     ensures { result ≡ wire_fault bytes.now }
@@ -55,7 +55,7 @@ fn find_fault(bytes: &[u8]) -> Option<WireFault>
     None
 }
 
-// How many bytes a packet of this kind has at least.
+// The least length of a packet of this kind.
 fn least_bytes(kind: u8) -> usize
     ensures { result ≡ least_bytes kind }
 {
@@ -66,7 +66,7 @@ fn least_bytes(kind: u8) -> usize
     }
 }
 
-// How many it has at most.
+// Its greatest length.
 fn most_bytes(kind: u8) -> usize
     ensures { result ≡ most_bytes kind }
 {
@@ -76,7 +76,7 @@ fn most_bytes(kind: u8) -> usize
     }
 }
 
-// The packet of bytes that are fit, or want of memory.
+// The packet of valid bytes. The only error is out of memory.
 fn read_fit(alloc: Global, bytes: &[u8]) -> Result<Packet, AllocError>
     requires { wire_fault bytes.now ≡ None }
     ensures exact { IfOk result (λ packet. bytes.now ≡ packet_bytes packet) }
@@ -102,7 +102,7 @@ fn read_fit(alloc: Global, bytes: &[u8]) -> Result<Packet, AllocError>
     })
 }
 
-// The kind of a packet, and what stands behind it.
+// The kind of a packet, and the bytes after it.
 #[tactic(auto, using(std::proofs::lemmas::Bool::Decides::nat_tests), unfolding(crate::specs::Wire::first_wire_fault, crate::specs::Wire::wire_causes))]
 fn split_kind(bytes: &[u8]) -> (u8, &[u8])
     requires { wire_fault bytes.now ≡ None }
@@ -173,7 +173,6 @@ fn read_proposal(bytes: &[u8]) -> Item
     Item::Propose { instance, value }
 }
 
-// The first byte, and the others.
 fn split_byte(bytes: &[u8]) -> (u8, &[u8])
     requires { 1 ≤ length bytes.now }
     ensures bytes { bytes.now ≡ result.0 ∷ result.1.now }
@@ -183,7 +182,7 @@ fn split_byte(bytes: &[u8]) -> (u8, &[u8])
     (front[0], rest)
 }
 
-// The number of the first eight bytes, and the others.
+// The number in the first eight bytes, and the other bytes.
 fn split_number(bytes: &[u8]) -> (u64, &[u8])
     requires { 8 ≤ length bytes.now }
     ensures bytes { bytes.now ≡ to_le_bytes w64 result.0 ++ result.1.now }

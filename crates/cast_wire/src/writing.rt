@@ -1,4 +1,4 @@
-//! A packet as bytes.
+//! Writes a packet as bytes.
 ghost use Rattle.std.specs.Prelude.{◌≡◌, ◌++◌, ◌∷◌, [], IfOk, OnOk};
 ghost use Rattle.std.specs.Int.{w64, to_le_bytes};
 ghost use Rattle.cast_wire.specs.Law.{HasNumbers, HasBodyNumbers, HasItemNumbers, IsNumber};
@@ -8,7 +8,7 @@ use crate::packet::Packet;
 use cast_message::{Frame, FrameBody, Item, Message};
 use std::alloc::{AllocError, Global};
 
-/// The bytes of a packet, or want of memory.
+/// The bytes of a packet. The only error is out of memory.
 pub fn write_packet(alloc: Global, packet: &Packet) -> Result<Vec<u8>, AllocError>
     ensures exact { IfOk result (λ bytes. bytes.items ≡ packet_bytes packet.now) }
     ensures numbers { IfOk result (λ _. HasNumbers packet.now) }
@@ -99,7 +99,6 @@ fn write_proposal(out: &mut Vec<u8>, instance: u64, value: u64) -> Result<(), Al
     append(out, &value.to_le_bytes())
 }
 
-// Appends bytes.
 fn append(out: &mut Vec<u8>, more: &[u8]) -> Result<(), AllocError>
     ensures { OnOk result (out.new.items ≡ out.old.items ++ more.now) }
 {

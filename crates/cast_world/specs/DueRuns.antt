@@ -1,5 +1,5 @@
 -- Slots that are due, as runs of slots in succession.
---     slots_of run               the slots of a run; rest_of run: those behind the first
+--     slots_of run               the slots of a run; rest_of run: those after the first
 --     slots_from place runs      the slots of the runs from a place on
 use Rattle.std.specs.Prelude.{ℕ, suc, ◌+◌, List, drop, map}
 use Rattle.std.specs.List.{flat_map, range_with_len}

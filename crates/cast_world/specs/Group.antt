@@ -1,14 +1,14 @@
--- What a world keeps, and when it stands for a history.
---     State                       the nodes, and of each frame that each made a mark
+-- What a world keeps, and when it matches a history.
+--     State                       the nodes, and a mark of each frame that they made
 --     mark_of frame               the frame without its maker, its number and its message's item
 --     frame_by world from seq mark      the frame of a mark, with the item from the stream of its message's sender
---     Stands config past world    each node stands for its steps in the accepted history, and the marks are those of the frames
---                                 made in it
---     StandingFor world claim     the claim, of each history that the world stands for
---     FindsNode world p found     the node of this number, or None
---     Continues config past event reply world     what a world stands for after a step from there
---     IsFar event                 its slot is greater than a mark can have
---     IsRefusedForCause config past event reply   the reply is the cause of refusal that the definitions say
+--     Stands config past world    each node matches its steps in the accepted history, and the marks are those of the
+--                                 frames made in it
+--     StandingFor world claim     the claim holds for each history that the world matches
+--     FindsNode world p found     the node with this number, or None
+--     Continues config past event reply world     what a world matches after a step from there
+--     IsFar event                 its slot is greater than a mark can hold
+--     IsRefusedForCause config past event reply   the reply is the cause of refusal that the definitions give
 --     IsCrash event               it crashes a node
 use Rattle.std.specs.Prelude.{◌≡◌, ℕ, ◌<◌, ◌≤◌, ◌^◌, Option, Some, None, List, [], ◌∷◌, length, map, ◌==◌, if◌then◌else◌, slice_index_or, Result, Ok, Err}
 use Rattle.cast_message.specs.declared.config.Config.{Config}
@@ -37,7 +37,7 @@ pub record State : Type 0 where
 abbrev pub state_of : Config → List Kept → List (List Mark) → State
 state_of config nodes marks = record { config = config; nodes = nodes; marks = marks }
 
--- of a number that is no node's, a node that has done nothing
+-- for a number that no node has, a node that has done nothing
 abbrev pub node_in : Config → List Kept → ℕ → Kept
 node_in config nodes p = slice_index_or nodes p (nothing_kept config 0)
 
@@ -56,11 +56,11 @@ mark_by to (Took slot) = record { slot = slot; number = 0; to = to; sender = 255
 abbrev pub mark_of : Frame → Mark
 mark_of frame = mark_by frame.to frame.body
 
--- the item of a number in a node's stream. The default stands where that is shorter, and no frame names such an item
+-- the item with this number in a node's stream; a default if that is shorter, but no frame names such an item
 abbrev pub item_in : Config → List Kept → ℕ → ℕ → Item
 item_in config nodes p number = slice_index_or (node_in config nodes p).stream number Close
 
--- the message's item is that of its number in its sender's stream
+-- the message's item is the one with its number in its sender's stream
 abbrev pub body_in : Config → List Kept → Mark → FrameBody
 body_in config nodes mark =
     if mark.sender == 255
@@ -83,7 +83,7 @@ unfoldable pub kept_by : Config → ℕ → Steps → Kept
 kept_by config me [] = nothing_kept config me
 kept_by config me (step ∷ steps) = kept_after (kept_by config me steps) step
 
--- the world stands for this accepted history
+-- the world matches this accepted history
 pub record Stands (config : Config) (past : History) (world : State) : Type 0 where
   pub accepted : IsAccepted config past
   pub same_config : world.config ≡ config
@@ -93,17 +93,17 @@ pub record Stands (config : Config) (past : History) (world : State) : Type 0 wh
   pub kept : (p : ℕ) → p < config.nodes → node_at world p ≡ kept_by config p (steps_of past p)
   pub made : (p : ℕ) → p < config.nodes → marks_at world p ≡ map mark_of (frames past p)
 
--- the claim, of each configuration and history that the world stands for
+-- the claim holds for each configuration and history that the world matches
 abbrev pub StandingFor : State → (Config → History → Type 0) → Type 0
 StandingFor world claim =
     (config : Config) (past : History) → Stands config past world → claim config past
 
--- the node of this number, or None where it is no node's
+-- the node with this number, or None if there is no such node
 abbrev pub FindsNode : State → ℕ → Option Kept → Type 0
 FindsNode world p None = length world.nodes ≤ p
 FindsNode world p (Some found) = (p < length world.nodes) × (found ≡ node_at world p)
 
--- what a world stands for after a step
+-- what a world matches after a step
 abbrev pub Continues : Config → History → Event → Result Answer StepFault → State → Type 0
 Continues config past event (Ok answer) world =
     (reply config past event ≡ Ok answer) × Stands config (event ∷ past) world

@@ -1,9 +1,9 @@
--- What a step changes of a world: one node takes a step, and may make a frame.
---     TakesStep world p step made reply new     node p is asked for the step, and makes frames with these marks where it takes it
---     MakesFrame world kind from to slot reply new   a node makes a frame of this kind for a slot, whose mark is kept
---     StepsTo world event reply new             the world answers the event so, and is this then
---     IsSilent reply                            a send, an acknowledgement, or an arrival that delivers and decides nothing was accepted
---     actor_of event                            the node that the event names first: it takes the step, or made the frame
+-- What a step changes in a world: one node takes a step, and may make a frame.
+--     TakesStep world p step made reply new     node p is asked for the step, and if it takes it, makes these frames
+--     MakesFrame world kind from to slot reply new   a node makes a frame of this kind for a slot, and its mark is kept
+--     StepsTo world event reply new             the world answers the event with this reply, and becomes the new one
+--     IsSilent reply                            a send, an acknowledgement, or an arrival without news was accepted
+--     actor_of event                            the first node named in the event: it takes the step, or made the frame
 --     IsSound world                             the nodes are those of the group, and frames go to them
 use Rattle.std.specs.Prelude.{◌≡◌, ◌⊎◌, ℕ, ◌<◌, ◌≤◌, nat_lt, if◌then◌else◌, List, [], ◌∷◌, ◌++◌, length, slice_get, slice_index_or, slice_set, Option, Some, None, Result, Ok, Err}
 use Rattle.cast_message.specs.declared.event.Event.{Event}
@@ -26,7 +26,7 @@ use Rattle.cast_world.specs.Group.{State, node_at, marks_at, mark_of, frame_by}
 abbrev pub row_at : List (List Mark) → ℕ → List Mark
 row_at all p = slice_index_or all p []
 
--- the marks with these more of node p
+-- the marks with these more for node p
 abbrev pub marks_after : List (List Mark) → ℕ → List Mark → List (List Mark)
 marks_after all p [] = all
 marks_after all p (mark ∷ more) = slice_set all p (slice_index_or all p [] ++ mark ∷ more)
@@ -52,11 +52,11 @@ abbrev pub TakesStep : State → ℕ → Step → List Mark → Result Answer St
 TakesStep world p step made (Ok answer) new = Takes world new p step made answer
 TakesStep world p step made (Err refusal) new = (new ≡ world) × Refuses world p step refusal
 
--- why there is no frame, of this many nodes
+-- why there is no frame, with this many nodes
 abbrev pub missing : ℕ → ℕ → StepFault
 missing nodes from = if nat_lt from nodes then NoFrame else NoNode
 
--- the mark in this place of the maker's, or why there is none
+-- the mark in this place of the maker's marks, or why there is none
 abbrev pub FindsMark : List (List Mark) → ℕ → ℕ → Result Mark StepFault → Type 0
 FindsMark all from seq (Ok mark) = slice_get (row_at all from) seq ≡ Some mark
 FindsMark all from seq (Err refusal) =

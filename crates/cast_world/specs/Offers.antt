@@ -1,11 +1,11 @@
--- What may happen next and brings something new, orders and crashes aside.
+-- What may happen next and yields something new, apart from orders and crashes.
 --     is_possible config past event     the group would not refuse the event
---     makings d                  the frames of a slot that is due: one carries its message, one says that it was taken
---     arrivals_new past p        the arrivals of p's frames whose target lives, and has not taken the slot that the frame carries,
---                                or owes the one that it speaks of
---     offers config past         the frames of the slots that are due, then the arrivals that bring something new
+--     makings d                  the frames of a due slot: one carries its message, one says that it was taken
+--     arrivals_new past p        the arrivals of p's frames that yield something new: the target lives, and has not
+--                                taken the slot that the frame carries, or owes the one that it acknowledges
+--     offers config past         the frames of the due slots, then the arrivals that yield something new
 --     enabled config past        those of them that are possible
---     HasFullNode config past    a live node has made all frames that it can
+--     HasFullNode config past    a live node has made all its frames
 use Rattle.std.specs.Prelude.{ℕ, ◌≤◌, Bool, true, false, not, ◌&&◌, is_some, if◌then◌else◌, List, [], ◌∷◌, ◌++◌, length, slice_get, Option, Some, None}
 use Rattle.std.specs.List.{filter, flat_map, range_with_len}
 use Rattle.cast_message.specs.Limits.{frame_limit}
@@ -33,18 +33,18 @@ abbrev pub is_untaken : Option StepFault → Bool
 is_untaken (Some NotTaken) = true
 is_untaken _ = false
 
--- a send of a slot that is owed is refused for nothing, or for this
+-- the send of an owed slot is refused for nothing, or for this
 abbrev pub is_owed : Option StepFault → Bool
 is_owed None = true
 is_owed (Some FramesFull) = true
 is_owed _ = false
 
--- of a frame from one node to another: its slot was not taken, or is owed
+-- whether a frame's slot was not taken, or is owed
 abbrev pub is_open : History → ℕ → ℕ → FrameBody → Bool
 is_open past from to (Carry slot message) = not (taken past from to slot)
 is_open past from to (Took slot) = not (acked past to from slot)
 
--- a frame that p made brings something new
+-- whether a frame that p made yields something new
 abbrev pub brings_news : History → ℕ → Option Frame → Bool
 brings_news past p None = false
 brings_news past p (Some frame) = is_live past frame.to && is_open past p frame.to frame.body

@@ -1,9 +1,9 @@
--- What is due in a round, read off what a world keeps.
+-- What is due in a round, as a function of what a world keeps.
 --     live_at world              the nodes that have not crashed; AreLive world nodes: these are they
 --     owed_slots link            the slots of a link that are owed, ascending; owed_below n link: those below n
---     due_at world               the slots that live nodes owe live nodes, by the giver, then the taker
+--     due_at world               the slots that live nodes owe live nodes, by giver, then taker
 --     events_of d carry took     the events that settle a slot, whose two frames have these numbers
---     events_from world d        those that settle one slot from here
+--     events_from world d        the events that settle one slot from here
 use Rattle.std.specs.Prelude.{◌≡◌, ◌≢◌, ℕ, false, ◌^◌, ◌<◌, ◌≤◌, ◌==◌, nat_lt, ◌&&◌, if◌then◌else◌, List, [], ◌∷◌, length, map}
 use Rattle.std.specs.List.{filter, flat_map, range_with_len}
 use Rattle.std.specs.Ordering.{nat_cmp}
@@ -28,7 +28,7 @@ AreLive world nodes =
 abbrev pub due_of : ℕ → ℕ → ℕ → Due
 due_of p q slot = record { from = p; to = q; slot = slot }
 
--- the slots below n that are owed
+-- the owed slots below n
 abbrev pub owed_below : ℕ → Link Message → List ℕ
 owed_below n link = filter (finite.contains_key link.owed) (range_with_len 0 n)
 
@@ -39,7 +39,7 @@ owed_slots link = owed_below link.given link
 abbrev pub OwesNoneFrom : ℕ → Link Message → Type 0
 OwesNoneFrom n link = (slot : ℕ) → n ≤ slot → finite.contains_key link.owed slot ≡ false
 
--- slots are few, and nothing is owed in one that wasn't given
+-- slots are few, and no slot is owed that wasn't given
 pub record IsBounded (world : State) : Type 0 where
   pub few : (p q : ℕ) → p < length world.nodes → q < length world.nodes → p ≢ q →
       (link_to (node_at world p) q).given < 2 ^ 64

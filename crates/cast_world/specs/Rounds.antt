@@ -1,12 +1,12 @@
--- What a round leaves, and what holds after it and at rest.
+-- The result of a round, and what holds after it and at rest.
 --     TakesAll config past events result world   the events were taken, or those before one that was refused
---     TakesRound config past result world        the same of the plan of a round
---     TakesSilently config past events world     the events were taken, and nothing was delivered or decided by any of them
---     Spreads config past                        after the round each live node holds exactly what some live node held before it
---     IsSettled past p q                         p and q are not both live, or p owes q nothing
---     IsFirstGiver config past p                 the least live node that owes a live node a slot
---     AgreesAtRest config past                   the live nodes have delivered the same, and decided the same instances
---     HaveWhatAnyDelivered config past           the live nodes have delivered what any node delivered
+--     TakesRound config past result world        the same for the plan of a round
+--     TakesSilently config past events world     the events were taken, and none of them delivered or decided anything
+--     Spreads config past               after the round each live node holds exactly what some live node held before it
+--     IsSettled past p q                p and q are not both live, or p owes q nothing
+--     IsFirstGiver config past p        the least live node that owes a live node a slot
+--     AgreesAtRest config past          the live nodes have delivered the same, and decided the same instances
+--     HaveWhatAnyDelivered config past  the live nodes have delivered what any node delivered
 use Rattle.std.specs.Prelude.{◌≡◌, ◌≢◌, ℕ, IsTrue, ◌-◌, ◌+◌, ◌≤◌, ◌<◌, true, List, [], ◌∷◌, ◌++◌, is_some, Option, Some, None, slice_index_or, length, Result, Ok, Err}
 use Rattle.std.specs.List.{count_by}
 use Rattle.cast_message.specs.declared.config.Config.{Config}
@@ -38,14 +38,14 @@ TakesAll config past events (Ok done) world =
     AreAccepted config past events × Stands config (history_from config past events) world
 TakesAll config past events (Err refusal) world = Stops config past events refusal world
 
--- the events were taken, and nothing was delivered or decided by any of them
+-- the events were taken, and none of them delivered or decided anything
 unfoldable pub TakesSilently : Config → History → List Event → State → Type 0
 TakesSilently config past [] world = Stands config past world
 TakesSilently config past (event ∷ events) world =
     IsSilent (reply config past event) × TakesSilently config (event ∷ past) events world
 
--- why a round stops after some events, with these left: the frames of the next one's node are full; or it has no fault, and
--- memory was wanted
+-- why a round stops with these events left: the next event's node has made all its frames; or the event has no fault,
+-- but memory ran out
 abbrev pub StopsFor : Config → History → List Event → StepFault → Type 0
 StopsFor config now (event ∷ rest) FramesFull = fault config now event ≡ Some FramesFull
 StopsFor config now (event ∷ rest) Memory = fault config now event ≡ None
@@ -60,7 +60,7 @@ pub record StopsRound (config : Config) (past : History) (refusal : StepFault) (
   pub cause : StopsFor config (history_from config past front) rest refusal
   pub stands : Stands config (history_from config past front) world
 
--- all events of the plan were taken, and that many of them made a frame
+-- all events of the plan were taken, and `made` of them made a frame
 pub record EndsRound (config : Config) (past : History) (made : ℕ) (world : State) : Type 0 where
   pub accepted : AreAccepted config past (plan config past)
   pub frames : made ≡ count_by makes_frame (plan config past)
@@ -85,15 +85,15 @@ IsSettled past p q = IsTrue (is_live past p) → IsTrue (is_live past q) → p �
 abbrev pub IsSettledWithAll : Config → History → ℕ → Type 0
 IsSettledWithAll config past p = (q : ℕ) → q < config.nodes → IsSettled past p q
 
--- the least live node that owes a live node a slot; where there is none, the group is at rest
+-- the least live node that owes a live node a slot; if there is none, the group is at rest
 abbrev pub IsFirstGiver : Config → History → Option ℕ → Type 0
 IsFirstGiver config past None = Rest config past
 IsFirstGiver config past (Some p) =
     (p < config.nodes) × ((q : ℕ) → q < p → IsSettledWithAll config past q)
     × (IsSettledWithAll config past p → ⊥)
 
--- All live nodes have delivered the same list from each sender, the whole stream of a live one. An instance that one of them
--- decided, or of which proposals of enough senders stand in what they delivered, is decided by each.
+-- All live nodes have delivered the same list from each sender, and the whole stream of a live one. Each decided an
+-- instance if one of them did, or if they delivered proposals of enough senders.
 pub record AgreesAtRest (config : Config) (past : History) : Type 0 where
   pub same : (p q s : ℕ) → Live config past p → Live config past q →
       delivered config past p s ≡ delivered config past q s
@@ -105,12 +105,12 @@ pub record AgreesAtRest (config : Config) (past : History) : Type 0 where
       config.nodes - config.faults ≤ proposers config past p j →
       is_some (decision config past q j) ≡ true
 
--- what any node delivered, a crashed one too, each live node has
+-- each live node has delivered what any node delivered, even a crashed one
 abbrev pub HaveWhatAnyDelivered : Config → History → Type 0
 HaveWhatAnyDelivered config past = (p q s : ℕ) → Live config past p →
     IsPrefixOf (delivered config past q s) (delivered config past p s)
 
--- the events for one slot, where the nodes made so many frames besides those of the world
+-- the events for one slot, if the nodes have made this many frames more than in the world
 abbrev pub events_after : State → List ℕ → Due → List Event
 events_after world made d =
     events_of d (length (marks_at world d.from) + slice_index_or made d.from 0)

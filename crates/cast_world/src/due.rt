@@ -14,8 +14,7 @@ use cast_node::Node;
 use std::alloc::{AllocError, Global};
 
 impl World {
-    /// The slots that live nodes owe live nodes, by the giver, then the taker, ascending: what a round settles. Or want of
-    /// memory.
+    /// The slots that live nodes owe live nodes, by the giver, then the taker, ascending: what a round settles.
     pub fn due(&self) -> Result<DueSlots, AllocError>
         ensures found { StandingFor self.now (λ config past.
             IfOk result (λ found. found ≡ due config past)) }
@@ -26,7 +25,7 @@ impl World {
 
 impl DueSlot {
     /// The events that settle the slot, whose two frames are to have these numbers: it is sent, the frame arrives, the slot is
-    /// acknowledged, and that arrives. It takes no memory.
+    /// acknowledged, and the acknowledgement arrives. It takes no memory.
     pub fn events(&self, carry: u64, took: u64) -> [Event; 4]
         ensures { result ≡ events_of self.now carry took }
     {
@@ -47,7 +46,6 @@ impl DueSlot {
     }
 }
 
-// The slots that live nodes owe live nodes, by the giver, then the taker, ascending.
 fn find_due(alloc: Global, world: &World) -> Result<DueSlots, AllocError>
     ensures { IsBounded world.now → IfOk result (λ due. due ≡ due_at world.now) }
 {

@@ -1,9 +1,9 @@
-//! Slots in succession. (The type stands in a file of its own, since the definitions that its calls cite name it.)
+//! Slots in succession. The type has a file of its own, since the definitions that its calls cite name it.
 ghost use Rattle.std.specs.Prelude.{◌+◌, ◌<◌, ◌^◌};
 
 use cast_message::NodeId;
 
-/// Slots in succession that a node owes a peer: the first, and how many more.
+/// Slots in succession that a node owes a peer: the first, and how many follow it.
 #[derive(Clone, Copy)]
 pub struct Run {
     pub from: NodeId,

@@ -1,4 +1,4 @@
-//! The slots of a round, kept as runs: what a node owes a peer are mostly slots in succession, of which there may be millions.
+//! The slots of a round, kept as runs: a node mostly owes a peer slots in succession, and there may be millions.
 ghost use Rattle.std.specs.Prelude.{◌≡◌, ◌+◌, ◌<◌, ◌≤◌, ◌^◌, ◌++◌, ◌∷◌, [], length, IsTrue, IfSome, IfNone, OnOk, OnErr};
 ghost use Rattle.cast_world.specs.DueRuns.{slots_of, rest_of, slots_from};
 
@@ -7,7 +7,7 @@ use cast_message::NodeId;
 use std::alloc::{AllocError, Global};
 use std::marker::Model;
 
-// More slots than a list could have.
+// More slots than a list can have.
 const TOO_MANY: u64 = 1 << 61;
 
 /// A slot that a live node owes another live node.
@@ -28,13 +28,13 @@ impl Model for DueSlot {
     ghost inverse = { λ d. record { from = d.from; to = d.to; slot = d.slot } };
 }
 
-/// Slots that are due, to be taken one after another. Contracts see the list of them.
+/// Slots that are due. Contracts see the list of them.
 #[derive(Drop)]
 pub struct DueSlots {
     runs: Vec<Run>,
-    // The run whose turn it is; those before it were taken.
+    // The run at the front; those before it were taken.
     place: usize,
-    // How many slots there are.
+    // The number of slots.
     len: u64,
 }
 
@@ -52,7 +52,7 @@ impl Model for DueSlots {
 }
 
 impl DueSlots {
-    /// There are none. It takes no memory.
+    /// No slots. It allocates nothing.
     pub fn new(alloc: Global) -> DueSlots
         ensures { result ≡ [] }
     {
@@ -63,7 +63,6 @@ impl DueSlots {
         }
     }
 
-    /// How many slots there are.
     pub fn len(&self) -> u64
         ensures len { result ≡ length self.now }
         ensures few { result ≤ 2 ^ 61 }
@@ -71,7 +70,7 @@ impl DueSlots {
         self.len
     }
 
-    /// One slot more, behind the others, or want of memory.
+    /// Appends a slot.
     pub fn push(&mut self, due: DueSlot) -> Result<(), AllocError>
         ensures ok { OnOk result (self.new ≡ self.old ++ due ∷ []) }
         ensures err { OnErr result (self.new ≡ self.old) }
@@ -84,7 +83,7 @@ impl DueSlots {
         Ok(())
     }
 
-    /// Takes the first slot, where there is one.
+    /// Takes the first slot, if there is one.
     pub fn pop_front(&mut self) -> Option<DueSlot>
         ensures some { IfSome result (λ due. self.old ≡ due ∷ self.new) }
         ensures none { IfNone result (self.old ≡ []) }
@@ -101,7 +100,6 @@ impl DueSlots {
 }
 
 impl Run {
-    // This slot alone.
     fn new(due: DueSlot) -> Run
         ensures { slots_of result ≡ due ∷ [] }
     {
@@ -113,7 +111,6 @@ impl Run {
         }
     }
 
-    // The first slot.
     fn slot(self) -> DueSlot
         ensures { slots_of self ≡ result ∷ rest_of self }
     {
@@ -124,7 +121,7 @@ impl Run {
         }
     }
 
-    // The slots behind the first, if there are any.
+    // The slots after the first, if there are any.
     fn rest(self) -> Option<Run>
         ensures some { IfSome result (λ rest. slots_of rest ≡ rest_of self) }
         ensures none { IfNone result (rest_of self ≡ []) }
@@ -140,7 +137,7 @@ impl Run {
         })
     }
 
-    // These slots and this one, if it is the next.
+    // The run with this slot too, if the slot is the next.
     fn with(&self, due: &DueSlot) -> Option<Run>
         ensures { IfSome result (λ longer. slots_of longer ≡ slots_of self.now ++ due.now ∷ []) }
     {
@@ -155,7 +152,7 @@ impl Run {
         })
     }
 
-    // Whether a slot is the next.
+    // Whether this slot comes right after the run.
     fn is_before(&self, due: &DueSlot) -> bool
         ensures from { IsTrue result → due.now.from ≡ self.now.from }
         ensures to { IsTrue result → due.now.to ≡ self.now.to }
@@ -168,7 +165,7 @@ impl Run {
     }
 }
 
-// One slot more behind those of the runs from this place on.
+// Appends a slot to those of the runs from this place on.
 fn add_slot(runs: &mut Vec<Run>, place: usize, due: DueSlot) -> Result<(), AllocError>
     requires { place ≤ length runs.old.items }
     ensures ok { OnOk result (slots_from place runs.new.items

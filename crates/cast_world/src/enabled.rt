@@ -1,4 +1,4 @@
-//! What may happen next: why the group would refuse an event, and the events that bring something new.
+//! What may happen next: why the group would refuse an event, and the events that change something.
 ghost use Rattle.std.specs.Prelude.{◌≡◌, ◌⊎◌, ◌<◌, ◌++◌, ◌∷◌, [], IfOk, OnOk, length, slice_get};
 ghost use Rattle.std.specs.List.{filter, flat_map};
 ghost use Rattle.cast_model.specs.History.{frames};
@@ -15,7 +15,7 @@ use cast_message::{Event, NodeId, StepFault};
 use std::alloc::AllocError;
 
 impl World {
-    /// Why the group would refuse this event now, if it would, want of memory aside. It takes no memory.
+    /// Why the group would refuse this event now, if it would, unless it is out of memory. It takes no memory.
     pub fn fault(&self, event: &Event) -> Option<StepFault>
         ensures { StandingFor self.now (λ config past. result ≡ fault config past event.now) }
     {
@@ -31,7 +31,7 @@ impl World {
         }
     }
 
-    // Why the arrival of a frame of a node would be refused.
+    // Why the arrival of a node's frame would be refused.
     fn arrival_fault(&self, from: NodeId, seq: u64) -> Option<StepFault>
         ensures { StandingFor self.now (λ config past.
             result ≡ fault config past (Event.Arrive from seq)) }
@@ -42,13 +42,12 @@ impl World {
         }
     }
 
-    /// What may happen next and brings something new, orders and crashes aside; or want of memory. For each slot that a live
-    /// node owes a live node, by the giver, then the taker, ascending: the send of its message, and, where it was taken, its
-    /// acknowledgement. Then, by the maker and the number, the arrival of each frame whose target lives and has not taken the
-    /// slot that it carries, or still owes the one that it acknowledges. Left out is what the group would refuse, as each frame
-    /// of a node that has made all that it can. A call looks at every slot that is due and at every frame that was made.
+    /// What may happen next, without orders, crashes, and what changes nothing. For each slot that is due, in order, the send of its
+    /// message, and its acknowledgement if it was taken. Then, by maker and number, the arrival of each frame whose target is live,
+    /// and has not taken the slot that it carries, or still owes the one that it acknowledges. What the group would refuse is left
+    /// out. A call looks at every slot that is due and at every frame that was made.
     ///
-    /// There is nothing only at rest, or where a live node has made all frames that it can.
+    /// There is nothing only at rest, or if a live node has made all the frames that it can.
     pub fn events_enabled(&self) -> Result<Vec<Event>, AllocError>
         ensures exact { StandingFor self.now (λ config past.
             IfOk result (λ events. events.items ≡ enabled config past)) }
@@ -63,7 +62,7 @@ impl World {
         Ok(events)
     }
 
-    // The frames for the slots that are due.
+    // The frames for slots that are due.
     fn offer_frames(&self, events: &mut Vec<Event>) -> Result<(), AllocError>
         ensures { StandingFor self.now (λ config past. OnOk result (events.new.items
             ≡ events.old.items ++ filter (is_possible config past) (flat_map makings (due config past)))) }
@@ -84,7 +83,7 @@ impl World {
         Ok(())
     }
 
-    // The arrivals of a node's frames that bring something new.
+    // The arrivals of a node's frames that change something.
     fn offer_arrivals(&self, from: NodeId, events: &mut Vec<Event>) -> Result<(), AllocError>
         ensures { StandingFor self.now (λ config past. OnOk result (events.new.items
             ≡ events.old.items ++ filter (is_possible config past) (arrivals_new past from))) }
@@ -97,7 +96,7 @@ impl World {
         Ok(())
     }
 
-    // An event more, if it is possible.
+    // Appends an event, if it is possible.
     fn offer(&self, event: Event, events: &mut Vec<Event>) -> Result<(), AllocError>
         ensures { StandingFor self.now (λ config past. OnOk result (events.new.items
             ≡ events.old.items ++ filter (is_possible config past) (event ∷ []))) }
@@ -109,7 +108,7 @@ impl World {
         Ok(())
     }
 
-    // Whether a frame's target lives and has not taken the slot that it carries, or owes the one that it acknowledges.
+    // Whether a frame's target lives, and the slot is not yet taken or, for an acknowledgement, still owed.
     fn brings_news(&self, from: NodeId, seq: u64) -> bool
         ensures { StandingFor self.now (λ config past.
             result ≡ brings_news past from (slice_get (frames past from) seq)) }
@@ -136,14 +135,14 @@ fn actor(event: &Event) -> NodeId
     }
 }
 
-// Whether a slot is owed whose send has this cause of refusal, if any.
+// Whether a slot is owed, given why its send would be refused.
 fn is_owed(refusal: Option<StepFault>) -> bool
     ensures { result ≡ is_owed refusal }
 {
     matches!(refusal, None | Some(StepFault::FramesFull))
 }
 
-// Whether a slot was not taken whose acknowledgement has this cause of refusal, if any.
+// Whether a slot was not taken, given why its acknowledgement would be refused.
 fn is_untaken(refusal: Option<StepFault>) -> bool
     ensures { result ≡ is_untaken refusal }
 {

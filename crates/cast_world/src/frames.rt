@@ -1,5 +1,5 @@
-//! Frames on their way: a node makes one, whose mark goes to the end of those that it made, and one arrives. The room for a mark
-//! is there before its node takes the step, so that a refusal changes neither.
+//! Frames on their way. A node makes one, and its mark is appended to those that the node made; and one arrives. There is room for a
+//! mark before its node takes the step, so a refusal changes neither.
 ghost use Rattle.std.specs.Prelude.{◌≡◌, ℕ, ◌==◌, true, false, not, ◌&&◌, IsTrue, IsFalse, List, ◌++◌, ◌∷◌, [], IfOk, OnOk, OnErr, map};
 ghost use Rattle.cast_message.specs.declared.config.Config.{Config as Settings};
 ghost use Rattle.cast_model.specs.Steps.{Arrived, making};
@@ -14,24 +14,23 @@ use cast_message::{Answer, Frame, FrameBody, FrameKind, Item, Message, NodeId, R
 use cast_node::{Node, Numbers};
 use std::alloc::AllocError;
 
-// The sender of an acknowledgement's mark, which is no node's number.
+// The sender in an acknowledgement's mark; no node has this number.
 const NOBODY: u8 = 255;
 
-// The greatest slot of a mark. No link gives so many.
+// The greatest slot of a mark. No link gives as many.
 const LAST_SLOT: u64 = 0xffff_ffff;
 
-/// What is kept of a frame: neither its maker nor its number, which its place tells, nor its message's item, which stands in
-/// the sender's stream.
+/// What is kept of a frame. Its place says its maker and its number, and its message's item is in the stream of the sender.
 #[derive(Clone, Copy)]
 pub struct Mark {
     pub slot: u32,
     pub number: u16,
     pub to: NodeId,
-    /// The message's sender; of an acknowledgement a number that is no node's.
+    /// The message's sender, or `NOBODY` for an acknowledgement.
     pub sender: NodeId,
 }
 
-/// A frame for a slot. It is answered by its number.
+/// Makes a frame for a slot, and returns its number.
 #[inline(always)]
 pub fn make(
     node: &mut Node,
@@ -68,7 +67,7 @@ pub fn make(
     Ok(sent.seq)
 }
 
-/// The mark of the frame of this number that a node made, or why there is none.
+/// The mark of a node's frame with this number, or why there is none.
 pub fn find(marks: &Vec<Vec<Mark>>, from: NodeId, seq: u64) -> Result<Mark, StepFault>
     ensures { FindsMark (map (λ row. row.items) marks.now.items) from seq result }
 {
@@ -77,7 +76,7 @@ pub fn find(marks: &Vec<Vec<Mark>>, from: NodeId, seq: u64) -> Result<Mark, Step
     Ok(*mark)
 }
 
-/// The frame of a mark, from its maker and its number.
+/// The frame of a mark, given its maker and its number.
 pub fn rebuild(nodes: &Vec<Node>, from: NodeId, seq: u64, mark: Mark) -> Result<Frame, AllocError>
     ensures { (config : Settings) →
         IfOk result (λ frame. frame ≡ frame_in config nodes.now.items from seq mark) }
@@ -92,7 +91,7 @@ pub fn rebuild(nodes: &Vec<Node>, from: NodeId, seq: u64, mark: Mark) -> Result<
     })
 }
 
-// What a marked frame says, with the item from the stream of its message's sender.
+// The body of a marked frame, with the item from the stream of the message's sender.
 fn body_of(nodes: &Vec<Node>, mark: Mark) -> Result<FrameBody, AllocError>
     ensures { (config : Settings) →
         IfOk result (λ body. body ≡ body_in config nodes.now.items mark) }
@@ -113,7 +112,7 @@ fn body_of(nodes: &Vec<Node>, mark: Mark) -> Result<FrameBody, AllocError>
     })
 }
 
-// The item of a number in a node's stream.
+// The item with this number in a node's stream.
 fn item_of(nodes: &Vec<Node>, sender: NodeId, number: u64) -> Result<Item, AllocError>
     ensures { (config : Settings) →
         IfOk result (λ item. item ≡ item_in config nodes.now.items sender number) }
@@ -127,8 +126,7 @@ fn item_of(nodes: &Vec<Node>, sender: NodeId, number: u64) -> Result<Item, Alloc
     item.copy()
 }
 
-/// The frame of a mark arrives at its target, where nothing is delivered or decided by it. Says whether it did; else nothing
-/// changed.
+/// The frame of a mark arrives at its target, if nothing is delivered or decided by it. Says whether it did; else nothing changed.
 pub fn arrive_silently(node: &mut Node, from: NodeId, mark: &Mark) -> bool
     requires { mark.now.to ≡ node.old.me }
     ensures took { (config : Settings) (nodes : List Kept) (seq : ℕ) → IsTrue result →
@@ -146,14 +144,12 @@ pub fn arrive_silently(node: &mut Node, from: NodeId, mark: &Mark) -> bool
     false
 }
 
-/// Whether a mark is that of an acknowledgement.
 pub fn is_acknowledgement(mark: &Mark) -> bool
     ensures { result ≡ (mark.now.sender == 255) }
 {
     mark.sender.0 == NOBODY
 }
 
-/// A frame arrives at its target.
 pub fn arrive(node: &mut Node, frame: &Frame) -> Reply
     requires { frame.now.to ≡ node.old.me }
     ensures { Gives node.old (Arrived frame.now) result node.new }
@@ -165,35 +161,15 @@ pub fn arrive(node: &mut Node, frame: &Frame) -> Reply
     })
 }
 
-/// Whether the frame of a mark carries a message that a node holds.
-pub fn carries_held(node: &Node, mark: &Mark) -> bool
+// Whether the frame of a mark carries a message that a node holds.
+fn carries_held(node: &Node, mark: &Mark) -> bool
     ensures { result ≡ (not (mark.now.sender == 255)
         && holds node.now mark.now.sender mark.now.number) }
 {
     !is_acknowledgement(mark) && node.holds(mark.sender, u64::from(mark.number))
 }
 
-/// The frame of a mark arrives at its target, which holds its message: so its item is not sought in its sender's stream.
-pub fn arrive_held(node: &mut Node, from: NodeId, mark: &Mark) -> Reply
-    requires carries { (mark.now.sender == 255) ≡ false }
-    requires held { holds node.old mark.now.sender mark.now.number ≡ true }
-    requires target { mark.now.to ≡ node.old.me }
-    ensures { (config : Settings) (nodes : List Kept) (seq : ℕ) → Gives node.old
-        (Arrived (frame_in config nodes from seq mark.now)) result node.new }
-{
-    let outcome = node.arrive_again(
-        from,
-        u64::from(mark.slot),
-        mark.sender,
-        u64::from(mark.number),
-    )?;
-    Ok(Answer::Arrived {
-        node: mark.to,
-        outcome,
-    })
-}
-
-// Why a step is refused that wants memory.
+// Why a step is refused that is out of memory.
 fn or_memory(fault: Option<StepFault>) -> StepFault
     ensures { IsRefused fault result }
 {

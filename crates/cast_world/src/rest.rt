@@ -1,4 +1,4 @@
-//! Rest: no live node owes a live node anything, so that nothing that a round could bring is missing anywhere.
+//! Rest: no live node owes a live node anything, so a round changes nothing.
 ghost use Rattle.std.specs.Prelude.{◌≡◌, ◌<◌, ◌↔◌, IsTrue, length};
 ghost use Rattle.cast_message.specs.declared.config.Mode.TheVariants.{Uniform};
 ghost use Rattle.cast_model.specs.Rounds.{Rest, HaveFewCrashed, FewCrashedIn};
@@ -10,13 +10,12 @@ use crate::world::World;
 use cast_message::{GroupSet, NodeId};
 
 impl World {
-    /// Whether no live node owes a live node a slot. It takes no memory, and looks at nodes alone, at no link.
+    /// Whether no live node owes a live node a slot. It takes no memory, and looks at no link.
     ///
-    /// At rest all live nodes have delivered the same from each sender, the whole stream of a live one; and an instance that one
-    /// of them decided, or of which proposals of as many senders as there are nodes less faults stand in what they delivered, is
-    /// decided by all of them. In uniform mode so it is where no fault is tolerated, or no more nodes have crashed than are;
-    /// and where no more have crashed than are tolerated, each live node has delivered what any node delivered, a crashed one
-    /// too.
+    /// At rest all live nodes have delivered the same from each sender, and the whole stream of a live one. An instance is decided by
+    /// all of them if one of them decided it, or if they delivered the proposals of n - f senders. In uniform mode this needs that f
+    /// is 0 or at most f nodes have crashed. If at most f have crashed there, each live node has delivered what any node delivered,
+    /// even a crashed one.
     pub fn at_rest(&self) -> bool
         ensures rest { StandingFor self.now (λ config past. IsTrue result ↔ Rest config past) }
         ensures agrees { StandingFor self.now (λ config past.
@@ -28,7 +27,7 @@ impl World {
         self.first_giver().is_none()
     }
 
-    /// The least live node that owes a live node a slot. It takes no memory.
+    /// The least live node that owes a live node a slot.
     pub(crate) fn first_giver(&self) -> Option<NodeId>
         ensures { StandingFor self.now (λ config past. IsFirstGiver config past result) }
     {
@@ -41,7 +40,7 @@ impl World {
         None
     }
 
-    /// The nodes that have not crashed. It takes no memory.
+    /// The nodes that have not crashed.
     pub(crate) fn live_nodes(&self) -> GroupSet
         ensures { AreLive self.now result }
     {
@@ -54,7 +53,7 @@ impl World {
         live
     }
 
-    // Whether a node is not live, or owes no live node a slot.
+    // Whether a node has crashed, or owes no live node a slot.
     fn owes_nobody(&self, giver: NodeId, live: &GroupSet) -> bool
         requires giver { giver < length self.now.nodes }
         requires live { AreLive self.now live.now }

@@ -1,5 +1,5 @@
-//! Rounds: every slot that a live node owes another is sent, taken and acknowledged. Two of them in which no event is refused bring
-//! rest; what live nodes have delivered and decided there, `at_rest` says.
+//! Rounds: every slot that a live node owes another is sent, taken and acknowledged. After two rounds in which no event is refused
+//! there is rest. `at_rest` says what live nodes have delivered and decided then.
 ghost use Rattle.std.specs.Prelude.{◌≡◌, ℕ, ◌<◌, ◌+◌, ◌^◌, ◌++◌, ◌==◌, ◌||◌, cond, IfOk, OnOk, length, slice_index_or};
 ghost use Rattle.cast_message.specs.declared.config.Config.{Config as Settings};
 ghost use Rattle.cast_model.specs.History.{History};
@@ -14,20 +14,19 @@ use crate::world::World;
 use cast_message::{Event, FRAME_LIMIT, List, StepFault};
 use std::alloc::AllocError;
 
-// How many numbers a `NodeId` can have.
+// The number of values of a `NodeId`.
 const NODE_IDS: usize = 256;
 
 impl World {
-    /// The events of one round from here: for each slot that a live node owes another, by the giver, then the taker,
-    /// ascending, the slot sent, the frame's arrival, the acknowledgement, and the arrival of that; or want of memory. The
-    /// frames are numbered on as if no node's could be full.
+    /// The events of one round from here: those that settle each slot that is due (`DueSlot::events`), in order. Frames are numbered
+    /// as if a node could make any number of them.
     pub fn round_plan(&self) -> Result<List<Event>, AllocError>
         ensures exact { StandingFor self.now (λ config past.
             IfOk result (λ events. events ≡ plan config past)) }
     {
         let alloc = self.allocator();
         let mut due = self.due()?;
-        // By the node, how many frames the events so far make.
+        // How many frames of each node the events make so far.
         let mut made = [0; NODE_IDS];
         let mut events = Vec::with_capacity(alloc, 4 * due.len() as usize)?;
         'slots: while let Some(slot) = due.pop_front() {
@@ -37,13 +36,12 @@ impl World {
         Ok(List::from_vec(events))
     }
 
-    /// Takes the events of one round from here, slot by slot of those that are due now, and answers how many frames they
-    /// made. Refused as `FramesFull` is a round in which the next event has that fault, and as `Memory` one in which it has
-    /// none and memory was wanted; there is no other refusal, and the events before it stand. Where nothing is due a round
-    /// is never refused.
+    /// Takes the events of one round from here, slot by slot, and returns how many frames they made. A round is refused as
+    /// `FramesFull` if its next event is, as `Memory` if that has no cause of refusal and it is out of memory, and never else. The
+    /// events before a refusal stay done. If nothing is due, a round is never refused.
     ///
-    /// After a round each live node holds exactly what some live node held before it. Where all of them held the same, the
-    /// group is at rest, so that two rounds bring rest.
+    /// After a round each live node holds exactly what some live node held before it. If all of them held the same before, the
+    /// group is then at rest. So it is at rest after two rounds.
     pub fn round(&mut self) -> Result<u64, StepFault>
         ensures takes { StandingFor self.old (λ config past.
             TakesRound config past result self.new) }
@@ -52,7 +50,7 @@ impl World {
         ensures rests { StandingFor self.old (λ config past.
             HoldTheSame config past → IfOk result (λ _. Rest config (after_round config past))) }
 
-        // The second of two rounds brings rest.
+        // After the second of two rounds there is rest.
         ensures second { (config : Settings) (past : History) → IsAccepted config past →
             AreAccepted config past (plan config past) →
             Stands config (after_round config past) self.old →
@@ -75,7 +73,6 @@ impl World {
     {
         let carry = self.frame_count(due.from);
         let took = self.frame_count(due.to);
-        // (most slots bring no news)
         let taken = self.settle_silently(due, carry, took);
         if taken == 4 {
             return Ok(());
@@ -85,7 +82,7 @@ impl World {
         self.take_all(&events[taken..])
     }
 
-    // What becomes of a round whose slots find no room: the first event may have a cause of refusal all the same.
+    // The result of a round that has no room for its slots. Its first event may have a cause of refusal all the same.
     fn unlisted(&self) -> Result<u64, StepFault>
         ensures { StandingFor self.now (λ config past. TakesRound config past result self.now) }
     {
@@ -96,7 +93,7 @@ impl World {
         }
     }
 
-    // Takes these events up to the first that is refused.
+    // Takes these events, up to the first that is refused.
     fn take_all(&mut self, events: &[Event]) -> Result<(), StepFault>
         ensures { StandingFor self.old (λ config past.
             TakesAll config past events.now result self.new) }
@@ -107,7 +104,7 @@ impl World {
         Ok(())
     }
 
-    // The four events for one slot, where so many frames were made besides those of the world.
+    // The events that settle a slot, if this many frames were made besides those of the world.
     fn add_events(
         &self,
         due: DueSlot,
@@ -120,25 +117,13 @@ impl World {
         ensures { OnOk result (events.new.items
             ≡ events.old.items ++ events_after self.now made.now due) }
     {
-        let DueSlot { from, to, slot } = due;
-        let carry = self.frame_count(from) + made[usize::from(from.0)];
-        let took = self.frame_count(to) + made[usize::from(to.0)];
-        events.push(Event::Send { from, to, slot })?;
-        events.push(Event::Arrive { from, seq: carry })?;
-        events.push(Event::Ack {
-            from: to,
-            to: from,
-            slot,
-        })?;
-        events.push(Event::Arrive {
-            from: to,
-            seq: took,
-        })?;
-        Ok(())
+        let carry = self.frame_count(due.from) + made[usize::from(due.from.0)];
+        let took = self.frame_count(due.to) + made[usize::from(due.to.0)];
+        events.extend(due.events(carry, took))
     }
 }
 
-// Each end of a slot that is due makes a frame.
+// Each end of a slot makes a frame.
 fn count_frames(due: DueSlot, made: &mut [u64])
     requires size { length made.old ≡ 256 }
     requires from { slice_index_or made.old due.from 0 < 2 ^ 63 }

@@ -8,7 +8,7 @@ use crate::world::World;
 use cast_message::{Config, Event, List, Reply, StepFault};
 use std::alloc::{AllocError, Global};
 
-/// The group after these events, and the replies to them, in order; or want of memory, also where a step wants it.
+/// The group after these events, and the replies to them, in order. If a step is out of memory, the call is too.
 pub fn run_events(
     alloc: Global,
     config: Config,
@@ -17,12 +17,11 @@ pub fn run_events(
     ensures replies { IfOk result (λ run. run.1 ≡ replies config events.now) }
     ensures stands { IfOk result (λ run. Stands config (history config events.now) run.0) }
 
-    // What each node delivers from a sender is a prefix of what that sender broadcast, with nothing after its close.
+    // What a node delivers from a sender is a prefix of what that sender broadcast, with nothing after its close.
     ensures prefix { IfOk result (λ run. DeliversPrefixes config events.now run.1) }
     ensures closed { IfOk result (λ run. DeliversNothingAfterClose events.now run.1) }
 
-    // Each decided value was proposed in its instance. Where the faults are fewer than k, at most k are decided in it; and whatever k
-    // is, at most one more than there are tolerated faults.
+    // Each decided value was proposed in its instance, which has at most f + 1 of them, and at most k if f is below k.
     ensures proposed { IfOk result (λ run. DecidesProposals config events.now run.1) }
     ensures few { IfOk result (λ run. DecidesFewValues config run.1) }
     ensures within { IfOk result (λ run. DecidesWithinFaults config run.1) }
@@ -39,7 +38,7 @@ pub fn run_events(
     Ok((world, replies))
 }
 
-/// Whether a step was refused for want of memory.
+/// Whether a step was out of memory.
 pub fn is_want_of_memory(reply: &Reply) -> bool
     ensures { result ≡ is_want_of_memory reply.now }
 {

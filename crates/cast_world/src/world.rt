@@ -1,5 +1,5 @@
 //! The group as one value: events go in, replies come out.
-ghost use Rattle.std.specs.Prelude.{◌≡◌, ◌≢◌, ◌<◌, ◌≤◌, ◌^◌, ◌∷◌, IsTrue, IsFalse, IfOk, IfSome, IfNone, OnErr, [], length, take, option_map, nat_lt, ◌&&◌, Err};
+ghost use Rattle.std.specs.Prelude.{◌≡◌, ◌≢◌, ◌<◌, ◌≤◌, ◌^◌, ◌∷◌, IsTrue, IsFalse, IfOk, IfSome, IfNone, OnErr, [], length, take, option_map, nat_lt, ◌&&◌, Ok, Err};
 ghost use Rattle.cast_message.specs.declared.event.StepFault.TheVariants.{Memory};
 ghost use Rattle.cast_model.specs.History.{is_live};
 ghost use Rattle.cast_model.specs.Replies.{reply};
@@ -15,11 +15,12 @@ use crate::due_slots::DueSlot;
 use crate::frames::{self, Mark};
 use cast_message::FrameKind::{Carry, Took};
 use cast_message::{Answer, Config, Event, FrameKind, Item, NodeId, Reply, StepFault};
-use cast_node::Node;
+use cast_node::{Node, no_news};
 use std::alloc::{AllocError, Global};
 use std::marker::Model;
 
-/// All nodes of a group, and marks of the frames that they made.
+/// All nodes of a group, and marks of the frames that they made. Calls that only show
+/// something and can't fail allocate nothing.
 #[derive(Drop)]
 pub struct World {
     alloc: Global,
@@ -49,7 +50,7 @@ impl Model for World {
 }
 
 impl World {
-    /// A group in which nothing has happened, or want of memory.
+    /// A group in which nothing has happened.
     pub fn new(alloc: Global, config: Config) -> Result<World, AllocError>
         ensures { IfOk result (λ world. Stands config [] world) }
     {
@@ -77,18 +78,18 @@ impl World {
             Continues config past event.now result self.new) }
         ensures err { OnErr result (self.new ≡ self.old) }
 
-        // No slot is given that a mark has no room for: its event has a cause of refusal, and never wants memory.
+        // No slot is given that a mark has no room for: there is a cause to refuse its event, which is never out of memory.
         ensures far { StandingFor self.old (λ config past.
             IsFar event.now → IsRefusedForCause config past event.now result) }
 
-        // A crash never wants memory.
+        // A crash is never out of memory.
         ensures sure { StandingFor self.old (λ config past.
             IsCrash event.now → result ≡ reply config past event.now) }
     {
         self.take(event)
     }
 
-    // Takes one event: the node that it names takes a step.
+    // The node that the event names takes a step.
     fn take(&mut self, event: &Event) -> Reply
         ensures steps { StepsTo self.old event.now result self.new }
         ensures err { OnErr result (self.new ≡ self.old) }
@@ -103,10 +104,9 @@ impl World {
         }
     }
 
-    /// Takes one event, where it is a send, an acknowledgement, or an arrival at which nothing is delivered or decided, and is
-    /// accepted. Says whether it did. It may always say that it did not: then nothing changed, and `step` says what becomes of
-    /// the event. It tries sends, acknowledgements, and arrivals of acknowledgements and of held messages. Most events are so, and for them
-    /// it is faster than `step`.
+    /// Takes one event as `step` does, if it is accepted and nothing is delivered or decided by it. Says whether it did. It may
+    /// always return `false`: then nothing changed, and `step` takes the event. It tries sends, acknowledgements, and arrivals of
+    /// acknowledgements and of held messages: most events are such, and it takes them faster than `step`.
     pub fn step_if_silent(&mut self, event: &Event) -> bool
         ensures took { IsTrue result → StandingFor self.old (λ config past.
             IsSilent (reply config past event.now)
@@ -121,9 +121,8 @@ impl World {
         }
     }
 
-    /// Takes the events that settle a slot, whose two frames are to have these numbers, from the first on, as long as each is
-    /// accepted and nothing is delivered or decided by it. Answers how many it took. It may always stop early, and the world
-    /// is then as after the events that it took.
+    /// Takes the events that settle a slot, whose two frames are to have these numbers, as `step_if_silent` takes each, and returns
+    /// how many it took. It may always stop early. The world is then as after the events that it took.
     #[inline(always)]
     pub fn settle_silently(&mut self, due: &DueSlot, carry: u64, took: u64) -> usize
         ensures few { result ≤ 4 }
@@ -188,19 +187,19 @@ impl World {
     fn arrive(&mut self, from: NodeId, seq: u64) -> Reply
         ensures { StepsTo self.old (Event.Arrive from seq) result self.new }
     {
+        if let Some(node) = self.arrive_silently(from, seq) {
+            return Ok(silent(self.alloc, node));
+        }
         let mark = frames::find(&self.marks, from, seq)?;
         let place = usize::from(mark.to.0);
         if let Some(fault) = self.nodes[place].arrive_fault() {
             return Err(fault);
         }
-        if frames::carries_held(&self.nodes[place], &mark) {
-            return frames::arrive_held(&mut self.nodes[place], from, &mark);
-        }
         let frame = frames::rebuild(&self.nodes, from, seq, mark)?;
         frames::arrive(&mut self.nodes[place], &frame)
     }
 
-    // A frame arrives where nothing is delivered or decided by it: the node at which it does. Else nothing changed.
+    // A frame arrives, if nothing is delivered or decided by it: the node at which it does. Else nothing changed.
     fn arrive_silently(&mut self, from: NodeId, seq: u64) -> Option<NodeId>
         ensures took { IfSome result (λ node.
             StepsTo self.old (Event.Arrive from seq) (silent_reply node) self.new) }
@@ -232,7 +231,7 @@ impl World {
         }
     }
 
-    /// The items that node `node` delivered from `sender`, in order, where both are nodes. It takes no memory.
+    /// The items that node `node` delivered from `sender`, in order, if both are nodes. It takes no memory.
     pub fn delivered(&self, node: NodeId, sender: NodeId) -> Option<&[Item]>
         ensures { StandingFor self.now (λ config past.
             ShowsDelivered config past node sender (option_map (λ items. items.now) result)) }
@@ -240,7 +239,7 @@ impl World {
         self.node(node)?.delivered(sender)
     }
 
-    /// The items that node `node` broadcast, in order, where it is a node. It takes no memory.
+    /// The items that node `node` broadcast, in order, if it is a node. It takes no memory.
     pub fn stream(&self, node: NodeId) -> Option<&[Item]>
         ensures { StandingFor self.now (λ config past.
             ShowsStream config past node (option_map (λ items. items.now) result)) }
@@ -248,7 +247,7 @@ impl World {
         Some(self.node(node)?.stream())
     }
 
-    /// The value that node `node` decided in the instance, if it did. It takes no memory.
+    /// The value that node `node` decided in the instance, if it did.
     pub fn decision(&self, node: NodeId, instance: u64) -> Option<u64>
         ensures { StandingFor self.now (λ config past.
             result ≡ decision config past node instance) }
@@ -256,22 +255,21 @@ impl World {
         self.node(node)?.decision(instance)
     }
 
-    /// How many slots of what `from` gives `to` are not acknowledged, where both are nodes and not the same. It takes no
-    /// memory.
+    /// How many slots `from` owes `to`, if they are two different nodes. It takes no memory.
     pub fn owed(&self, from: NodeId, to: NodeId) -> Option<u64>
         ensures { StandingFor self.now (λ config past. ShowsOwed config past from to result) }
     {
         self.node(from)?.owed(to)
     }
 
-    /// The node of this number, where it is one. It takes no memory.
+    /// The node of this number, if there is one. It takes no memory.
     pub fn node(&self, node: NodeId) -> Option<&Node>
         ensures { FindsNode self.now node (option_map (λ found. found.now) result) }
     {
         self.nodes.get(usize::from(node.0))
     }
 
-    /// Whether node `node` is one of the group and has not crashed. It takes no memory.
+    /// Whether there is this node, and it has not crashed. It takes no memory.
     pub fn live(&self, node: NodeId) -> bool
         ensures { StandingFor self.now (λ config past.
             result ≡ (nat_lt node config.nodes && is_live past node)) }
@@ -282,12 +280,11 @@ impl World {
         }
     }
 
-    /// The allocator that the world was made with.
     pub(crate) fn allocator(&self) -> Global {
         self.alloc
     }
 
-    /// How many frames a node made; none where it is no node.
+    /// How many frames a node made; none if there is no such node.
     pub fn frame_count(&self, node: NodeId) -> u64
         ensures value { result ≡ length (marks_at self.now node) }
         ensures bound { result < 2 ^ 63 }
@@ -298,7 +295,7 @@ impl World {
         }
     }
 
-    /// How many nodes there are, 1 to 64.
+    /// The number of nodes, 1 to 64.
     pub(crate) fn node_count(&self) -> u8
         ensures value { result ≡ length self.now.nodes }
         ensures config { result ≡ self.now.config.nodes }
@@ -306,7 +303,6 @@ impl World {
         self.nodes.len() as u8
     }
 
-    /// Whether a node has not crashed.
     pub(crate) fn is_live(&self, node: NodeId) -> bool
         requires { node < length self.now.nodes }
         ensures { result ≡ (node_at self.now node).live }
@@ -314,7 +310,7 @@ impl World {
         self.nodes[usize::from(node.0)].live()
     }
 
-    /// The node of a number that is one.
+    /// The node of this number, which there is.
     pub(crate) fn node_of(&self, node: NodeId) -> &Node
         requires { node < length self.now.nodes }
         ensures node { result.now ≡ node_at self.now node }
@@ -325,12 +321,21 @@ impl World {
         &self.nodes[usize::from(node.0)]
     }
 
-    /// The mark of the frame of this number that a node made, or why there is none.
     pub(crate) fn mark(&self, from: NodeId, seq: u64) -> Result<Mark, StepFault>
         ensures found { FindsMark self.now.marks from seq result }
         ensures target { IfOk result (λ mark. mark.to < length self.now.nodes) }
     {
         frames::find(&self.marks, from, seq)
+    }
+}
+
+// The answer to an arrival at which nothing is delivered or decided.
+fn silent(alloc: Global, node: NodeId) -> Answer
+    ensures { Ok result ≡ silent_reply node }
+{
+    Answer::Arrived {
+        node,
+        outcome: no_news(alloc),
     }
 }
 

@@ -1,4 +1,4 @@
-//! The words that the program was called with, and what is shown where they ask for nothing that it does.
+//! The words that the program was called with, and what it shows if they ask for nothing that it does.
 use crate::console::Console;
 use crate::explain::failure_words;
 use crate::output::{Failure, Target};
@@ -8,13 +8,12 @@ use cast_text::TextFault;
 use std::io;
 use std::rt::Runtime;
 
-/// The words that the program was called with.
 pub fn command_words<R: Runtime + AllocGlobal>(rt: &R) -> io::Result<Vec<String>> {
     let words = std::env::args(rt)?.collect(rt.alloc())?;
     Ok(words)
 }
 
-/// How much detail the words ask for, whatever else they are.
+/// How much detail the words ask for, even if they are wrong otherwise.
 pub fn detail_of(words: &[String]) -> Detail {
     if words.iter().any(|word| word.as_str() == "--explain") {
         Detail::Always
@@ -25,10 +24,10 @@ pub fn detail_of(words: &[String]) -> Detail {
     }
 }
 
-/// Says why there are no words: one is not UTF-8, or memory is wanting.
+/// Says why there are no words: one is not UTF-8, or memory ran out.
 pub fn refuse_words<R: Runtime + AllocGlobal>(rt: &R, error: &io::Error) -> Status {
     if matches!(error.kind(), io::ErrorKind::InvalidData) {
-        // Where standard error fails there is nowhere left to say so: the status tells it.
+        // If standard error fails, only the status can report that.
         let _ = eprintln!(rt; "error: a word of the command line is not UTF-8");
         return Status::Usage;
     }
@@ -46,7 +45,7 @@ pub fn refuse_request<R: Runtime + AllocGlobal>(
     }
 }
 
-// Shows help or the version on standard output, or a fault of the words on standard error.
+// Shows help or the version on standard output, or a fault in the words on standard error.
 fn show<R: Runtime + AllocGlobal>(console: &Console<'_, R>, shown: &Shown) -> Status {
     match (shown.is_fault(), shown.print(console.rt)) {
         (true, _) => Status::Usage,

@@ -1,5 +1,5 @@
-//! Why a command stopped, and what is said of that on standard error: the fixed text, and in one line more where a fault is and why
-//! it is one. That line is made from the input once more; where there is no memory for it, nothing more is said.
+//! Why a command stopped, and what standard error says about it: the fixed text, and one more line about where a fault
+//! is and why. That line needs the input again; if there is no memory for it, it is left out.
 use crate::console::Console;
 use crate::input::Source;
 use crate::output::{Failure, Finished, Target};
@@ -12,14 +12,13 @@ use std::alloc::{AllocError, Global};
 use std::io;
 use std::rt::Runtime;
 
-/// Why a command stopped.
 #[derive(Clone, Copy)]
 pub enum Stop<'a> {
-    /// By its input, or for want of memory or of a thread.
+    /// Its input, or a lack of memory or of a thread.
     Fault(TextFault),
     /// An output was not written to its end.
     Output(Failure<'a>),
-    /// The replay is longer than a picture is drawn of.
+    /// The replay is too long for a picture.
     LongReplay,
 }
 
@@ -32,7 +31,7 @@ impl<'a> Stop<'a> {
         }
     }
 
-    /// Which of two is told: the other where it is want of memory, else this one.
+    /// The other if that is out of memory, else this one.
     pub fn or_memory(self, other: Stop<'a>) -> Stop<'a> {
         match other.fault() {
             TextFault::Memory => other,
@@ -41,7 +40,7 @@ impl<'a> Stop<'a> {
     }
 }
 
-/// What was done, where the output was written to its end too; else why not.
+/// The result, if the output was also written to its end; else why not.
 pub fn done_and_written<'a, T: Drop>(
     done: Result<T, TextFault>,
     written: Result<Finished, Failure<'a>>,
@@ -53,7 +52,7 @@ pub fn done_and_written<'a, T: Drop>(
     }
 }
 
-/// Says why nothing more was done, and answers the status for it.
+/// Says why nothing more was done, and returns the status for it.
 pub fn tell_stop<R: Runtime + AllocGlobal>(
     console: &Console<'_, R>,
     stop: Stop<'_>,
@@ -99,7 +98,7 @@ fn stop_words<R: Runtime + AllocGlobal>(
     }
 }
 
-// What is wrong with the input, which is had once more.
+// What is wrong with the input, which is read again.
 fn input_words<R: Runtime + AllocGlobal>(
     rt: &R,
     fault: TextFault,
@@ -123,7 +122,7 @@ fn input_words<R: Runtime + AllocGlobal>(
     Ok(Some(format!(in alloc; "{name}: {words}")?))
 }
 
-/// The name of an input, as it is shown.
+/// The name of an input, as shown.
 pub fn input_name(alloc: Global, place: Place<'_>) -> Result<String, AllocError> {
     match place {
         Place::File(path) => escaped(alloc, path.as_bytes()),
@@ -131,7 +130,7 @@ pub fn input_name(alloc: Global, place: Place<'_>) -> Result<String, AllocError>
     }
 }
 
-/// What the system said of an output that failed.
+/// What the system said about an output that failed.
 pub fn failure_words(alloc: Global, failure: Failure<'_>) -> Result<String, AllocError> {
     let name = match failure.target {
         Target::File(path) => escaped(alloc, path.as_bytes())?,

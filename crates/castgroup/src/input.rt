@@ -1,4 +1,4 @@
-//! The input of a command: it remembers what the system said when it failed, and is had once more where it is to be explained.
+//! The input of a command. It remembers the system's error if it fails, and is read again if it is to be explained.
 use crate::console::Console;
 use cast_command::Place;
 use cast_text::INPUT_LIMIT;
@@ -17,14 +17,14 @@ enum Stream<F, S> {
     Refused(io::Error),
 }
 
-/// How an input that is to be explained is had once more.
+/// How to get an input again that is to be explained.
 #[derive(Drop)]
 enum Again {
     /// By reading its file.
     File,
-    /// From what was read so far, as long as there is memory for it.
+    /// From what was read so far, while there is memory for it.
     Kept(Vec<u8>),
-    /// Not at all: it gives nothing again, and is not to be explained, or there was no memory to keep it.
+    /// Not at all: it can't be read twice and is not to be explained, or there was no memory to keep it.
     Lost,
 }
 
@@ -37,7 +37,7 @@ pub struct Source<'a, F, S> {
     again: Again,
 }
 
-/// Opens the input in this place.
+/// Opens the input at this place.
 pub fn open_source<'a, R: Runtime + AllocGlobal>(
     console: &Console<'_, R>,
     place: Place<'a>,
@@ -64,7 +64,7 @@ pub fn open_source<'a, R: Runtime + AllocGlobal>(
     }
 }
 
-// A pipe has a name too, and gives what was read to nobody again.
+// A pipe has a name too, but what was read from it can't be read again.
 fn can_be_read_again<F: OpenFile, S>(stream: &Stream<F, S>) -> bool {
     match stream {
         Stream::File(file) => matches!(file.metadata(), Ok(metadata) if metadata.is_file()),
@@ -74,7 +74,6 @@ fn can_be_read_again<F: OpenFile, S>(stream: &Stream<F, S>) -> bool {
 }
 
 impl<'a, F: Read + Drop, S: Read + Drop> Source<'a, F, S> {
-    /// Where the input comes from.
     pub fn place(&self) -> Place<'a> {
         self.place
     }
@@ -84,8 +83,8 @@ impl<'a, F: Read + Drop, S: Read + Drop> Source<'a, F, S> {
         self.error
     }
 
-    /// The bytes of the input once more: those that were kept, or those of the file, up to the first that is too many. None
-    /// where they can't be had.
+    /// The bytes of the input again: those kept, or those of the file up to the first that is too many. None if they
+    /// can't be had.
     pub fn into_bytes<R: Runtime + AllocGlobal>(self, rt: &R) -> Option<Vec<u8>> {
         let Source { place, again, .. } = self;
         match (again, place) {
@@ -95,12 +94,12 @@ impl<'a, F: Read + Drop, S: Read + Drop> Source<'a, F, S> {
         }
     }
 
-    /// Has what is read kept, as its file will be written over.
+    /// Keeps what is read, because its file will be overwritten.
     pub fn keep_all(&mut self, alloc: Global) {
         self.again = Again::Kept(Vec::new(alloc));
     }
 
-    // Keeps what was read, as long as there is memory for it.
+    // Keeps what was read, while there is memory for it.
     fn keep(&mut self, piece: &[u8]) {
         if let Again::Kept(bytes) = &mut self.again {
             if bytes.extend_from_slice(piece).is_err() {

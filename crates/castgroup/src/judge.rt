@@ -1,4 +1,4 @@
-//! The command `judge`: the verdict on each of some records.
+//! The command `judge`: the verdict on each of several records.
 use crate::console::Console;
 use crate::explain::{Stop, done_and_written, input_name, tell_stop};
 use crate::input::{Source, open_source};
@@ -11,8 +11,8 @@ use std::alloc::AllocError;
 use std::io::{self, Write};
 use std::rt::Runtime;
 
-/// Writes the verdict on each record, of more than one behind its name, and answers the worst status. Where standard output fails,
-/// the rest is not judged.
+/// Writes the verdict on each record, after its name if there are several, and returns the worst status. If standard
+/// output fails, the rest is not judged.
 pub fn judge_records<R: Runtime + AllocGlobal>(
     console: &Console<'_, R>,
     records: &[Place<'_>],
@@ -29,7 +29,7 @@ pub fn judge_records<R: Runtime + AllocGlobal>(
     worst
 }
 
-// Judges one record. An error is that of standard output.
+// Judges one record. An error comes from standard output.
 fn judge_record<R: Runtime + AllocGlobal>(
     console: &Console<'_, R>,
     record: Place<'_>,
@@ -68,7 +68,7 @@ fn judge_source<'a, R: Runtime + AllocGlobal>(
     done_and_written(done, finish(output))
 }
 
-/// Writes a name before the first byte, where there is one.
+/// Writes a name before the first byte, if there is one.
 #[derive(Drop)]
 struct Named<'a, W> {
     name: Option<&'a str>,
@@ -89,7 +89,7 @@ impl<W: Write> Write for Named<'_, W> {
     }
 }
 
-// Says which line breaks which rule, where that is asked for.
+// Says which line breaks which rule, if that is asked for.
 fn explain_verdict<R: Runtime + AllocGlobal>(
     console: &Console<'_, R>,
     line: u64,

@@ -1,4 +1,4 @@
-//! The command `live`: a script's group in threads or by seeds, and what is kept of the run.
+//! The command `live`: runs a script's group in threads or by seeds, and keeps the requested texts.
 use crate::console::Console;
 use crate::explain::{Stop, tell_stop};
 use crate::input::{Source, open_source};
@@ -18,7 +18,7 @@ use std::rt::{Clock, Runtime};
 use std::sync::Wait;
 use std::thread::Threads;
 
-/// Runs the group of a script as is asked for, and writes what is wanted of it.
+/// Runs the group of a script, and writes what was requested.
 pub fn run_live<R: Runtime + AllocGlobal + Threads + Wait + Clock + Copy + Send + 'static>(
     console: &Console<'_, R>,
     task: LiveTask<'_>,
@@ -53,7 +53,7 @@ fn live_once<R: Runtime + AllocGlobal + Threads + Wait + Copy + Send + 'static>(
     }
 }
 
-/// Opens the script. Where more is said than the fixed texts, an output that is its file is told of.
+/// Opens the script. If remarks are made, it warns of an output that is the script's own file.
 pub fn open_script<'a, R: Runtime + AllocGlobal>(
     console: &Console<'_, R>,
     task: &LiveTask<'a>,
@@ -65,7 +65,7 @@ pub fn open_script<'a, R: Runtime + AllocGlobal>(
     source
 }
 
-/// Where it is told how far a run is, if it is told.
+/// Where progress is shown, if it is.
 pub fn progress_stream<R>(console: &Console<'_, R>, task: &LiveTask<'_>) -> Option<Stderr> {
     if task.tells_progress || console.stderr.is_terminal() {
         Some(console.stderr)
@@ -74,18 +74,17 @@ pub fn progress_stream<R>(console: &Console<'_, R>, task: &LiveTask<'_>) -> Opti
     }
 }
 
-/// How a group runs, and what is wanted of the run.
+/// How a group runs, and which texts are kept.
 #[derive(Clone, Copy)]
 pub struct Group<'a> {
-    /// The seed of its schedule; in threads where there is none.
+    /// The seed of its schedule; without one it runs in threads.
     pub seed: Option<u64>,
     pub summary: Target<'a>,
     pub places: RunPlaces<'a>,
     pub progress_to: Option<Stderr>,
 }
 
-/// Runs the group of the script that is read, and writes all that is wanted of the run. What can't be written takes nothing from
-/// the rest.
+/// Runs the group of the script, and writes all that was requested. What can't be written does not stop the rest.
 pub fn run_group<
     'a,
     I: Read + Drop,
@@ -115,7 +114,7 @@ pub fn run_group<
     outcome_of(run, kept.stop)
 }
 
-// The run, where all its outputs were written; else why not.
+// The run, if all its outputs were written; else why not.
 fn outcome_of<'a>(
     run: Result<FinishedRun, TextFault>,
     stop: Option<Stop<'a>>,

@@ -1,5 +1,5 @@
-//! The program `castgroup`: asks `cast_command` what the words of its call want, opens what they name, and has it done by one call
-//! of the library. What came of it is its exit status.
+//! The program `castgroup`. It asks `cast_command` what the words of its call want, opens what they name, and calls the
+//! library once to do it. The result is its exit status.
 #![tactic(auto)]
 
 mod command_line;
@@ -18,14 +18,14 @@ mod seeds;
 mod status;
 mod texts;
 
-use cast_command::{RULES, Task, parse};
-use cast_text::Window;
+use cast_command::{RULES, Task, parse, refusals_help};
+use cast_text::{TextFault, Window};
 use command_line::{command_words, detail_of, refuse_request, refuse_words};
 use console::Console;
 use judge::judge_records;
 use live::run_live;
 use merge::merge_logs;
-use status::Status;
+use status::{Status, refuse};
 use std::io::Stderr;
 use std::process::ExitCode;
 use std::rt::{Clock, Runtime};
@@ -45,10 +45,23 @@ fn run<R: Runtime + AllocGlobal + Threads + Wait + Clock + Copy + Send + 'static
         Ok(words) => words,
         Err(error) => return refuse_words(rt, &error),
     };
-    match parse(rt.alloc(), words.as_slice(), RULES) {
+    match refusals_help(rt.alloc()) {
+        Ok(refusals) => run_words(rt, stderr, words.as_slice(), refusals.as_str()),
+        Err(_) => refuse(rt, TextFault::Memory),
+    }
+}
+
+// Does what the words ask for. The help of `run` ends with `refusals`.
+fn run_words<R: Runtime + AllocGlobal + Threads + Wait + Clock + Copy + Send + 'static>(
+    rt: &R,
+    stderr: Stderr,
+    words: &[String],
+    refusals: &str,
+) -> Status {
+    match parse(rt.alloc(), words, refusals, RULES) {
         Ok(request) => perform(&Console::new(rt, stderr, request.detail), request.task),
         Err(refusal) => {
-            let console = Console::new(rt, stderr, detail_of(words.as_slice()));
+            let console = Console::new(rt, stderr, detail_of(words));
             refuse_request(&console, &refusal)
         }
     }
@@ -81,7 +94,7 @@ fn perform<R: Runtime + AllocGlobal + Threads + Wait + Clock + Copy + Send + 'st
     }
 }
 
-// The events from one place to another; all before or behind, where none is named.
+// The events from one place to another; without one, all before or after.
 fn window(from: Option<u64>, to: Option<u64>) -> Window {
     let all = Window::all();
     Window {

@@ -1,4 +1,4 @@
-//! The command `merge`: the logs of a group's processes, read and merged, and what is kept of the run.
+//! The command `merge`: reads and merges the logs of a group's processes, and keeps the requested texts.
 ghost use Rattle.std.specs.Prelude.{◌≡◌, false};
 ghost use Rattle.cast_live.specs.Outputs.{AreSound, IsSound};
 
@@ -23,20 +23,20 @@ use std::rt::Runtime;
 // Why the logs were not merged, or not all was written.
 #[derive(Clone, Copy)]
 enum Halt<'a> {
-    // A log is wrong in this line.
+    // This line of a log is wrong.
     Log {
         file: Place<'a>,
         line: u64,
         cause: LogCause,
     },
-    // This log can't be read, or memory is wanting, or an output failed.
+    // This log can't be read, memory ran out, or an output failed.
     Stop {
         file: Place<'a>,
         stop: Stop<'a>,
     },
 }
 
-/// Merges the logs, and writes what is wanted of the run.
+/// Merges the logs, and writes what was requested.
 pub fn merge_logs<'a, R: Runtime + AllocGlobal>(
     console: &Console<'a, R>,
     task: &MergeTask<'a>,
@@ -165,7 +165,7 @@ fn merge_gathered<'a, R: Runtime + AllocGlobal>(
     }
 }
 
-// Writes what is wanted of the run, as `live` does.
+// Writes what was requested, as `live` does.
 fn write_all<'a, R: Runtime + AllocGlobal>(
     console: &Console<'a, R>,
     places: &RunPlaces<'a>,

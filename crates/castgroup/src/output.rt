@@ -1,4 +1,5 @@
-//! The outputs of a command. A file is made when its first byte is written, and what the system says of a failed write is kept.
+//! The outputs of a command. A file is created when its first byte is written. The system's error for a failed write is
+//! kept.
 ghost use Rattle.std.specs.Io.{WritesAtMost};
 
 use crate::console::Console;
@@ -17,7 +18,7 @@ pub enum Target<'a> {
     StandardOutput,
     StandardError,
     File(&'a str),
-    /// To be read once more, or by nobody.
+    /// To be read again, or by nobody.
     Memory,
 }
 
@@ -31,7 +32,7 @@ impl<'a> Target<'a> {
     }
 }
 
-/// An output that was not written to its end, and what the system said of it, if it said anything.
+/// An output that was not written to its end, and the system's error, if any.
 #[derive(Clone, Copy)]
 pub struct Failure<'a> {
     pub target: Target<'a>,
@@ -39,7 +40,7 @@ pub struct Failure<'a> {
 }
 
 impl Failure<'_> {
-    /// What is told of it.
+    /// How it is reported.
     pub fn fault(&self) -> TextFault {
         match self.error {
             Some(error) if matches!(error.kind(), io::ErrorKind::OutOfMemory) => TextFault::Memory,
@@ -48,13 +49,13 @@ impl Failure<'_> {
     }
 }
 
-/// An output, without a buffer.
+/// An output without a buffer.
 #[derive(Drop)]
 pub struct Sink<'a, R: Runtime> {
     rt: &'a R,
     stderr: Stderr,
     target: Target<'a>,
-    // The file, once it is made.
+    // The file, after it was created.
     file: Option<R::File>,
     // What is kept in memory.
     kept: Vec<u8>,
@@ -62,7 +63,7 @@ pub struct Sink<'a, R: Runtime> {
     error: Option<io::Error>,
 }
 
-/// An output that nothing was written to so far.
+/// An output to which nothing was written yet.
 pub fn open_sink<'a, R: Runtime + AllocGlobal>(
     console: &Console<'a, R>,
     target: Target<'a>,
@@ -78,7 +79,7 @@ pub fn open_sink<'a, R: Runtime + AllocGlobal>(
     }
 }
 
-/// The same behind a buffer, or want of memory for that.
+/// The same with a buffer, or out of memory for that.
 pub fn open_output<'a, R: Runtime + AllocGlobal>(
     console: &Console<'a, R>,
     target: Target<'a>,
@@ -90,12 +91,12 @@ pub fn open_output<'a, R: Runtime + AllocGlobal>(
     }
 }
 
-/// What an output has that was written to its end.
+/// What an output has after it was written to its end.
 #[derive(Drop)]
 pub struct Finished {
     /// How many bytes were written.
     pub count: u64,
-    /// Those that were kept in memory.
+    /// The bytes kept in memory.
     pub kept: Vec<u8>,
 }
 
@@ -111,7 +112,7 @@ pub fn finish<'a, R: Runtime>(mut output: BufWriter<Sink<'a, R>>) -> Result<Fini
 }
 
 impl<'a, R: Runtime> Sink<'a, R> {
-    /// The output as one that failed.
+    /// The output, as one that failed.
     pub fn failure(&self) -> Failure<'a> {
         Failure {
             target: self.target,
@@ -119,7 +120,7 @@ impl<'a, R: Runtime> Sink<'a, R> {
         }
     }
 
-    // Hands the bytes on to the file, which is made before.
+    // Passes the bytes on to the file, which is created first.
     fn write_to_file(&mut self, path: &str, buf: &[u8]) -> io::Result<usize>
         ensures { WritesAtMost result buf.now }
     {

@@ -1,4 +1,4 @@
-//! The outputs of a run: its record, its replay, its picture and its summary, in the order in which they are written.
+//! The outputs of a run: its record, its replay, its picture and its summary, in the order of writing.
 ghost use Rattle.std.specs.Prelude.{IfOk};
 ghost use Rattle.cast_live.specs.Outputs.{AreSound, IsSound};
 
@@ -15,7 +15,7 @@ use std::rt::Runtime;
 /// The outputs that the library writes.
 pub type Outputs<'a, R> = RunOutputs<BufWriter<Sink<'a, R>>, BufWriter<Sink<'a, R>>>;
 
-/// Where the summary goes: the text of another output is not to stand in one stream with it.
+/// Where the summary goes. It must not share a stream with the text of another output.
 pub fn summary_target<'a>(places: &RunPlaces<'_>) -> Target<'a> {
     if places.count_standard() > 0 {
         Target::StandardError
@@ -24,7 +24,7 @@ pub fn summary_target<'a>(places: &RunPlaces<'_>) -> Target<'a> {
     }
 }
 
-/// Opens the outputs that are wanted. The replay is kept in memory where a picture is drawn of it.
+/// Opens the requested outputs. If a picture is requested, the replay is kept in memory.
 pub fn open_outputs<'a, R: Runtime + AllocGlobal>(
     console: &Console<'a, R>,
     summary: Target<'a>,
@@ -60,12 +60,12 @@ fn open_wanted<'a, R: Runtime + AllocGlobal>(
     }
 }
 
-/// What became of the outputs of a run.
+/// What happened to the outputs of a run.
 #[derive(Clone, Copy)]
 pub struct Kept<'a> {
     record: u64,
     replay: u64,
-    /// Why one was not written to its end: want of memory, or else the summary's failure, or else the first.
+    /// Why one was not written to its end: out of memory, else the summary's failure, else the first.
     pub stop: Option<Stop<'a>>,
 }
 
@@ -77,7 +77,7 @@ impl<'a> Kept<'a> {
         };
     }
 
-    // The same of what goes before all that was noted.
+    // The same, for a cause that comes before all noted ones.
     fn note_before(&mut self, stop: Stop<'a>) {
         self.stop = match self.stop {
             Some(first) => Some(stop.or_memory(first)),
@@ -85,7 +85,7 @@ impl<'a> Kept<'a> {
         };
     }
 
-    // How many bytes an output has; nothing where it was not written to its end.
+    // How many bytes an output has; 0 if it was not written to its end.
     fn note_written(&mut self, written: Result<Finished, Failure<'a>>) -> u64 {
         match written {
             Ok(finished) => finished.count,
@@ -97,7 +97,7 @@ impl<'a> Kept<'a> {
     }
 }
 
-/// Writes what is left in the buffers and draws the picture, which is not tried where the replay may have broken off.
+/// Writes what is left in the buffers and draws the picture, unless the replay may have broken off.
 pub fn keep_outputs<'a, R: Runtime + AllocGlobal>(
     console: &Console<'a, R>,
     outputs: Outputs<'a, R>,
@@ -126,7 +126,7 @@ pub fn keep_outputs<'a, R: Runtime + AllocGlobal>(
     kept
 }
 
-// Writes the replay, and the picture of it, where these are wanted.
+// Writes the replay and its picture, if requested.
 fn keep_replay<'a, R: Runtime + AllocGlobal>(
     console: &Console<'a, R>,
     replay: BufWriter<Sink<'a, R>>,
@@ -192,8 +192,8 @@ fn draw_replay<'a, R: Runtime + AllocGlobal>(
     done_and_written(done, finish(output))
 }
 
-/// Says so where a text is longer than this program reads. This comes after all else is written, as there may be nobody who reads
-/// it, and after the files are closed: where the program began without standard error, a file stands in its place.
+/// Warns if a text is longer than this program reads. This comes after all other writing, since nobody may read it. It
+/// also comes after the files are closed: if the program began without standard error, one of them has its place.
 pub fn warn_of_lengths<R>(console: &Console<'_, R>, kept: Kept<'_>) {
     let limit = INPUT_LIMIT as u64;
     if kept.record > limit {

@@ -1,4 +1,4 @@
-//! How far a long run of `live` is, a line a second on standard error.
+//! Shows the progress of a long run of `live`: a line a second on standard error.
 use cast_run::Progress;
 use std::alloc::Global;
 use std::io::{Stderr, Write};
@@ -8,33 +8,31 @@ use std::thread;
 use std::thread::{Parker, Threads};
 use std::time::Duration;
 
-// Seconds from one line to the next.
 const LINE_SECONDS: u64 = 1;
 
-// How many milliseconds a line that is being told is waited for.
+// How many milliseconds the program waits for a line that is being written.
 const LAST_LINE_MILLIS: u64 = 1000;
 
-/// What the thread that tells shares with the one that waits for the run.
+/// What the reporting thread shares with the thread that waits for the run.
 #[derive(Drop)]
 struct Bell {
-    // The run has ended.
     ended: AtomicBool,
-    // A line is being told.
+    // A line is being written.
     speaks: AtomicBool,
     parker: Parker,
 }
 
-/// A thread that tells how far a run is, until it is told that the run has ended. It is not joined: where standard error takes
-/// nothing it waits for that, and what became of the run is told all the same. But a line that is being told then is waited for,
-/// about a second at most.
+/// A thread that reports the run's progress until it learns that the run has ended. It is not joined: if standard error
+/// takes nothing, the thread waits for that, and the run's result is still reported. Only a line being written at the
+/// end is waited for, about a second at most.
 #[derive(Drop)]
 pub struct ProgressReporter {
     bell: Arc<Bell, Global>,
 }
 
 impl ProgressReporter {
-    /// Starts to tell, in a thread more than those of the run, which is started first. Where there is no stream, or no memory or no
-    /// thread can be had for it, nothing is told, and the run goes on all the same.
+    /// Starts a thread that reports, before those of the run start. If there is no stream, or no memory or thread for
+    /// it, nothing is reported, and the run goes on.
     pub fn start<T: Threads + Wait + Copy + Send + 'static>(
         rt: T,
         alloc: Global,
@@ -55,7 +53,7 @@ impl ProgressReporter {
         Some(ProgressReporter { bell })
     }
 
-    /// Stops telling, as the run has ended.
+    /// Stops reporting, since the run has ended.
     pub fn stop<R: Wait>(&self, rt: &R) {
         self.bell.ended.store(true, Ordering::SeqCst);
         self.bell.parker.unpark();
@@ -69,7 +67,7 @@ impl ProgressReporter {
     }
 }
 
-// A stream that the program began with. Where it began without it, a file of the run that is made stands in its place.
+// A stream that was there when the program began. Otherwise a file that the run creates may have its place.
 fn open_stream(mut stderr: Stderr) -> Option<Stderr> {
     stderr.write(&[]).ok()?;
     Some(stderr)
@@ -79,7 +77,7 @@ fn tell_each_second<R: Wait>(rt: &R, stderr: Stderr, progress: &Progress, bell: 
     for _ in rt.forever() {
         bell.parker
             .park_timeout(rt, Duration::from_secs(LINE_SECONDS));
-        // Who stops it says so before it looks whether a line is being told, so one of the two sees the other.
+        // The stopper sets its flag before it checks whether a line is being written, so one of the two sees the other.
         bell.speaks.store(true, Ordering::SeqCst);
         let ended = bell.ended.load(Ordering::SeqCst);
         if !ended {
@@ -92,7 +90,7 @@ fn tell_each_second<R: Wait>(rt: &R, stderr: Stderr, progress: &Progress, bell: 
     }
 }
 
-// Nothing is told before the script is read.
+// Nothing is written before the script is read.
 fn tell_line(stderr: &Stderr, progress: &Progress) {
     let due = progress.due();
     let deliveries = progress.deliveries();
@@ -100,6 +98,6 @@ fn tell_line(stderr: &Stderr, progress: &Progress) {
     if due == 0 && turns == 0 {
         return;
     }
-    // Where standard error fails there is nobody to tell.
+    // If standard error fails, there is nobody to report to.
     let _ = eprintln!(stderr; "castgroup: {deliveries} of {due} deliveries, {turns} turns");
 }

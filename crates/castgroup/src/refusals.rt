@@ -1,8 +1,8 @@
-//! The lines of refused events in a record, found as it is written.
+//! Finds the lines of refused events in a record while it is written.
 use cast_command::Refusals;
 use std::io::{self, Write};
 
-/// Hands a record on, and keeps which events were refused.
+/// Passes a record on, and keeps which events were refused.
 #[derive(Drop)]
 pub struct RefusalWatch<W> {
     inner: W,
@@ -13,11 +13,11 @@ pub struct RefusalWatch<W> {
     found: Option<Refusals>,
 }
 
-/// Where in a line the next byte stands.
+/// Where in a line the next byte is.
 #[derive(Clone, Copy)]
 enum At {
     Start,
-    /// Behind the letter of a refused event.
+    /// After the letter of a refused event.
     Letter,
     Index,
     Code,
@@ -26,7 +26,6 @@ enum At {
 }
 
 impl<W> RefusalWatch<W> {
-    /// Nothing was written so far.
     pub fn new(inner: W) -> RefusalWatch<W> {
         RefusalWatch {
             inner,
@@ -37,7 +36,7 @@ impl<W> RefusalWatch<W> {
         }
     }
 
-    /// The events that were refused, if any was.
+    /// The refused events, if there are any.
     pub fn refusals(&self) -> Option<Refusals> {
         self.found
     }
@@ -70,7 +69,6 @@ impl<W> RefusalWatch<W> {
         };
     }
 
-    // Notes the line that ends.
     fn note(&mut self) {
         let first = self.found.unwrap_or(Refusals {
             index: self.index,

@@ -1,4 +1,4 @@
-//! What is worth a word of a call that is done all the same, where more is said than the fixed texts.
+//! Remarks on a call that succeeds, if standard error gets more than the fixed texts.
 use crate::console::Console;
 use crate::explain::input_name;
 use crate::input::Source;
@@ -9,7 +9,7 @@ use std::fs;
 use std::os::unix::fs::MetadataExt;
 use std::rt::Runtime;
 
-/// Says which lists of a script the command left aside, which member stands twice, and which event was refused first.
+/// Says which lists of a script the command ignored, which member occurs twice, and which event was refused first.
 pub fn remark_on_script<R: Runtime + AllocGlobal>(
     console: &Console<'_, R>,
     source: Source<'_, R::File, R::Reader>,
@@ -32,7 +32,7 @@ pub fn remark_on_script<R: Runtime + AllocGlobal>(
     }
 }
 
-// Says these words of an input, where there are any.
+// Writes these words about an input, if there are any.
 fn say_of<R: Runtime + AllocGlobal>(
     console: &Console<'_, R>,
     place: Place<'_>,
@@ -48,7 +48,7 @@ fn named_words(alloc: Global, place: Place<'_>, words: &String) -> Result<String
     format!(in alloc; "{name}: {words}")
 }
 
-/// Says how many orders a run left in desks and refused, where there are some.
+/// Says how many orders a run left in desks and refused, if there are any.
 pub fn remark_on_orders<R: Runtime + AllocGlobal>(console: &Console<'_, R>, run: &FinishedRun) {
     if !console.explains {
         return;
@@ -62,7 +62,7 @@ pub fn remark_on_orders<R: Runtime + AllocGlobal>(console: &Console<'_, R>, run:
     }
 }
 
-/// Says so where an output of a run is the script that it is read from, and answers whether it is.
+/// Says if an output of a run is the script that is read, and returns whether it is.
 pub fn remark_on_overwriting<R: Runtime + AllocGlobal>(
     console: &Console<'_, R>,
     task: &LiveTask<'_>,
@@ -88,7 +88,7 @@ pub fn remark_on_overwriting<R: Runtime + AllocGlobal>(
     is_overwritten
 }
 
-// Whether the script stands in the file of this name.
+// Whether the script is in the file with this name.
 fn is_same_file<R: Runtime>(rt: &R, script: Place<'_>, path: &str) -> bool {
     let read = match script {
         Place::File(read) => read,

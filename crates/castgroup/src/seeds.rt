@@ -1,4 +1,4 @@
-//! The command `live` by many seeds: a line for each run that is not as one hopes, and how many runs there were.
+//! The command `live` with many seeds: a line for each odd run, and how many runs there were.
 use crate::console::Console;
 use crate::explain::{Stop, tell_stop};
 use crate::live::{Group, open_script, progress_stream, run_group, status_of};
@@ -19,7 +19,7 @@ use std::sync::{Arc, Wait};
 use std::thread::Threads;
 use std::time::Instant;
 
-/// Runs the group of a script by each of the seeds. What is kept is kept of the first run that is not as one hopes, or else of the
+/// Runs the group of a script by each of the seeds. The requested texts are those of the first odd run, or else of the
 /// last.
 pub fn live_seeds<R: Runtime + AllocGlobal + Threads + Wait + Clock + Copy + Send + 'static>(
     console: &Console<'_, R>,
@@ -36,7 +36,7 @@ pub fn live_seeds<R: Runtime + AllocGlobal + Threads + Wait + Clock + Copy + Sen
     }
 }
 
-// Runs all, keeps what is wanted of one, and writes how many runs there were.
+// Runs all, keeps what was requested of one, and writes how many runs there were.
 fn run_and_keep<
     'a,
     I: Read + Drop,
@@ -64,7 +64,7 @@ fn run_and_keep<
     }
 }
 
-// Runs the group by this seed once more, where something is to be kept of it.
+// Runs the group by this seed again, if texts of it are to be kept.
 fn keep_one<'a, R: Runtime + AllocGlobal + Threads + Wait + Copy + Send + 'static>(
     console: &Console<'a, R>,
     mut text: &[u8],
@@ -84,7 +84,7 @@ fn keep_one<'a, R: Runtime + AllocGlobal + Threads + Wait + Copy + Send + 'stati
     Ok(())
 }
 
-// Writes a line, where there was memory to make it.
+// Writes a line, if there was memory to make it.
 fn put_line<'a, R: Runtime>(
     line: Result<String, AllocError>,
     lines: &mut Sink<'a, R>,
@@ -98,13 +98,13 @@ fn put_line<'a, R: Runtime>(
     }
 }
 
-/// What came of all runs.
+/// The totals of all runs.
 #[derive(Clone, Copy)]
 struct Tally {
     at_rest: u64,
     good: u64,
     status: Status,
-    // The seed of the first run that is not as one hopes, or else of the last.
+    // The seed of the first odd run, or else of the last.
     kept: u64,
     is_as_hoped: bool,
 }
@@ -133,7 +133,7 @@ impl Tally {
     }
 }
 
-// Runs all, and writes the line of each run that is not as one hopes.
+// Runs all, and writes a line for each odd run.
 fn run_all<'a, R: Runtime + AllocGlobal + Threads + Wait + Clock + Copy + Send + 'static>(
     console: &Console<'a, R>,
     text: &[u8],
@@ -165,8 +165,8 @@ fn run_all<'a, R: Runtime + AllocGlobal + Threads + Wait + Clock + Copy + Send +
     Ok(tally)
 }
 
-// Tells how many runs were made, where a second or more has passed since that was told, and answers when it was told; nothing
-// where it is not to be told.
+// Reports how many runs were made, if the last report is a second or more ago, and returns its time. Returns nothing if
+// there are to be no reports.
 fn tell_runs<R: Clock>(
     console: &Console<'_, R>,
     last: Option<Instant>,
@@ -177,12 +177,12 @@ fn tell_runs<R: Clock>(
         return last;
     }
     let runs = before.saturating_add(1);
-    // Where standard error fails there is nobody to tell.
+    // If standard error fails, there is nobody to report to.
     let _ = eprintln!(console.stderr; "castgroup: {runs} of {times} runs");
     Instant::now(console.rt).ok()
 }
 
-// Runs the script's group by the seed. The summary's text is nobody's.
+// Runs the script's group by the seed. Nobody reads the summary's text.
 fn run_seed<'a, R: Runtime + AllocGlobal + Threads + Wait + Copy + Send + 'static>(
     rt: &R,
     mut text: &[u8],
@@ -209,8 +209,8 @@ fn run_seed<'a, R: Runtime + AllocGlobal + Threads + Wait + Copy + Send + 'stati
     }
 }
 
-// What is not as one hopes, each after a blank: the nodes that neither stopped nor crashed, as only the plan has it, that there is
-// no rest, and how many orders were left in desks or refused.
+// What makes the run odd, each after a blank. Nodes that neither stopped nor crashed are odd; a crash is not, since
+// only the plan causes it. So are a group that is not at rest, and orders that were left in desks or refused.
 fn oddities_of(alloc: Global, run: &FinishedRun) -> Result<String, AllocError> {
     let mut odd = String::new(alloc);
     for (node, report) in run.report.reports().iter().enumerate() {

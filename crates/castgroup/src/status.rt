@@ -1,12 +1,11 @@
-//! How the program ends: its statuses, and what it says of each fault.
+//! How the program ends: its statuses, and what it says about each fault.
 use cast_message::LiveFault;
 use cast_script::ScriptFault;
 use cast_text::TextFault;
 
-/// What the process ends with.
 #[derive(Clone, Copy)]
 pub enum Status {
-    /// All was done, refused steps included; also help.
+    /// All was done, even if steps were refused; also help.
     Good,
     /// The command line names nothing that the program does.
     Usage,
@@ -14,7 +13,7 @@ pub enum Status {
     Refused,
     /// The record is bad.
     Bad,
-    /// The record is good, and the group is not at rest at the end.
+    /// The record is good, but the group is not at rest at the end.
     Restless,
     /// Memory or a thread was refused.
     Resources,
@@ -23,7 +22,7 @@ pub enum Status {
 }
 
 impl Status {
-    /// The number with which the process ends.
+    /// The exit code.
     pub fn code(self) -> u8 {
         match self {
             Status::Good => 0,
@@ -45,7 +44,7 @@ impl Status {
         }
     }
 
-    // A bad verdict is worse than a refused input, and than a run without rest.
+    // A bad verdict is worse than a refused input, or than a run without rest.
     fn gravity(self) -> u8 {
         match self {
             Status::Good => 0,
@@ -59,7 +58,7 @@ impl Status {
     }
 }
 
-/// Says on standard error why nothing more was done, and answers the status for it.
+/// Says on standard error why nothing more was done, and returns the status for it.
 pub fn refuse<R: Eprint>(rt: &R, fault: TextFault) -> Status {
     let said = match fault {
         TextFault::Read => eprintln!(rt; "castgroup: read fault"),
@@ -83,7 +82,7 @@ pub fn refuse<R: Eprint>(rt: &R, fault: TextFault) -> Status {
             eprintln!(rt; "castgroup: script: config {code}")
         }
     };
-    // Where standard error fails there is nowhere left to say so: the status tells it.
+    // If standard error fails, only the status can report that.
     let _ = said;
     status_of(fault)
 }

@@ -11,20 +11,19 @@ use cast_record::Meter;
 use cast_text::{Window, draw_text, migrate_text, page_text, run_text};
 use std::rt::Runtime;
 
-/// A command that reads one text and writes another.
 #[derive(Clone, Copy)]
 pub enum TextCommand {
     /// Writes the record of a script.
     Run,
     /// Writes a record with the new head.
     Migrate,
-    /// Writes the picture of a script's events, of which those of the window are drawn.
+    /// Writes the picture of a script's events in this window.
     Draw(Window),
-    /// Writes a page that holds this picture, and steps through the run.
+    /// Writes a page with this picture that steps through the run.
     Page(Window),
 }
 
-/// Reads the text in this place, and writes what the command makes of it to standard output.
+/// Reads the text at this place, and writes what the command makes of it to standard output.
 pub fn write_text<R: Runtime + AllocGlobal>(
     console: &Console<'_, R>,
     command: TextCommand,
@@ -40,7 +39,7 @@ pub fn write_text<R: Runtime + AllocGlobal>(
     }
 }
 
-// Says what is worth a word of a script that was taken.
+// Makes remarks on a script that was accepted.
 fn remark<R: Runtime + AllocGlobal>(
     console: &Console<'_, R>,
     command: TextCommand,
@@ -55,7 +54,7 @@ fn remark<R: Runtime + AllocGlobal>(
     remark_on_script(console, source, Taken::Events { from }, refusals);
 }
 
-// Makes the text, and answers which events were refused, where that is to be said.
+// Makes the text, and returns which events were refused, if that is to be said.
 fn make_text<'a, R: Runtime + AllocGlobal>(
     console: &Console<'a, R>,
     command: TextCommand,

@@ -1,4 +1,4 @@
--- At rest live nodes have the same sheet.
+-- At rest all live nodes have the same sheet.
 use Rattle.std.specs.Prelude.{◌≡◌, ℕ, List, slice_get, Some}
 use Rattle.cast.specs.Types.{Config, Fault, ClientReport}
 use Rattle.cast.specs.Rounds.{Rest, Live, FewCrashedIn}
@@ -8,7 +8,7 @@ use Rattle.cast.specs.declared.follower.Follower.{Follower}
 use Rattle.examples.specs.declared.ledger.sheet.Sheet.{Sheet}
 use Rattle.examples.specs.Sheets.{IsSheetOf}
 
--- the node of this sheet is live
+-- the node with this sheet is live
 abbrev pub IsAtLiveNode : Config → Followed Sheet → ℕ → Sheet → Type 0
 IsAtLiveNode config run i sheet =
     (client : ClientReport) × (slice_get run.machines.items i ≡ Some sheet)

@@ -1,7 +1,7 @@
 -- The sheet of what was delivered.
---     transfer_of bytes, transfer_in item    the transfer that these bytes say, and that an item says
---     received journal a, sent journal a     what account a received by these messages in all, and what it sent
---     IsSheetOf sheet journal                the sheet has these sums of each account
+--     transfer_of bytes, transfer_in item    the transfer in these bytes, and in an item
+--     received journal a, sent journal a     what account a received in all by these messages, and what it sent
+--     IsSheetOf sheet journal                the sheet has these sums for each account
 use Rattle.std.specs.Prelude.{◌≡◌, ℕ, ◌+◌, ◌-◌, ◌*◌, ◌^◌, ◌<◌, ◌==◌, nat_lt, ◌&&◌, min, if◌then◌else◌, List, [], ◌∷◌, length, slice_index, slice_set, Option, Some, None}
 use Rattle.std.specs.List.{sum_by}
 use Rattle.cast.specs.Types.{Item, Message, Data}
@@ -37,15 +37,15 @@ received journal a = sum_by (λ m. received_by a (transfer_in m.item)) journal
 abbrev pub sent : List Message → ℕ → ℕ
 sent journal a = sum_by (λ m. sent_by a (transfer_in m.item)) journal
 
--- a sum as 64 bits hold it
+-- a sum as far as 64 bits hold it
 abbrev pub capped : ℕ → ℕ
 capped n = min n (2 ^ 64 - 1)
 
--- the sums with so much more at one account
+-- the sums with this amount added at one account
 abbrev pub added : List ℕ → ℕ → ℕ → List ℕ
 added sums a amount = slice_set sums a (capped (slice_index sums a + amount))
 
--- these are the sums of each account
+-- these are the sums for each account
 pub record AreSums (sums : List ℕ) (total : ℕ → ℕ) : Type 0 where
   pub size : length sums ≡ account_count
   pub each : (a : ℕ) → a < account_count → slice_index sums a ≡ capped (total a)

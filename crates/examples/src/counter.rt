@@ -1,5 +1,5 @@
-//! A counter that each node of a group keeps: what is added is broadcast, and each node sums what it delivers. A node may deliver
-//! the additions of different senders in another order than its peers; a sum doesn't depend on it.
+//! A counter that each node keeps. Additions are broadcast, and each node sums what it delivers. A node may deliver
+//! additions from different senders in another order than its peers, but the sum is the same.
 use anyhow::Result;
 use cast::{
     Follower, Followers, Item, List, Machine, Message, NodeId, Settings, data, no_faults,
@@ -9,7 +9,7 @@ use std::alloc::{AllocError, Global};
 use std::sync::Wait;
 use std::thread::Threads;
 
-/// The sum of what was added. An addition is an item of one byte; other items say nothing.
+/// The sum of the additions. An addition is an item of one byte; other items are ignored.
 #[derive(Drop)]
 struct Counter {
     sum: u64,
@@ -25,14 +25,14 @@ impl Machine for Counter {
     }
 }
 
-// The item that adds this.
+// The item for this addition.
 fn addition(alloc: Global, by: u8) -> Result<List<Item>, AllocError> {
     let mut items = List::new(alloc);
     items.push(data(alloc, &[by])?)?;
     Ok(items)
 }
 
-/// Three nodes in threads, of which each adds its number and one.
+/// Three nodes in threads; each adds its number plus one.
 pub fn count<R: Threads + Wait + Print + Copy + Send + 'static>(
     rt: R,
     alloc: Global,

@@ -1,8 +1,8 @@
-//! A ledger that each node of a group keeps for itself: transfers between accounts are broadcast, and a node's sheet takes those
-//! that the node delivers. The same followers run by a seed, with losses and a crash, and in threads, with losses.
+//! A ledger that each node keeps. Transfers between accounts are broadcast, and a node's sheet takes those that it
+//! delivers. The same followers run by a seed, with losses and a crash, and in threads, with losses.
 //!
-//! What a node keeps must not depend on the order between senders. Here it is sums, of what each account received and of what
-//! it sent. That an account is never overdrawn could not be kept so: whether a transfer is covered would depend on what came
+//! What a node keeps must not depend on the order between senders. Here it keeps sums of what each account received and
+//! sent. It could not ensure that an account is never overdrawn: whether a transfer is covered depends on what came
 //! before it.
 mod law;
 mod sheet;
@@ -30,7 +30,7 @@ pub fn by_seed<R: Wait + Print>(rt: &R, alloc: Global, seed: u64) -> Result<()> 
     show(rt, &run)
 }
 
-/// How the threads take turns differs from run to run. What is printed doesn't: at rest all have delivered all items.
+/// Threads run differently each time, but the output is the same: at rest all have delivered all items.
 pub fn in_threads<R: Threads + Wait + Print + Copy + Send + 'static>(
     rt: R,
     alloc: Global,

@@ -1,5 +1,4 @@
-//! Three programs over the kit by the name `cast`, a module each, which run in turn: a counter, a ledger, and the ways to use the
-//! kit.
+//! Three programs that use the kit as `cast`, run in turn: a counter, a ledger, and the ways to use the kit.
 #![tactic(auto)]
 
 mod counter;

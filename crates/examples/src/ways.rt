@@ -1,5 +1,5 @@
-//! The three ways to use the kit, in the order of need, a module each: a group as one value, a group of jobs by a seed and in
-//! threads, and nodes whose frames the caller moves.
+//! Three ways to use the kit, in order of need: a group as one value, jobs by a seed and in threads, and nodes whose
+//! frames the caller moves.
 mod jobs;
 mod transport;
 mod world;

@@ -1,11 +1,11 @@
-//! Random scripts, what a group makes of them event by event, and the program to compare with, which CASTGROUP names.
+//! Random scripts, how a group takes them event by event, and the program to compare with, which CASTGROUP names.
 #![allow(dead_code)] // each test uses some of it
 use castgroup::{Config, Event, Item, Mode, Outcome, Reply, StepError, World};
 use std::collections::HashSet;
 use std::io::Write;
 use std::process::{Command, Stdio};
 
-/// A number made of the last one (Marsaglia's xorshift).
+/// Random numbers, each made from the last (Marsaglia's xorshift).
 pub struct Numbers(pub u64);
 
 impl Numbers {
@@ -23,15 +23,15 @@ pub enum Element {
     Settle,
 }
 
-/// A script as it grows with its group.
+/// A script that grows with its group.
 pub struct Group {
     pub config: Config,
     pub elements: Vec<Element>,
     pub record: String,
-    /// The same as the group writes it.
+    /// The record so far, as the group writes it.
     pub written: String,
     pub world: World,
-    // Of each node's frames: the target, the slot, and whether it acknowledges.
+    // For each of a node's frames: the target, the slot, and whether it acknowledges.
     frames: Vec<Vec<(u8, u64, bool)>>,
     acked: HashSet<(u8, u8, u64)>,
     decided: HashSet<(u8, u64)>,
@@ -66,14 +66,14 @@ impl Group {
         self.world.owed(from, to).map_or(0, |owed| owed + acked)
     }
 
-    /// Takes an event of the script, and writes what came of it.
+    /// Takes an event of the script, and writes its lines.
     pub fn take(&mut self, event: Event) {
         let index = self.elements.len();
         self.step(&event, index);
         self.elements.push(Element::Event(event));
     }
 
-    /// Takes two rounds, slot by slot, up to an event that is refused.
+    /// Takes two rounds, slot by slot, up to a refused event.
     pub fn settle(&mut self) {
         let index = self.elements.len();
         self.elements.push(Element::Settle);
@@ -86,7 +86,7 @@ impl Group {
         }
     }
 
-    // The events of one round, as docs/FORMATS.md says.
+    // The events of one round, as docs/FORMATS.md defines them.
     fn round(&self) -> Vec<Event> {
         let live: Vec<u8> = (0..self.config.nodes as u8).filter(|&node| self.world.live(node)).collect();
         let mut made: Vec<u64> = self.frames.iter().map(|row| row.len() as u64).collect();
@@ -106,7 +106,7 @@ impl Group {
         events
     }
 
-    // Whether the event was accepted.
+    // Returns whether the event was accepted.
     fn step(&mut self, event: &Event, index: usize) -> bool {
         let answer = self.world.step(event);
         self.world.write_lines_of(index as u64, event, &answer, &mut self.written).expect("memory");
@@ -206,7 +206,7 @@ fn json(element: &Element) -> String {
     }
 }
 
-/// A group that took random events, some of which are refused.
+/// A group that took random events, some of them refused.
 pub fn random_group(numbers: &mut Numbers) -> Group {
     let nodes = 1 + numbers.below(6);
     let faults = numbers.below(nodes);
@@ -254,7 +254,7 @@ fn random_item(numbers: &mut Numbers) -> Item {
     }
 }
 
-/// What the program writes for an input, where CASTGROUP names it.
+/// What the program writes for an input, if CASTGROUP names it.
 pub fn program(word: &str, input: &[u8]) -> Option<Vec<u8>> {
     let path = std::env::var_os("CASTGROUP")?;
     let mut child = Command::new(path).arg(word).stdin(Stdio::piped()).stdout(Stdio::piped()).spawn().expect("the program");

@@ -1,23 +1,24 @@
-//! What was due where a line of a record broadcasts or delivers an item out of turn, or delivers one that was not broadcast.
+//! What was due where a record's line broadcasts or delivers an item out of turn, or delivers one that was not
+//! broadcast.
 use crate::explain::excerpt::cut;
 use cast_message::NodeId;
 use cast_record::{WordLine, read_words};
 use std::alloc::{AllocError, Global};
 
-/// What a text says above a line, of what a node delivered from a sender and of what that broadcast.
+/// What the lines above a line say about the node's deliveries from a sender and that sender's broadcasts.
 #[derive(Clone, Copy)]
 struct Above<'a> {
     node: u8,
     sender: u8,
-    /// The number of the item that is asked for.
+    /// The number of the item in question.
     wanted: u64,
     broadcasts: u64,
     deliveries: u64,
-    /// The word of that item, where the sender broadcast it.
+    /// The word of that item, if the sender broadcast it.
     item: Option<&'a [u8]>,
 }
 
-/// What was due in place of the line with this number, counted from 1, where it is a broadcast or a delivery.
+/// What was due instead of the line with this number, counted from 1, if it is a broadcast or a delivery.
 pub fn due_words(alloc: Global, text: &[u8], line: u64) -> Result<Option<String>, AllocError> {
     let Some(bytes) = text.split(|byte| *byte == b'\n').nth(places_before(line)) else {
         return Ok(None);
@@ -66,7 +67,6 @@ fn look_above<'a>(text: &'a [u8], line: u64, mut above: Above<'a>) -> Above<'a> 
 }
 
 impl<'a> Above<'a> {
-    // Nothing was read so far.
     fn nothing(node: NodeId, sender: NodeId, wanted: u64) -> Above<'a> {
         let (NodeId(node), NodeId(sender)) = (node, sender);
         Above {

@@ -1,4 +1,4 @@
-//! What is wrong with an element of a script's lists: the value that stands where something else is expected.
+//! What is wrong with an element of a script's lists: a value that is not what is expected there.
 use crate::explain::excerpt::cut;
 use serde_json::Value;
 use std::alloc::{AllocError, Global};
@@ -22,7 +22,7 @@ const ITEMS: &str =
 
 const ITEM: &str = "an item: [\"data\",HEX] or [\"propose\",INSTANCE,VALUE] or [\"close\"]";
 
-/// A value that stands where something else is expected.
+/// A value that is not what is expected.
 #[derive(Clone, Copy)]
 pub struct Flaw<'a> {
     pub value: &'a Value,
@@ -30,7 +30,7 @@ pub struct Flaw<'a> {
 }
 
 impl Flaw<'_> {
-    /// What stands there, and what is expected.
+    /// The value, and what is expected.
     pub fn words(self, alloc: Global) -> Result<String, AllocError> {
         let Flaw { value, expected } = self;
         let text = value.to_string(alloc)?;
@@ -39,7 +39,7 @@ impl Flaw<'_> {
     }
 }
 
-/// What is wrong with the value as an event.
+/// What is wrong with the value if it is to be an event.
 pub fn event_flaw(value: &Value) -> Flaw<'_> {
     let flaw = match name_and_places(value) {
         Some(("order", places)) => order_flaw(value, places),
@@ -56,7 +56,7 @@ pub fn event_flaw(value: &Value) -> Flaw<'_> {
     })
 }
 
-/// What is wrong with the value as a fault of a plan.
+/// What is wrong with the value if it is to be a fault of a plan.
 pub fn fault_flaw(value: &Value) -> Flaw<'_> {
     let flaw = match name_and_places(value) {
         Some(("lose", places)) => frames_flaw(value, places, "[\"lose\",KIND,FROM,TO,FIRST,STEP]"),
@@ -73,7 +73,7 @@ pub fn fault_flaw(value: &Value) -> Flaw<'_> {
     })
 }
 
-/// What is wrong with the value as a job.
+/// What is wrong with the value if it is to be a job.
 pub fn job_flaw(value: &Value) -> Flaw<'_> {
     let flaw = match places(value) {
         Some([node, items]) => not_node(node).or(items_flaw(items)),
@@ -102,7 +102,7 @@ fn order_flaw<'a>(value: &'a Value, places: &'a [Value]) -> Option<Flaw<'a>> {
     }
 }
 
-// A node, another, and a number.
+// Two nodes and a number.
 fn link_flaw<'a>(value: &'a Value, places: &'a [Value], form: &'static str) -> Option<Flaw<'a>> {
     match places {
         [from, to, slot] => not_node(from).or(not_node(to)).or(not_number(slot)),
@@ -125,7 +125,7 @@ fn crash_flaw<'a>(value: &'a Value, places: &'a [Value]) -> Option<Flaw<'a>> {
     }
 }
 
-// A kind of frames, a link, the first frame and the step.
+// A kind of frame, a link, the first frame and the step.
 fn frames_flaw<'a>(value: &'a Value, places: &'a [Value], form: &'static str) -> Option<Flaw<'a>> {
     match places {
         [kind, from, to, first, step] => not_kind(kind)
@@ -149,7 +149,7 @@ fn delay_flaw<'a>(value: &'a Value, places: &'a [Value]) -> Option<Flaw<'a>> {
     }
 }
 
-// What is wrong with the places of an item, which stand in this value.
+// What is wrong with the places of the item in this value.
 fn item_flaw<'a>(value: &'a Value, places: &'a [Value], form: &'static str) -> Option<Flaw<'a>> {
     let whole = wrong(value, form);
     let Some((word, others)) = places.split_first() else {
@@ -163,7 +163,7 @@ fn item_flaw<'a>(value: &'a Value, places: &'a [Value], form: &'static str) -> O
     }
 }
 
-// The first item that is none.
+// The first item that is not one.
 fn items_flaw(value: &Value) -> Option<Flaw<'_>> {
     let Some(items) = places(value) else {
         return wrong(value, ITEMS);
@@ -185,7 +185,7 @@ fn not_node(value: &Value) -> Option<Flaw<'_>> {
     unless(is_node, value, "a node, a whole number from 0 to 255")
 }
 
-/// That the value is no number.
+/// Says if the value is not a number.
 pub fn not_number(value: &Value) -> Option<Flaw<'_>> {
     unless(value.as_u64().is_some(), value, NUMBER)
 }
@@ -214,7 +214,7 @@ fn is_digit(byte: u8) -> bool {
     matches!(byte, b'0'..=b'9' | b'a'..=b'f')
 }
 
-/// What is expected of the value, where it isn't right.
+/// What is expected of the value, if it is wrong.
 pub fn unless<'a>(is_right: bool, value: &'a Value, expected: &'static str) -> Option<Flaw<'a>> {
     if is_right {
         None
@@ -223,7 +223,6 @@ pub fn unless<'a>(is_right: bool, value: &'a Value, expected: &'static str) -> O
     }
 }
 
-// What is expected of the value, which isn't right.
 fn wrong<'a>(value: &'a Value, expected: &'static str) -> Option<Flaw<'a>> {
     Some(Flaw { value, expected })
 }

@@ -1,17 +1,16 @@
-//! What is shown of the bytes of an input: the first 200 of them.
+//! Shows the first 200 bytes of an input.
 use cast_record::{escaped, prefix};
 use std::alloc::{AllocError, Global};
 
-/// The most bytes that are shown.
 const SHOWN: usize = 200;
 
-/// The first bytes, and how many there are where some were cut off.
+/// The first bytes, and their number in all if some were cut off.
 pub fn cut(alloc: Global, bytes: &[u8]) -> Result<String, AllocError> {
     let text = escaped(alloc, prefix(bytes, SHOWN))?;
     with_count(alloc, text, bytes.len())
 }
 
-/// The first bytes between quotes, and how many there are where some were cut off.
+/// The first bytes in quotes, and their number in all if some were cut off.
 pub fn quoted(alloc: Global, bytes: &[u8]) -> Result<String, AllocError> {
     let text = escaped(alloc, prefix(bytes, SHOWN))?;
     with_count(alloc, format!(in alloc; "\"{text}\"")?, bytes.len())

@@ -1,10 +1,10 @@
-//! What is wrong with a group that is to run in threads: the job or the fault of the plan that does not fit its nodes.
+//! What is wrong with a group that is to run in threads: a job or a fault of the plan that does not fit its nodes.
 use cast_desk::MOST_CLIENTS;
 use cast_message::{Fault, LiveFault, NodeId};
 use cast_script::{Script, ScriptFault, read_script};
 use std::alloc::{AllocError, Global};
 
-/// Why no group is run of the script in these bytes.
+/// Why the group of the script in these bytes is not run.
 pub fn group_words(alloc: Global, bytes: &[u8], fault: LiveFault) -> Result<String, AllocError> {
     let words = match read_script(alloc, bytes) {
         Ok(script) => misfit_words(alloc, &script, fault)?,
@@ -29,7 +29,7 @@ fn misfit_words(
     }
 }
 
-// The first job that is at no node, or one too many at its node.
+// The first job at a missing node, or one too many for its node.
 fn jobs_words(alloc: Global, script: &Script) -> Result<Option<String>, AllocError> {
     let nodes = script.config.nodes();
     let mut counts = [0u8; 256];
@@ -50,7 +50,7 @@ fn jobs_words(alloc: Global, script: &Script) -> Result<Option<String>, AllocErr
     Ok(None)
 }
 
-// The first fault that names no node, or a link of a node to itself.
+// The first fault that names a missing node, or a link from a node to itself.
 fn plan_words(alloc: Global, script: &Script) -> Result<Option<String>, AllocError> {
     let nodes = script.config.nodes();
     for (place, fault) in script.plan.faults.as_slice().iter().enumerate() {
@@ -80,7 +80,7 @@ fn fault_words(alloc: Global, fault: &Fault, nodes: u64) -> Result<Option<String
     Ok(None)
 }
 
-// The first of these numbers that is no node's.
+// The first of these numbers that no node has.
 fn find_missing(alloc: Global, numbers: &[u8], nodes: u64) -> Result<Option<String>, AllocError> {
     for number in numbers {
         if u64::from(*number) >= nodes {

@@ -1,7 +1,7 @@
-//! The names of an object's members, in the order of its text: a parsed value no longer tells that one stood twice.
+//! The member names of an object, in the order of its text. A parsed value no longer shows that a name occurs twice.
 use std::alloc::{AllocError, Global};
 
-/// The first name of a member that stands twice in this object, as it is written there. The bytes are JSON.
+/// The first member name that occurs twice in this object, as written. The bytes must be JSON.
 pub fn find_key_twice<'a>(alloc: Global, text: &'a [u8]) -> Result<Option<&'a [u8]>, AllocError> {
     let mut seen: Vec<&'a [u8]> = Vec::new(alloc);
     let mut scan = Scan::new();
@@ -18,12 +18,11 @@ pub fn find_key_twice<'a>(alloc: Global, text: &'a [u8]) -> Result<Option<&'a [u
     Ok(None)
 }
 
-/// How far a text is read.
 #[derive(Clone, Copy)]
 struct Scan {
     // How many objects and lists are open.
     depth: u64,
-    // Where the last string begins and ends, without its quotes.
+    // Where the last string begins and ends, without quotes.
     start: usize,
     end: usize,
     is_in_string: bool,
@@ -41,7 +40,8 @@ impl Scan {
         }
     }
 
-    // Takes the next byte. Answers whether it is the colon behind a name of the outermost object, which is the last string then.
+    // Takes the next byte. Returns whether it is the colon after a name of the outermost object, which is then the last
+    // string.
     fn ends_key(&mut self, place: usize, byte: u8) -> bool {
         if self.is_in_string {
             self.take_in_string(place, byte);

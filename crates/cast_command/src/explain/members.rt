@@ -1,13 +1,13 @@
-//! What is wrong with a script as a whole: it is no object, or a member is unknown, missing or of a wrong kind.
+//! What is wrong with a script as a whole: it is not an object, or a member is unknown, missing or of the wrong kind.
 use crate::explain::element::{Flaw, NUMBER, not_number, unless};
 use crate::explain::excerpt::quoted;
 use serde_json::Value;
 use std::alloc::{AllocError, Global};
 
-/// The members that a script must have, each a number.
+/// The numbers that a script must have.
 const NEEDED: [&str; 3] = ["nodes", "faults", "choices"];
 
-/// The members that a script may have, each a number.
+/// The numbers that a script may have.
 const NUMBERS: [&str; 5] = [
     "item_limit",
     "log_limit",
@@ -16,7 +16,7 @@ const NUMBERS: [&str; 5] = [
     "turns",
 ];
 
-/// The members that a script may have, each a list.
+/// The lists that a script may have.
 const LISTS: [&str; 3] = ["events", "plan", "jobs"];
 
 /// What is wrong with the value as a whole.
@@ -46,7 +46,7 @@ fn is_known(name: &str) -> bool {
     NEEDED.contains(&name) || NUMBERS.contains(&name) || LISTS.contains(&name) || name == "mode"
 }
 
-/// A member that is not of its kind.
+/// A member of the wrong kind.
 #[derive(Clone, Copy)]
 struct Wrong<'a> {
     name: &'static str,
@@ -59,7 +59,6 @@ fn wrong_words(alloc: Global, wrong: Wrong<'_>) -> Result<String, AllocError> {
     format!(in alloc; "member \"{name}\": {words}")
 }
 
-// The first member that is not of its kind.
 fn wrong_member(value: &Value) -> Option<Wrong<'_>> {
     for name in NEEDED {
         if let Some(wrong) = wrong_number(value, name) {

@@ -1,9 +1,9 @@
-//! What is wrong with a record: the line that offends, and the rule that it breaks in words.
+//! What is wrong with a record: the bad line, and the rule that it breaks in words.
 use crate::explain::due::due_words;
 use crate::explain::excerpt::quoted;
 use std::alloc::{AllocError, Global};
 
-/// What the line `bad LINE RULE` means: a line a rule, under a title.
+/// What the line `bad LINE RULE` means: one line per rule, under a title.
 pub const RULES: &str = "Rules (bad LINE RULE):
   0  what is no line of a record or out of range, a head or an end that is missing or stands twice, or bytes after the end
   1  a broadcast or a delivery out of turn, or a delivery of what was not broadcast
@@ -13,18 +13,17 @@ pub const RULES: &str = "Rules (bad LINE RULE):
   5  a line of a node that has crashed
   6  a second proposal of a node in an instance";
 
-/// A line of a text.
 #[derive(Clone, Copy)]
 struct TextLine<'a> {
     bytes: &'a [u8],
-    /// Whether a line feed stands behind it.
+    /// Whether a line feed follows it.
     is_ended: bool,
 }
 
-/// The rule of what is out of turn.
+/// The rule about turns.
 const TURNS: u64 = 1;
 
-/// Which line of the text breaks which rule, and what was due where it is out of turn.
+/// Which line of the text breaks which rule, and what was due if it is out of turn.
 pub fn verdict_words(
     alloc: Global,
     text: &[u8],
@@ -49,7 +48,7 @@ pub fn head_words(alloc: Global, text: &[u8]) -> Result<String, AllocError> {
     format!(in alloc; "line 1 is not cast/1 N F K, with N 1 to 16, F below N and K 1 to N: {shown}")
 }
 
-// The line with this number, as it is shown.
+// The line with this number, as shown.
 fn line_words(alloc: Global, text: &[u8], number: u64) -> Result<String, AllocError> {
     if text.is_empty() {
         return format!(in alloc; "the input is empty");
@@ -65,8 +64,8 @@ fn line_words(alloc: Global, text: &[u8], number: u64) -> Result<String, AllocEr
     format!(in alloc; "{shown}, with no line feed behind it")
 }
 
-// The line with this number, counted from 1; the last is what stands after the last line feed, be it nothing. Each one after that
-// is empty, and not ended.
+// The line with this number, counted from 1. The last line is what follows the last line feed, even if empty. Lines
+// past it are empty, and not ended.
 fn line_at(text: &[u8], number: u64) -> TextLine<'_> {
     find_line(text, number).unwrap_or(TextLine {
         bytes: &[],
@@ -82,7 +81,7 @@ fn find_line(text: &[u8], number: u64) -> Option<TextLine<'_>> {
     Some(TextLine { bytes, is_ended })
 }
 
-// What breaks the rule, in words.
+// The rule in words.
 fn find_rule(rule: u64) -> Option<&'static str> {
     let line = RULES.lines().skip(1).nth(rule as usize)?;
     let (_number, words) = line.trim_start().split_once("  ")?;

@@ -1,10 +1,10 @@
-//! Which event of a script was refused as it was run, and why.
+//! Which event of a script was refused when it was run, and why.
 use crate::commands::refusal_meaning;
 use crate::explain::excerpt::cut;
 use serde_json::Value;
 use std::alloc::{AllocError, Global};
 
-/// The events of a script that were refused: the place of the first, counted from 0, its code, and how many there are.
+/// A script's refused events: the place of the first, from 0, its code, and their number.
 #[derive(Clone, Copy)]
 pub struct Refusals {
     pub index: u64,
@@ -31,7 +31,7 @@ pub fn refused_words(
     }
 }
 
-// The event at this place, as it is shown.
+// The event at this place, as shown.
 fn event_words(alloc: Global, bytes: &[u8], index: u64) -> Result<String, AllocError> {
     let script = match Value::from_slice(alloc, bytes) {
         Ok(script) => script,

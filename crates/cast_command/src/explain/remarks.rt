@@ -1,19 +1,19 @@
-//! What is remarked on a script that is taken: lists that the command leaves aside, and a member that stands twice.
+//! Remarks on an accepted script: lists that the command ignores, and a member that occurs twice.
 use crate::explain::excerpt::quoted;
 use crate::explain::keys::find_key_twice;
 use cast_script::{Script, ScriptFault, read_script};
 use std::alloc::{AllocError, Global};
 
-/// What a command takes of a script.
+/// What a command uses of a script.
 #[derive(Clone, Copy)]
 pub enum Taken {
-    /// Its events, step by step, of which those from this place on are shown.
+    /// Its events, step by step; those from this place on are shown.
     Events { from: u64 },
-    /// Its plan and jobs, which its group runs by.
+    /// Its plan and jobs.
     Group,
 }
 
-/// What the command leaves aside of the script in these bytes, where that is worth a word.
+/// What the command ignores of the script in these bytes, if that is worth mentioning.
 pub fn aside_words(
     alloc: Global,
     bytes: &[u8],
@@ -63,7 +63,7 @@ fn events_words(alloc: Global, script: &Script) -> Result<Option<String>, AllocE
     Ok(Some(words))
 }
 
-/// Which member of the object in these bytes stands twice, where one does.
+/// Which member of the object in these bytes occurs twice, if one does.
 pub fn twice_words(alloc: Global, bytes: &[u8]) -> Result<Option<String>, AllocError> {
     match find_key_twice(alloc, bytes)? {
         Some(key) => {

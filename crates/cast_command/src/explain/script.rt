@@ -1,4 +1,4 @@
-//! What is wrong with a script: where it is no JSON, which member or element is not as it should be, or which limit it breaks.
+//! What is wrong with a script: where it is not JSON, which member or element is wrong, or which limit it breaks.
 use crate::explain::element::{Flaw, event_flaw, fault_flaw, job_flaw};
 use crate::explain::members::members_words;
 use crate::explain::settings::settings_words;
@@ -18,7 +18,7 @@ pub fn script_words(alloc: Global, bytes: &[u8], fault: ScriptFault) -> Result<S
     }
 }
 
-// What these bytes are, which are no JSON, where it is something else that the program knows.
+// What these bytes are, if they are not JSON but something else that the program knows.
 fn other_input(bytes: &[u8]) -> Option<&'static str> {
     if bytes.is_empty() {
         return Some("the input is empty, where a script is expected");
@@ -36,7 +36,7 @@ fn value_words(alloc: Global, value: &Value, fault: ScriptFault) -> Result<Strin
     }
 }
 
-// What is wrong with the element at this place of the list made of the events, the plan and the jobs.
+// What is wrong with the element at this place in the list of events, plan and jobs.
 fn element_words(alloc: Global, value: &Value, place: u64) -> Result<String, AllocError> {
     let events = list(value, "events");
     let plan = list(value, "plan");

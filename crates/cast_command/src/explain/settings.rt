@@ -1,9 +1,9 @@
-//! What is wrong with a configuration: the rule that it breaks, and the values with which it does.
+//! What is wrong with a configuration: the rule that it breaks, and the values that break it.
 use cast_message::{ConfigFault, MOST_ENTRIES, MOST_ITEMS, MOST_NODES, MOST_PLACES};
 use serde_json::Value;
 use std::alloc::{AllocError, Global};
 
-/// The limit that the members of the script break, and their values.
+/// The limit that the script's members break, and their values.
 pub fn settings_words(
     alloc: Global,
     script: &Value,
@@ -36,7 +36,7 @@ fn range_words(alloc: Global, script: &Value, name: &str, most: u64) -> Result<S
     format!(in alloc; "{name} is {value}; it must be from 1 to {most}")
 }
 
-// The number that the member is. What a rule speaks of is there, or is within its limits.
+// The member as a number. The members that a broken rule is about are there or within their limits.
 fn number(script: &Value, name: &str) -> u64 {
     script.get(name).and_then(Value::as_u64).unwrap_or(0)
 }

@@ -1,4 +1,4 @@
-//! Why a node refuses a step: the causes in the order in which they are tried, want of memory aside; and which frames some node
+//! Why a node refuses a step, unless it is out of memory: the causes in the order in which they are tried. And which frames some node
 //! could have made for it.
 ghost use Rattle.std.specs.Prelude.{◌≡◌, ◌<◌, ◌∷◌, [], None, Some, IfOk, IfErr, OnOk};
 ghost use Rattle.cast_message.specs.declared.message.Frame.{Frame as Arriving};
@@ -13,7 +13,7 @@ use cast_message::{
 };
 
 impl Node {
-    /// Why an order of this item is refused, if it is, want of memory aside. It takes no memory.
+    /// Why an order of this item is refused, if it is, memory aside. It takes no memory.
     #[tactic(auto, using(std::proofs::lemmas::Bool::Decides::nat_tests), unfolding(cast_model::specs::Refusals::first_fault, crate::specs::Turns::kept_fault))]
     pub fn order_fault(&self, item: &Item) -> Option<StepFault>
         ensures { result ≡ kept_fault self.now (Ordered item.now) }
@@ -36,14 +36,14 @@ impl Node {
         None
     }
 
-    /// Why a send of this slot to a peer is refused, if it is, want of memory aside. It takes no memory.
+    /// Why a send of this slot to a peer is refused, if it is, memory aside. It takes no memory.
     pub fn send_fault(&self, to: NodeId, slot: u64) -> Option<StepFault>
         ensures { result ≡ kept_fault self.now (Sent to slot) }
     {
         self.message_to_send(to, slot).err()
     }
 
-    /// Why an acknowledgement of this slot of a peer is refused, if it is, want of memory aside. It takes no memory.
+    /// Why an acknowledgement of this slot of a peer is refused, if it is, memory aside. It takes no memory.
     #[tactic(auto, using(std::proofs::lemmas::Bool::Decides::nat_tests), unfolding(cast_model::specs::Refusals::first_fault, crate::specs::Turns::kept_fault))]
     pub fn ack_fault(&self, to: NodeId, slot: u64) -> Option<StepFault>
         ensures { result ≡ kept_fault self.now (Acknowledged to slot) }
@@ -60,7 +60,7 @@ impl Node {
         None
     }
 
-    /// Why the arrival of a frame is refused, if it is, want of memory aside. It takes no memory.
+    /// Why the arrival of a frame is refused, if it is, memory aside. It takes no memory.
     #[tactic(auto, using(std::proofs::lemmas::Bool::Decides::nat_tests), unfolding(cast_model::specs::Refusals::first_fault, crate::specs::Turns::kept_fault))]
     pub fn arrive_fault(&self) -> Option<StepFault>
         ensures { (frame : Arriving) → result ≡ kept_fault self.now (Arrived frame) }
@@ -94,7 +94,7 @@ impl Node {
         Ok(message)
     }
 
-    // Why any frame for a peer is refused, if it is.
+    // Why any frame for a peer would be refused, if it would.
     #[tactic(auto, using(std::proofs::lemmas::Bool::Decides::nat_tests), unfolding(cast_model::specs::Refusals::first_fault))]
     fn peer_fault(&self, to: NodeId) -> Option<StepFault>
         ensures { result
@@ -115,7 +115,7 @@ impl Node {
         None
     }
 
-    // Whether an item proposes in an instance in which the node proposed before.
+    // Whether an item proposes in an instance for a second time.
     fn has_proposed(&self, item: &Item) -> bool
         ensures { result ≡ is_second_proposal self.now.stream item.now }
     {
@@ -125,7 +125,7 @@ impl Node {
         }
     }
 
-    // Whether a number is another node's.
+    // Whether this is the number of another node.
     pub(super) fn is_peer(&self, node: NodeId) -> bool
         ensures { result ≡ is_peer self.now node }
     {
@@ -159,7 +159,6 @@ impl Node {
     }
 }
 
-// Whether an item is of too many bytes.
 fn is_too_long(item: &Item) -> bool
     ensures { result ≡ is_too_long item.now }
 {

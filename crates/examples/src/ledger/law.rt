@@ -1,9 +1,9 @@
-//! What is known of a group of ledgers.
+//! What is proved about a group of ledgers.
 ghost use Rattle.examples.specs.Law.{SheetsAgreeAtRest};
 
-/// A law, of what the kit says of followers and of the sheet's steps alone: where a group of ledgers, in threads or by a seed, has
-/// come to rest, all live nodes have the same sheet; in uniform mode where no fault is tolerated, or no more nodes have crashed
-/// than are.
+/// A law that follows from what the kit says about followers and the sheet's steps alone. If a group of ledgers has
+/// come to rest, in threads or by a seed, all live nodes have the same sheet. In uniform mode no more nodes may have
+/// crashed than are tolerated, unless none is tolerated.
 pub fn sheets_agree_at_rest()
     ensures { SheetsAgreeAtRest }
 {}

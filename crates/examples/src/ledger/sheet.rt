@@ -1,4 +1,4 @@
-//! The sheet of a node: what each account has received and sent, by the transfers that the node delivered.
+//! A node's sheet: what each account has received and sent in the transfers that the node delivered.
 ghost use Rattle.std.specs.Prelude.{◌≡◌, ◌<◌, []};
 ghost use Rattle.examples.specs.Sheets.{account_count, added};
 
@@ -9,7 +9,7 @@ use std::fmt::{Display, Formatter, Write};
 
 const NAMES: [&str; ACCOUNTS as usize] = ["ada", "ben", "cleo", "dan"];
 
-/// What each account has received in all, and what it has sent. Both are sums, so the order of the transfers doesn't matter.
+/// What each account has received and sent in all. These are sums, so the order of the transfers doesn't matter.
 #[derive(Clone, Copy, PartialEq, Eq)]
 pub struct Sheet {
     pub received: [u64; ACCOUNTS as usize],
@@ -21,7 +21,7 @@ impl Machine for Sheet {
 
     ghost stands = { IsSheetOf };
 
-    // An item that says no transfer moves nothing.
+    // An item without a transfer changes nothing.
     fn apply(&mut self, message: &Message) {
         if let Some(transfer) = Transfer::read(&message.item) {
             self.add(transfer);
@@ -32,7 +32,7 @@ impl Machine for Sheet {
 impl Sheet {
     ghost use Rattle.examples.specs.Sheets.{IsSheetOf};
 
-    /// The sheet on which nothing was moved.
+    /// The sheet before any transfer.
     pub fn new() -> Sheet
         ensures { IsSheetOf result [] }
     {
@@ -42,7 +42,7 @@ impl Sheet {
         }
     }
 
-    // A sum stops at 2^64 - 1, which is far above what 64 streams of 4,096 transfers can move.
+    // A sum stops at 2^64 - 1, far above what 64 streams of 4,096 transfers can reach.
     fn add(&mut self, transfer: Transfer)
         requires { (transfer.from < account_count) × (transfer.to < account_count) }
         ensures received { self.new.received ≡ added self.old.received transfer.to transfer.amount }

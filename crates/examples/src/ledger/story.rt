@@ -17,14 +17,14 @@ const CLEO: u8 = 2;
 
 const DAN: u8 = 3;
 
-// By node, and of each the account that sends, the one that receives, and the amount.
+// By node: the account that sends, the one that receives, and the amount.
 const TRANSFERS: [&[(u8, u8, u16)]; NODES as usize] = [
     &[(ADA, BEN, 30), (ADA, CLEO, 20)],
     &[(BEN, DAN, 10), (CLEO, BEN, 15)],
     &[(DAN, ADA, 5)],
 ];
 
-/// Three nodes, of which one may crash.
+/// Three nodes, one of which may crash.
 pub fn config() -> Result<Config, ConfigFault> {
     Settings::of(u64::from(NODES), 1).check()
 }
@@ -43,7 +43,7 @@ pub fn ledgers(alloc: Global) -> Result<Followers<Sheet>, AllocError> {
     Ok(followers)
 }
 
-/// On each link every second frame that carries a message is lost, the first one too.
+/// On each link every second frame with a message is lost, beginning with the first.
 pub fn losses(alloc: Global) -> Result<FaultPlan, AllocError> {
     let mut plan = no_faults(alloc);
     for from in 0..NODES {
@@ -57,7 +57,7 @@ pub fn losses(alloc: Global) -> Result<FaultPlan, AllocError> {
     Ok(plan)
 }
 
-/// The same, and node 2 crashes once its log has six entries.
+/// The same, and node 2 crashes after six log entries.
 pub fn losses_and_a_crash(alloc: Global) -> Result<FaultPlan, AllocError> {
     let mut plan = losses(alloc)?;
     let node = NodeId(2);

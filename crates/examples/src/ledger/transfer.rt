@@ -1,26 +1,24 @@
-//! Transfers between accounts, and the items that say them.
+//! Transfers between accounts, and the items that hold them.
 ghost use Rattle.std.specs.Prelude.{◌≡◌, ◌<◌, Some, IfOk, IfSome};
 ghost use Rattle.examples.specs.Sheets.{account_count, transfer_in};
 
 use cast::{Item, data};
 use std::alloc::{AllocError, Global};
 
-/// How many accounts there are. They are numbered from 0.
+/// The number of accounts, numbered from 0.
 pub const ACCOUNTS: u8 = 4;
 
-/// An amount that goes from one account to another, or from an account to itself.
+/// An amount that goes from one account to another, or to itself.
 #[derive(Clone, Copy, PartialEq, Eq)]
 pub struct Transfer {
-    /// The account that sends it.
     pub from: u8,
-    /// The account that receives it.
     pub to: u8,
     pub amount: u16,
 }
 
 impl Transfer {
-    /// The transfer that an item says, in four bytes: the two accounts, and the amount, its high byte first. Any other item
-    /// says none, and neither does one that names an account there isn't.
+    /// The transfer in an item of four bytes: the two accounts, and the amount, its high byte first. There is none in
+    /// any other item, nor if an account does not exist.
     pub fn read(item: &Item) -> Option<Transfer>
         ensures said { result ≡ transfer_in item.now }
         ensures accounts { IfSome result (λ t. (t.from < account_count) × (t.to < account_count)) }
@@ -41,7 +39,7 @@ impl Transfer {
         })
     }
 
-    /// The item that says the transfer, if there are such accounts, or want of memory.
+    /// The item for the transfer, if its accounts exist. It can run out of memory.
     pub fn item(&self, alloc: Global) -> Result<Item, AllocError>
         ensures { IfOk result (λ item. self.now.from < account_count
             → self.now.to < account_count → transfer_in item ≡ Some self.now) }

@@ -1,11 +1,11 @@
-//! A job of one's own: it proposes a value and waits for what its node decides.
+//! A job of one's own, which proposes a value and waits for its node's decision.
 use anyhow::Result;
 use cast::{Client, ClientJob, Item, List, NodeId, Notice, Submissions};
 use std::alloc::{AllocError, Global};
 use std::sync::Wait;
 
-/// Proposes, and is done once it is told a decision. A job isn't told that a peer has ended, nor that the group rests: where more
-/// nodes crash than are tolerated, no decision comes, and it waits until its calls are used up.
+/// Proposes, and is done when it gets a decision. A job doesn't learn that a peer has ended, nor that the group is at
+/// rest. If more nodes crash than are tolerated, no decision comes, and it waits until its calls are used up.
 #[derive(Drop)]
 pub struct Voter {
     proposals: Submissions,
@@ -22,7 +22,7 @@ impl ClientJob for Voter {
     }
 }
 
-/// A voter at each of three nodes, which proposes its node's number and ten in instance 0.
+/// A voter at each of three nodes, which proposes its node's number plus ten in instance 0.
 pub fn voters(alloc: Global) -> Result<Vec<(NodeId, Voter)>, AllocError> {
     let mut voters = Vec::new(alloc);
     for node in 0..3u8 {
@@ -36,7 +36,7 @@ pub fn voters(alloc: Global) -> Result<Vec<(NodeId, Voter)>, AllocError> {
     Ok(voters)
 }
 
-/// Whether all have decided, and whether these are two values at most. Which ones they are may differ from run to run.
+/// Whether all have decided, on at most two values, which may differ from run to run.
 pub fn show(rt: &impl Print, how: &str, voters: &[Voter]) -> Result<()> {
     let all = voters.iter().all(|voter| voter.decided.is_some());
     let least = voters.iter().filter_map(|voter| voter.decided).min();

@@ -1,14 +1,14 @@
-//! Nodes whose frames the caller moves, as a network of one's own does: here a list, which loses the first frame.
+//! Nodes whose frames the caller moves, like a network of one's own: here a list, which loses the first frame.
 use anyhow::Result;
 use cast::{Frame, FrameBody, Node, NodeId, Settings, data};
 use std::alloc::Global;
 
 const NODES: u8 = 3;
 
-// A slot that is not acknowledged is sent again in each round. Two do without losses.
+// Each round repeats the slots that are not acknowledged. Without losses two rounds are enough.
 const ROUNDS: usize = 4;
 
-/// How many items are delivered at all nodes together, once node 0 has broadcast one and all frames were moved.
+/// How many items all nodes together deliver after node 0 broadcast one and all frames were moved.
 pub fn carry_all(alloc: Global) -> Result<usize> {
     let config = Settings::of(u64::from(NODES), 1).check()?;
     let mut nodes = Vec::new(alloc);
@@ -34,7 +34,7 @@ pub fn carry_all(alloc: Global) -> Result<usize> {
     Ok(delivered)
 }
 
-// A frame of the least slot that each node owes each peer.
+// A frame for the least slot that each node owes each peer.
 fn sent(alloc: Global, nodes: &mut Vec<Node>) -> Result<Vec<Frame>> {
     let mut frames = Vec::new(alloc);
     for node in nodes.iter_mut() {
@@ -47,7 +47,7 @@ fn sent(alloc: Global, nodes: &mut Vec<Node>) -> Result<Vec<Frame>> {
     Ok(frames)
 }
 
-// Hands a frame to its target, and the acknowledgement of what that took to the maker.
+// Gives a frame to its target, and the acknowledgement to its maker.
 fn arrive(nodes: &mut Vec<Node>, frame: &Frame) -> Result<()> {
     let Some(acknowledgement) = take(nodes, frame)? else {
         return Ok(());
@@ -56,7 +56,7 @@ fn arrive(nodes: &mut Vec<Node>, frame: &Frame) -> Result<()> {
     Ok(())
 }
 
-// Hands a frame to its target, which acknowledges it if it carries a message.
+// Gives a frame to its target, which acknowledges it if it has a message.
 fn take(nodes: &mut Vec<Node>, frame: &Frame) -> Result<Option<Frame>> {
     let Some(target) = nodes.get_mut(usize::from(frame.to.0)) else {
         return Ok(None);

@@ -1,9 +1,9 @@
-//! A group of two nodes as one value: what stands between the two marks is the example of README.
+//! A group of two nodes as one value. README's example is the code between the two marks.
 use anyhow::Result;
 use cast::{Event, NodeId, Settings, World, data};
 use std::alloc::Global;
 
-/// How many items node 1 delivered of node 0, once node 0 has broadcast one.
+/// How many items node 1 delivered from node 0, after node 0 broadcast one.
 pub fn first_path(alloc: Global) -> Result<usize> {
     // README: begin
     let config = Settings::of(2, 0).check()?;

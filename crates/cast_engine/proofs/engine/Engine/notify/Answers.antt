@@ -23,7 +23,7 @@ pub invariant_of-self : goal.invariant_of-self
 invariant_of-self g c =
     let i = c.self.inside in
     let now = c.notify_all.new.desk in
-    stays_told i.journal i.outbox.put i.held i.inbox.taken i.desk (Some now) i.places.items c.notify_all.new.places.items c.self.invariant
+    stays_told i.journal i.outbox.put i.held i.inbox.taken i.waiting i.desk (Some now) i.places.items c.notify_all.new.places.items c.self.invariant
     (ap (λ (t : TakerEnd OrderIn). t.taken) c.notify_all.ensures.orders ∙ sym (ap (λ (o : Option Desk). taken_at o) c.in-Some.is))
     (subst (λ (l : List Entry). AreFed l now.trays.items c.notify_all.new.places.items) c.log.ensures c.notify_all.ensures.fed)
 
@@ -32,7 +32,7 @@ returns-in-Some-clause-same g c =
     let i = c.self.inside in
     let d = c.in-Some.desk in
     let now = c.notify_all.new.desk in
-    let new : EngineState = record { config = i.journal.config; me = i.journal.node.me; crash = i.journal.crash; outbox = i.outbox; held = i.held; inbox = i.inbox; desk = Some now } in
+    let new : EngineState = record { config = i.journal.config; me = i.journal.node.me; crash = i.journal.crash; outbox = i.outbox; held = i.held; inbox = i.inbox; waiting = i.waiting; desk = Some now; turns = i.journal.turns; ended = i.journal.ended } in
     let T : TakerEnd OrderIn → Type 0 = λ t. IsSameTaker d.orders t in
     let P : EngineState → Type 0 = λ e. IsSameEngine e new in
     subst P c.self.view_is (record {

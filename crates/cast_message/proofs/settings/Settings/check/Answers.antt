@@ -1,7 +1,7 @@
 use Rattle.std.proofs.Common.{◌∙◌}
 use Rattle.std.proofs.lemmas.Result.{err_from_is_err_and}
 use Rattle.cast_message.specs.Limits.{config_causes}
-use Rattle.cast_message.proofs.config.Config.check.Goals as goal
+use Rattle.cast_message.proofs.settings.Settings.check.Goals as goal
 
 pub returns-in_err-check_counts-clause-fault : goal.returns-in_err-check_counts-clause-fault
 unfolding config_causes

@@ -1,10 +1,10 @@
 -- A configuration by the names of its values.
 --     IsConfigOf settings config    it has these values
---     causes_of settings            why these values are refused, in the order in which it is tried
+--     causes_of settings            why these values are refused, in the order of trying
 use Rattle.std.specs.Prelude.{◌≡◌, List}
 use Rattle.cast_message.specs.Limits.{ConfigCause, config_causes}
 use Rattle.cast_message.specs.declared.config.Config.{Config}
-use Rattle.cast.specs.declared.settings.Settings.{Settings}
+use Rattle.cast_message.specs.declared.settings.Settings.{Settings}
 
 abbrev pub IsConfigOf : Settings → Config → Type 0
 IsConfigOf settings config =
