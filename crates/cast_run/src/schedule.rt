@@ -99,7 +99,7 @@ impl<S: Drop> Recorded<S> {
 impl<S: Schedule> Schedule for Recorded<S> {
     fn next(&mut self, choices: u64) -> u64
         requires { 0 < choices }
-        ensures { result < choices }
+        ensures below { result < choices }
         ensures kept { self.new.is_cut ≡ false → (self.old.is_cut ≡ false)
             × (self.new.choices.items ≡ self.old.choices.items ++ result ∷ []) }
     {
@@ -131,7 +131,7 @@ impl Listed {
 impl Schedule for Listed {
     fn next(&mut self, choices: u64) -> u64
         requires { 0 < choices }
-        ensures { result < choices }
+        ensures below { result < choices }
         ensures listed { (number : ℕ) (rest : List ℕ) → self.old.numbers.rest.items ≡ number ∷ rest →
             (result ≡ number % choices) × (self.new.numbers.rest.items ≡ rest) }
     {
