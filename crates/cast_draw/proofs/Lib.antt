@@ -1,5 +1,3 @@
-pub mod PutLemmas
 pub mod GiftLemmas
 pub mod RowLemmas
 pub mod DeedLemmas
-pub mod SheetLemmas

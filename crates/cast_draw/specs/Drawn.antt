@@ -1,11 +1,10 @@
--- What an event adds to a picture, by the reply to it: each accepted order a dot, each arrival an arrow from where its frame was
--- made to where it arrives, each crash a cross, each refusal a pale mark; and below, what was delivered and decided. An event
--- that is not shown takes no column and adds no mark; but a crash ends its node's line, also where it is not shown.
+-- What an event adds to a picture, by the reply to it. Each event that is shown has a column of its own. An accepted order has
+-- a mark there, and so have an arrival, a crash and a refusal. After the mark come those of what was delivered and decided. An
+-- event that is not shown has no column and no mark, but a crash ends its node's line even so.
 --     drawn_after sheet index event reply     the picture after an event that has this place in the script
 --     settle_begun, settle_ended              the picture as a settle begins, and is over
---     wants_memory sheet index event reply    whether memory may be wanted for what the event adds
-use Rattle.std.specs.Prelude.{ℕ, ◌+◌, ◌-◌, Bool, true, false, not, ◌||◌, is_some, nat_lt, max, if◌then◌else◌, List, [], ◌∷◌, ◌++◌, length, slice_get, slice_index_or, slice_set, Option, Some, None, Result, Ok, Err}
-use Rattle.cast_message.specs.StepCode.{step_code}
+--     wants_memory sheet index event reply    whether what the event adds takes memory
+use Rattle.std.specs.Prelude.{ℕ, ◌+◌, ◌==◌, Bool, true, false, not, ◌||◌, is_some, if◌then◌else◌, List, [], ◌∷◌, ◌++◌, length, map, slice_get, slice_index_or, slice_set, Option, Some, None, Result, Ok, Err}
 use Rattle.cast_message.specs.declared.event.Event.{Event}
 use Rattle.cast_message.specs.declared.event.Event.TheVariants.{Order, Send, Ack, Arrive, Crash}
 use Rattle.cast_message.specs.declared.event.Answer.{Answer}
@@ -19,13 +18,14 @@ use Rattle.cast_draw.specs.declared.frames.Cargo.TheVariants.{Message}
 use Rattle.cast_draw.specs.declared.frames.Cargo.TheVariants as cargos
 use Rattle.cast_draw.specs.declared.frames.Fate.TheVariants.{UnderWay}
 use Rattle.cast_draw.specs.declared.frames.MadeFrame.{MadeFrame}
-use Rattle.cast_draw.specs.Heights.{height_of}
+use Rattle.cast_draw.specs.declared.deeds.At.{At}
+use Rattle.cast_draw.specs.declared.mark.Shown.{Shown}
+use Rattle.cast_draw.specs.declared.mark.Shown.TheVariants.{Broadcast, Arrival, Refusal}
+use Rattle.cast_draw.specs.declared.mark.Shown.TheVariants as marks
 use Rattle.cast_draw.specs.Gifts.{Gifts, holding, is_held, slot_of}
 use Rattle.cast_draw.specs.MadeFrames.{with_arrival}
-use Rattle.cast_draw.specs.Deeds.{Deed, deeds, deeds_text, width_of}
-use Rattle.cast_draw.specs.Marks.{broadcast_text, crash_text, refusal_text, ground_text}
-use Rattle.cast_draw.specs.FrameMarks.{arrow_text}
-use Rattle.cast_draw.specs.Sheet.{Sheet, shows, bottom_of}
+use Rattle.cast_draw.specs.Deeds.{deeds, done_by}
+use Rattle.cast_draw.specs.Sheet.{Sheet, shows}
 
 -- what a node holds and gives. The default stands where there is no such node
 abbrev pub gifts_at : List Gifts → ℕ → Gifts
@@ -35,28 +35,30 @@ gifts_at gifts node = slice_index_or gifts node (record { me = 0; held = []; giv
 abbrev pub held_at : List Gifts → ℕ → Pair → ℕ → List Gifts
 held_at gifts node pair source = slice_set gifts node (holding (gifts_at gifts node) pair source)
 
-abbrev pub with_deeds : Sheet → ℕ → ℕ → Bool → List Deed → Sheet
-with_deeds sheet index node has_values deeds =
-    record sheet {
-      marks = sheet.marks ++ deeds_text sheet.next (height_of node) index node 0 deeds;
-      next = sheet.next + width_of (length deeds) has_values;
-    }
+-- a mark in the next column
+abbrev pub with_mark : Sheet → ℕ → Shown → Sheet
+with_mark sheet index shown =
+    record sheet { marks = sheet.marks ++ record { column = sheet.columns; event = index; shown = shown } ∷ [] }
 
--- boxes and diamonds below the node's line, in a column that is as wide as they want
+-- the next column is full
+abbrev pub with_column : Sheet → Sheet
+with_column sheet = record sheet { columns = sheet.columns + 1 }
+
+-- what was delivered and decided, in the next column, which is then full
 abbrev pub with_outcome : Sheet → ℕ → ℕ → Outcome → Sheet
 with_outcome sheet index node outcome =
-    with_deeds sheet index node (nat_lt 0 (length outcome.decisions)) (deeds outcome.deliveries outcome.decisions)
+    let at : At = record { column = sheet.columns; event = index; node = node } in
+    record sheet {
+      columns = sheet.columns + 1;
+      marks = sheet.marks ++ map (done_by at) (deeds outcome.deliveries outcome.decisions);
+    }
 
--- a column that is at least so wide
-abbrev pub with_room : ℕ → Sheet → Sheet
-with_room end sheet = record sheet { next = max sheet.next end }
-
--- a dot, with room for its label
+-- a broadcast
 abbrev pub ordered : Sheet → ℕ → ℕ → Item → ℕ → Outcome → Sheet
 ordered sheet index node item number outcome =
     let held = record sheet { gifts = held_at sheet.gifts node (record { sender = node; number = number }) node } in
     if shows sheet.window index
-    then with_room (sheet.next + 56) (with_outcome (record held { marks = sheet.marks ++ broadcast_text sheet.next (height_of node) index node number item }) index node outcome)
+    then with_outcome (with_mark held index (Broadcast node number item)) index node outcome
     else held
 
 -- the frames that a node made
@@ -71,17 +73,17 @@ new_frame sheet index from to slot cargo = record {
   slot = slot;
   cargo = cargo;
   index = index;
-  x = if shows sheet.window index then sheet.next else 76;
+  column = if shows sheet.window index then sheet.columns else 0;
   is_shown = shows sheet.window index;
   fate = UnderWay;
 }
 
--- a frame more; it is drawn once it arrives, or at the end of the run
+-- a frame more
 abbrev pub sent : Sheet → ℕ → ℕ → ℕ → ℕ → Cargo → Sheet
 sent sheet index from to slot cargo =
     record sheet {
       made = slice_set sheet.made from (made_at sheet.made from ++ new_frame sheet index from to slot cargo ∷ []);
-      next = if shows sheet.window index then sheet.next + 16 else sheet.next;
+      columns = if shows sheet.window index then sheet.columns + 1 else sheet.columns;
     }
 
 abbrev pub sent_slot : Sheet → ℕ → ℕ → ℕ → ℕ → Option Pair → Sheet
@@ -93,7 +95,7 @@ abbrev pub held_of_cargo : List Gifts → ℕ → Cargo → ℕ → List Gifts
 held_of_cargo gifts node (Message pair) from = held_at gifts node pair from
 held_of_cargo gifts node cargos.Ack from = gifts
 
--- an arrow
+-- an arrival, with the frame as it was before
 abbrev pub arrived : Sheet → ℕ → ℕ → ℕ → ℕ → Outcome → Option MadeFrame → Sheet
 arrived sheet index from seq node outcome None = sheet
 arrived sheet index from seq node outcome (Some frame) =
@@ -102,23 +104,19 @@ arrived sheet index from seq node outcome (Some frame) =
       made = slice_set sheet.made from (with_arrival (made_at sheet.made from) seq (shows sheet.window index));
     } in
     if shows sheet.window index
-    then with_outcome (record brought { arrows = sheet.arrows ++ arrow_text frame frame.x (height_of from) sheet.next (height_of node) index }) index node outcome
+    then with_outcome (with_mark brought index (Arrival frame node)) index node outcome
     else brought
 
--- a cross, where the node's line ends
+-- a crash, where the node's line ends
 abbrev pub crashed : Sheet → ℕ → ℕ → Sheet
 crashed sheet index node =
-    let down = record sheet { crashes = slice_set sheet.crashes node (Some sheet.next) } in
-    if shows sheet.window index
-    then record down { marks = sheet.marks ++ crash_text sheet.next (height_of node) index node; next = sheet.next + 16 }
-    else down
+    let down = record sheet { crashes = slice_set sheet.crashes node (Some sheet.columns) } in
+    if shows sheet.window index then with_column (with_mark down index (marks.Crash node)) else down
 
--- a pale mark below all lines
+-- a refusal
 abbrev pub refused : Sheet → ℕ → StepFault → Sheet
 refused sheet index fault =
-    if shows sheet.window index
-    then record sheet { marks = sheet.marks ++ refusal_text sheet.next (bottom_of sheet.config + 12) index (step_code fault); next = sheet.next + 16 }
-    else sheet
+    if shows sheet.window index then with_column (with_mark sheet index (Refusal fault)) else sheet
 
 -- an answer that is not one to the event leaves nothing
 abbrev pub answered : Sheet → ℕ → Event → Answer → Sheet
@@ -157,15 +155,15 @@ wants_memory sheet index event (Ok answer) = answer_wants sheet index event answ
 wants_memory sheet index event (Err fault) = shows sheet.window index
 
 abbrev pub settle_begun : Sheet → Sheet
-settle_begun sheet = record sheet { settle = sheet.next }
+settle_begun sheet = record sheet { settle = sheet.columns }
 
--- the ground is behind its columns, and wide enough for its word
+-- a ground behind the columns of the settle; without an event it has one column
 abbrev pub settle_ended : Sheet → ℕ → Sheet
 settle_ended sheet index =
-    let end = max sheet.next (sheet.settle + 48) in
+    let end = if sheet.settle == sheet.columns then sheet.columns + 1 else sheet.columns in
     if shows sheet.window index
     then record sheet {
-      next = end;
-      grounds = sheet.grounds ++ ground_text (sheet.settle - 8) (end - sheet.settle) (bottom_of sheet.config - 32) index;
+      columns = end;
+      grounds = sheet.grounds ++ record { from = sheet.settle; to = end; event = index } ∷ [];
     }
     else sheet

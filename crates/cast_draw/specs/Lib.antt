@@ -1,13 +1,5 @@
-pub mod Heights
-pub mod Places
-pub mod Sides
-pub mod Labels
-pub mod Pieces
-pub mod Marks
-pub mod FrameMarks
 pub mod Gifts
 pub mod MadeFrames
 pub mod Deeds
 pub mod Sheet
 pub mod Drawn
-pub mod Page

@@ -1,6 +1,7 @@
 //! Where marks stand on the sheet, in points from its left upper corner.
-ghost use Rattle.std.specs.Prelude.{◌≡◌, ◌<◌, ◌≤◌, ◌^◌, IfOk, OnOk};
+ghost use Rattle.std.specs.Prelude.{◌<◌, ◌≤◌, ◌^◌};
 
+use crate::frames::Column;
 use crate::height::height_of;
 use cast_message::NodeId;
 use std::alloc::AllocError;
@@ -35,16 +36,10 @@ pub struct Spot {
 }
 
 impl Spot {
-    ghost use Rattle.cast_draw.specs.Heights.{height_of};
-
     /// The place of a column on a node's line.
-    pub fn on_line(x: u64, node: NodeId) -> Spot
-        requires left { 76 ≤ x }
-        requires right { x < 2 ^ 41 }
-        ensures { (result.x ≡ x) × (result.y ≡ height_of node) }
-    {
+    pub fn on_line(column: Column, node: NodeId) -> Spot {
         Spot {
-            x,
+            x: column.x(),
             y: height_of(node),
         }
     }
@@ -67,14 +62,8 @@ pub struct Cell {
 }
 
 impl Cell {
-    ghost use Rattle.cast_draw.specs.Places.{place_x, row_of};
-
     /// The place of this number below the point of a node's line. A place past the last column finds no memory.
-    pub fn below(spot: Spot, place: u64) -> Result<Cell, AllocError>
-        ensures cell { IfOk result (λ cell. (cell.x ≡ place_x spot.x place)
-            × (cell.row ≡ row_of place) × (cell.line ≡ spot.y)) }
-        ensures near { OnOk result (place < 2 ^ 41) }
-    {
+    pub fn below(spot: Spot, place: u64) -> Result<Cell, AllocError> {
         if place > FARTHEST {
             return Err(AllocError);
         }
@@ -88,4 +77,14 @@ impl Cell {
             line: spot.y,
         })
     }
+}
+
+/// From the column of an event with this many boxes and diamonds to the next.
+pub fn width_of(count: u64, has_values: bool) -> u64 {
+    if count == 0 {
+        return NARROW;
+    }
+    let values = if has_values { FOR_VALUES } else { 0 };
+    let columns = count.saturating_add(2) / 3;
+    columns.saturating_mul(WIDE).saturating_add(values)
 }

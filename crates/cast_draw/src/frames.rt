@@ -80,8 +80,8 @@ pub struct MadeFrame {
     pub cargo: Cargo,
     /// The place in the script of the event that made it.
     pub index: u64,
-    /// The column of that event; where it is not shown, where the lines begin.
-    pub x: Column,
+    /// The number of that event's column, if it is shown.
+    pub column: u64,
     /// Whether that event is shown.
     pub is_shown: bool,
     /// What became of it.

@@ -1,12 +1,10 @@
 //! The heights of the nodes' lines.
-ghost use Rattle.std.specs.Prelude.{◌≡◌, ◌<◌, ◌≤◌, ◌^◌};
-ghost use Rattle.cast_draw.specs.Heights.{height_of};
+ghost use Rattle.std.specs.Prelude.{◌<◌, ◌≤◌, ◌^◌};
 
 use cast_message::NodeId;
 
 /// The height of a node's line, in points from the upper edge.
 pub fn height_of(node: NodeId) -> u64
-    ensures value { result ≡ height_of node }
     ensures bound { (76 ≤ result) × (result < 2 ^ 16) }
 {
     76 + 84 * u64::from(node.0)

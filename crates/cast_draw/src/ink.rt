@@ -1,8 +1,5 @@
 //! The text of a picture as it grows.
-ghost use Rattle.std.specs.Prelude.{◌≡◌, ◌++◌, [], OnOk, decimal};
-ghost use Rattle.cast_record.specs.Text.{item_word};
-ghost use Rattle.cast_record.specs.Hex.{hex};
-ghost use Rattle.cast_draw.specs.Pieces.{piece_text, place_text, text_of};
+ghost use Rattle.std.specs.Prelude.{◌≡◌};
 
 use crate::label::{put_item_label, put_value_label};
 use cast_message::Item;
@@ -44,9 +41,7 @@ impl Model for Ink {
 
 impl Ink {
     /// No text, which takes no memory.
-    pub fn new(alloc: Global) -> Ink
-        ensures { result ≡ [] }
-    {
+    pub fn new(alloc: Global) -> Ink {
         Ink {
             bytes: Vec::new(alloc),
         }
@@ -60,18 +55,14 @@ impl Ink {
     }
 
     /// Puts the pieces at the end.
-    pub fn put(&mut self, pieces: &[Piece<'_>]) -> Result<(), AllocError>
-        ensures { OnOk result (self.new ≡ self.old ++ text_of pieces.now) }
-    {
+    pub fn put(&mut self, pieces: &[Piece<'_>]) -> Result<(), AllocError> {
         for piece in pieces {
             self.put_piece(piece)?;
         }
         Ok(())
     }
 
-    fn put_piece(&mut self, piece: &Piece<'_>) -> Result<(), AllocError>
-        ensures { OnOk result (self.new ≡ self.old ++ piece_text piece.now) }
-    {
+    fn put_piece(&mut self, piece: &Piece<'_>) -> Result<(), AllocError> {
         match piece {
             Piece::Text(text) => self.put_bytes(text),
             Piece::Number(number) => self.put_number(*number),
@@ -83,40 +74,30 @@ impl Ink {
     }
 
     /// Puts these bytes at the end.
-    pub fn put_bytes(&mut self, bytes: &[u8]) -> Result<(), AllocError>
-        ensures { OnOk result (self.new ≡ self.old ++ bytes.now) }
-    {
+    pub fn put_bytes(&mut self, bytes: &[u8]) -> Result<(), AllocError> {
         self.bytes.extend_from_slice(bytes)
     }
 
-    fn put_number(&mut self, number: u64) -> Result<(), AllocError>
-        ensures { OnOk result (self.new ≡ self.old ++ decimal number) }
-    {
+    fn put_number(&mut self, number: u64) -> Result<(), AllocError> {
         self.bytes
             .extend_from_slice(Buffer::new().format(number).as_bytes())
     }
 
-    fn put_place(&mut self, x: u64, y: u64) -> Result<(), AllocError>
-        ensures { OnOk result (self.new ≡ self.old ++ place_text x y) }
-    {
+    fn put_place(&mut self, x: u64, y: u64) -> Result<(), AllocError> {
         self.put_number(x)?;
         self.put_bytes(b" ")?;
         self.put_number(y)
     }
 
     /// Puts two digits at the end for each byte.
-    pub fn put_hex(&mut self, bytes: &[u8]) -> Result<(), AllocError>
-        ensures { OnOk result (self.new ≡ self.old ++ hex bytes.now) }
-    {
+    pub fn put_hex(&mut self, bytes: &[u8]) -> Result<(), AllocError> {
         for byte in bytes {
             self.put_bytes(&[hex_digit(*byte / 16), hex_digit(*byte % 16)])?;
         }
         Ok(())
     }
 
-    fn put_word(&mut self, item: &Item) -> Result<(), AllocError>
-        ensures { OnOk result (self.new ≡ self.old ++ item_word item.now) }
-    {
+    fn put_word(&mut self, item: &Item) -> Result<(), AllocError> {
         match item {
             Item::Data(payload) => {
                 self.put_bytes(b"data:")?;

@@ -1,8 +1,4 @@
 //! What stands beside a mark: at most eight letters, whatever the bytes are.
-ghost use Rattle.std.specs.Prelude.{◌≡◌, ◌++◌, OnOk, take};
-ghost use Rattle.std.specs.List.{list_all};
-ghost use Rattle.cast_draw.specs.Labels.{item_label, value_label, proposal_label, data_label, text_label, hex_label, dots, escaped, escape_of};
-ghost use Rattle.cast_record.specs.Shown.{is_printing};
 
 use crate::ink::Ink;
 use cast_message::Item;
@@ -18,9 +14,7 @@ const CUT: &[u8] = b"\xe2\x80\xa6";
 
 /// Puts what is shown of the item: a text where all of its bytes are printable, else their digits; instance and value of a
 /// proposal; or `close`.
-pub fn put_item_label(ink: &mut Ink, item: &Item) -> Result<(), AllocError>
-    ensures { OnOk result (ink.new ≡ ink.old ++ item_label item.now) }
-{
+pub fn put_item_label(ink: &mut Ink, item: &Item) -> Result<(), AllocError> {
     match item {
         Item::Data(payload) => put_data(ink, payload.as_slice()),
         Item::Propose { instance, value } => put_proposal(ink, *instance, *value),
@@ -29,9 +23,7 @@ pub fn put_item_label(ink: &mut Ink, item: &Item) -> Result<(), AllocError>
 }
 
 /// Puts what is shown of a decided value.
-pub fn put_value_label(ink: &mut Ink, value: u64) -> Result<(), AllocError>
-    ensures { OnOk result (ink.new ≡ ink.old ++ value_label value) }
-{
+pub fn put_value_label(ink: &mut Ink, value: u64) -> Result<(), AllocError> {
     let mut buffer = Buffer::new();
     let digits = buffer.format(value).as_bytes();
     put_prefix(ink, digits, LETTERS)?;
@@ -39,9 +31,7 @@ pub fn put_value_label(ink: &mut Ink, value: u64) -> Result<(), AllocError>
 }
 
 // Instance and value, of which no digit needs an escape.
-fn put_proposal(ink: &mut Ink, instance: u64, value: u64) -> Result<(), AllocError>
-    ensures { OnOk result (ink.new ≡ ink.old ++ proposal_label instance value) }
-{
+fn put_proposal(ink: &mut Ink, instance: u64, value: u64) -> Result<(), AllocError> {
     let mut first = Buffer::new();
     let mut second = Buffer::new();
     let instance = first.format(instance).as_bytes();
@@ -53,22 +43,16 @@ fn put_proposal(ink: &mut Ink, instance: u64, value: u64) -> Result<(), AllocErr
 }
 
 // Puts the first bytes, as many as there is room for.
-fn put_prefix(ink: &mut Ink, bytes: &[u8], room: usize) -> Result<(), AllocError>
-    ensures { OnOk result (ink.new ≡ ink.old ++ take room bytes.now) }
-{
+fn put_prefix(ink: &mut Ink, bytes: &[u8], room: usize) -> Result<(), AllocError> {
     ink.put_bytes(prefix(bytes, room))
 }
 
 // Puts the dots behind a label that was cut.
-fn put_dots(ink: &mut Ink, is_cut: bool) -> Result<(), AllocError>
-    ensures { OnOk result (ink.new ≡ ink.old ++ dots is_cut) }
-{
+fn put_dots(ink: &mut Ink, is_cut: bool) -> Result<(), AllocError> {
     if is_cut { ink.put_bytes(CUT) } else { Ok(()) }
 }
 
-fn put_data(ink: &mut Ink, bytes: &[u8]) -> Result<(), AllocError>
-    ensures { OnOk result (ink.new ≡ ink.old ++ data_label bytes.now) }
-{
+fn put_data(ink: &mut Ink, bytes: &[u8]) -> Result<(), AllocError> {
     if are_printing(bytes) {
         put_text(ink, bytes)
     } else {
@@ -76,40 +60,30 @@ fn put_data(ink: &mut Ink, bytes: &[u8]) -> Result<(), AllocError>
     }
 }
 
-fn put_text(ink: &mut Ink, bytes: &[u8]) -> Result<(), AllocError>
-    ensures { OnOk result (ink.new ≡ ink.old ++ text_label bytes.now) }
-{
+fn put_text(ink: &mut Ink, bytes: &[u8]) -> Result<(), AllocError> {
     put_escaped(ink, prefix(bytes, LETTERS))?;
     put_dots(ink, bytes.len() > LETTERS)
 }
 
 // Two digits a byte: half as many bytes as there are letters.
-fn put_digits(ink: &mut Ink, bytes: &[u8]) -> Result<(), AllocError>
-    ensures { OnOk result (ink.new ≡ ink.old ++ hex_label bytes.now) }
-{
+fn put_digits(ink: &mut Ink, bytes: &[u8]) -> Result<(), AllocError> {
     ink.put_hex(prefix(bytes, LETTERS / 2))?;
     put_dots(ink, bytes.len() > LETTERS / 2)
 }
 
-fn are_printing(bytes: &[u8]) -> bool
-    ensures { result ≡ list_all is_printing bytes.now }
-{
+fn are_printing(bytes: &[u8]) -> bool {
     bytes.iter().all(|byte| is_printing(*byte))
 }
 
 // Puts the bytes as XML writes them within an element.
-fn put_escaped(ink: &mut Ink, bytes: &[u8]) -> Result<(), AllocError>
-    ensures { OnOk result (ink.new ≡ ink.old ++ escaped bytes.now) }
-{
+fn put_escaped(ink: &mut Ink, bytes: &[u8]) -> Result<(), AllocError> {
     for byte in bytes {
         put_letter(ink, *byte)?;
     }
     Ok(())
 }
 
-fn put_letter(ink: &mut Ink, byte: u8) -> Result<(), AllocError>
-    ensures { OnOk result (ink.new ≡ ink.old ++ escape_of byte) }
-{
+fn put_letter(ink: &mut Ink, byte: u8) -> Result<(), AllocError> {
     match byte {
         b'&' => ink.put_bytes(b"&amp;"),
         b'<' => ink.put_bytes(b"&lt;"),

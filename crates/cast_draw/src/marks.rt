@@ -1,8 +1,5 @@
-//! The marks, each a small function that puts its text at the end of an ink.
-ghost use Rattle.std.specs.Prelude.{◌≡◌, ◌<◌, ◌≤◌, ◌^◌, ◌++◌, OnOk};
-ghost use Rattle.cast_draw.specs.Places.{top_of};
-ghost use Rattle.cast_draw.specs.Marks.{title_text, box_text, broadcast_text, delivery_text, decision_text, crash_text, refusal_text, ground_text};
-ghost use Rattle.cast_draw.specs.FrameMarks.{class_of, frame_words, cargo_words, arrow_text, stub_path, stub_text, cross_top, lost_text, leaving_text};
+//! How each mark is written: a small function puts its text at the end of an ink. None has a contract of its text.
+ghost use Rattle.std.specs.Prelude.{◌<◌, ◌≤◌, ◌^◌};
 
 use crate::cell::{Cell, Spot};
 use crate::frames::{Cargo, MadeFrame};
@@ -24,10 +21,7 @@ pub fn put_broadcast(
     node: NodeId,
     number: u64,
     item: &Item,
-) -> Result<(), AllocError>
-    ensures { OnOk result (ink.new ≡ ink.old
-        ++ broadcast_text spot.x spot.y index node number item.now) }
-{
+) -> Result<(), AllocError> {
     let pair = Pair {
         sender: node,
         number,
@@ -57,10 +51,7 @@ pub fn put_delivery(
     index: u64,
     node: NodeId,
     message: &Message,
-) -> Result<(), AllocError>
-    ensures { OnOk result (ink.new ≡ ink.old ++ delivery_text cell.x
-        (top_of cell.line cell.row) index node message.now) }
-{
+) -> Result<(), AllocError> {
     let pair = Pair {
         sender: message.sender,
         number: message.number,
@@ -77,10 +68,7 @@ fn put_title<'a>(
     deed: &'a [u8],
     pair: Pair,
     item: &'a Item,
-) -> Result<(), AllocError>
-    ensures { OnOk result (ink.new ≡ ink.old
-        ++ title_text index node deed.now pair.sender pair.number item.now) }
-{
+) -> Result<(), AllocError> {
     ink.put(&[
         Text(b"<g><title>node "),
         Number(node.0 as u64),
@@ -97,10 +85,7 @@ fn put_title<'a>(
 }
 
 // The box of a delivery, with the message's numbers.
-fn put_numbered_box(ink: &mut Ink, cell: Cell, message: &Message) -> Result<(), AllocError>
-    ensures { OnOk result (ink.new ≡ ink.old ++ box_text cell.x
-        (top_of cell.line cell.row) message.now) }
-{
+fn put_numbered_box(ink: &mut Ink, cell: Cell, message: &Message) -> Result<(), AllocError> {
     let sender = message.sender.0 as u64;
     let colour = (message.sender.0 % COLOURS) as u64;
     let top = cell.line + 9 + 15 * cell.row;
@@ -132,10 +117,7 @@ pub fn put_decision(
     index: u64,
     node: NodeId,
     decision: Decision,
-) -> Result<(), AllocError>
-    ensures { OnOk result (ink.new ≡ ink.old ++ decision_text cell.x
-        (top_of cell.line cell.row) index node decision) }
-{
+) -> Result<(), AllocError> {
     let top = cell.line + 9 + 15 * cell.row;
     ink.put(&[
         Text(b"<g><title>node "),
@@ -159,9 +141,7 @@ pub fn put_decision(
 }
 
 /// A cross at the end of a node's line.
-pub fn put_crash(ink: &mut Ink, spot: Spot, index: u64, node: NodeId) -> Result<(), AllocError>
-    ensures { OnOk result (ink.new ≡ ink.old ++ crash_text spot.x spot.y index node) }
-{
+pub fn put_crash(ink: &mut Ink, spot: Spot, index: u64, node: NodeId) -> Result<(), AllocError> {
     ink.put(&[
         Text(b"<g><title>node "),
         Number(node.0 as u64),
@@ -174,9 +154,7 @@ pub fn put_crash(ink: &mut Ink, spot: Spot, index: u64, node: NodeId) -> Result<
 }
 
 /// A pale mark of an event that was refused, with its code.
-pub fn put_refusal(ink: &mut Ink, spot: Spot, index: u64, code: u64) -> Result<(), AllocError>
-    ensures { OnOk result (ink.new ≡ ink.old ++ refusal_text spot.x spot.y index code) }
-{
+pub fn put_refusal(ink: &mut Ink, spot: Spot, index: u64, code: u64) -> Result<(), AllocError> {
     ink.put(&[
         Text(b"<g><title>event "),
         Number(index),
@@ -195,9 +173,7 @@ pub fn put_refusal(ink: &mut Ink, spot: Spot, index: u64, code: u64) -> Result<(
 }
 
 // What is said of a frame first: its number, its ends, what it says and what made it.
-fn put_frame_words(ink: &mut Ink, frame: &MadeFrame) -> Result<(), AllocError>
-    ensures { OnOk result (ink.new ≡ ink.old ++ frame_words frame.now) }
-{
+fn put_frame_words(ink: &mut Ink, frame: &MadeFrame) -> Result<(), AllocError> {
     ink.put(&[
         Text(b"<title>frame "),
         Number(frame.seq),
@@ -210,9 +186,7 @@ fn put_frame_words(ink: &mut Ink, frame: &MadeFrame) -> Result<(), AllocError>
     ink.put(&[Text(b", made by event "), Number(frame.index)])
 }
 
-fn put_cargo(ink: &mut Ink, cargo: Cargo, slot: u64) -> Result<(), AllocError>
-    ensures { OnOk result (ink.new ≡ ink.old ++ cargo_words cargo slot) }
-{
+fn put_cargo(ink: &mut Ink, cargo: Cargo, slot: u64) -> Result<(), AllocError> {
     match cargo {
         Cargo::Message(pair) => ink.put(&[
             Text(b": slot "),
@@ -227,9 +201,7 @@ fn put_cargo(ink: &mut Ink, cargo: Cargo, slot: u64) -> Result<(), AllocError>
 }
 
 // The class of what is drawn of a frame: the colour of its message's sender, or that of acknowledgements.
-fn put_class(ink: &mut Ink, frame: &MadeFrame) -> Result<(), AllocError>
-    ensures { OnOk result (ink.new ≡ ink.old ++ class_of frame.now.cargo) }
-{
+fn put_class(ink: &mut Ink, frame: &MadeFrame) -> Result<(), AllocError> {
     match frame.cargo {
         Cargo::Message(pair) => ink.put(&[Text(b" s"), Number((pair.sender.0 % COLOURS) as u64)]),
         Cargo::Ack => ink.put(&[Text(b" k")]),
@@ -243,10 +215,7 @@ pub fn put_arrow(
     start: Spot,
     end: Spot,
     index: u64,
-) -> Result<(), AllocError>
-    ensures { OnOk result (ink.new ≡ ink.old
-        ++ arrow_text frame.now start.x start.y end.x end.y index) }
-{
+) -> Result<(), AllocError> {
     ink.put_bytes(b"<path class='a")?;
     put_class(ink, frame)?;
     ink.put(&[
@@ -265,9 +234,12 @@ pub fn put_arrow(
 }
 
 /// A short dashed line that ends in a cross: a frame that never arrives.
-pub fn put_lost(ink: &mut Ink, frame: &MadeFrame, start: Spot, side: Side) -> Result<(), AllocError>
-    ensures { OnOk result (ink.new ≡ ink.old ++ lost_text frame.now start.x start.y side) }
-{
+pub fn put_lost(
+    ink: &mut Ink,
+    frame: &MadeFrame,
+    start: Spot,
+    side: Side,
+) -> Result<(), AllocError> {
     put_stub_start(ink, frame, start, b"o", side)?;
     put_frame_words(ink, frame)?;
     ink.put_bytes(b", never arrives</title></path><path class='e")?;
@@ -285,9 +257,7 @@ pub fn put_leaving(
     frame: &MadeFrame,
     start: Spot,
     side: Side,
-) -> Result<(), AllocError>
-    ensures { OnOk result (ink.new ≡ ink.old ++ leaving_text frame.now start.x start.y side) }
-{
+) -> Result<(), AllocError> {
     put_stub_start(ink, frame, start, b"u", side)?;
     put_frame_words(ink, frame)?;
     ink.put_bytes(b", arrives by an event that is not shown</title></path>\n")
@@ -300,10 +270,7 @@ fn put_stub_start(
     start: Spot,
     class: &[u8],
     side: Side,
-) -> Result<(), AllocError>
-    ensures { OnOk result (ink.new ≡ ink.old
-        ++ stub_text frame.now start.x start.y class.now side) }
-{
+) -> Result<(), AllocError> {
     ink.put_bytes(b"<path class='")?;
     ink.put_bytes(class)?;
     put_class(ink, frame)?;
@@ -312,9 +279,7 @@ fn put_stub_start(
 }
 
 // Where the line of a stub goes.
-fn path_of(side: Side) -> &'static [u8]
-    ensures { result.now ≡ stub_path side }
-{
+fn path_of(side: Side) -> &'static [u8] {
     match side {
         Side::Up => b"l11 -34'>",
         Side::Down => b"l11 34'>",
@@ -325,7 +290,6 @@ fn path_of(side: Side) -> &'static [u8]
 fn cross_top(side: Side, line: u64) -> u64
     requires upper { 38 ≤ line }
     requires lower { line < 2 ^ 17 }
-    ensures { result ≡ cross_top side line }
 {
     match side {
         Side::Up => line - 38,
@@ -340,9 +304,7 @@ pub fn put_ground(
     width: u64,
     height: u64,
     index: u64,
-) -> Result<(), AllocError>
-    ensures { OnOk result (ink.new ≡ ink.old ++ ground_text from width height index) }
-{
+) -> Result<(), AllocError> {
     ink.put(&[
         Text(b"<g><title>settle, event "),
         Number(index),

@@ -1,21 +1,25 @@
-//! The finished picture: what stands around the marks, and its text.
-ghost use Rattle.std.specs.Prelude.{◌≡◌, ◌≤◌, ◌++◌, IfOk, OnOk, false, flat_map};
-ghost use Rattle.cast_draw.specs.Page.{caption, foot_text, head_text, life_text, lifeline_text, lane_text, lines_text, name_text, names_text, rest_text, stub_of, stubs_of, style_text, tip_style, tip_text, values_word};
+//! The finished picture: its marks, what is around them, and its text. How a picture is written has no contract.
+ghost use Rattle.std.specs.Prelude.{◌≡◌, ◌≤◌, ◌++◌, false};
 ghost use Rattle.cast_record.specs.Written.{Puts};
 
-use crate::cell::{LINES_FROM, Spot};
-use crate::frames::{Fate, MadeFrame, MadeFrames};
+use crate::cell::{Cell, LINES_FROM, Spot};
+use crate::frames::{Column, Fate, MadeFrame, MadeFrames};
 use crate::height::height_of;
 use crate::ink::Ink;
 use crate::ink::Piece::{Number, Place, Text};
-use crate::marks::{put_leaving, put_lost};
+use crate::layout::Layout;
+use crate::mark::{Deed, Ground, Mark, Shown};
+use crate::marks::{
+    put_arrow, put_broadcast, put_crash, put_decision, put_delivery, put_ground, put_leaving,
+    put_lost, put_refusal,
+};
 use crate::picture::Picture;
 use crate::rows::crash_of;
 use crate::side::Side;
 use crate::style::{COLOUR_STYLE, LEGEND, LEGEND_HEIGHT, LEGEND_WIDTH, STYLE, TIPS};
 use cast_message::{Config, NodeId};
 use cast_record::{Meter, Written, mode_name, write_bytes};
-use std::alloc::AllocError;
+use std::alloc::{AllocError, Global};
 use std::io::Write;
 use std::marker::Model;
 
@@ -42,37 +46,113 @@ impl Model for Drawing {
 }
 
 impl Picture {
-    ghost use Rattle.cast_draw.specs.Sheet.{sheet_of};
-    ghost use Rattle.cast_draw.specs.Page.{picture_text};
-
     /// The picture of what was taken.
-    pub fn finish(self) -> Result<Drawing, AllocError>
-        ensures { IfOk result (λ drawing. drawing ≡ picture_text (sheet_of self)) }
-    {
+    pub fn finish(self) -> Result<Drawing, AllocError> {
+        let nodes = self.config.nodes();
+        let width = (self.layout.next() + 8).max(LEGEND_WIDTH);
+        let bottom = self.bottom();
+        let foot = bottom + 44;
         let mut front = Ink::new(self.alloc);
-        let width = (self.next + 8).max(LEGEND_WIDTH);
-        let foot = self.bottom() + 44;
         put_head(&mut front, &self.config, width, foot + LEGEND_HEIGHT)?;
-        front.put_bytes(self.grounds.as_slice())?;
+        for ground in self.grounds.as_slice() {
+            draw_ground(&mut front, &self.layout, ground, bottom - 32)?;
+        }
         put_lines(
             &mut front,
+            &self.layout,
             self.crashes.as_slice(),
-            self.config.nodes(),
+            nodes,
             width,
         )?;
-        let Picture {
-            mut arrows,
-            mut marks,
-            made,
-            ..
-        } = self;
-        put_stubs(&mut arrows, made.as_slice())?;
+        let (mut arrows, mut marks) = draw_marks(self.alloc, &self, bottom + 12)?;
+        put_stubs(&mut arrows, &self.layout, self.made.as_slice())?;
         put_foot(&mut marks, foot)?;
         Ok(Drawing {
             front,
             arrows,
             marks,
         })
+    }
+}
+
+fn draw_ground(
+    ink: &mut Ink,
+    layout: &Layout,
+    ground: &Ground,
+    height: u64,
+) -> Result<(), AllocError> {
+    let from = layout.start(ground.from).x();
+    let width = layout.start(ground.to).x().saturating_sub(from);
+    put_ground(ink, from - 8, width, height, ground.event)
+}
+
+// The arrows, and the marks in front of them. Refusals have this height.
+fn draw_marks(alloc: Global, picture: &Picture, refusals: u64) -> Result<(Ink, Ink), AllocError>
+    requires { (76 ≤ refusals) × (refusals ≤ 16384) }
+{
+    let mut arrows = Ink::new(alloc);
+    let mut marks = Ink::new(alloc);
+    // The column of the mark before, and how many boxes and diamonds it has so far.
+    let (mut column, mut place) = (0u64, 0u64);
+    for mark in picture.marks.as_slice() {
+        if mark.column != column {
+            (column, place) = (mark.column, 0);
+        }
+        let x = picture.layout.start(column);
+        match &mark.shown {
+            Shown::Arrival { frame, node } => {
+                let start = Spot::on_line(frame_start(&picture.layout, frame), frame.from);
+                put_arrow(
+                    &mut arrows,
+                    frame,
+                    start,
+                    Spot::on_line(x, *node),
+                    mark.event,
+                )?;
+            }
+            Shown::Done { node, deed } => {
+                let cell = Cell::below(Spot::on_line(x, *node), place)?;
+                draw_deed(&mut marks, cell, mark.event, *node, deed)?;
+                place = place.saturating_add(1);
+            }
+            Shown::Broadcast { node, number, item } => {
+                let spot = Spot::on_line(x, *node);
+                put_broadcast(&mut marks, spot, mark.event, *node, *number, item)?;
+            }
+            Shown::Crash { node } => {
+                put_crash(&mut marks, Spot::on_line(x, *node), mark.event, *node)?;
+            }
+            Shown::Refusal { fault } => {
+                let spot = Spot {
+                    x: x.x(),
+                    y: refusals,
+                };
+                put_refusal(&mut marks, spot, mark.event, fault.code())?;
+            }
+        }
+    }
+    Ok((arrows, marks))
+}
+
+// Where the line of a frame starts: in the column in which it was made, or where the lines begin.
+fn frame_start(layout: &Layout, frame: &MadeFrame) -> Column {
+    if frame.is_shown {
+        layout.start(frame.column)
+    } else {
+        Column::at(LINES_FROM)
+    }
+}
+
+fn draw_deed(
+    ink: &mut Ink,
+    cell: Cell,
+    event: u64,
+    node: NodeId,
+    deed: &Deed,
+) -> Result<(), AllocError> {
+    match deed {
+        Deed::Delivers(message) => put_delivery(ink, cell, event, node, message),
+        Deed::Decides(decision) => put_decision(ink, cell, event, node, *decision),
     }
 }
 
@@ -87,9 +167,7 @@ pub fn write_drawing<W: Write>(drawing: &Drawing, writer: &mut Meter<W>) -> Writ
     write_bytes(drawing.marks.as_slice(), writer)
 }
 
-fn put_head(ink: &mut Ink, config: &Config, width: u64, height: u64) -> Result<(), AllocError>
-    ensures { OnOk result (ink.new ≡ ink.old ++ head_text config.now width height) }
-{
+fn put_head(ink: &mut Ink, config: &Config, width: u64, height: u64) -> Result<(), AllocError> {
     ink.put(&[
         Text(b"<svg xmlns='http://www.w3.org/2000/svg' version='1.1' viewBox='0 0 "),
         Number(width),
@@ -108,9 +186,7 @@ fn put_head(ink: &mut Ink, config: &Config, width: u64, height: u64) -> Result<(
 }
 
 // The legend, at this height, and the end of the picture.
-fn put_foot(ink: &mut Ink, y: u64) -> Result<(), AllocError>
-    ensures { OnOk result (ink.new ≡ ink.old ++ foot_text y) }
-{
+fn put_foot(ink: &mut Ink, y: u64) -> Result<(), AllocError> {
     ink.put(&[
         Text(b"<g class='legend' transform='translate(12 "),
         Number(y),
@@ -120,9 +196,7 @@ fn put_foot(ink: &mut Ink, y: u64) -> Result<(), AllocError>
     ])
 }
 
-fn put_style(ink: &mut Ink) -> Result<(), AllocError>
-    ensures { OnOk result (ink.new ≡ ink.old ++ style_text) }
-{
+fn put_style(ink: &mut Ink) -> Result<(), AllocError> {
     ink.put(&[Text(b"</title>\n<style>"), Text(STYLE), Text(COLOUR_STYLE)])?;
     put_tip_styles(ink, TIPS)?;
     ink.put_bytes(b"</style>\n<defs>")?;
@@ -132,9 +206,7 @@ fn put_style(ink: &mut Ink) -> Result<(), AllocError>
     )
 }
 
-fn put_tip_styles<'a>(ink: &mut Ink, kinds: &[(&'a [u8], &'a [u8])]) -> Result<(), AllocError>
-    ensures { OnOk result (ink.new ≡ ink.old ++ flat_map (λ kind. tip_style kind.0.now) kinds.now) }
-{
+fn put_tip_styles<'a>(ink: &mut Ink, kinds: &[(&'a [u8], &'a [u8])]) -> Result<(), AllocError> {
     for (class, _) in kinds {
         ink.put(&[
             Text(b".a."),
@@ -147,10 +219,7 @@ fn put_tip_styles<'a>(ink: &mut Ink, kinds: &[(&'a [u8], &'a [u8])]) -> Result<(
     Ok(())
 }
 
-fn put_tips<'a>(ink: &mut Ink, kinds: &[(&'a [u8], &'a [u8])]) -> Result<(), AllocError>
-    ensures { OnOk result (ink.new ≡ ink.old
-        ++ flat_map (λ kind. tip_text kind.0.now kind.1.now) kinds.now) }
-{
+fn put_tips<'a>(ink: &mut Ink, kinds: &[(&'a [u8], &'a [u8])]) -> Result<(), AllocError> {
     for (class, colour) in kinds {
         ink.put(&[
             Text(b"<marker id='m"),
@@ -166,9 +235,7 @@ fn put_tips<'a>(ink: &mut Ink, kinds: &[(&'a [u8], &'a [u8])]) -> Result<(), All
     Ok(())
 }
 
-fn put_caption(ink: &mut Ink, config: &Config) -> Result<(), AllocError>
-    ensures { OnOk result (ink.new ≡ ink.old ++ caption config.now) }
-{
+fn put_caption(ink: &mut Ink, config: &Config) -> Result<(), AllocError> {
     ink.put(&[
         Text(b"nodes: "),
         Number(config.nodes()),
@@ -182,10 +249,7 @@ fn put_caption(ink: &mut Ink, config: &Config) -> Result<(), AllocError>
 }
 
 // What stands behind the number of choices.
-#[tactic(auto, unfolding(crate::specs::Page::values_word))]
-fn values_word(config: &Config) -> &'static [u8]
-    ensures { result.now ≡ values_word config.now.faults config.now.choices }
-{
+fn values_word(config: &Config) -> &'static [u8] {
     if config.faults() < config.choices() {
         b", mode: "
     } else {
@@ -195,41 +259,36 @@ fn values_word(config: &Config) -> &'static [u8]
 
 fn put_lines(
     ink: &mut Ink,
+    layout: &Layout,
     crashes: &[Option<u64>],
     nodes: u64,
     width: u64,
 ) -> Result<(), AllocError>
     requires { nodes ≤ 64 }
-    ensures { OnOk result (ink.new ≡ ink.old ++ lines_text crashes.now nodes width) }
 {
     for node in 0..nodes as u8 {
         let node = NodeId(node);
-        put_lane(ink, node, crash_of(crashes, node), width)?;
+        let crash = crash_of(crashes, node).map(|column| layout.start(column).x());
+        put_lane(ink, node, crash, width)?;
     }
     Ok(())
 }
 
 // The line of a node, and its name along it.
-fn put_lane(ink: &mut Ink, node: NodeId, crash: Option<u64>, width: u64) -> Result<(), AllocError>
-    ensures { OnOk result (ink.new ≡ ink.old ++ lane_text node crash width) }
-{
+fn put_lane(ink: &mut Ink, node: NodeId, crash: Option<u64>, width: u64) -> Result<(), AllocError> {
     put_line(ink, node, crash, width)?;
     put_names(ink, node, width)
 }
 
 // The name of a node again and again along its line, where the picture is wide.
-fn put_names(ink: &mut Ink, node: NodeId, width: u64) -> Result<(), AllocError>
-    ensures { OnOk result (ink.new ≡ ink.old ++ names_text node width) }
-{
+fn put_names(ink: &mut Ink, node: NodeId, width: u64) -> Result<(), AllocError> {
     for place in 0..width.saturating_sub(NAME_WIDTH) / BETWEEN_NAMES {
         put_name(ink, node, BETWEEN_NAMES * (place + 1))?;
     }
     Ok(())
 }
 
-fn put_name(ink: &mut Ink, node: NodeId, x: u64) -> Result<(), AllocError>
-    ensures { OnOk result (ink.new ≡ ink.old ++ name_text node x) }
-{
+fn put_name(ink: &mut Ink, node: NodeId, x: u64) -> Result<(), AllocError> {
     ink.put(&[
         Text(b"<text class='l' x='"),
         Number(x),
@@ -241,9 +300,7 @@ fn put_name(ink: &mut Ink, node: NodeId, x: u64) -> Result<(), AllocError>
     ])
 }
 
-fn put_line(ink: &mut Ink, node: NodeId, crash: Option<u64>, width: u64) -> Result<(), AllocError>
-    ensures { OnOk result (ink.new ≡ ink.old ++ lifeline_text node crash width) }
-{
+fn put_line(ink: &mut Ink, node: NodeId, crash: Option<u64>, width: u64) -> Result<(), AllocError> {
     match crash {
         None => put_life(ink, node, width),
         Some(end) => {
@@ -254,9 +311,7 @@ fn put_line(ink: &mut Ink, node: NodeId, crash: Option<u64>, width: u64) -> Resu
 }
 
 // The name of a node and its line, as far as it lives.
-fn put_life(ink: &mut Ink, node: NodeId, end: u64) -> Result<(), AllocError>
-    ensures { OnOk result (ink.new ≡ ink.old ++ life_text node end) }
-{
+fn put_life(ink: &mut Ink, node: NodeId, end: u64) -> Result<(), AllocError> {
     let y = height_of(node);
     ink.put(&[
         Text(b"<text class='n' x='12' y='"),
@@ -272,9 +327,7 @@ fn put_life(ink: &mut Ink, node: NodeId, end: u64) -> Result<(), AllocError>
 }
 
 // Its line after it crashed.
-fn put_rest(ink: &mut Ink, node: NodeId, from: u64, width: u64) -> Result<(), AllocError>
-    ensures { OnOk result (ink.new ≡ ink.old ++ rest_text node from width) }
-{
+fn put_rest(ink: &mut Ink, node: NodeId, from: u64, width: u64) -> Result<(), AllocError> {
     ink.put(&[
         Text(b"<path class='z' d='M"),
         Place(from, height_of(node)),
@@ -284,31 +337,25 @@ fn put_rest(ink: &mut Ink, node: NodeId, from: u64, width: u64) -> Result<(), Al
     ])
 }
 
-fn put_stubs(ink: &mut Ink, made: &[MadeFrames]) -> Result<(), AllocError>
-    ensures { OnOk result (ink.new ≡ ink.old ++ flat_map stubs_of made.now) }
-{
+fn put_stubs(ink: &mut Ink, layout: &Layout, made: &[MadeFrames]) -> Result<(), AllocError> {
     for frames in made {
-        put_stubs_of(ink, frames.as_slice())?;
+        put_stubs_of(ink, layout, frames.as_slice())?;
     }
     Ok(())
 }
 
-fn put_stubs_of(ink: &mut Ink, frames: &[MadeFrame]) -> Result<(), AllocError>
-    ensures { OnOk result (ink.new ≡ ink.old ++ stubs_of frames.now) }
-{
+fn put_stubs_of(ink: &mut Ink, layout: &Layout, frames: &[MadeFrame]) -> Result<(), AllocError> {
     for frame in frames {
-        put_stub(ink, frame)?;
+        put_stub(ink, layout, frame)?;
     }
     Ok(())
 }
 
-fn put_stub(ink: &mut Ink, frame: &MadeFrame) -> Result<(), AllocError>
-    ensures { OnOk result (ink.new ≡ ink.old ++ stub_of frame.now) }
-{
+fn put_stub(ink: &mut Ink, layout: &Layout, frame: &MadeFrame) -> Result<(), AllocError> {
     if !frame.is_shown {
         return Ok(());
     }
-    let start = Spot::on_line(frame.x.x(), frame.from);
+    let start = Spot::on_line(layout.start(frame.column), frame.from);
     let side = Side::of(frame.from, frame.to);
     match frame.fate {
         Fate::UnderWay => put_lost(ink, frame, start, side),

@@ -1,49 +1,46 @@
 //! The picture as it grows, event by event.
 ghost use Rattle.std.specs.Prelude.{◌≡◌, ◌<◌, ◌≤◌, ◌^◌};
 
-use crate::cell::{FARTHEST, FIRST_COLUMN, LINES_FROM, NARROW, Spot, WIDE};
-use crate::deeds::{put_deeds, width_of};
-use crate::frames::{Cargo, Column, Fate, MadeFrame, MadeFrames};
-use crate::ink::Ink;
+use crate::cell::{NARROW, WIDE, width_of};
+use crate::deeds::{At, put_deeds};
+use crate::frames::{Cargo, Fate, MadeFrame, MadeFrames};
+use crate::layout::Layout;
 use crate::links::{Links, Pair};
-use crate::marks::{put_arrow, put_broadcast, put_crash, put_ground, put_refusal};
+use crate::mark::{Ground, Mark, Shown};
 use crate::rows::{add_frame, arrive, count, end_line, given, hold, new_links, new_made};
 use crate::window::Window;
-use cast_message::{Answer, Config, Event, Item, NodeId, Outcome, Reply, StepFault};
+use cast_message::{Answer, Config, Event, Item, List, NodeId, Outcome, Reply, StepFault};
 use std::alloc::{AllocError, Global};
 
-/// The picture of a run. It takes the events one after another, with the replies to them; those of its window are drawn. What
-/// it keeps of the others are the frames that they made, which of them arrived, what the nodes give one another, and where a
-/// node's line ends.
+// The least width of a ground.
+const LEAST_GROUND: u64 = 48;
+
+/// The picture of a run. It takes the events one after another, with the replies to them, and keeps the marks of those of its
+/// window. Of the others it keeps the frames that they made, which of these arrived, what the nodes give one another, and where
+/// a node's line ends.
 #[derive(Drop)]
 pub struct Picture {
     pub(crate) alloc: Global,
     pub(crate) config: Config,
     pub(crate) window: Window,
-    // Where the next column stands.
-    pub(crate) next: u64,
-    // Where the first column of the settle stands that began last.
+    pub(crate) layout: Layout,
+    // The first column of the settle that began last.
     pub(crate) settle: u64,
-    pub(crate) grounds: Ink,
-    pub(crate) arrows: Ink,
-    pub(crate) marks: Ink,
+    pub(crate) grounds: List<Ground>,
+    pub(crate) marks: List<Mark>,
     // By the node, what it holds, and what it gives each peer.
     pub(crate) links: Vec<Links>,
     // By the node, the frames that it made.
     pub(crate) made: Vec<MadeFrames>,
     // By the node, the column at which it crashed.
     pub(crate) crashes: Vec<Option<u64>>,
-    ghost next_left: { 92 ≤ next },
-    ghost next_right: { next ≤ 2 ^ 40 },
-    ghost settle_left: { 92 ≤ settle },
-    ghost settle_right: { settle ≤ next },
 }
 
 impl Picture {
     ghost use Rattle.std.specs.Prelude.{IfOk, OnOk, OnErr, is_some, slice_get, true};
     ghost use Rattle.cast_draw.specs.Gifts.{slot_of};
-    ghost use Rattle.cast_draw.specs.Sheet.{blank, bottom_of, sheet_of, shows};
-    ghost use Rattle.cast_draw.specs.Drawn.{answer_wants, answered, arrival_wants, arrived, crashed, drawn_after, gifts_at, made_at, ordered, refused, sent, sent_slot, settle_begun, settle_ended, wants_memory, with_outcome};
+    ghost use Rattle.cast_draw.specs.Sheet.{blank, sheet_of, shows};
+    ghost use Rattle.cast_draw.specs.Drawn.{answer_wants, answered, arrival_wants, arrived, crashed, drawn_after, gifts_at, made_at, ordered, refused, sent, sent_slot, settle_begun, settle_ended, wants_memory, with_mark, with_outcome};
 
     /// The picture of a group in which nothing has happened.
     pub fn new(alloc: Global, config: &Config, window: Window) -> Result<Picture, AllocError>
@@ -54,11 +51,10 @@ impl Picture {
             alloc,
             config: *config,
             window,
-            next: FIRST_COLUMN,
-            settle: FIRST_COLUMN,
-            grounds: Ink::new(alloc),
-            arrows: Ink::new(alloc),
-            marks: Ink::new(alloc),
+            layout: Layout::new(alloc),
+            settle: 0,
+            grounds: List::new(alloc),
+            marks: List::new(alloc),
             links: new_links(alloc, nodes)?,
             made: new_made(alloc, nodes)?,
             crashes: vec![in alloc; None; nodes as usize]?,
@@ -66,8 +62,8 @@ impl Picture {
     }
 
     /// Takes an event, which has this place in its script, and the reply to it. A reply that is not one to the event leaves
-    /// nothing. Memory is wanted for what is kept of an event, and, where it is shown, for what is drawn. A picture of more than
-    /// 2^40 points in width finds no memory. After a refusal it may have a part of the event's marks, and is not to be finished.
+    /// nothing. What is kept of an event takes memory, and so do the marks of one that is shown. There is no memory for a picture
+    /// wider than 2^40 points. After a refusal the picture may have a part of the event's marks, and must not be finished.
     pub fn take(&mut self, index: u64, event: &Event, reply: &Reply) -> Result<(), AllocError>
         ensures ok { OnOk result (sheet_of self.new
             ≡ drawn_after (sheet_of self.old) index event.now reply.now) }
@@ -81,22 +77,20 @@ impl Picture {
         Ok(())
     }
 
-    /// Where the next column stands, in points from the left.
-    pub fn column(&self) -> u64
-        ensures { result ≡ (sheet_of self.now).next }
-    {
-        self.next
+    /// Where the next column starts, in points from the left.
+    pub fn column(&self) -> u64 {
+        self.layout.next()
     }
 
     /// A settle begins: the events from here on are its own.
     pub fn begin_settle(&mut self)
         ensures { sheet_of self.new ≡ settle_begun (sheet_of self.old) }
     {
-        self.settle = self.next;
+        self.settle = self.layout.count();
     }
 
-    /// The settle that began last, which has this place in its script, is over. Where it is shown it may be refused as `take` is,
-    /// and then the picture is not to be finished.
+    /// The settle that began last, which has this place in its script, is over. If it is shown, it may be refused as `take` is,
+    /// and then the picture must not be finished.
     pub fn end_settle(&mut self, index: u64) -> Result<(), AllocError>
         ensures ok { OnOk result (sheet_of self.new ≡ settle_ended (sheet_of self.old) index) }
         ensures err { OnErr result (shows self.old.window index ≡ true) }
@@ -105,13 +99,16 @@ impl Picture {
         if !self.window.shows(index) {
             return Ok(());
         }
-        let end = self.next.max(self.settle + 48);
-        let from = self.settle - 8;
-        let width = end - self.settle;
-        let height = self.bottom() - 32;
-        put_ground(&mut self.grounds, from, width, height, index)?;
-        self.advance(end)?;
-        Ok(())
+        // (one without an event has a column of its own)
+        if self.settle == self.layout.count() {
+            self.layout.add(LEAST_GROUND)?;
+        }
+        self.layout.widen(self.settle, LEAST_GROUND)?;
+        self.grounds.push(Ground {
+            from: self.settle,
+            to: self.layout.count(),
+            event: index,
+        })
     }
 
     fn take_answer(&mut self, index: u64, event: &Event, answer: &Answer) -> Result<(), AllocError>
@@ -157,16 +154,13 @@ impl Picture {
         if !self.window.shows(index) {
             return Ok(());
         }
-        let spot = Spot::on_line(self.next, node);
-        put_broadcast(&mut self.marks, spot, index, node, number, item)?;
-        // The label of the item wants room, where nothing is delivered too.
-        let least = self.next + WIDE;
-        self.show_outcome(index, node, outcome)?;
-        let end = self.next.max(least);
-        self.advance(end)
+        let item = item.copy()?;
+        self.put(index, Shown::Broadcast { node, number, item })?;
+        // (the label of the item needs room even if nothing is delivered)
+        self.put_outcome(index, node, outcome, WIDE)
     }
 
-    // The frame carries what stands in the slot. Of a slot that was not given there is no frame.
+    // The frame carries what is in the slot. A slot that was not given has no frame.
     fn take_send(
         &mut self,
         index: u64,
@@ -205,13 +199,13 @@ impl Picture {
             slot,
             cargo,
             index,
-            x: Column::at(if is_shown { self.next } else { LINES_FROM }),
+            column: if is_shown { self.layout.count() } else { 0 },
             is_shown,
             fate: Fate::UnderWay,
         };
         add_frame(&mut self.made, &frame)?;
         if is_shown {
-            self.advance(self.next + NARROW)?;
+            self.layout.add(NARROW)?;
         }
         Ok(())
     }
@@ -239,23 +233,20 @@ impl Picture {
         if !is_shown {
             return Ok(());
         }
-        let start = Spot::on_line(frame.x.x(), from);
-        let end = Spot::on_line(self.next, node);
-        put_arrow(&mut self.arrows, &frame, start, end, index)?;
-        self.show_outcome(index, node, outcome)
+        self.put(index, Shown::Arrival { frame, node })?;
+        self.put_outcome(index, node, outcome, NARROW)
     }
 
     fn take_crash(&mut self, index: u64, node: NodeId) -> Result<(), AllocError>
         ensures ok { OnOk result (sheet_of self.new ≡ crashed (sheet_of self.old) index node) }
         ensures err { OnErr result (shows self.old.window index ≡ true) }
     {
-        let x = self.next;
-        end_line(&mut self.crashes, node, x);
+        end_line(&mut self.crashes, node, self.layout.count());
         if !self.window.shows(index) {
             return Ok(());
         }
-        put_crash(&mut self.marks, Spot::on_line(x, node), index, node)?;
-        self.advance(x + NARROW)
+        self.put(index, Shown::Crash { node })?;
+        self.layout.add(NARROW)
     }
 
     fn take_refusal(&mut self, index: u64, fault: StepFault) -> Result<(), AllocError>
@@ -265,46 +256,48 @@ impl Picture {
         if !self.window.shows(index) {
             return Ok(());
         }
-        let spot = Spot {
-            x: self.next,
-            y: self.bottom() + 12,
-        };
-        put_refusal(&mut self.marks, spot, index, fault.code())?;
-        self.advance(self.next + NARROW)
+        self.put(index, Shown::Refusal { fault })?;
+        self.layout.add(NARROW)
     }
 
-    // Puts what an event delivered and decided at a node into the next column, which ends there.
-    fn show_outcome(
+    // Puts a mark into the next column.
+    fn put(&mut self, event: u64, shown: Shown) -> Result<(), AllocError>
+        ensures { OnOk result (sheet_of self.new ≡ with_mark (sheet_of self.old) event shown) }
+    {
+        let column = self.layout.count();
+        self.marks.push(Mark {
+            column,
+            event,
+            shown,
+        })
+    }
+
+    // Puts what an event delivered and decided at a node into the next column, which is at least this wide and ends there.
+    fn put_outcome(
         &mut self,
-        index: u64,
+        event: u64,
         node: NodeId,
         outcome: &Outcome,
+        least: u64,
     ) -> Result<(), AllocError>
         ensures { OnOk result (sheet_of self.new
-            ≡ with_outcome (sheet_of self.old) index node outcome.now) }
+            ≡ with_outcome (sheet_of self.old) event node outcome.now) }
     {
         let deliveries = outcome.deliveries.as_slice();
         let decisions = outcome.decisions.as_slice();
-        let spot = Spot::on_line(self.next, node);
-        let count = put_deeds(&mut self.marks, spot, index, node, deliveries, decisions)?;
-        self.advance(self.next + width_of(count, !decisions.is_empty()))
-    }
-
-    // The next column stands here. A place past the last finds no memory.
-    fn advance(&mut self, next: u64) -> Result<(), AllocError>
-        requires { self.old.next ≤ next }
-        ensures { OnOk result (sheet_of self.new ≡ record (sheet_of self.old) { next = next }) }
-    {
-        if next > FARTHEST {
-            return Err(AllocError);
-        }
-        self.next = next;
-        Ok(())
+        let at = At {
+            column: self.layout.count(),
+            event,
+            node,
+        };
+        put_deeds(&mut self.marks, &at, deliveries, decisions)?;
+        let count = (deliveries.len() as u64).saturating_add(decisions.len() as u64);
+        self.layout
+            .add(width_of(count, !decisions.is_empty()).max(least))
     }
 
     /// The height below all lines and boxes.
     pub(crate) fn bottom(&self) -> u64
-        ensures value { result ≡ bottom_of self.now.config }
         ensures lower { 76 ≤ result }
         ensures upper { result < 2 ^ 13 }
     {

@@ -1,5 +1,4 @@
 //! Where a line goes from a node's line.
-ghost use Rattle.std.specs.Prelude.{◌≡◌};
 
 use cast_message::NodeId;
 
@@ -13,12 +12,8 @@ pub enum Side {
 }
 
 impl Side {
-    ghost use Rattle.cast_draw.specs.Sides.{side_of};
-
     /// On which side of a node's line that of another is.
-    pub fn of(from: NodeId, to: NodeId) -> Side
-        ensures { result ≡ side_of from to }
-    {
+    pub fn of(from: NodeId, to: NodeId) -> Side {
         if to.0 < from.0 { Side::Up } else { Side::Down }
     }
 }

@@ -1,11 +1,10 @@
--- The picture of a script: the picture of what is taken as it is played.
---     picture_of script window    the text of the whole
-use Rattle.std.specs.Prelude.{◌≡◌, ℕ, List, [], ◌∷◌, Result, Ok, Err}
+-- The picture of a script: that of what is taken as it is played.
+--     sheet_of_script script window    what the whole shows
+use Rattle.std.specs.Prelude.{◌≡◌, List, [], ◌∷◌, Result, Ok, Err}
 use Rattle.cast_draw.specs.declared.picture.Picture.{Picture}
 use Rattle.cast_draw.specs.declared.window.Window.{Window}
 use Rattle.cast_draw.specs.Sheet.{Sheet, blank, sheet_of}
 use Rattle.cast_draw.specs.Drawn.{drawn_after, settle_begun, settle_ended}
-use Rattle.cast_draw.specs.Page.{picture_text}
 use Rattle.cast_script.specs.declared.script.Script.{Script}
 use Rattle.cast_text.specs.declared.fault.TextFault.{TextFault}
 use Rattle.cast_text.specs.declared.fault.TextFault.TheVariants as faults
@@ -23,10 +22,7 @@ drawn sheet (one ∷ rest) = drawn (drawn_at sheet one) rest
 abbrev pub sheet_of_script : Script → Window → Sheet
 sheet_of_script script window = drawn (blank script.config window) (played script)
 
-abbrev pub picture_of : Script → Window → List ℕ
-picture_of script window = picture_text (sheet_of_script script window)
-
--- The picture shows this too, or memory ran out.
+-- The picture shows this too, or there was no memory.
 abbrev pub Shows : Picture → Picture → Result (Unit {0}) TextFault → List Played → Type 0
 Shows old new (Ok done) more = sheet_of new ≡ drawn (sheet_of old) more
 Shows old new (Err fault) more = fault ≡ faults.Memory

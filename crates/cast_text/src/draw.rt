@@ -16,8 +16,8 @@ use cast_world::World;
 use std::alloc::Global;
 use std::io::{Read, Write};
 
-/// Reads a script to its end, and writes the picture of the events in the window. It writes only after all events were
-/// taken. After `Write` only a prefix was written; after any other fault nothing.
+/// Reads a script to its end, and writes the picture of its events, of which those of the window are shown. Nothing is written
+/// before all events were taken. After `Write` a prefix of the picture is written, or nothing; after any other fault nothing.
 pub fn draw_text<R: Read, W: Write>(
     alloc: Global,
     window: Window,
@@ -25,10 +25,11 @@ pub fn draw_text<R: Read, W: Write>(
     writer: &mut Meter<W>,
 ) -> Result<(), TextFault>
     requires { (reader.old.failed ≡ false) × (writer.old.failed ≡ false) }
-    // The writer has the picture of the script that was read, and nothing else, or a fault has its cause.
+    // The writer has the text of a picture with the marks of the script that was read, and nothing else, or a fault has its
+    // cause. How marks are written has no contract.
     ensures exact { Draws window (R.remaining reader.old.inner) reader.new.failed
         (W.contents writer.old.inner) (W.contents writer.new.inner) writer.new.failed result }
-    // Exactly what failed is reported. At most one byte past the limit is read.
+    // A failure is reported, and nothing else is. No more is read than shows that there is too much.
     ensures streams { UsesStreams R.remaining reader.old reader.new writer.new.failed result }
 {
     let script = read_script_text(alloc, reader)?;

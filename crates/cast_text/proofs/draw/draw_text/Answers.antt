@@ -1,22 +1,18 @@
-use Rattle.std.proofs.Common.{◌∙◌, ap}
 use Rattle.std.proofs.lemmas.Result.{err_from_is_err_and}
-use Rattle.cast_draw.specs.Page.{picture_text}
 use Rattle.cast_text.proofs.DrawingLemmas.{drawing_done, drawing_breaks, drawing_refused}
 use Rattle.cast_text.proofs.draw.draw_text.Goals as goal
 
 pub returns-clause-exact : goal.returns-clause-exact
 returns-clause-exact g c =
-    let text = c.in_ok-drawing.ensures ∙ ap picture_text c.in_ok-picture.ensures.ok in
     drawing_done c.args.window (g.R.Read.remaining c.args.reader.now.inner) (g.W.Write.contents c.args.writer.now.inner) (g.W.Write.contents c.write_drawing.new.writer.inner) c.write_drawing.new.writer.failed
-    c.in_ok-script.script c.in_ok-drawing.drawing c.in_ok-script.ensures.ok text c.in_ok-write_drawing.ensures
+    c.in_ok-script.script c.in_ok-picture.picture c.in_ok-drawing.drawing c.in_ok-script.ensures.ok c.in_ok-picture.ensures.ok c.in_ok-write_drawing.ensures
 
 pub returns-in_err-write_drawing-clause-exact : goal.returns-in_err-write_drawing-clause-exact
 returns-in_err-write_drawing-clause-exact g c =
     let p = err_from_is_err_and c.from_residual-in_err-write_drawing.result c.from_residual-in_err-write_drawing.ensures.1 in
-    let text = c.in_ok-drawing.ensures ∙ ap picture_text c.in_ok-picture.ensures.ok in
     rw (p.1, p.2)
     (drawing_breaks c.args.window (g.R.Read.remaining c.args.reader.now.inner) (g.W.Write.contents c.args.writer.now.inner) (g.W.Write.contents c.write_drawing.new.writer.inner) c.write_drawing.new.writer.failed
-    c.in_ok-script.script c.in_ok-drawing.drawing c.in_ok-script.ensures.ok text c.in_err-write_drawing.ensures)
+    c.in_ok-script.script c.in_ok-picture.picture c.in_ok-drawing.drawing c.in_ok-script.ensures.ok c.in_ok-picture.ensures.ok c.in_err-write_drawing.ensures)
 
 pub returns-in_err-picture-clause-exact : goal.returns-in_err-picture-clause-exact
 returns-in_err-picture-clause-exact g c =
