@@ -347,7 +347,10 @@ impl Engine {
                 self.hear(from, slot);
                 true
             }
-            Received::Nothing => taken,
+            Received::Nothing => {
+                quiet.looked(taken);
+                taken
+            }
         }
     }
 
@@ -515,9 +518,10 @@ impl Engine {
             && self.places.iter().all(|place| place.waiting.is_some());
     }
 
-    // Whether no parcel waits, and nothing is owed to an engine that has not ended.
+    // Whether no parcel waits to be put, and nothing is owed to an engine that has not ended. A parcel may wait to be
+    // logged: memory may never come, and its sender is owed the acknowledgement.
     fn is_settled(&self, board: &Board) -> bool {
-        if self.held.is_some() || self.waiting.is_some() {
+        if self.held.is_some() {
             return false;
         }
         for peer in 0..board.len() {

@@ -43,6 +43,12 @@ impl Quiet {
         self.unread = false;
     }
 
+    /// Notes whether the engine took a parcel that it could not log. If it took none, it reads its inbox no further until
+    /// that parcel is logged, and waits no longer for the last frames of an ended engine.
+    pub fn looked(&mut self, took: bool) {
+        self.unread = self.unread && took;
+    }
+
     /// Reports on the board whether the engine is quiet, if that changed.
     pub fn write(&mut self, board: &Board, quiet: bool) {
         let quiet = quiet && !self.unread;
