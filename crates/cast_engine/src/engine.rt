@@ -369,7 +369,6 @@ impl Engine {
             return false;
         };
         if parcel.frame.to == self.journal.id() {
-            self.resend.meet(self.journal.node(), &parcel.frame);
             set(&mut self.waiting, Some(parcel));
         } else {
             let_go(parcel);
@@ -394,6 +393,8 @@ impl Engine {
             self.journal.end_by_last_stamp(parcel);
             return Received::Nothing;
         }
+        // At each try: what is not logged yet is not due to anyone.
+        self.resend.meet(self.journal.node(), &parcel.frame);
         let Ok(delivered) = self.journal.arrive(parcel) else {
             return Received::Nothing;
         };
