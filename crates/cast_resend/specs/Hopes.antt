@@ -1,9 +1,10 @@
 -- To which peers a slot is due.
 --     IsNoneDueTo kept r q    no slot that is owed to the peer is due
 --     Hopes kept r            a peer that is not known to have ended, and of which no slot is hoped for, is due none
+--     AsksAll nodes r         none of a group's nodes is known to have ended
 --     NothingDue kept r       to no peer that is not known to have ended a slot is due
 --     IsDueTo kept r q slot   this slot is due to the peer
-use Rattle.std.specs.Prelude.{◌≡◌, ℕ, true, ◌⊎◌, slice_get, Some}
+use Rattle.std.specs.Prelude.{◌≡◌, ◌<◌, ℕ, true, ◌⊎◌, slice_get, Some}
 use Rattle.std.specs.FinSet as set
 use Rattle.cast_node.specs.Kept.{Kept}
 use Rattle.cast_resend.specs.declared.due.Due.{Due}
@@ -17,6 +18,10 @@ abbrev pub Hopes : Kept → Resend → Type 0
 Hopes kept r =
     (q : ℕ) → set.contains r.peers q ≡ true
     → (set.contains r.hopeful q ≡ true) ⊎ IsNoneDueTo kept r q
+
+-- of a group with this many nodes, none is known to have ended
+abbrev pub AsksAll : ℕ → Resend → Type 0
+AsksAll nodes r = (q : ℕ) → q < nodes → q < 64 → set.contains r.peers q ≡ true
 
 abbrev pub NothingDue : Kept → Resend → Type 0
 NothingDue kept r = (q : ℕ) → set.contains r.peers q ≡ true → IsNoneDueTo kept r q

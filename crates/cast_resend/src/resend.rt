@@ -2,7 +2,7 @@
 ghost use Rattle.std.specs.Prelude.{◌≡◌, ◌≢◌, ◌<◌, ℕ, true, Some, None, IfOk, IfSome, IfNone, slice_get, slice_set};
 ghost use Rattle.std.specs.FinSet as set;
 ghost use Rattle.cast_node.specs.Kept.{Kept, link_to};
-ghost use Rattle.cast_resend.specs.Hopes.{NothingDue, IsDueTo, KeepsPeers, IsNoneDueTo};
+ghost use Rattle.cast_resend.specs.Hopes.{AsksAll, NothingDue, IsDueTo, KeepsPeers, IsNoneDueTo};
 ghost use Rattle.cast_resend.specs.Keeps.{Keeps, KeepsSent, HasPlace, IsRecalled, MakesDue, LooksAt, GivesPast, ForgetsNothing};
 
 use crate::due::{Due, is_owed};
@@ -54,8 +54,7 @@ impl Resend {
     /// Nothing was sent yet. All memory that it needs is allocated here.
     pub fn new(alloc: Global, config: &Config) -> Result<Resend, AllocError>
         ensures keeps { IfOk result (λ r. (kept : Kept) → Keeps kept r) }
-        ensures peers { IfOk result (λ r.
-            (q : ℕ) → q < config.now.nodes → q < 64 → set.contains r.peers q ≡ true) }
+        ensures asks { IfOk result (AsksAll config.now.nodes) }
     {
         let sent = vec![in alloc; None; TURNS_UNTIL_AGAIN]?;
         let mut due = Vec::new(alloc);
