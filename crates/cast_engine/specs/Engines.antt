@@ -85,13 +85,13 @@ pub record DoesFew (takes orders puts tells : ℕ) (old new : EngineState) : Typ
   pub told : TellEach tells (trays_at old.desk) (trays_at new.desk)
 
 -- no slot is due, or the engine can't send: a parcel waits to be put, it has ended, or memory ran out
-abbrev pub HasNothingToSend : EngineState → Type 0
-HasNothingToSend e =
+abbrev pub CanSendNothing : EngineState → Type 0
+CanSendNothing e =
     IsSome e.held ⊎ (IsSome e.ended ⊎ ((e.lacks_memory ≡ true) ⊎ NothingDue e.node e.resend))
 
--- in an idle turn none of that was done, and there was nothing to send
+-- in an idle turn none of that was done, and nothing can be sent after it
 abbrev pub IsIdleRightly : Turn → EngineState → EngineState → Type 0
-IsIdleRightly Idle old new = HasSameBoxes old new × HasNothingToSend new
+IsIdleRightly Idle old new = HasSameBoxes old new × CanSendNothing new
 IsIdleRightly _ old new = ⊤
 
 -- if a turn says that the engine has ended, it has

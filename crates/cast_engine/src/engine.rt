@@ -1,7 +1,7 @@
 //! An engine: the owner of a node, its log and its clock, with the ends of its boxes.
 ghost use Rattle.std.specs.Prelude.{◌≡◌, ◌<◌, [], length, IfOk, IfNone, IsTrue, IsFalse, IsSome, Some, None};
 ghost use Rattle.cast_box.specs.Ends.{IsSamePutter, IsNextToEnd};
-ghost use Rattle.cast_engine.specs.Engines.{EngineState, IsSameEngine, HasSameBoxes, DoesFew, IsIdleRightly, HasNothingToSend, IsSameDesk, TakesOrder, HadNoOrder, HasEnded, Leaves, Tells, WereTold, IsUnused, trays_at, with_ended};
+ghost use Rattle.cast_engine.specs.Engines.{EngineState, IsSameEngine, HasSameBoxes, DoesFew, IsIdleRightly, CanSendNothing, IsSameDesk, TakesOrder, HadNoOrder, HasEnded, Leaves, Tells, WereTold, IsUnused, trays_at, with_ended};
 ghost use Rattle.cast_journal.specs.Runs.{Handed};
 ghost use Rattle.cast_node.specs.Kept.{Kept};
 ghost use Rattle.cast_resend.specs.Hopes.{IsDueTo, AsksAll};
@@ -181,8 +181,8 @@ impl Engine {
     /// Takes one turn: passes the gate, puts the parcel that waits, takes one and acknowledges it, takes an order,
     /// sends a slot that is due, and puts notices. It does each at most once, but puts one notice for each client, and
     /// up to three parcels (`few`). The result is `Ended` if the log or the clock is full, the node has crashed, or no
-    /// turn is left. It is `Stopped` if all engines are quiet, and `Idle` only if nothing of the above was done and there
-    /// was nothing to send (`idle`).
+    /// turn is left. It is `Stopped` if all engines are quiet, and `Idle` only if nothing of the above was done and the
+    /// engine can send nothing (`idle`).
     #[tactic(auto, using(crate::proofs::Again::desk_same))]
     pub fn turn<G: Gate, R: Wait>(
         &mut self,
@@ -305,7 +305,7 @@ impl Engine {
         ensures same { IsSameEngine self.old self.new }
         ensures few { DoesFew 1 1 3 1 self.old self.new }
         ensures idle { IsFalse result → HasSameBoxes self.old self.new }
-        ensures sent { IsFalse result → HasNothingToSend self.new }
+        ensures sent { IsFalse result → CanSendNothing self.new }
     {
         let exchanged = self.exchange(rt, board, quiet);
         let jobs_ended = quiet.jobs_ended(board);
@@ -487,7 +487,7 @@ impl Engine {
         ensures same { IsSameEngine self.old self.new }
         ensures few { DoesFew 0 0 1 0 self.old self.new }
         ensures idle { IsFalse result → HasSameBoxes self.old self.new }
-        ensures sent { IsFalse result → HasNothingToSend self.new }
+        ensures sent { IsFalse result → CanSendNothing self.new }
     {
         self.lacks_memory = false;
         self.haste.pass();
@@ -509,7 +509,7 @@ impl Engine {
         ensures same { IsSameEngine self.old self.new }
         ensures few { DoesFew 0 0 1 0 self.old self.new }
         ensures idle { IsFalse result → HasSameBoxes self.old self.new }
-        ensures sent { IsFalse result → HasNothingToSend self.new }
+        ensures sent { IsFalse result → CanSendNothing self.new }
     {
         if !self.make(rt, FrameKind::Carry, to, slot) {
             self.lacks_memory = !self.journal.has_ended();
@@ -575,7 +575,7 @@ impl Engine {
     }
 }
 
-// Notes that a frame arrived, and whether it had a message that the node did not hold.
+// Notes that a frame arrived. If it had a message that the node did not hold, any peer may have been given slots.
 fn note_news(resend: &mut Resend, has_news: bool)
     ensures { (before after : Kept) → Keeps before resend.old → GivesPast before after
         → (IsFalse has_news → OwesLess before after) → Keeps after resend.new }
