@@ -21,7 +21,7 @@ use Rattle.cast_resend.specs.Dues.{owes}
 use Rattle.cast_resend.specs.Hopes.{IsDueTo}
 use Rattle.cast_resend.specs.Keeps.{Keeps, HasPlace, GivesPast, OwesLess}
 use Rattle.cast_resend.proofs.Keeping.{keeps_less, less_past, less_self}
-use Rattle.cast_resend.proofs.Nodes.{less_sent, less_acknowledged, less_stopped, gives_ordered, gives_arrived}
+use Rattle.cast_resend.proofs.Nodes.{less_sent, less_acknowledged, less_stopped, gives_ordered, gives_arrived, first_of_two, second}
 use Rattle.cast_engine.specs.declared.feeding.Place.{Place}
 use Rattle.cast_engine.specs.Engines.{EngineState, EngineStays}
 
@@ -51,13 +51,6 @@ module _ (old new : JournalState) (kind : FrameKind) (to slot above : ℕ) (l : 
   pub keeps_made : (r : Resend) → Keeps old.node r → Keeps new.node r
   keeps_made r k = keeps_step old new r (making kind to slot) None above l (less_made old.node kind to slot) k
 
-  pub frame_only : new.node ≡ record old.node { frames = new.node.frames }
-  frame_only = subst (λ (n : Kept). n ≡ record old.node { frames = n.frames }) (sym l.gives.2) (only kind)
-    where
-      only : (kind : FrameKind) → kept_after old.node (making kind to slot) ≡ record old.node { frames = (kept_after old.node (making kind to slot)).frames }
-      only kinds.Carry = refl
-      only kinds.Took = refl
-
 -- an order was taken, so that any peer may have been given slots
 pub keeps_ordered : (old new : JournalState) (order : OrderIn) (r r' : Resend) → LogsOrder old new order → ((before after : Kept) → Keeps before r → GivesPast before after → Keeps after r') → Keeps old.node r → Keeps new.node r'
 keeps_ordered old new order r r' logs given k = given old.node new.node k (elim logs [
@@ -73,14 +66,6 @@ keeps_arrived old new x news r r' l less noted k =
 
 -- ---- a slot that is due
 
-first_of : (a b : Bool) → (a && b) ≡ true → a ≡ true
-first_of true b e = refl
-first_of false b e = absurd cc
-
-second_of : (a b : Bool) → (a && b) ≡ true → b ≡ true
-second_of true b e = e
-second_of false b e = absurd cc
-
 some_first : (a b : Bool) (m : Message) → is_some (if a && b then Some m else None) ≡ true → a ≡ true
 some_first true b m e = refl
 some_first false b m e = absurd cc
@@ -93,10 +78,10 @@ module _ (j : JournalState) (put : List Parcel) (held : Option Parcel) (taken : 
   owed_given : (to slot : ℕ) → owes j.node to slot ≡ true → slot < (link_to j.node to).given
   owed_given to slot e =
       let s = k.keeps.stands in
-      let peer = first_of _ _ e in
-      let within : to < j.config.nodes = subst (λ (n : ℕ). to < n) (ap (λ (c : Config). c.nodes) s.same_config) (ltb-true to j.node.config.nodes (first_of _ _ peer)) in
-      let out = s.out to within (differs to j.node.me (second_of _ _ peer)) in
-      let found : is_some (finite.get (link_to j.node to).owed slot) ≡ true = second_of _ _ e in
+      let peer = first_of_two _ _ e in
+      let within : to < j.config.nodes = subst (λ (n : ℕ). to < n) (ap (λ (c : Config). c.nodes) s.same_config) (ltb-true to j.node.config.nodes (first_of_two _ _ peer)) in
+      let out = s.out to within (differs to j.node.me (second _ _ peer)) in
+      let found : is_some (finite.get (link_to j.node to).owed slot) ≡ true = second _ _ e in
       subst (λ n. slot < n) (sym out.given) (ltb-true slot _ (some_first _ _ _ (sym (ap is_some (out.owed slot)) ∙ found)))
 
   due_owed : (r : Resend) (to slot : ℕ) → IsDueTo j.node r to slot → owes j.node to slot ≡ true
@@ -122,6 +107,3 @@ due_frames kept frames r to slot due = (
 pub due_still : (old new : EngineState) (to slot : ℕ) → new.resend ≡ old.resend → new.node ≡ record old.node { frames = new.node.frames } → IsDueTo old.node old.resend to slot → IsDueTo new.node new.resend to slot
 due_still old new to slot same only due =
     subst (λ (n : Kept). IsDueTo n new.resend to slot) (sym only) (due_frames old.node new.node.frames new.resend to slot (subst (λ (r : Resend). IsDueTo old.node r to slot) (sym same) due))
-
-pub place_still : (old new : EngineState) → new.resend ≡ old.resend → HasPlace old.resend → HasPlace new.resend
-place_still old new same place = subst HasPlace (sym same) place

@@ -1,9 +1,9 @@
 -- A slot that is due again is added in its place.
-use Rattle.std.proofs.Common.{◌≡◌, ◌<◌, ◌≤◌, ℕ, zero, suc, arith, List, [], ◌∷◌, ◌++◌, take, drop, refl, sym, subst, inl, inr, ⊎_elim, ◌⊎◌}
+use Rattle.std.proofs.Common.{◌≡◌, ◌<◌, ℕ, zero, suc, arith, List, ◌∷◌, ◌++◌, take, drop, refl, sym, subst, inl, inr, ⊎_elim, ◌⊎◌}
 use Rattle.std.specs.List.{insert}
 use Rattle.std.proofs.lemmas.List.{take-append-drop}
 use Rattle.cast_carrier.specs.Lists.{Has}
-use Rattle.cast_carrier.proofs.Lists.{has_left, has_right, has_either, has_none}
+use Rattle.cast_carrier.proofs.Lists.{has_left, has_right, has_either}
 use Rattle.cast_resend.specs.declared.due.Due.{Due}
 use Rattle.cast_resend.specs.Dues.{AddsAgain}
 
@@ -35,19 +35,3 @@ adds_at slot place old new low same e =
       stay = λ other below h. subst (λ (m : List ℕ). Has m other) (sym e) (there other h);
       below = λ known other h. subst (λ f. other < f) (sym same) (⊎_elim (λ (t : other ≡ slot). subst (λ n. n < old.first) (sym t) low) (λ (t : Has l other). known other t) (only other (subst (λ (m : List ℕ). Has m other) e h)));
     }
-
--- it counts as never sent
-pub adds_none : (slot : ℕ) (old : Due) → old.first ≤ slot → AddsAgain slot old old
-adds_none slot old up = record {
-  first = omega arith;
-  stay = λ other below h. ⊎_elim (λ (t : other ≡ slot). absurd (omega (arith, t))) (λ (t : Has old.again.items other). t) h;
-  below = λ known. known;
-}
-
--- all slots do
-pub adds_over : (slot : ℕ) (old new : Due) → new.first ≡ 0 → new.again.items ≡ [] → AddsAgain slot old new
-adds_over slot old new from none = record {
-  first = omega arith;
-  stay = λ other below h. absurd (omega arith);
-  below = λ known other h. absurd (has_none other (subst (λ (m : List ℕ). Has m other) none h));
-}

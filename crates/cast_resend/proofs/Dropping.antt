@@ -1,25 +1,13 @@
 -- Slots that are passed over as they are not owed any more.
 use Rattle.std.proofs.Common.{◌≡◌, ℕ, zero, suc, ◌+◌, ◌-◌, ◌≤◌, ◌<◌, false, List, [], ◌∷◌, ◌++◌, length, slice_get, Option, Some, None, refl, sym, ap, ◌∙◌, subst, append_assoc, arith}
 use Rattle.std.specs.Prelude.{option_to_list, MatchOption}
-use Rattle.std.proofs.lemmas.List.{append-nil, nil_from_length, length_push}
+use Rattle.std.proofs.lemmas.List.{append-nil, length_push}
 use Rattle.cast_box.proofs.Closing.{get_middle}
 use Rattle.cast_carrier.specs.Lists.{Has}
-use Rattle.cast_carrier.proofs.Lists.{has_none}
 use Rattle.cast_node.specs.Kept.{Kept}
 use Rattle.cast_resend.specs.Dues.{owes, AreNotOwed, EndsNotOwed, Drops}
 
 module _ (kept : Kept) (to : ℕ) where
-  -- none is dropped
-  pub drops_none : (xs : List ℕ) → Drops kept to xs xs
-  drops_none xs = ([], sym (append-nil xs), λ slot h. absurd (has_none slot h))
-
-  -- where none is left, none of them is owed
-  pub dropped_all : (old new : List ℕ) → Drops kept to old new → length new ≤ 0 → AreNotOwed kept to old
-  dropped_all old new d e =
-      let none : new ≡ [] = nil_from_length new (omega arith) in
-      let is : old ≡ d.0 = d.1 ∙ ap (λ (xs : List ℕ). xs ++ d.0) none in
-      subst (AreNotOwed kept to) (sym is) d.2
-
   has_first : (slot other : ℕ) (xs : List ℕ) → AreNotOwed kept to xs → owes kept to slot ≡ false → Has (slot ∷ xs) other → owes kept to other ≡ false
   has_first slot other xs all e (zero, h) = let is : slot ≡ other = cc in ap (owes kept to) (sym is) ∙ e
   has_first slot other xs all e (suc i, h) = all other (i, h)

@@ -1,6 +1,6 @@
 -- What a node owes after a step: nothing more if it makes a frame, crashes, is told that a slot was taken, or takes a
 -- message that it holds. After any step, what it owes in addition is after what it had given.
-use Rattle.std.proofs.Common.{◌≡◌, ℕ, zero, suc, ◌+◌, ◌<◌, ◌≤◌, Bool, true, false, ◌&&◌, ◌||◌, if◌then◌else◌, List, [], ◌∷◌, ◌++◌, length, Option, Some, None, refl, sym, ap, ◌∙◌, subst, arith}
+use Rattle.std.proofs.Common.{◌≡◌, ℕ, zero, suc, ◌+◌, ◌<◌, ◌≤◌, Bool, true, false, ◌&&◌, if◌then◌else◌, List, [], ◌∷◌, ◌++◌, length, Option, Some, None, refl, sym, ap, ◌∙◌, subst, arith}
 use Rattle.std.specs.Prelude.{slice_set, slice_index_or, cond, is_some}
 use Rattle.std.specs.Ordering.{nat_cmp, eq_by_cmp}
 use Rattle.std.specs.Cmp.{nat_cmp_total}
@@ -32,11 +32,11 @@ pub less_stopped : (kept : Kept) → OwesLess kept (kept_after kept Stopped)
 less_stopped kept q = (omega arith, λ other owed. owed)
 
 -- the second of two that hold
-second : (a b : Bool) → (a && b) ≡ true → b ≡ true
+pub second : (a b : Bool) → (a && b) ≡ true → b ≡ true
 second true b e = e
 second false b e = absurd cc
 
-first_of_two : (a b : Bool) → (a && b) ≡ true → a ≡ true
+pub first_of_two : (a b : Bool) → (a && b) ≡ true → a ≡ true
 first_of_two true b e = refl
 first_of_two false b e = absurd cc
 
@@ -102,10 +102,6 @@ less_held kept frame slot message is held =
     less_arrived kept frame (subst (λ b. OwesLess kept (arrived_body kept frame.from b).kept) (sym is) (less_taken kept frame.from slot message (holds kept message.sender message.number) held))
 
 -- ---- a message is given on
-
-or_first : (a b : Bool) → a ≡ false → (a || b) ≡ true → b ≡ true
-or_first false b e h = h
-or_first true b e h = absurd cc
 
 less_given : (link : Link Message) (message : Message) (b : Bool) → (link.given ≤ (if b then with_given link message else link).given)
     × ((slot : ℕ) → slot < link.given → finite.contains_key (if b then with_given link message else link).owed slot ≡ true → finite.contains_key link.owed slot ≡ true)

@@ -20,6 +20,7 @@ use Rattle.cast_resend.specs.Hopes.{IsNoneDueTo, IsDueTo}
 use Rattle.cast_resend.specs.Keeps.{Keeps, WasSent, MakesDue, HasPlace, IsRecalled, sent_to}
 use Rattle.cast_resend.proofs.Keeping.{Moves, keeps_more, less_past, less_self}
 use Rattle.cast_resend.proofs.Moving.{unmoved}
+use Rattle.cast_resend.proofs.Hoping.{get_same}
 
 set_other : {A : Type 0} (xs : List A) (i j : ℕ) (a : A) → j ≢ i → slice_get (slice_set xs i a) j ≡ slice_get xs j
 set_other [] i j a n = refl
@@ -27,11 +28,6 @@ set_other (x ∷ xs) zero zero a n = absurd (n refl)
 set_other (x ∷ xs) zero (suc j) a n = refl
 set_other (x ∷ xs) (suc i) zero a n = refl
 set_other (x ∷ xs) (suc i) (suc j) a n = set_other xs i j a (λ e. n (ap suc e))
-
-set_here : {A : Type 0} (xs : List A) (i : ℕ) (a : A) → i < length xs → slice_get (slice_set xs i a) i ≡ Some a
-set_here [] i a l = absurd (omega arith)
-set_here (x ∷ xs) zero a l = refl
-set_here (x ∷ xs) (suc i) a l = set_here xs i a (omega arith)
 
 -- what stood elsewhere still stands, or it stood there
 still_stands : {A : Type 0} (xs : List A) (i : ℕ) (a x : A) → Has xs x → Has (slice_set xs i a) x ⊎ (slice_get xs i ≡ Some x)
@@ -57,7 +53,7 @@ keeps_cleared kept r s is recalled k = record {
 }
 
 pub has_place : (kept : Kept) (r : Resend) (s : Vec (Option Sent)) → s.items ≡ slice_set r.sent.items r.turn None → Keeps kept r → slice_get s.items r.turn ≡ Some None
-has_place kept r s is k = ap (λ l. slice_get l r.turn) is ∙ set_here r.sent.items r.turn None k.place
+has_place kept r s is k = ap (λ l. slice_get l r.turn) is ∙ get_same r.sent.items r.turn None k.place
 
 -- the next turn has a place of its own
 pub keeps_turned : (kept : Kept) (r : Resend) (t : ℕ) → t < length r.sent.items → Keeps kept r → Keeps kept (record r { turn = t })
@@ -126,7 +122,7 @@ fewer old new last other is h = subst (λ (l : List ℕ). Has l other) (sym is) 
 -- a slot that is due is sent
 module _ (kept : Kept) (r : Resend) (to slot : ℕ) (s : Vec (Option Sent)) (is : s.items ≡ slice_set r.sent.items r.turn (Some (sent_to to slot))) (free : slice_get r.sent.items r.turn ≡ Some None) (k : Keeps kept r) where
   now_sent : Has s.items (Some (sent_to to slot))
-  now_sent = subst (λ l. Has l (Some (sent_to to slot))) (sym is) (r.turn, set_here r.sent.items r.turn (Some (sent_to to slot)) (slice_get_within r.sent.items r.turn None free))
+  now_sent = subst (λ l. Has l (Some (sent_to to slot))) (sym is) (r.turn, get_same r.sent.items r.turn (Some (sent_to to slot)) (slice_get_within r.sent.items r.turn None free))
 
   still_sent : (q other : ℕ) → WasSent r q other → Has s.items (Some (sent_to q other))
   still_sent q other h =
