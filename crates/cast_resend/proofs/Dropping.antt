@@ -1,4 +1,4 @@
--- Slots that are passed over as they are not owed any more.
+-- Slots that are dropped because they are no longer owed.
 use Rattle.std.proofs.Common.{◌≡◌, ℕ, zero, suc, ◌+◌, ◌-◌, ◌≤◌, ◌<◌, false, List, [], ◌∷◌, ◌++◌, length, slice_get, Option, Some, None, refl, sym, ap, ◌∙◌, subst, append_assoc, arith}
 use Rattle.std.specs.Prelude.{option_to_list, MatchOption}
 use Rattle.std.proofs.lemmas.List.{append-nil, length_push}
@@ -12,7 +12,7 @@ module _ (kept : Kept) (to : ℕ) where
   has_first slot other xs all e (zero, h) = let is : slot ≡ other = cc in ap (owes kept to) (sym is) ∙ e
   has_first slot other xs all e (suc i, h) = all other (i, h)
 
-  -- the last one, where there is one, is dropped too
+  -- the last one, if there is one, is dropped too
   pub drops_last : (old xs ys : List ℕ) (last : Option ℕ) → Drops kept to old xs → EndsNotOwed kept to xs → xs ≡ ys ++ option_to_list last → Drops kept to old ys
   drops_last old xs ys None d e is = subst (Drops kept to old) (is ∙ append-nil ys) d
   drops_last old xs ys (Some slot) d e is =
@@ -24,7 +24,7 @@ module _ (kept : Kept) (to : ℕ) where
   fewer_left xs ys None i n is none h l = let k : length xs ≡ length ys = ap length (is ∙ append-nil ys) in let e : length xs ≡ 0 = none refl in omega arith
   fewer_left xs ys (Some slot) i n is none h l = let k : length xs ≡ length ys + 1 = ap length is ∙ length_push ys slot in omega arith
 
--- where nothing was taken nothing was there
+-- if nothing was taken, nothing was there
 pub none_taken : (last : Option ℕ) (old new n : ℕ) → MatchOption last ((old ≡ 0) × (new ≡ 0)) (λ _. new + 1 ≡ old) → n ≡ old → last ≡ None → n ≡ 0
 none_taken None old new n m is e = is ∙ m.0
 none_taken (Some slot) old new n m is e = absurd cc

@@ -1,5 +1,5 @@
--- A peer is asked no more only where no slot is due to it.
-use Rattle.std.proofs.Common.{◌≡◌, ◌≢◌, ℕ, zero, suc, ◌<◌, true, false, List, [], ◌∷◌, length, slice_get, slice_set, Option, Some, None, refl, sym, ap, ◌∙◌, subst, ⊎_elim, arith}
+-- A peer is no longer asked only if no slot is due to it.
+use Rattle.std.proofs.Common.{◌≡◌, ◌≢◌, ℕ, zero, suc, ◌<◌, true, false, List, [], ◌∷◌, length, slice_get, slice_set, Option, Some, None, refl, sym, ◌∙◌, subst, ⊎_elim, arith}
 use Rattle.std.specs.Prelude.{IfSome, IfNone}
 use Rattle.std.specs.FinSet as set
 use Rattle.std.specs.Vec.{with_item}
@@ -12,7 +12,7 @@ use Rattle.cast_resend.specs.declared.resend.Resend.{Resend}
 use Rattle.cast_resend.specs.Dues.{Drops, NoneFirstDue, NoneDue, IsDue}
 use Rattle.cast_resend.specs.Hopes.{IsNoneDueTo, Hopes, NothingDue, IsDueTo}
 
--- what is passed over makes nothing due
+-- if nothing was due, nothing is due after some slots were dropped
 pub none_dropped : (kept : Kept) (to window : ℕ) (old new : Due) → (new.first ≡ old.first) × (new.heard ≡ old.heard) → Drops kept to old.again.items new.again.items → NoneDue kept to window old → NoneDue kept to window new
 none_dropped kept to window old new same drops n =
     let first : NoneFirstDue kept to window new.first old.heard = subst (λ f. NoneFirstDue kept to window f old.heard) (sym same.0) n.first in
@@ -30,15 +30,6 @@ module _ (kept : Kept) (r : Resend) (at : ℕ) (old new : Due) (was : slice_get 
   abbrev pub looked : Resend
   looked = record r { due = with_item r.due at new }
 
-  none_looked : (q : ℕ) → IsNoneDueTo kept r q → IsNoneDueTo kept looked q
-  none_looked q n d is =
-      ⊎_elim (λ (e : (q ≡ at) × (new ≡ d)).
-      let n' : NoneDue kept at r.window old = subst (λ p. NoneDue kept p r.window old) e.0 (n old (ap (slice_get r.due.items) e.0 ∙ was)) in
-      let m : NoneDue kept at r.window new = none_dropped kept at r.window old new same drops n' in
-      subst (λ p. NoneDue kept p r.window d) (sym e.0) (subst (NoneDue kept at r.window) e.1 m))
-      (λ (e : (q ≢ at) × (slice_get r.due.items q ≡ Some d)). n d e.1)
-      (get_set r.due.items at q new d is)
-
   pub none_found : NoneDue kept at r.window old → IsNoneDueTo kept looked at
   none_found n d is =
       ⊎_elim (λ (e : (at ≡ at) × (new ≡ d)). subst (NoneDue kept at r.window) e.1 (none_dropped kept at r.window old new same drops n))
@@ -51,7 +42,7 @@ module _ (kept : Kept) (r : Resend) (at : ℕ) (old new : Due) (was : slice_get 
 pub nothing_hoped : (kept : Kept) (r : Resend) → Hopes kept r → ((q : ℕ) → set.contains r.hopeful q ≡ false) → NothingDue kept r
 nothing_hoped kept r h none_in q member = ⊎_elim (λ (k : set.contains r.hopeful q ≡ true). let e = sym k ∙ none_in q in absurd cc) (λ (k : IsNoneDueTo kept r q). k) (h q member)
 
--- what a look at a peer leaves
+-- what is due to a peer that was asked
 module _ (kept : Kept) (r : Resend) (at to : ℕ) (old new : Due) (is : at ≡ to) (within : at < length r.due.items) (was : slice_get r.due.items at ≡ Some old)
     (same : (new.first ≡ old.first) × (new.heard ≡ old.heard)) (drops : Drops kept to old.again.items new.again.items) where
   drops_at : Drops kept at old.again.items new.again.items

@@ -61,7 +61,7 @@ less_past before after less q = ((less q).0, λ slot below owed. (less q).1 slot
 pub less_self : (kept : Kept) → OwesLess kept kept
 less_self kept q = (omega arith, λ slot owed. owed)
 
--- where nothing more is owed nothing more is due
+-- if nothing more is owed, nothing more is due
 no_more : (b c : Bool) → (c ≡ true → b ≡ true) → b ≡ false → c ≡ false
 no_more b true f e = absurd (let t = f refl in cc)
 no_more b false f e = refl

@@ -39,7 +39,7 @@ keeps_given before after r s e k gives = keeps_more before after r (record r { h
   hope = inl (λ member. ap (λ t. set.contains t q) e ∙ member);
 }) k
 
--- a peer is passed over to which nothing is due
+-- nothing is due to a peer that is passed over
 pub keeps_passed : (kept : Kept) (r : Resend) (to : ℕ) → Keeps kept r → IsNoneDueTo kept r to → Keeps kept (record r { hopeful = set.remove r.hopeful to })
 keeps_passed kept r to k n = keeps_more kept kept r (record r { hopeful = set.remove r.hopeful to }) (refl, refl) (λ q member. member) (less_past kept kept (less_self kept)) (λ q d at. record {
   was = d;
@@ -53,7 +53,7 @@ keeps_passed kept r to k n = keeps_more kept kept r (record r { hopeful = set.re
   ];
 }) k
 
--- a peer that has ended is asked no more
+-- a peer that has ended is no longer asked
 pub keeps_given_up : (kept : Kept) (r : Resend) (to : ℕ) → Keeps kept r → Keeps kept (record r { peers = set.remove r.peers to; hopeful = set.remove r.hopeful to })
 keeps_given_up kept r to k = keeps_more kept kept r (record r { peers = set.remove r.peers to; hopeful = set.remove r.hopeful to }) (refl, refl) still_there (less_past kept kept (less_self kept)) (λ q d at. record {
   was = d;
@@ -73,7 +73,7 @@ keeps_given_up kept r to k = keeps_more kept kept r (record r { peers = set.remo
       | inr e ↦ was_in r.peers to q e.0 member
     ]
 
--- what is no longer owed was passed over
+-- what is no longer owed was dropped
 module _ (kept : Kept) (r : Resend) (at to : ℕ) (old new : Due) (is : at ≡ to) (was : slice_get r.due.items at ≡ Some old)
     (same : (new.first ≡ old.first) × (new.heard ≡ old.heard)) (drops : Drops kept to old.again.items new.again.items) where
   abbrev seen : Resend
@@ -107,7 +107,7 @@ module _ (kept : Kept) (r : Resend) (at to : ℕ) (old new : Due) (is : at ≡ t
           (λ (t : (q ≢ at) × (slice_get r.due.items q ≡ Some d)). unmoved kept r seen q d refl t.1 (λ h. h))
           (get_set r.due.items at q new d e)
 
--- word has come from a peer
+-- a peer has acknowledged a slot
 module _ (kept : Kept) (r : Resend) (h : set.FinSet _) (to : ℕ) (looks : LooksAt to r (record r { hopeful = h })) (k : Keeps kept r) where
   heard_none : Keeps kept (record r { hopeful = h })
   heard_none = keeps_more kept kept r (record r { hopeful = h }) (refl, refl) (λ q member. member) (less_past kept kept (less_self kept)) (λ q d at. unmoved kept r (record r { hopeful = h }) q d refl at (looks.still q)) k

@@ -76,7 +76,7 @@ less_took kept from slot = go (finite.get (link_to kept from).owed slot)
           two (is_peer kept q) _ peer (link_less kept.outgoing from slot q other _ _ refl (second (is_peer kept q) _ owed)),
     )
 
--- what a node keeps that takes a message which it holds, or which it doesn't
+-- what a node keeps after it has taken a message, which it held before or not
 abbrev taken_by : Kept → ℕ → ℕ → Message → Bool → Told
 taken_by kept from slot message b =
     if b then told_more (with_taken kept from slot) message.sender message.number from

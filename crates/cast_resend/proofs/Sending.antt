@@ -29,7 +29,7 @@ set_other (x ∷ xs) zero (suc j) a n = refl
 set_other (x ∷ xs) (suc i) zero a n = refl
 set_other (x ∷ xs) (suc i) (suc j) a n = set_other xs i j a (λ e. n (ap suc e))
 
--- what stood elsewhere still stands, or it stood there
+-- what was in the list still is, or it was at this place
 still_stands : {A : Type 0} (xs : List A) (i : ℕ) (a x : A) → Has xs x → Has (slice_set xs i a) x ⊎ (slice_get xs i ≡ Some x)
 still_stands xs i a x h = ⊎_elim (λ (t : _ × (h.0 ≡ i)). inr (ap (slice_get xs) (sym t.1) ∙ h.1)) (λ (t : _ × (h.0 ≢ i)). inl (h.0, set_other xs i h.0 a t.1 ∙ h.1)) (eqb_tells h.0 i)
 
@@ -91,7 +91,7 @@ module _ (kept : Kept) (to slot : ℕ) (r s : Resend) (m : MakesDue to slot r s)
         | inr t ↦ t.1.2.stay other below (inl (sym number))
       ]
 
--- what was sent there is not owed
+-- what was sent there is no longer owed
 pub recalled_not_owed : (kept : Kept) (r : Resend) (to slot : ℕ) → slice_get r.sent.items r.turn ≡ Some (Some (sent_to to slot)) → owes kept to slot ≡ false → IsRecalled kept r
 recalled_not_owed kept r to slot there free q other d at e below owed =
     let same : sent_to to slot ≡ sent_to q other = cc in
@@ -145,7 +145,7 @@ module _ (kept : Kept) (r : Resend) (to slot : ℕ) (s : Vec (Option Sent)) (is 
     fewer_again : (other : ℕ) → Has new.again.items other → Has old.again.items other
     fewer_again other h = elim takes [ inl t ↦ fewer old.again.items new.again.items t.2.0 other t.2.1 h | inr t ↦ subst (λ (l : List ℕ). Has l other) t.3 h ]
 
-    -- a slot that is due is not one to which nothing is due
+    -- as the slot is due, it is not so that nothing is due
     not_none : NoneDue kept at r.window old → ⊥
     not_none n = elim due [
       | inl t ↦ let clash : true ≡ false = sym t.1 ∙ n.again slot (_, t.0) in cc
@@ -161,7 +161,7 @@ module _ (kept : Kept) (r : Resend) (to slot : ℕ) (s : Vec (Option Sent)) (is 
         (eqb_tells q at))
         (k.hopes q member)
 
-    -- what was sent and is owed, of this peer
+    -- what was sent to this peer, and is owed
     remembered : (other : ℕ) → other < new.first → owes kept at other ≡ true → Has new.again.items other ⊎ Has s.items (Some (sent_to at other))
     remembered other below owed = elim takes [
       | inl t ↦

@@ -1,6 +1,6 @@
 -- Which slots are due to a peer.
 --     owes kept to slot              the node owes the peer this slot
---     IsFirstDue .. first heard slot it was never sent, and the window has room for it
+--     IsFirstDue .. first heard slot it is the least that was never sent, and the window has room for it
 --     NoneFirstDue .. first heard    there is none
 --     IsDue kept to window due slot  it is owed, and due again, or due for the first time
 --     NoneDue kept to window due     no slot that is owed is due
@@ -21,7 +21,7 @@ AreNotOwed kept to slots = (slot : ℕ) → Has slots slot → owes kept to slot
 abbrev pub EndsNotOwed : Kept → ℕ → List ℕ → Type 0
 EndsNotOwed kept to slots = (slot : ℕ) → slice_get slots (length slots - 1) ≡ Some slot → owes kept to slot ≡ false
 
--- some at the end were dropped, which are not owed
+-- some at the end, which are not owed, were dropped
 abbrev pub Drops : Kept → ℕ → List ℕ → List ℕ → Type 0
 Drops kept to old new = (gone : List ℕ) × (old ≡ new ++ gone) × AreNotOwed kept to gone
 

@@ -1,8 +1,8 @@
 -- To which peers a slot is due.
 --     IsNoneDueTo kept r q    no slot that is owed to the peer is due
---     Hopes kept r            a peer that is not known to have ended, and of which no slot is hoped for, is due none
+--     Hopes kept r            a peer that isn't known to have ended is hoped for, or no slot is due to it
 --     AsksAll nodes r         none of a group's nodes is known to have ended
---     NothingDue kept r       to no peer that is not known to have ended a slot is due
+--     NothingDue kept r       no slot is due to a peer that isn't known to have ended
 --     IsDueTo kept r q slot   this slot is due to the peer
 use Rattle.std.specs.Prelude.{◌≡◌, ◌<◌, ℕ, true, ◌⊎◌, slice_get, Some}
 use Rattle.std.specs.FinSet as set
@@ -19,7 +19,7 @@ Hopes kept r =
     (q : ℕ) → set.contains r.peers q ≡ true
     → (set.contains r.hopeful q ≡ true) ⊎ IsNoneDueTo kept r q
 
--- of a group with this many nodes, none is known to have ended
+-- the group has this many nodes, and none is known to have ended
 abbrev pub AsksAll : ℕ → Resend → Type 0
 AsksAll nodes r = (q : ℕ) → q < nodes → q < 64 → set.contains r.peers q ≡ true
 
@@ -29,6 +29,6 @@ NothingDue kept r = (q : ℕ) → set.contains r.peers q ≡ true → IsNoneDueT
 abbrev pub IsDueTo : Kept → Resend → ℕ → ℕ → Type 0
 IsDueTo kept r q slot = (d : Due) × (slice_get r.due.items q ≡ Some d) × IsDue kept q r.window d slot
 
--- the same peers are not known to have ended, and hoped for
+-- the same peers are not known to have ended, and the same are hoped for
 abbrev pub KeepsPeers : Resend → Resend → Type 0
 KeepsPeers old new = (new.peers ≡ old.peers) × (new.hopeful ≡ old.hopeful)

@@ -28,7 +28,7 @@ impl Model for PeerSet {
 }
 
 impl PeerSet {
-    /// All nodes of a group, which has as many as given, 64 at most.
+    /// All nodes of a group with as many nodes as given, 64 at most.
     pub fn all(nodes: u64) -> PeerSet
         ensures { (q : ℕ) → q < nodes → q < 64 → set.contains result q ≡ true }
     {

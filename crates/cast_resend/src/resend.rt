@@ -185,7 +185,8 @@ impl Resend {
         }
     }
 
-    /// Notes that the slot, which was due, is sent in this turn, the first to be. Returns whether it was sent before.
+    /// Notes that the slot, which was due, is sent in this turn, and none was before. Returns whether this slot was sent
+    /// in an earlier turn.
     pub fn note(&mut self, to: NodeId, slot: u64) -> bool
         ensures { (kept : Kept) → Keeps kept self.old → IsDueTo kept self.old to slot
             → slot < (link_to kept to).given → HasPlace self.old → Keeps kept self.new }
