@@ -3,6 +3,7 @@ use Rattle.std.proofs.Common.{◌≡◌, ◌∙◌, sym, subst, Option, Some}
 use Rattle.cast_desk.specs.declared.desk.Desk.{Desk}
 use Rattle.cast_box.specs.Ends.{IsSameTaker, AreSamePutters}
 use Rattle.cast_box.proofs.Same.{taker_same, putters_same, taker_again, putter_again, putters_again}
+use Rattle.cast_resend.specs.declared.resend.Resend.{Resend}
 use Rattle.cast_engine.specs.Engines.{EngineState, IsSameDesk, IsSameEngine}
 
 desk_self : (d : Option Desk) → IsSameDesk d d
@@ -34,3 +35,6 @@ engine_again a b c f g = record {
   inbox = taker_again a.inbox b.inbox c.inbox f.inbox g.inbox;
   desk = desk_again a.desk b.desk c.desk f.desk g.desk;
 }
+
+pub same_resent : (a b : EngineState) (r : Resend) → IsSameEngine a b → IsSameEngine a (record b { resend = r })
+same_resent a b r same = record { config = same.config; me = same.me; crash = same.crash; outbox = same.outbox; inbox = same.inbox; desk = same.desk }

@@ -1,22 +1,17 @@
 -- What the log of an engine that ended tells.
-use Rattle.std.proofs.Common.{◌≡◌, ℕ, zero, suc, ◌+◌, ◌<◌, List, [], ◌∷◌, ◌++◌, length, map, take, drop, slice_get, Option, Some, None, sym, refl, ap, ◌∙◌, subst, arith}
-use Rattle.std.specs.Prelude.{reverse, slice_index_or}
+use Rattle.std.proofs.Common.{◌≡◌, ℕ, zero, suc, ◌+◌, List, [], ◌∷◌, ◌++◌, map, take, drop, slice_get, Option, Some, None, sym, refl, ap, ◌∙◌, subst, arith}
 use Rattle.std.specs.Option.{option_to_list}
-use Rattle.std.proofs.lemmas.List.{append-nil, append_assoc, map-append, reverse-append}
+use Rattle.std.proofs.lemmas.List.{append_assoc, map-append}
 use Rattle.std.proofs.lemmas.Option.{slice_get_within}
-use Rattle.cast_message.specs.declared.config.Config.{Config}
-use Rattle.cast_model.specs.Steps.{Step, Ordered, Arrived}
 use Rattle.cast_box.specs.Lists.{StartsWith}
 use Rattle.cast_box.specs.Ends.{PutterEnd}
 use Rattle.cast_log.specs.declared.entry.Entry.{Entry}
 use Rattle.cast_node.specs.Kept.{Kept}
 use Rattle.cast_desk.specs.declared.notice.Notice.{Notice}
 use Rattle.cast_desk.specs.Feed.{told_by, feed_from, feed, orders_in, orders_of as orders_in_log}
-use Rattle.cast_carrier.specs.declared.parcel.Parcel.{Parcel}
 use Rattle.cast_node.specs.declared.report.EngineEnd.{EngineEnd}
 use Rattle.cast_engine.specs.declared.feeding.Place.{Place}
-use Rattle.cast_node.specs.Linked.{TakenStep, steps_in, taken_in, taken_by, taken, taken_of, AreTaken, IsRising, made_in}
-use Rattle.cast_carrier.specs.Lists.{Has}
+use Rattle.cast_node.specs.Linked.{taken}
 use Rattle.cast_journal.specs.Runs.{made_of, trail_of, log_of, orders_of, parcels_of}
 use Rattle.cast_journal.specs.Journals.{Rises}
 use Rattle.cast_journal.proofs.RunLogs.{rises_pairs, run_tells, run_taken, run_arrivals, handed_made}
@@ -24,8 +19,7 @@ use Rattle.cast_journal.proofs.Arrivals.{was_taken}
 use Rattle.cast_engine.specs.Feeding.{told_here, told_at, told_to, IsPlaced, AreFed}
 use Rattle.cast_engine.specs.Clocks.{Follows, stamps_made}
 use Rattle.cast_engine.specs.Engines.{EngineState, CameIn, Leaves, Tells, WereTold, trays_at}
-use Rattle.cast_box.proofs.Closing.{found, map_at}
-use Rattle.cast_node.proofs.Logging.{one_more, made_numbered}
+use Rattle.cast_box.proofs.Closing.{found}
 use Rattle.cast_carrier.proofs.Lists.{has_left}
 use Rattle.cast_engine.proofs.Answering.{run_fits, run_origins}
 use Rattle.cast_engine.proofs.Stamping.{run_follows, run_made}

@@ -6,3 +6,4 @@ pub mod Stamping
 pub mod Again
 pub mod Few
 pub mod Causes
+pub mod Resending

@@ -1,5 +1,5 @@
 -- What an engine keeps, call by call.
-use Rattle.std.proofs.Common.{◌≡◌, ◌≢◌, ℕ, zero, suc, length, map, slice_get, ◌+◌, ◌<◌, ◌^◌, ◌⊎◌, List, [], ◌∷◌, ◌++◌, Option, Some, None, sym, refl, ap, ◌∙◌, subst, inl, inr, ⊎_elim, arith, Bool, true, false}
+use Rattle.std.proofs.Common.{◌≡◌, ◌≢◌, ℕ, zero, suc, length, slice_get, ◌+◌, ◌<◌, ◌^◌, List, [], ◌∷◌, ◌++◌, Option, Some, None, sym, refl, ap, ◌∙◌, subst, inl, inr, ⊎_elim, arith, Bool, true, false}
 use Rattle.std.specs.Prelude.{IsTrue, IsFalse, IsSome, is_some, replicate}
 use Rattle.std.proofs.lemmas.List.{length-replicate}
 use Rattle.cast_message.specs.declared.config.Config.{Config}
@@ -20,7 +20,7 @@ use Rattle.cast_message.specs.declared.message.FrameKind.{FrameKind}
 use Rattle.cast_engine.specs.Feeding.{AreFed, IsFed, first_place}
 use Rattle.cast_engine.specs.Engines.{taken_at, trays_at, EngineStays, TakesOrder, IsUnused, EngineState, Leaves, HasLastStamp, IsFull}
 use Rattle.cast_node.specs.declared.report.EngineEnd.{EngineEnd}
-use Rattle.cast_node.specs.declared.report.EngineEnd.TheVariants.{Stopped as AllStopped, TurnLimit, ClockFull}
+use Rattle.cast_node.specs.declared.report.EngineEnd.TheVariants.{Stopped as AllStopped, ClockFull}
 use Rattle.cast_journal.proofs.RunLogs.{keeps_new}
 use Rattle.cast_journal.proofs.Running.{taken_kept, dropped_kept, ends_kept, arrival_kept, halt_kept, same_me, order_kept, flush_kept, made_kept}
 use Rattle.cast_engine.proofs.Fed.{fed_more}

@@ -1,5 +1,5 @@
 -- An engine as contracts see it, and what it keeps.
-use Rattle.std.specs.Prelude.{◌≡◌, ℕ, ◌+◌, ◌<◌, ◌≤◌, ◌^◌, length, List, [], ◌∷◌, ◌++◌, map, slice_get, Option, Some, None, IsSome, ◌⊎◌, ⊤}
+use Rattle.std.specs.Prelude.{◌≡◌, Bool, true, ℕ, ◌+◌, ◌≤◌, ◌^◌, length, List, [], ◌∷◌, ◌++◌, map, slice_get, Option, Some, None, IsSome, ◌⊎◌, ⊤}
 use Rattle.std.specs.Option.{option_to_list}
 use Rattle.cast_message.specs.declared.config.Config.{Config}
 use Rattle.cast_message.specs.declared.message.Frame.{Frame}
@@ -23,11 +23,16 @@ use Rattle.cast_journal.specs.Journals.{JournalState, KeepsOf, Rises, EndsAs}
 use Rattle.cast_node.specs.declared.report.EngineEnd.{EngineEnd}
 use Rattle.cast_node.specs.declared.report.EngineEnd.TheVariants.{ClockFull, TurnLimit}
 use Rattle.cast_node.specs.Kept.{Kept}
+use Rattle.cast_resend.specs.declared.resend.Resend.{Resend}
+use Rattle.cast_resend.specs.Hopes.{NothingDue}
 use Rattle.cast_engine.specs.Feeding.{AreFed, TellEach}
 
 pub record EngineState : Type 0 where
   pub config : Config
   pub me : ℕ
+  pub node : Kept
+  pub resend : Resend  -- what was sent lately, and what is due
+  pub lacks_memory : Bool  -- memory ran out, in the last turn, for a slot that was due
   pub crash : Option ℕ
   pub outbox : PutterEnd Parcel
   pub held : Option Parcel  -- waits to be put into the outbox
@@ -79,9 +84,14 @@ pub record DoesFew (takes orders puts tells : ℕ) (old new : EngineState) : Typ
   pub put : length new.outbox.put ≤ length old.outbox.put + puts
   pub told : TellEach tells (trays_at old.desk) (trays_at new.desk)
 
--- in an idle turn none of that was done
+-- no slot is due, or the engine can't send: a parcel waits to be put, it has ended, or memory ran out
+abbrev pub CanSendNothing : EngineState → Type 0
+CanSendNothing e =
+    IsSome e.held ⊎ (IsSome e.ended ⊎ ((e.lacks_memory ≡ true) ⊎ NothingDue e.node e.resend))
+
+-- in an idle turn none of that was done, and nothing can be sent after it
 abbrev pub IsIdleRightly : Turn → EngineState → EngineState → Type 0
-IsIdleRightly Idle old new = HasSameBoxes old new
+IsIdleRightly Idle old new = HasSameBoxes old new × CanSendNothing new
 IsIdleRightly _ old new = ⊤
 
 -- if a turn says that the engine has ended, it has

@@ -1,13 +1,16 @@
 //! An engine: the owner of a node, its log and its clock, with the ends of its boxes.
-ghost use Rattle.std.specs.Prelude.{◌≡◌, ◌<◌, [], length, IfOk, IfNone, IsFalse, IsSome, Some, None};
+ghost use Rattle.std.specs.Prelude.{◌≡◌, ◌<◌, [], length, IfOk, IfNone, IsTrue, IsFalse, IsSome, Some, None};
 ghost use Rattle.cast_box.specs.Ends.{IsSamePutter, IsNextToEnd};
-ghost use Rattle.cast_engine.specs.Engines.{EngineState, IsSameEngine, HasSameBoxes, DoesFew, IsIdleRightly, IsSameDesk, TakesOrder, HadNoOrder, HasEnded, Leaves, Tells, WereTold, IsUnused, trays_at, with_ended};
+ghost use Rattle.cast_engine.specs.Engines.{EngineState, IsSameEngine, HasSameBoxes, DoesFew, IsIdleRightly, CanSendNothing, IsSameDesk, TakesOrder, HadNoOrder, HasEnded, Leaves, Tells, WereTold, IsUnused, trays_at, with_ended};
 ghost use Rattle.cast_journal.specs.Runs.{Handed};
+ghost use Rattle.cast_node.specs.Kept.{Kept};
+ghost use Rattle.cast_resend.specs.Hopes.{IsDueTo, AsksAll};
+ghost use Rattle.cast_resend.specs.Keeps.{Keeps, HasPlace, GivesPast, OwesLess};
 
 use crate::feeding::{Place, first_places, notify_all};
 use crate::gate::Gate;
+use crate::haste::Haste;
 use crate::quiet::Quiet;
-use crate::resend::Resend;
 use cast_box::{Full, Putter, Taker};
 use cast_carrier::{Board, Parcel, Pause};
 use cast_desk::{Desk, OrderIn};
@@ -15,6 +18,7 @@ use cast_journal::Journal;
 use cast_log::Log;
 use cast_message::{Config, Frame, FrameBody, FrameKind, NodeId};
 use cast_node::{EngineEnd, Node};
+use cast_resend::{Resend, brings_news};
 use std::alloc::{AllocError, Global};
 use std::marker::Model;
 use std::sync::Wait;
@@ -24,8 +28,9 @@ use std::sync::Wait;
 pub enum Turn {
     /// The engine did something.
     Moved,
-    /// The engine put, took or kept no parcel, took no order, and put no notice. It may have logged a crash that was
-    /// due.
+    /// The engine put, took or kept no parcel, took no order, and put no notice. No slot is due to a peer that is not
+    /// known to have ended, unless a parcel waits to be put, the engine has ended, or memory ran out. The engine may
+    /// have logged a crash that was due.
     Idle,
     /// All engines are quiet, so the engine has ended, if it had not ended otherwise in this turn.
     Stopped,
@@ -49,6 +54,9 @@ pub struct Engine {
     // By client.
     places: Vec<Place>,
     resend: Resend,
+    haste: Haste,
+    // Whether memory ran out, in the last turn, for a slot that was due.
+    lacks_memory: bool,
     // How many messages were delivered in this turn.
     delivered: usize,
     // Whether the engine takes no more orders: no job is left, and the desk was empty or the engine has ended.
@@ -59,12 +67,21 @@ pub struct Engine {
 
 impl Model for Engine {
     ghost use Rattle.cast_engine.specs.Engines.{EngineState, EngineStays};
+    ghost use Rattle.cast_resend.specs.Keeps.{Keeps};
+    ghost use Rattle.cast_node.specs.contracts.node.Node as nodes;
+    ghost use Rattle.cast_resend.specs.contracts.resend.Resend as resends;
+    ghost use Rattle.std.specs.Coded.{codes};
 
     ghost Value = { EngineState };
+
+    ghost coded = { Prim.hlevel (codes, nodes.the_row.coded, resends.the_row.coded) };
 
     ghost view = { λ e. record {
       config = e.journal.config;
       me = e.journal.node.me;
+      node = e.journal.node;
+      resend = e.resend;
+      lacks_memory = e.lacks_memory;
       crash = e.journal.crash;
       outbox = e.outbox;
       held = e.held;
@@ -76,7 +93,7 @@ impl Model for Engine {
     } };
 
     ghost invariant = { λ e. EngineStays e.journal e.outbox.put e.held e.inbox.taken e.waiting
-        (e.desk) e.places.items };
+        (e.desk) e.places.items × Keeps e.journal.node e.resend };
 }
 
 // What a taken parcel carries from a peer.
@@ -125,8 +142,8 @@ impl Engine {
         requires outbox { boxes.outbox.put ≡ [] }
         requires inbox { boxes.inbox.taken ≡ [] }
         requires desk { IsUnused boxes.desk }
-        ensures { IfOk result (λ e.
-            e ≡ record {
+        ensures new { IfOk result (λ e.
+            e ≡ record e {
               config = config.now;
               me = me;
               crash = crash;
@@ -138,10 +155,12 @@ impl Engine {
               turns = turns;
               ended = None;
             }) }
+        ensures asks { IfOk result (λ e. AsksAll config.now.nodes e.resend) }
     {
         let journal = Journal::new(alloc, config, me, crash, turns)?;
         let places = first_places(alloc, count_clients(&boxes.desk))?;
         let resend = Resend::new(alloc, config)?;
+        let haste = Haste::new(alloc, config)?;
         Ok(Engine {
             journal,
             outbox: boxes.outbox,
@@ -151,6 +170,8 @@ impl Engine {
             desk: boxes.desk,
             places,
             resend,
+            haste,
+            lacks_memory: false,
             delivered: 0,
             no_orders: false,
             trays_full: false,
@@ -160,8 +181,8 @@ impl Engine {
     /// Takes one turn: passes the gate, puts the parcel that waits, takes one and acknowledges it, takes an order,
     /// sends a slot that is due, and puts notices. It does each at most once, but puts one notice for each client, and
     /// up to three parcels (`few`). The result is `Ended` if the log or the clock is full, the node has crashed, or no
-    /// turn is left. It is `Stopped` if all engines are quiet, and `Idle` only if nothing of the above was done
-    /// (`idle`).
+    /// turn is left. It is `Stopped` if all engines are quiet, and `Idle` only if nothing of the above was done and the
+    /// engine can send nothing (`idle`).
     #[tactic(auto, using(crate::proofs::Again::desk_same))]
     pub fn turn<G: Gate, R: Wait>(
         &mut self,
@@ -193,7 +214,7 @@ impl Engine {
 
     /// How the engine's thread waits after a turn with nothing to do.
     pub fn pause(&self) -> Pause {
-        self.resend.pause()
+        self.haste.pause(&self.resend.peers, self.resend.window)
     }
 
     /// Ends the next putter of the inbox.
@@ -284,6 +305,7 @@ impl Engine {
         ensures same { IsSameEngine self.old self.new }
         ensures few { DoesFew 1 1 3 1 self.old self.new }
         ensures idle { IsFalse result → HasSameBoxes self.old self.new }
+        ensures sent { IsFalse result → CanSendNothing self.new }
     {
         let exchanged = self.exchange(rt, board, quiet);
         let jobs_ended = quiet.jobs_ended(board);
@@ -369,6 +391,7 @@ impl Engine {
             return false;
         };
         if parcel.frame.to == self.journal.id() {
+            self.haste.meet(self.journal.node(), &parcel.frame);
             set(&mut self.waiting, Some(parcel));
         } else {
             let_go(parcel);
@@ -393,12 +416,12 @@ impl Engine {
             self.journal.end_by_last_stamp(parcel);
             return Received::Nothing;
         }
-        // At each try: what is not logged yet is not due to anyone.
-        self.resend.meet(self.journal.node(), &parcel.frame);
+        let has_news = brings_news(self.journal.node(), &parcel.frame);
         let Ok(delivered) = self.journal.arrive(parcel) else {
             return Received::Nothing;
         };
         let received = brought_by(&parcel.frame);
+        note_news(&mut self.resend, has_news);
         self.delivered = self.delivered.saturating_add(delivered);
         set(&mut self.waiting, None);
         received
@@ -412,8 +435,14 @@ impl Engine {
         ensures same { IsSameEngine self.old self.new }
         ensures few { DoesFew 0 0 1 0 self.old self.new }
         ensures idle { IsFalse result → HasSameBoxes self.old self.new }
+        ensures resend { self.new.resend ≡ self.old.resend }
+        ensures frame { IsTrue result →
+            self.new.node ≡ record self.old.node { frames = self.new.node.frames } }
     {
-        if self.held.is_some() || !self.journal.may_log() {
+        if self.held.is_some() {
+            return false;
+        }
+        if !self.journal.may_log() {
             return false;
         }
         let Ok(parcel) = self.journal.make(kind, to, slot) else {
@@ -426,7 +455,7 @@ impl Engine {
     // Notes that a peer took a slot, so that others may be on their way to it.
     #[tactic(auto, using(crate::proofs::Again::desk_same))]
     fn hear(&mut self, from: NodeId, slot: u64)
-        ensures { self.new ≡ self.old }
+        ensures { self.new ≡ record self.old { resend = self.new.resend } }
     {
         self.resend.hear(from, slot);
     }
@@ -458,37 +487,48 @@ impl Engine {
         ensures same { IsSameEngine self.old self.new }
         ensures few { DoesFew 0 0 1 0 self.old self.new }
         ensures idle { IsFalse result → HasSameBoxes self.old self.new }
+        ensures sent { IsFalse result → CanSendNothing self.new }
     {
-        self.next_turn();
-        self.send_due(rt, board)
-    }
-
-    // Makes due again what was sent long ago.
-    #[tactic(auto, using(crate::proofs::Again::desk_same))]
-    fn next_turn(&mut self)
-        ensures { self.new ≡ self.old }
-    {
+        self.lacks_memory = false;
+        self.haste.pass();
         self.resend.next_turn(self.journal.node());
-    }
-
-    // Sends the slot that is due next. Returns whether it did.
-    #[tactic(auto, using(crate::proofs::Again::desk_same))]
-    fn send_due<R: Wait>(&mut self, rt: &R, board: &Board) -> bool
-        ensures same { IsSameEngine self.old self.new }
-        ensures few { DoesFew 0 0 1 0 self.old self.new }
-        ensures idle { IsFalse result → HasSameBoxes self.old self.new }
-    {
         if self.held.is_some() {
             return false;
         }
         let Some((to, slot)) = self.resend.next_due(self.journal.node(), board) else {
             return false;
         };
+        self.send(rt, to, slot)
+    }
+
+    // Sends the slot, which is due. Returns whether it did.
+    #[tactic(auto, using(crate::proofs::Again::desk_same))]
+    fn send<R: Wait>(&mut self, rt: &R, to: NodeId, slot: u64) -> bool
+        requires due { IsDueTo self.old.node self.old.resend to slot }
+        requires place { HasPlace self.old.resend }
+        ensures same { IsSameEngine self.old self.new }
+        ensures few { DoesFew 0 0 1 0 self.old self.new }
+        ensures idle { IsFalse result → HasSameBoxes self.old self.new }
+        ensures sent { IsFalse result → CanSendNothing self.new }
+    {
         if !self.make(rt, FrameKind::Carry, to, slot) {
+            self.lacks_memory = !self.journal.has_ended();
             return false;
         }
-        self.resend.note(to, slot);
+        self.note(to, slot);
         true
+    }
+
+    // Notes that the slot, which was due, is sent in this turn.
+    #[tactic(auto, using(crate::proofs::Again::desk_same))]
+    fn note(&mut self, to: NodeId, slot: u64)
+        requires due { IsDueTo self.old.node self.old.resend to slot }
+        requires place { HasPlace self.old.resend }
+        ensures { self.new ≡ record self.old { resend = self.new.resend } }
+    {
+        if self.resend.note(to, slot) {
+            self.haste.send_again(to);
+        }
     }
 
     // Puts the next notice of each client's feed, if its tray has room, and none after the engine has ended. Returns
@@ -498,6 +538,7 @@ impl Engine {
         ensures same { IsSameEngine self.old self.new }
         ensures few { DoesFew 0 0 0 1 self.old self.new }
         ensures idle { IsFalse result → HasSameBoxes self.old self.new }
+        ensures rest { self.new ≡ record self.old { desk = self.new.desk } }
     {
         if self.trays_full || self.journal.has_ended() {
             return false;
@@ -531,6 +572,16 @@ impl Engine {
             }
         }
         true
+    }
+}
+
+// Notes that a frame arrived. If it had a message that the node did not hold, any peer may have been given slots.
+fn note_news(resend: &mut Resend, has_news: bool)
+    ensures { (before after : Kept) → Keeps before resend.old → GivesPast before after
+        → (IsFalse has_news → OwesLess before after) → Keeps after resend.new }
+{
+    if has_news {
+        resend.given();
     }
 }
 

@@ -1,4 +1,4 @@
-//! Whether an engine sends again too soon, and how it waits then. No contract speaks of it.
+//! Whether an engine sends again too soon, or a peer is silent, and how the engine waits then. No contract speaks of it.
 //!
 //! An engine sends again what is lost after a number of turns, not after a time. On a processor of its own, an idle
 //! turn takes less than a microsecond. Meanwhile a peer may wait for milliseconds while another program runs. So an
@@ -11,8 +11,11 @@
 //! - A peer's silence, before any word can come. So much was sent again to it since its last frame that not all of it
 //!   can be lost. The peer may have no processor for the moment. A longer silence means a link that loses everything;
 //!   there no sleep helps.
-use crate::resend::TURNS_UNTIL_AGAIN;
 use cast_carrier::{Pause, SHORT_NAP};
+use cast_message::{Config, Frame, FrameBody, NodeId};
+use cast_node::Node;
+use cast_resend::{PeerSet, TURNS_UNTIL_AGAIN, is_owed};
+use std::alloc::{AllocError, Global};
 
 // Without haste, an engine yields in this many idle turns in a row, longer than it takes to send again all that it
 // owes. Afterwards it owes only engines that have ended, or its outbox is full, or memory is out. Then it only waits
@@ -51,26 +54,26 @@ const LEAST_UNANSWERED: u64 = 16;
 
 const LONG_SILENCE: u64 = 4;
 
-/// The number of slots sent again to a peer since its last frame.
+// The number of slots sent again to a peer since its last frame.
 #[derive(Clone, Copy)]
-pub struct Unanswered(u64);
+struct Unanswered(u64);
 
 impl Unanswered {
-    pub const NONE: Unanswered = Unanswered(0);
+    const NONE: Unanswered = Unanswered(0);
 
-    /// Counts one more slot.
-    pub fn add(&mut self) {
+    // Counts one more slot.
+    fn add(&mut self) {
         self.0 = self.0.saturating_add(1);
     }
 
-    /// Whether the peer is silent, but not for long. `window` is the most slots under way to it.
-    pub fn is_silence(self, window: u64) -> bool {
+    // Whether the peer is silent, but not for long. `window` is the most slots under way to it.
+    fn is_silence(self, window: u64) -> bool {
         let least = LEAST_UNANSWERED.max(window);
         self.0 >= least && self.0 < least.saturating_mul(LONG_SILENCE)
     }
 }
 
-/// How much an engine has sent again too soon of late.
+/// How much an engine has sent again too soon of late, or without an answer.
 #[derive(Drop)]
 pub struct Haste {
     // How long it sleeps, in microseconds; 0 without haste.
@@ -82,18 +85,22 @@ pub struct Haste {
     // How many words of slots came in this period, and how many of them were of slots acknowledged before.
     heard: u64,
     again: u64,
+    // By peer.
+    unanswered: Vec<Unanswered>,
 }
 
 impl Haste {
-    /// An engine without haste.
-    pub fn new() -> Haste {
-        Haste {
+    /// An engine without haste. All memory that it needs is allocated here.
+    pub fn new(alloc: Global, config: &Config) -> Result<Haste, AllocError> {
+        let unanswered = vec![in alloc; Unanswered::NONE; config.nodes() as usize]?;
+        Ok(Haste {
             nap: 0,
             calm: 0,
             turns: 0,
             heard: 0,
             again: 0,
-        }
+            unanswered,
+        })
     }
 
     /// Counts a turn.
@@ -110,9 +117,27 @@ impl Haste {
         }
     }
 
-    /// Notes word of a slot; `again` says whether the slot was acknowledged before. In the period after the sleep
-    /// changed, such words change nothing: after a longer sleep, they are of slots sent again earlier.
-    pub fn note(&mut self, again: bool) {
+    /// Notes a frame from a peer before the node takes it. Word of a slot that is no longer owed shows that the slot was
+    /// sent again too soon.
+    pub fn meet(&mut self, node: &Node, frame: &Frame) {
+        if let Some(unanswered) = self.unanswered.get_mut(usize::from(frame.from.0)) {
+            *unanswered = Unanswered::NONE;
+        }
+        if let FrameBody::Took { slot } = &frame.body {
+            self.note(!is_owed(node, frame.from, *slot));
+        }
+    }
+
+    /// Notes that a slot is sent again to the peer.
+    pub fn send_again(&mut self, to: NodeId) {
+        if let Some(unanswered) = self.unanswered.get_mut(usize::from(to.0)) {
+            unanswered.add();
+        }
+    }
+
+    // Notes word of a slot; `again` says whether the slot was acknowledged before. In the period after the sleep
+    // changed, such words change nothing: after a longer sleep, they are of slots sent again earlier.
+    fn note(&mut self, again: bool) {
         self.heard = self.heard.saturating_add(1);
         self.again = self.again.saturating_add(u64::from(again));
         let often = self.again >= LEAST_AGAIN && self.again >= self.heard / SHARE_AGAIN;
@@ -122,9 +147,9 @@ impl Haste {
         }
     }
 
-    /// How the engine waits in an idle turn; `silence` says whether a peer is silent.
-    pub fn pause(&self, silence: bool) -> Pause {
-        let nap = if silence {
+    /// How the engine waits in an idle turn. These peers have not ended, and `window` is the most slots under way to one.
+    pub fn pause(&self, peers: &PeerSet, window: u64) -> Pause {
+        let nap = if self.has_silent(peers, window) {
             self.nap.max(NAP_IN_SILENCE)
         } else {
             self.nap
@@ -138,6 +163,16 @@ impl Haste {
         }
     }
 
+    // Whether one of these peers is silent.
+    fn has_silent(&self, peers: &PeerSet, window: u64) -> bool {
+        for peer in 0..self.unanswered.len() {
+            if self.unanswered[peer].is_silence(window) && is_in(peers, peer) {
+                return true;
+            }
+        }
+        false
+    }
+
     fn sleep_for(&mut self, nap: u64) {
         self.nap = nap;
         self.calm = 0;
@@ -147,5 +182,12 @@ impl Haste {
         self.turns = 0;
         self.heard = 0;
         self.again = 0;
+    }
+}
+
+fn is_in(peers: &PeerSet, peer: usize) -> bool {
+    match NodeId::from_number(peer as u64) {
+        Some(peer) => peers.contains(peer),
+        None => false,
     }
 }

@@ -8,10 +8,8 @@ mod gate;
 mod haste;
 mod progress;
 mod quiet;
-mod resend;
 
 pub use engine::{Engine, EngineBoxes, EngineParts, Turn};
 pub use gate::{Gate, OpenGate};
 pub use progress::{CountingGate, Progress};
 pub use quiet::Quiet;
-pub use resend::Resend;

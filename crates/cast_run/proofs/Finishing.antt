@@ -1,5 +1,5 @@
 -- What is known of actors that have run.
-use Rattle.std.proofs.Common.{◌≡◌, ◌∙◌, ◌≤◌, ℕ, Bool, List, [], length, map, take, slice_get, Some, vec_len, ap, sym, subst, rules, arith}
+use Rattle.std.proofs.Common.{◌≡◌, ◌∙◌, ◌≤◌, ℕ, Bool, List, [], length, map, slice_get, Some, vec_len, ap, sym, subst, rules, arith}
 use Rattle.std.proofs.lemmas.Option.{slice_get_within}
 use Rattle.cast_box.specs.Lists.{of}
 use Rattle.cast_box.proofs.Closing.{found}

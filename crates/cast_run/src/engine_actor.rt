@@ -22,8 +22,11 @@ pub struct EngineActor<G> {
 
 impl<G> Model for EngineActor<G> {
     ghost use Rattle.cast_engine.specs.Engines.{EngineState};
+    ghost use Rattle.cast_engine.specs.contracts.engine.Engine as engines;
 
     ghost Value = { EngineState };
+
+    ghost coded = { engines.the_row.coded };
 
     ghost view = { λ a. a.engine };
 }

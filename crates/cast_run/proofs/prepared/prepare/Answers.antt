@@ -1,5 +1,4 @@
 use Rattle.std.proofs.Common.{◌≡◌, ◌∙◌, ap, sym, subst, ℕ, List, map, take, length, vec_len, rules, arith}
-use Rattle.std.proofs.lemmas.List.{length-take}
 use Rattle.cast_box.specs.Lists.{of}
 use Rattle.cast_engine.specs.Engines.{EngineState}
 use Rattle.cast_run.specs.Faults.{Fits}

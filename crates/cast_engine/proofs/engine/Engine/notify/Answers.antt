@@ -17,22 +17,24 @@ pub notify_all-requires : goal.notify_all-requires
 notify_all-requires g c =
     let i = c.self.inside in
     subst (λ (l : List Entry). AreFed l c.in-Some.desk.trays.items i.places.items) (sym c.log.ensures)
-    (subst (λ (o : Option Desk). AreFed i.journal.log (trays_at o) i.places.items) c.in-Some.is c.self.invariant.fed)
+    (subst (λ (o : Option Desk). AreFed i.journal.log (trays_at o) i.places.items) c.in-Some.is c.self.invariant.0.fed)
 
 pub invariant_of-self : goal.invariant_of-self
 invariant_of-self g c =
     let i = c.self.inside in
-    let now = c.notify_all.new.desk in
-    stays_told i.journal i.outbox.put i.held i.inbox.taken i.waiting i.desk (Some now) i.places.items c.notify_all.new.places.items c.self.invariant
-    (ap (λ (t : TakerEnd OrderIn). t.taken) c.notify_all.ensures.orders ∙ sym (ap (λ (o : Option Desk). taken_at o) c.in-Some.is))
-    (subst (λ (l : List Entry). AreFed l now.trays.items c.notify_all.new.places.items) c.log.ensures c.notify_all.ensures.fed)
+    let now = c.notify_all.new.desk in (
+      stays_told i.journal i.outbox.put i.held i.inbox.taken i.waiting i.desk (Some now) i.places.items c.notify_all.new.places.items c.self.invariant.0
+          (ap (λ (t : TakerEnd OrderIn). t.taken) c.notify_all.ensures.orders ∙ sym (ap (λ (o : Option Desk). taken_at o) c.in-Some.is))
+          (subst (λ (l : List Entry). AreFed l now.trays.items c.notify_all.new.places.items) c.log.ensures c.notify_all.ensures.fed),
+      c.self.invariant.1,
+    )
 
 pub returns-in-Some-clause-same : goal.returns-in-Some-clause-same
 returns-in-Some-clause-same g c =
     let i = c.self.inside in
     let d = c.in-Some.desk in
     let now = c.notify_all.new.desk in
-    let new : EngineState = record { config = i.journal.config; me = i.journal.node.me; crash = i.journal.crash; outbox = i.outbox; held = i.held; inbox = i.inbox; waiting = i.waiting; desk = Some now; turns = i.journal.turns; ended = i.journal.ended } in
+    let new : EngineState = record { config = i.journal.config; me = i.journal.node.me; node = i.journal.node; resend = i.resend; lacks_memory = i.lacks_memory; crash = i.journal.crash; outbox = i.outbox; held = i.held; inbox = i.inbox; waiting = i.waiting; desk = Some now; turns = i.journal.turns; ended = i.journal.ended } in
     let T : TakerEnd OrderIn → Type 0 = λ t. IsSameTaker d.orders t in
     let P : EngineState → Type 0 = λ e. IsSameEngine e new in
     subst P c.self.view_is (record {

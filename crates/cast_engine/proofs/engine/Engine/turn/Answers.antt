@@ -1,5 +1,5 @@
 use Rattle.std.proofs.Common.{sym, subst}
-use Rattle.cast_engine.specs.Engines.{IsSameEngine, DoesFew}
+use Rattle.cast_engine.specs.Engines.{IsSameEngine, DoesFew, HasSameBoxes, CanSendNothing}
 use Rattle.cast_engine.proofs.Again.{engine_again}
 use Rattle.cast_engine.proofs.Few.{few_same, few_again, few_worked, same_again}
 use Rattle.cast_engine.proofs.engine.Engine.turn.Goals as goal
@@ -37,3 +37,9 @@ returns-then-moved-clause-few g c =
 pub returns-else-moved-clause-few : goal.returns-else-moved-clause-few
 returns-else-moved-clause-few g c =
     subst (DoesFew 1 1 3 1 c.args.self.now) (sym c.tell_gate.ensures) (few_worked c.args.self.now c.may_go_on.new.self c.count_turn.new.self c.work-moved.new.self c.may_go_on.ensures.boxes c.count_turn.ensures.boxes c.work-moved.ensures.few)
+
+pub returns-else-moved-clause-idle : goal.returns-else-moved-clause-idle
+returns-else-moved-clause-idle g c = (
+  subst (HasSameBoxes c.args.self.now) (sym c.tell_gate.ensures) (same_again c.args.self.now c.count_turn.new.self c.work-moved.new.self (same_again c.args.self.now c.may_go_on.new.self c.count_turn.new.self c.may_go_on.ensures.boxes c.count_turn.ensures.boxes) (c.work-moved.ensures.idle c.if-moved.false)),
+  subst CanSendNothing (sym c.tell_gate.ensures) (c.work-moved.ensures.sent c.if-moved.false),
+)

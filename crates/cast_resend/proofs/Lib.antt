@@ -1,0 +1,9 @@
+pub mod Dropping
+pub mod Members
+pub mod Hoping
+pub mod Adding
+pub mod Keeping
+pub mod Moving
+pub mod Sending
+pub mod Laws
+pub mod Nodes
