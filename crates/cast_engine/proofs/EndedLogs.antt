@@ -12,11 +12,11 @@ use Rattle.cast_log.specs.declared.entry.Entry.{Entry}
 use Rattle.cast_node.specs.Kept.{Kept}
 use Rattle.cast_desk.specs.declared.notice.Notice.{Notice}
 use Rattle.cast_desk.specs.Feed.{told_by, feed_from, feed, orders_in, orders_of as orders_in_log}
-use Rattle.cast_carrier.specs.declared.parcel.Parcel.{Parcel}
+use Rattle.cast_journal.specs.declared.parcel.Parcel.{Parcel}
 use Rattle.cast_node.specs.declared.report.EngineEnd.{EngineEnd}
 use Rattle.cast_engine.specs.declared.feeding.Place.{Place}
 use Rattle.cast_node.specs.Linked.{TakenStep, steps_in, taken_in, taken_by, taken, taken_of, AreTaken, IsRising, made_in}
-use Rattle.cast_carrier.specs.Lists.{Has}
+use Rattle.cast_journal.specs.Lists.{Has}
 use Rattle.cast_journal.specs.Runs.{made_of, trail_of, log_of, orders_of, parcels_of}
 use Rattle.cast_journal.specs.Journals.{Rises}
 use Rattle.cast_journal.proofs.RunLogs.{rises_pairs, run_tells, run_taken, run_arrivals, handed_made}
@@ -26,11 +26,11 @@ use Rattle.cast_engine.specs.Clocks.{Follows, stamps_made}
 use Rattle.cast_engine.specs.Engines.{EngineState, CameIn, Leaves, Tells, WereTold, trays_at}
 use Rattle.cast_box.proofs.Closing.{found, map_at}
 use Rattle.cast_node.proofs.Logging.{one_more, made_numbered}
-use Rattle.cast_carrier.proofs.Lists.{has_left}
+use Rattle.cast_journal.proofs.Lists.{has_left}
 use Rattle.cast_engine.proofs.Answering.{run_fits, run_origins}
 use Rattle.cast_engine.proofs.Stamping.{run_follows, run_made}
 use Rattle.cast_engine.specs.Serving.{Serves}
-use Rattle.cast_desk.specs.declared.desk.OrderIn.{OrderIn}
+use Rattle.cast_journal.specs.declared.order.OrderIn.{OrderIn}
 
 pub leaves_tell : (e : EngineState) (log : List Entry) (node : Kept) (ended : EngineEnd) → Leaves e log node ended → Tells e log node
 leaves_tell e log node ended l =
