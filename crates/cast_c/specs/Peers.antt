@@ -9,7 +9,7 @@
 --     TellsNews old room status new       the clauses of the call that reports news, with this much room for its bytes
 --     HasLine peer place is               whether the log has this line
 --     TellsLine peer place status count old new    a line in a buffer, and how many bytes it has
-use Rattle.std.specs.Prelude.{◌≡◌, ◌⊎◌, ◌↔◌, ℕ, ◌+◌, ◌<◌, ◌≤◌, ◌==◌, Bool, true, List, length, Option, None, Some, Result, Ok, Err, IfOk, IfErr, IfSome, IsSomeAnd, IsTrue}
+use Rattle.std.specs.Prelude.{◌≡◌, ◌⊎◌, ◌↔◌, ℕ, ◌+◌, ◌-◌, ◌^◌, ◌<◌, ◌≤◌, min, Bool, List, length, Option, None, Some, Result, Ok, Err, IfOk, IfErr, IfSome, IsSomeAnd, IsTrue}
 use Rattle.cast_message.specs.declared.event.StepFault.TheVariants as steps
 use Rattle.cast_message.specs.declared.message.Decision.{Decision}
 use Rattle.cast_message.specs.declared.message.Item.{Item}
@@ -33,10 +33,13 @@ use Rattle.cast_c.specs.declared.peer_numbers.PacketNumbers.{PacketNumbers}
 abbrev pub packet_kind : ℕ → PacketNumbers
 packet_kind kind = record { kind = kind; to = 0; place = 0; length = 0 }
 
--- the line of the entry at place n is line n + 1, behind the head
+-- the line of an entry, as the head is line 0
+abbrev pub line_of : ℕ → ℕ
+line_of entry = min (entry + 1) (2 ^ 64 - 1)
+
 abbrev pub numbers_of_next : NextPacket → ℕ → PacketNumbers
 numbers_of_next (next.Packet to entry) count =
-    record { kind = 0; to = to; place = entry + 1; length = count }
+    record { kind = 0; to = to; place = line_of entry; length = count }
 numbers_of_next next.Logged count = packet_kind 1
 numbers_of_next next.Save count = packet_kind 2
 numbers_of_next next.Nothing count = packet_kind 3

@@ -1,20 +1,20 @@
-//! Makes a peer, gives it orders, packets and what else happens, drops it.
+//! Makes a peer, gives it orders and packets, says what happened outside, and drops it.
 ghost use Rattle.std.specs.Prelude.{◌≡◌, ◌⊎◌, None, true, cond, is_some, IfSome, IsSomeAnd};
 ghost use Rattle.cast_c.specs.Numbers.{first_code};
-ghost use Rattle.cast_c.specs.Peers.{IsOrdered, IsOrderedBy, IsReceived, KeepsJournal};
+ghost use Rattle.cast_c.specs.Peers.{IsOrdered, IsOrderedBy, IsReceived, KeepsJournal, status_of_received};
 
 use crate::numbers::{ConfigNumbers, EventNumbers};
 use crate::peer_handle::PeerHandle;
 use crate::peer_numbers::status_of_fault;
 use crate::status::{DONE, MISUSED, OUT_OF_MEMORY, REFUSED};
 use cast_message::{Config, Item, NodeId};
-use cast_peer::{Peer, PeerFault, Saving};
+use cast_peer::{Peer, PeerFault, Received, Saving};
 use std::alloc::Global;
 
-/// Makes a new node of a group. Nobody may have made a peer with the same numbers of group and node before. `saving` 0
-/// gives out packets and news after the entries that record them are saved, and 1 at once. 0: done; 1: the handle
-/// holds a peer already, or no saving has this number; 2: refused, and `fault` is the number of the configuration's
-/// first fault, or 21 if `me` is no node of the group; 5: out of memory.
+/// Makes a new node of a group. Nobody may have made a peer with the same numbers of group and node before. If `saving`
+/// is 0, the peer hands out packets and news only after the entries that record them are saved; if it is 1, at once. 0:
+/// done; 1: the handle holds a peer already, or no saving has this number; 2: refused, and `fault` is the number of the
+/// configuration's first fault, or 21 if `me` is no node of the group; 5: out of memory.
 #[unsafe(no_mangle)]
 pub extern "C" fn cast_c_peer_new(
     alloc: Global,
@@ -76,9 +76,9 @@ fn make(
     }
 }
 
-/// Broadcasts an item. Of `order`, only the numbers of the item are read, and `bytes` only if the item is bytes. 0:
-/// logged; 1: the handle holds no peer, or no item has this number; 2: refused, and `fault` says why; 5: out of memory.
-/// The log has a refusal by the node, too.
+/// Broadcasts an item. Only the item's numbers in `order` are read, and `bytes` only if the item is bytes. 0: logged; 1:
+/// the handle holds no peer, or no item has this number; 2: refused, and `fault` says why; 5: out of memory. If the node
+/// refuses, the refusal is logged too.
 #[unsafe(no_mangle)]
 pub extern "C" fn cast_c_peer_order(
     alloc: Global,
@@ -158,7 +158,14 @@ pub extern "C" fn cast_c_peer_receive(
 fn receive(peer: &mut Peer, bytes: &[u8], fault: &mut u64) -> u32
     ensures { IsReceived peer.old bytes.now result peer.new }
 {
-    match peer.receive(bytes) {
+    let received = peer.receive(bytes);
+    status_of_received(received, fault)
+}
+
+fn status_of_received(received: Result<Received, PeerFault>, fault: &mut u64) -> u32
+    ensures { result ≡ status_of_received received }
+{
+    match received {
         Ok(_) => DONE,
         Err(dropped) => {
             *fault = dropped.code();
