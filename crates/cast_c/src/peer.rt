@@ -1,5 +1,5 @@
 //! Makes a peer, gives it orders and packets, says what happened outside, and drops it.
-ghost use Rattle.std.specs.Prelude.{◌≡◌, ◌⊎◌, None, true, cond, is_some, IfSome, IsSomeAnd};
+ghost use Rattle.std.specs.Prelude.{◌≡◌, ◌<◌, ◌⊎◌, None, Some, true, cond, is_some, IfSome, IsSomeAnd};
 ghost use Rattle.cast_c.specs.Numbers.{first_code};
 ghost use Rattle.cast_c.specs.Peers.{IsOrdered, IsOrderedBy, IsReceived, KeepsJournal, status_of_received};
 
@@ -27,6 +27,8 @@ pub extern "C" fn cast_c_peer_new(
 ) -> u32
     ensures made { result ≡ 0 → is_some peer.new.loose.peer ≡ true }
     ensures fit { result ≡ 0 → first_code config.now ≡ None }
+    ensures refused { result ≡ 2 → (first_code config.now ≡ None) ⊎ (first_code config.now ≡ Some fault.new) }
+    ensures held { result ≡ 1 → (1 < saving) ⊎ (is_some peer.old.loose.peer ≡ true) }
     ensures kept { (result ≡ 0) ⊎ (peer.new ≡ peer.old) }
     ensures status { (result ≡ 0) ⊎ (result ≡ 1) ⊎ (result ≡ 2) ⊎ (result ≡ 5) }
 {
