@@ -1,6 +1,6 @@
 //! What a peer hands out: packets, news, and the lines of its log.
 ghost use Rattle.std.specs.Prelude.{◌≡◌, ◌⊎◌, None, cond, is_some, length, IfSome, IsSomeAnd, IfOk};
-ghost use Rattle.cast_c.specs.Peers.{GivesNext, HasLine, KeepsJournal, TellsLine, TellsNews};
+ghost use Rattle.cast_c.specs.Peers.{GivesNext, HasLine, TellsLine, TellsNews};
 
 use crate::deliveries::{put_bytes, put_item};
 use crate::numbers::ItemNumbers;
