@@ -22,7 +22,7 @@ use Rattle.cast_log.specs.declared.entry.Entry.{Entry}
 use Rattle.cast_log.specs.declared.entry.EntryKind.{EntryKind}
 use Rattle.cast_log.specs.declared.entry.EntryKind.TheVariants.{Step as StepEntry, Refused}
 use Rattle.cast_desk.specs.Feed.{feed}
-use Rattle.cast_desk.specs.declared.desk.OrderIn.{OrderIn}
+use Rattle.cast_journal.specs.declared.order.OrderIn.{OrderIn}
 use Rattle.cast_engine.specs.Serving.{Matches, IsAnswered, IsAnsweredBy, before, entries_of}
 use Rattle.cast_desk.specs.declared.notice.Notice.{Notice}
 use Rattle.cast_node.specs.Linked.{Linked, Trail, steps_in}

@@ -5,7 +5,7 @@ use Rattle.std.proofs.lemmas.List.Elements.{filter_map-append}
 use Rattle.cast_message.specs.declared.message.Message.{Message}
 use Rattle.cast_box.specs.Ends.{PutterEnd}
 use Rattle.cast_desk.specs.Desk.{ClientState}
-use Rattle.cast_desk.specs.declared.desk.OrderIn.{OrderIn}
+use Rattle.cast_journal.specs.declared.order.OrderIn.{OrderIn}
 use Rattle.cast_desk.specs.declared.notice.Notice.{Notice}
 use Rattle.cast_run.specs.Jobs.{submitted, got, told_job}
 use Rattle.cast_run.specs.Submissions.{SubmitsNext}

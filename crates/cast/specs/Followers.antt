@@ -5,7 +5,7 @@
 --     IsNewFollower, AreNewFollowers        it has heard nothing, and its machine matches no messages
 use Rattle.std.specs.Prelude.{◌≡◌, ℕ, ◌+◌, Bool, true, List, [], ◌++◌, length, slice_get, Some}
 use Rattle.cast_message.specs.declared.message.Message.{Message}
-use Rattle.cast_desk.specs.declared.desk.OrderIn.{OrderIn}
+use Rattle.cast_journal.specs.declared.order.OrderIn.{OrderIn}
 use Rattle.cast_desk.specs.declared.notice.Notice.{Notice}
 use Rattle.cast_run.specs.Jobs.{told_job}
 use Rattle.cast_run.specs.Submissions.{AreFirst}

@@ -1,3 +1,4 @@
 mod AsJudgeBox
+mod AsPeerBox
 mod AsWorldBox
 mod Holds

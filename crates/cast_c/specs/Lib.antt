@@ -2,6 +2,8 @@
 pub mod Freeing
 pub mod JudgeOwning
 pub mod Numbers
+pub mod PeerOwning
+pub mod Peers
 pub mod Pieces
 pub mod Steps
 pub mod Texts

@@ -1,4 +1,4 @@
-//! The proved core and the judge for C, and so for other languages. `bindings/` has the header, and what Rust and
+//! The proved core, the judge and the peer for C, and so for other languages. `bindings/` has the header, and what Rust and
 //! Python make of it.
 //!
 //! Each export makes one call of the kit, in numbers and byte slices, and states the clauses of that call. It returns a
@@ -16,6 +16,10 @@ mod judge;
 mod judge_handle;
 mod numbers;
 mod parts;
+mod peer;
+mod peer_handle;
+mod peer_numbers;
+mod peer_out;
 mod readers;
 mod status;
 mod step;
@@ -24,12 +28,14 @@ mod world;
 mod world_handle;
 
 use judge_handle::JudgeHandle;
+use peer_handle::PeerHandle;
 use world_handle::WorldHandle;
 
 // C may pass each handle to another thread.
 fn handles_cross_threads() {
     cross::<WorldHandle>();
     cross::<JudgeHandle>();
+    cross::<PeerHandle>();
 }
 
 fn cross<T: Send>() {}

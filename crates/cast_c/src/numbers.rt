@@ -142,7 +142,8 @@ impl EventNumbers {
         Ok(Some(event))
     }
 
-    fn item(&self, alloc: Global, bytes: &[u8]) -> Result<Option<Item>, AllocError>
+    /// The item with these numbers and bytes, or nothing if its kind is unknown. The bytes are copied.
+    pub(crate) fn item(&self, alloc: Global, bytes: &[u8]) -> Result<Option<Item>, AllocError>
         ensures ok { IfOk result (λ item. item ≡ item_in self.now bytes.now) }
         ensures err { OnErr result (item_in self.now bytes.now ≡ Some (Data bytes.now)) }
     {

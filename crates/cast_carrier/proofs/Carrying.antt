@@ -2,12 +2,12 @@
 use Rattle.std.proofs.Common.{◌≡◌, ◌≢◌, Bool, true, false, cond, ℕ, zero, suc, List, [], ◌∷◌, ◌++◌, map, slice_get, slice_set, Some, Ok, Err, Result, MatchResult, refl, sym, ap, ◌∙◌, subst, ◌⊎◌, inl, inr, ⊎_elim}
 use Rattle.cast_box.specs.Ends.{PutterEnd, IsSamePutter, AreSamePutters, WasFull}
 use Rattle.cast_box.proofs.Same.{get_set, putters_same, putters_again, putters_set}
-use Rattle.cast_carrier.specs.declared.parcel.Parcel.{Parcel}
+use Rattle.cast_journal.specs.declared.parcel.Parcel.{Parcel}
 use Rattle.cast_carrier.specs.declared.carrier.Delayed.{Delayed}
 use Rattle.cast_carrier.specs.declared.fate.Fate.{Fate}
-use Rattle.cast_carrier.specs.Lists.{Has}
+use Rattle.cast_journal.specs.Lists.{Has}
 use Rattle.cast_carrier.specs.Carriers.{IsTaken, Brings, CarrierKeeps, WaitsBy, PutsOne, PutsCopy, HandsOn, HandsOnAll, HandsOnUnless, HandsOver, counted_down, waiting_on, due_by}
-use Rattle.cast_carrier.proofs.Lists.{has_left, has_last, has_snoc, has_none, has_either, has_filter}
+use Rattle.cast_journal.proofs.Lists.{has_left, has_last, has_snoc, has_none, has_either, has_filter}
 
 pub put_or_full : {F : Type 0} (r : Result (Unit {0}) F) (P Q R : Type 0) (A : F → Type 0) → MatchResult r (λ _. P) (λ f. A f × Q × R) → P ⊎ (Q × R)
 put_or_full (Ok u) P Q R A h = inl h

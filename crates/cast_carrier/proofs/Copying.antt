@@ -7,7 +7,7 @@ use Rattle.cast_box.specs.Ends.{PutterEnd, AreSamePutters}
 use Rattle.cast_box.proofs.Same.{get_set}
 use Rattle.cast_message.specs.declared.message.Frame.{Frame}
 use Rattle.cast_message.specs.declared.plan.Fault.{Fault}
-use Rattle.cast_carrier.specs.declared.parcel.Parcel.{Parcel}
+use Rattle.cast_journal.specs.declared.parcel.Parcel.{Parcel}
 use Rattle.cast_carrier.specs.declared.carrier.Delayed.{Delayed}
 use Rattle.cast_carrier.specs.declared.fate.Fate.{Fate}
 use Rattle.cast_carrier.specs.declared.fate.Ordinals.{Ordinals}

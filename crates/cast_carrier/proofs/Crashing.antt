@@ -3,9 +3,9 @@ use Rattle.std.proofs.Common.{◌≡◌, ◌≢◌, ◌≤◌, ◌∙◌, ◌==�
 use Rattle.std.proofs.lemmas.Bool.Decides.{nat_tests}
 use Rattle.cast_message.specs.declared.plan.Fault.{Fault}
 use Rattle.cast_message.specs.declared.plan.Fault.TheVariants.{Lose, Repeat, Delay, Crash}
-use Rattle.cast_carrier.specs.Lists.{Has}
+use Rattle.cast_journal.specs.Lists.{Has}
 use Rattle.cast_carrier.specs.Plans.{crash_by, crash_from, least, IsLeastCrash}
-use Rattle.cast_carrier.proofs.Lists.{has_none}
+use Rattle.cast_journal.proofs.Lists.{has_none}
 
 pub crash_snoc : (p : ℕ) (so : Option ℕ) (xs : List Fault) (f : Fault) → crash_from p so (xs ++ f ∷ []) ≡ crash_by p (crash_from p so xs) f
 unfolding crash_from

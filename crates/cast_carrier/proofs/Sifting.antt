@@ -2,7 +2,7 @@
 use Rattle.std.proofs.Common.{◌≡◌, ◌≢◌, ◌<◌, ◌≤◌, Bool, true, false, not, ◌||◌, cond, nat_lt, ℕ, zero, suc, List, [], ◌∷◌, ◌++◌, length, take, drop, slice_get, Some, refl, sym, ap, ◌∙◌, subst, append-nil, append_assoc, arith}
 use Rattle.std.proofs.lemmas.Bool.Decides.{nat_tests}
 use Rattle.std.specs.List.{filter}
-use Rattle.cast_carrier.specs.declared.parcel.Parcel.{Parcel}
+use Rattle.cast_journal.specs.declared.parcel.Parcel.{Parcel}
 use Rattle.cast_carrier.specs.declared.carrier.Delayed.{Delayed}
 use Rattle.cast_carrier.specs.declared.fate.Fate.{Fate}
 use Rattle.cast_box.specs.Ends.{PutterEnd}

@@ -4,11 +4,11 @@ use Rattle.std.specs.List.{count_by, sum_by, filter}
 use Rattle.cast_box.specs.Ends.{PutterEnd, TakerEnd, IsSameTaker, IsSamePutter, AreSamePutters, WasFull}
 use Rattle.cast_message.specs.Items.{carries_bytes}
 use Rattle.cast_message.specs.declared.plan.Fault.{Fault}
-use Rattle.cast_carrier.specs.declared.parcel.Parcel.{Parcel}
+use Rattle.cast_journal.specs.declared.parcel.Parcel.{Parcel}
 use Rattle.cast_carrier.specs.declared.carrier.Delayed.{Delayed}
 use Rattle.cast_carrier.specs.declared.fate.Fate.{Fate}
 use Rattle.cast_carrier.specs.declared.fate.Ordinals.{Ordinals}
-use Rattle.cast_carrier.specs.Lists.{Has}
+use Rattle.cast_journal.specs.Lists.{Has}
 use Rattle.cast_carrier.specs.Fates.{fate_in}
 use Rattle.cast_carrier.specs.Copies.{ordinals_after, is_for, copies, due}
 

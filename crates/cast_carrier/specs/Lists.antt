@@ -1,12 +1,8 @@
 -- Words about lists.
---     Has xs x                  the list has x
 --     AreSame Same old new      each new element corresponds to the old one in its place
 --     IsRoomFor n v             an empty list with room for n
 use Rattle.std.specs.Prelude.{◌≡◌, ◌≤◌, ℕ, List, [], slice_get, Some, vec_len, vec_capacity}
 use Rattle.std.specs.Global.{Vec}
-
-abbrev pub Has : {A : Type 0} → List A → A → Type 0
-Has xs x = (i : ℕ) × (slice_get xs i ≡ Some x)
 
 abbrev pub AreSame : {S T : Type 0} → (S → T → Type 0) → List S → List T → Type 0
 AreSame {S} {T} Same old new =

@@ -8,9 +8,9 @@ ghost use Rattle.cast_carrier.specs.Carriers.{IsSameCarrier, CarriesOne, AreUnus
 
 use crate::fate::{Fate, Ordinals, fate_of};
 use crate::faults::CarrierFaults;
-use crate::parcel::Parcel;
 use crate::waiting::{Pause, SHORT_NAP};
 use cast_box::{Putter, Taker};
+use cast_journal::Parcel;
 use cast_message::{Fault, NodeId};
 use std::alloc::{AllocError, Global};
 use std::marker::Model;

@@ -3,7 +3,7 @@ ghost use Rattle.std.specs.Prelude.{◌≡◌, ◌↔◌, IsTrue};
 ghost use Rattle.cast_carrier.specs.Fates.{is_kind, is_among, IsAmong, is_one_of, suffered, fate_by, fate_in, ordinal_of, one_more, counted_in};
 
 use crate::faults::CarrierFaults;
-use crate::parcel::Parcel;
+use cast_journal::Parcel;
 use cast_message::{Fault, FrameKind, Frames, NodeId};
 
 /// How many frames of each kind were taken for a target.

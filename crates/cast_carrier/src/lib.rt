@@ -7,12 +7,10 @@ mod board;
 mod carrier;
 mod fate;
 mod faults;
-mod parcel;
 mod plan;
 mod waiting;
 
 pub use board::{Board, QuietWord};
 pub use carrier::{CARRIER_PAUSE, Carrier};
-pub use parcel::Parcel;
 pub use plan::{crash_of, faults_from, is_planned};
 pub use waiting::{Pause, SHORT_NAP, Waiting};

@@ -4,7 +4,7 @@ use Rattle.std.proofs.lemmas.List.{length-map, length-append, map-append, append
 use Rattle.cast_box.proofs.Closing.{get_middle, no_length, map_at, both_more}
 use Rattle.cast_box.specs.Lists.{of, put_by, IsFair, StartsWith}
 use Rattle.cast_box.specs.Ends.{PutterEnd, TakerEnd, AreAllEnds, IsNextToEnd, HaveAllEnded}
-use Rattle.cast_desk.specs.declared.desk.OrderIn.{OrderIn}
+use Rattle.cast_journal.specs.declared.order.OrderIn.{OrderIn}
 use Rattle.cast_desk.specs.declared.notice.Notice.{Notice}
 use Rattle.cast_desk.specs.Desk.{ClientState, IsDeskOf}
 

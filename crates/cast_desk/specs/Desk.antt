@@ -4,7 +4,7 @@ use Rattle.cast_box.specs.declared.opening.BoxFault.{BoxFault}
 use Rattle.cast_box.specs.declared.ends.Full.{Full as Refused}
 use Rattle.cast_box.specs.Ends.{PutterEnd, TakerEnd, IsSamePutter, IsSameTaker, AreAllEnds, AreNew, WasFull, FilledItAlone, IsSize, IsFirstFault}
 use Rattle.cast_message.specs.declared.message.Item.{Item}
-use Rattle.cast_desk.specs.declared.desk.OrderIn.{OrderIn}
+use Rattle.cast_journal.specs.declared.order.OrderIn.{OrderIn}
 use Rattle.cast_desk.specs.declared.notice.Notice.{Notice}
 use Rattle.cast_desk.specs.declared.client.DeskFault.{DeskFault}
 use Rattle.cast_desk.specs.declared.client.DeskFault.TheVariants.{Full, Tickets}

@@ -3,9 +3,9 @@ ghost use Rattle.std.specs.Prelude.{◌≡◌, ◌+◌, ◌^◌, ◌<◌, ◌++�
 ghost use Rattle.cast_box.specs.Lists.{HasTakenOfEnded};
 ghost use Rattle.cast_desk.specs.Desk.{ClientState, IsSameClient, IsRefusal, AreInTurn, counted, next_ticket};
 
-use crate::desk::OrderIn;
 use crate::notice::Notice;
 use cast_box::{Full, Putter, Taker};
+use cast_journal::OrderIn;
 use cast_message::Item;
 use std::marker::Model;
 use std::sync::Wait;

@@ -6,17 +6,8 @@ ghost use Rattle.cast_desk.specs.Desk.{IsPutAt};
 
 use crate::notice::Notice;
 use cast_box::{Full, Putter, Taker};
-use cast_message::Item;
+use cast_journal::OrderIn;
 use std::sync::Wait;
-
-#[derive(Drop)]
-pub struct OrderIn {
-    /// The client's number at its node, from 0.
-    pub client: u64,
-    /// The ticket that the client received for the order.
-    pub ticket: u64,
-    pub item: Item,
-}
 
 /// The node's ends of its clients' boxes.
 #[derive(Drop)]

@@ -10,7 +10,7 @@ mod notice;
 mod told;
 
 pub use client::{Client, DeskFault};
-pub use desk::{Desk, OrderIn};
+pub use desk::Desk;
 pub use make::{MOST_CLIENTS, end_desk, make_desk};
 pub use notice::Notice;
 pub use told::{feed, orders_in, own_reply};

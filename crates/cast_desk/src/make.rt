@@ -6,9 +6,10 @@ ghost use Rattle.cast_desk.specs.declared.notice.Notice.{Notice};
 ghost use Rattle.cast_desk.specs.Desk.{ClientState, IsDeskOf, IsNewDesk, IsNewTray, IsClients, IsFaultOf, new_client};
 
 use crate::client::Client;
-use crate::desk::{Desk, OrderIn};
+use crate::desk::Desk;
 use crate::notice::Notice;
 use cast_box::{BoxFault, Gathered, MOST_PLACES, Putter, Taker, make_box};
+use cast_journal::OrderIn;
 use std::alloc::{AllocError, Global};
 use std::sync::Wait;
 

@@ -15,14 +15,14 @@ use Rattle.cast_log.specs.declared.entry.Origin.{Origin}
 use Rattle.cast_log.specs.declared.entry.Entry.{Entry}
 use Rattle.cast_log.specs.declared.entry.EntryKind.{EntryKind}
 use Rattle.cast_log.specs.declared.entry.EntryKind.TheVariants.{Step as StepEntry, Refused}
-use Rattle.cast_desk.specs.declared.desk.OrderIn.{OrderIn}
+use Rattle.cast_journal.specs.declared.order.OrderIn.{OrderIn}
 use Rattle.cast_box.specs.Lists.{of}
 use Rattle.cast_node.specs.Linked.{StampedStep, Trail, steps_in, event_of, outcome_in}
-use Rattle.cast_carrier.specs.Lists.{Has}
+use Rattle.cast_journal.specs.Lists.{Has}
 use Rattle.cast_journal.specs.Runs.{Read, Moved, Came, Served, Denied, Run, mark, trail_of, log_of, orders_of, order_by, entry_by, IsRead, IsRun, is_own, origin_of}
 use Rattle.cast_journal.specs.Journals.{Rises, IsStampedAfter}
 use Rattle.cast_engine.specs.Serving.{is_of, origin_in, entries_of, orders_by, before, HasOriginOf, IsOriginIn, IsAnswered, IsAnsweredBy, Matches}
-use Rattle.cast_carrier.proofs.Lists.{has_left, has_last, has_snoc, has_none, has_filter}
+use Rattle.cast_journal.proofs.Lists.{has_left, has_last, has_snoc, has_none, has_filter}
 
 module _ {A B : Type 0} where
   pub matches_snoc : (R : A → B → Type 0) (xs : List A) (ys : List B) (x : A) (y : B) → Matches R xs ys → R x y → Matches R (xs ++ x ∷ []) (ys ++ y ∷ [])

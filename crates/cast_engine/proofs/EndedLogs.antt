@@ -20,11 +20,11 @@ use Rattle.cast_engine.specs.Feeding.{told_here, told_at, told_to, IsPlaced, Are
 use Rattle.cast_engine.specs.Clocks.{Follows, stamps_made}
 use Rattle.cast_engine.specs.Engines.{EngineState, CameIn, Leaves, Tells, WereTold, trays_at}
 use Rattle.cast_box.proofs.Closing.{found}
-use Rattle.cast_carrier.proofs.Lists.{has_left}
+use Rattle.cast_journal.proofs.Lists.{has_left}
 use Rattle.cast_engine.proofs.Answering.{run_fits, run_origins}
 use Rattle.cast_engine.proofs.Stamping.{run_follows, run_made}
 use Rattle.cast_engine.specs.Serving.{Serves}
-use Rattle.cast_desk.specs.declared.desk.OrderIn.{OrderIn}
+use Rattle.cast_journal.specs.declared.order.OrderIn.{OrderIn}
 
 pub leaves_tell : (e : EngineState) (log : List Entry) (node : Kept) (ended : EngineEnd) → Leaves e log node ended → Tells e log node
 leaves_tell e log node ended l =

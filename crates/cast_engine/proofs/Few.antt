@@ -4,7 +4,7 @@ use Rattle.std.specs.Prelude.{slice_get, slice_set}
 use Rattle.std.proofs.lemmas.Bool.{cases_eq}
 use Rattle.cast_box.specs.Ends.{PutterEnd, TakerEnd, IsSamePutter}
 use Rattle.cast_desk.specs.declared.notice.Notice.{Notice}
-use Rattle.cast_carrier.specs.declared.parcel.Parcel.{Parcel}
+use Rattle.cast_journal.specs.declared.parcel.Parcel.{Parcel}
 use Rattle.cast_engine.specs.Feeding.{put_into, TellEach}
 use Rattle.cast_engine.specs.Engines.{EngineState, HasSameBoxes, DoesFew}
 

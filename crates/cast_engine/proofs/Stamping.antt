@@ -10,9 +10,9 @@ use Rattle.cast_model.specs.OwnSteps.{own_made, node_reply}
 use Rattle.cast_log.specs.declared.entry.Entry.{Entry}
 use Rattle.cast_log.specs.declared.entry.EntryKind.{EntryKind}
 use Rattle.cast_log.specs.declared.entry.EntryKind.TheVariants.{Step as StepEntry, Refused}
-use Rattle.cast_carrier.specs.declared.parcel.Parcel.{Parcel}
-use Rattle.cast_carrier.specs.Lists.{Has}
-use Rattle.cast_carrier.proofs.Lists.{has_left, has_right}
+use Rattle.cast_journal.specs.declared.parcel.Parcel.{Parcel}
+use Rattle.cast_journal.specs.Lists.{Has}
+use Rattle.cast_journal.proofs.Lists.{has_left, has_right}
 use Rattle.cast_node.specs.Linked.{Made, event_of, outcome_in, steps_in, made_in, stamped}
 use Rattle.cast_journal.specs.Runs.{Read, Moved, Came as Arrival, Served, Denied, Run, trail_of, log_of, parcels_of, parcel_by, entry_by, IsRead, IsRun, is_own, clock_after, AreStamped, IsStamped}
 use Rattle.cast_engine.specs.Clocks.{makes, stamps_made, IsStampedAs, IsStampedBy, Follows}

@@ -10,9 +10,9 @@ use Rattle.cast_node.specs.Kept.{Kept, nothing_kept}
 use Rattle.cast_node.specs.Turns.{frame_made}
 use Rattle.cast_box.specs.Ends.{PutterEnd}
 use Rattle.cast_desk.specs.declared.desk.Desk.{Desk}
-use Rattle.cast_desk.specs.declared.desk.OrderIn.{OrderIn}
+use Rattle.cast_journal.specs.declared.order.OrderIn.{OrderIn}
 use Rattle.cast_desk.specs.declared.notice.Notice.{Notice}
-use Rattle.cast_carrier.specs.declared.parcel.Parcel.{Parcel}
+use Rattle.cast_journal.specs.declared.parcel.Parcel.{Parcel}
 use Rattle.cast_engine.specs.declared.feeding.Place.{Place}
 use Rattle.cast_journal.specs.Runs.{EngineKeeps, Handed}
 use Rattle.cast_journal.specs.Journals.{JournalState, LogsStep, LogsRefusal, LogsOrder, OnlyEnds, Halts, EndsLate, IsClosed, MayLog, Rises, EndsAs, KeepsOf}

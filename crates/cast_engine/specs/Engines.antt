@@ -6,13 +6,13 @@ use Rattle.cast_message.specs.declared.message.Frame.{Frame}
 use Rattle.cast_box.specs.Ends.{PutterEnd, TakerEnd, IsSamePutter, IsSameTaker, AreSamePutters}
 use Rattle.cast_log.specs.declared.entry.Entry.{Entry}
 use Rattle.cast_desk.specs.declared.desk.Desk.{Desk}
-use Rattle.cast_desk.specs.declared.desk.OrderIn.{OrderIn}
+use Rattle.cast_journal.specs.declared.order.OrderIn.{OrderIn}
 use Rattle.cast_desk.specs.declared.notice.Notice.{Notice}
-use Rattle.cast_carrier.specs.declared.parcel.Parcel.{Parcel}
+use Rattle.cast_journal.specs.declared.parcel.Parcel.{Parcel}
 use Rattle.cast_engine.specs.declared.feeding.Place.{Place}
 use Rattle.cast_engine.specs.declared.engine.Turn.{Turn}
 use Rattle.cast_engine.specs.declared.engine.Turn.TheVariants.{Idle, Stopped, Ended}
-use Rattle.cast_carrier.specs.Lists.{Has}
+use Rattle.cast_journal.specs.Lists.{Has}
 use Rattle.cast_engine.specs.Clocks.{Follows, stamps_made}
 use Rattle.cast_journal.specs.Runs.{EngineKeeps, AreArrivals, parcels_for, parcel, made_of}
 use Rattle.cast_node.specs.Linked.{Trail, IsLogOf, made_in, stamped}

@@ -15,9 +15,9 @@ use Rattle.cast_log.specs.declared.entry.Origin.{Origin}
 use Rattle.cast_log.specs.declared.entry.Entry.{Entry}
 use Rattle.cast_log.specs.declared.entry.EntryKind.{EntryKind}
 use Rattle.cast_log.specs.declared.entry.EntryKind.TheVariants.{Step as StepEntry, Refused}
-use Rattle.cast_desk.specs.declared.desk.OrderIn.{OrderIn}
+use Rattle.cast_journal.specs.declared.order.OrderIn.{OrderIn}
 use Rattle.cast_node.specs.Linked.{Trail, steps_in}
-use Rattle.cast_carrier.specs.Lists.{Has}
+use Rattle.cast_journal.specs.Lists.{Has}
 use Rattle.cast_journal.specs.Runs.{origin_of}
 
 abbrev pub is_of : ℕ → Option Origin → Bool

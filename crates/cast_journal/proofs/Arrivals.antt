@@ -5,9 +5,9 @@ use Rattle.std.proofs.lemmas.List.Sums.{sum_by-cons, sum_by-append, sum_by_push}
 use Rattle.cast_message.specs.declared.message.Frame.{Frame}
 use Rattle.cast_model.specs.Steps.{Step, Ordered, Sent, Acknowledged, Arrived, Stopped}
 use Rattle.cast_node.specs.Linked.{Trail, EachArrival, OnArrival}
-use Rattle.cast_carrier.specs.declared.parcel.Parcel.{Parcel}
-use Rattle.cast_carrier.specs.Lists.{Has}
-use Rattle.cast_carrier.proofs.Lists.{has_left, has_last, has_filter}
+use Rattle.cast_journal.specs.declared.parcel.Parcel.{Parcel}
+use Rattle.cast_journal.specs.Lists.{Has}
+use Rattle.cast_journal.proofs.Lists.{has_left, has_last, has_filter}
 use Rattle.cast_journal.specs.Runs.{parcel, parcels_for, arrived_by, arrivals_in, Adds, AreArrivals, CameBefore}
 
 has_number : (taken : List (ℕ × Parcel)) (x : Parcel) → Has (map (λ (m : ℕ × Parcel). m.1) taken) x → (n : ℕ) × Has taken (n, x)

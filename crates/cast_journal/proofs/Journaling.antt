@@ -4,7 +4,6 @@ use Rattle.std.specs.Prelude.{if◌then◌else◌}
 use Rattle.std.specs.FinMap as finite
 use Rattle.std.proofs.lemmas.Bool.{false≢true}
 use Rattle.std.proofs.lemmas.List.{length-append}
-use Rattle.cast_box.proofs.Closing.{get_snoc, get_middle}
 use Rattle.cast_message.specs.declared.config.Config.{Config}
 use Rattle.cast_message.specs.declared.event.Answer.{Answer}
 use Rattle.cast_message.specs.declared.message.FrameBody.{FrameBody}
@@ -12,6 +11,7 @@ use Rattle.cast_message.specs.declared.message.FrameBody.TheVariants.{Carry, Too
 use Rattle.cast_message.specs.declared.message.Message.{Message}
 use Rattle.cast_model.specs.Steps.{Step, Ordered, Sent, Acknowledged, Arrived, Stopped, making}
 use Rattle.cast_model.specs.OwnSteps.{is_stop}
+use Rattle.cast_model.proofs.Round.{slice_get_last}
 use Rattle.std.specs.Prelude.{Ok}
 use Rattle.cast_log.specs.declared.entry.Entry.{Entry}
 use Rattle.cast_log.specs.declared.entry.EntryKind.{EntryKind}
@@ -22,6 +22,7 @@ use Rattle.cast_node.specs.declared.report.EngineEnd.TheVariants.{Crashed, LogFu
 use Rattle.cast_node.specs.Linked.{event_of}
 use Rattle.cast_message.specs.declared.message.FrameKind.{FrameKind}
 use Rattle.cast_message.specs.declared.message.FrameKind.TheVariants as kinds
+use Rattle.cast_node.proofs.Logging.{get_snoc}
 use Rattle.cast_journal.specs.Journals.{Rises, IsStampedAfter, is_crash, is_crash_event, EndsAs, JournalKeeps, JournalState, MayLog}
 
 abbrev pub entry : ℕ → EntryKind → Entry
@@ -53,7 +54,7 @@ module _ (limit : ℕ) (crash : Option ℕ) (log : List Entry) (ends : EndsAs li
         let own = loud (ap (λ (z : Entry). is_crash z.kind) y.1 ∙ c) in
         let l = longer e in
         (omega (arith, y.0), own.0 ∙ ap (λ n. Some n) (sym y.0), own.1)) (get_snoc log e x i at);
-    crashed = λ h. (length log, e, get_middle log e [], crashed h);
+    crashed = λ h. (length log, e, slice_get_last log e, crashed h);
   }
 
   pub ends_more : (e : Entry) → is_crash e.kind ≡ false → ((n : ℕ) → crash ≡ Some n → length log < n) → EndsAs limit crash None (log ++ e ∷ [])

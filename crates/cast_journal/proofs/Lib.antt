@@ -1,3 +1,4 @@
+pub mod Lists
 pub mod Journaling
 pub mod Running
 pub mod RunLogs

@@ -1,18 +1,18 @@
 -- What the log of a run tells, and what is kept before anything was done.
 use Rattle.std.proofs.Common.{◌≡◌, ℕ, zero, suc, ◌+◌, ◌<◌, List, [], ◌∷◌, ◌++◌, length, map, slice_get, Option, Some, None, true, sym, refl, ap, ◌∙◌, subst, arith}
-use Rattle.std.specs.Prelude.{reverse, slice_index_or}
+use Rattle.std.specs.Prelude.{reverse, slice_index_or, option_map}
 use Rattle.std.proofs.lemmas.List.{append-nil, reverse-append}
+use Rattle.std.proofs.lemmas.Option.{slice_get-map}
 use Rattle.cast_message.specs.declared.config.Config.{Config}
 use Rattle.cast_model.specs.Steps.{Step, Ordered, Sent, Acknowledged, Arrived, Stopped}
 use Rattle.cast_log.specs.declared.entry.Entry.{Entry}
-use Rattle.cast_desk.specs.declared.desk.OrderIn.{OrderIn}
-use Rattle.cast_carrier.specs.declared.parcel.Parcel.{Parcel}
+use Rattle.cast_journal.specs.declared.order.OrderIn.{OrderIn}
+use Rattle.cast_journal.specs.declared.parcel.Parcel.{Parcel}
 use Rattle.cast_node.specs.Kept.{nothing_kept}
 use Rattle.cast_node.specs.Linked.{TakenStep, steps_in, kept_in, taken_in, taken_by, taken, taken_of, AreTaken, IsRising, made_in}
-use Rattle.cast_carrier.specs.Lists.{Has}
+use Rattle.cast_journal.specs.Lists.{Has}
 use Rattle.cast_journal.specs.Runs.{Moved, Came, Served, Denied, Run, mark, made_of, trail_of, log_of, orders_of, parcels_of, entry_by, IsRun, is_own, clock_after, AreStamped, Adds, AreArrivals, EngineKeeps}
 use Rattle.cast_journal.specs.Journals.{Rises}
-use Rattle.cast_box.proofs.Closing.{map_at}
 use Rattle.cast_node.proofs.Beginning.{stands_for_nothing}
 use Rattle.cast_node.proofs.Logging.{one_more, made_numbered}
 
@@ -79,7 +79,7 @@ pub handed_made : (config : Config) (p : ℕ) (run : Run) → IsRun config p run
     → (x : Parcel) → Has xs x → slice_get (made_in config p (trail_of run)) x.frame.seq ≡ Some (made_of x)
 handed_made config p run runs xs all x h =
     let made = made_in config p (trail_of run) in
-    let at : slice_get made h.0 ≡ Some (made_of x) = ap (λ l. slice_get l h.0) (sym all) ∙ map_at made_of xs h.0 x h.1 in
+    let at : slice_get made h.0 ≡ Some (made_of x) = ap (λ l. slice_get l h.0) (sym all) ∙ slice_get-map made_of xs h.0 ∙ ap (option_map made_of) h.1 in
     let seq = (made_numbered config p (trail_of run) (run_taken config p run runs) h.0 (made_of x) at).1 in
     ap (slice_get made) seq ∙ at
 

@@ -19,8 +19,8 @@ use Rattle.cast_node.specs.Stands.{Stands}
 use Rattle.cast_node.proofs.Continuing.{continues}
 use Rattle.cast_node.proofs.Refusals.{faults_are}
 use Rattle.cast_node.proofs.Showing.{carries, tells_taken}
-use Rattle.cast_desk.specs.declared.desk.OrderIn.{OrderIn}
-use Rattle.cast_carrier.specs.declared.parcel.Parcel.{Parcel}
+use Rattle.cast_journal.specs.declared.order.OrderIn.{OrderIn}
+use Rattle.cast_journal.specs.declared.parcel.Parcel.{Parcel}
 use Rattle.cast_node.specs.Linked.{Trail, event_of, outcome_in, steps_in, made_in, kept_in, stamped, IsFor}
 use Rattle.cast_journal.specs.Runs.{Moved, Came, Served, Denied, mark, trail_of, log_of, orders_of, parcels_of, parcels_for, IsRun, clock_after, AreStamped, made_of, is_own, origin_of, EngineKeeps, Handed}
 use Rattle.cast_journal.specs.Journals.{JournalState, LogsStep, LogsRefusal, LogsOrder, OnlyEnds, Halts, KeepsOf}

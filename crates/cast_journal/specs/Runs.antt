@@ -26,9 +26,9 @@ use Rattle.cast_log.specs.declared.entry.EntryKind.TheVariants.{Step as StepEntr
 use Rattle.cast_node.specs.Kept.{Kept}
 use Rattle.cast_node.specs.Stands.{Stands}
 use Rattle.cast_node.specs.Turns.{may_want}
-use Rattle.cast_desk.specs.declared.desk.OrderIn.{OrderIn}
-use Rattle.cast_carrier.specs.declared.parcel.Parcel.{Parcel}
-use Rattle.cast_carrier.specs.Lists.{Has}
+use Rattle.cast_journal.specs.declared.order.OrderIn.{OrderIn}
+use Rattle.cast_journal.specs.declared.parcel.Parcel.{Parcel}
+use Rattle.cast_journal.specs.Lists.{Has}
 use Rattle.cast_node.specs.Linked.{StampedStep, Made, Trail, event_of, outcome_in, steps_in, made_in, kept_in, stamped, IsFor}
 
 -- an entry, and its step or order

@@ -10,8 +10,8 @@ ghost use Rattle.cast_node.specs.Turns.{Gives, kept_fault, frame_made, may_want}
 ghost use Rattle.cast_node.specs.declared.report.EngineEnd.TheVariants.{Crashed, TurnLimit, ClockFull};
 ghost use Rattle.cast_journal.specs.Journals.{MayLog, LogsStep, LogsOrder, IsDeliveredLast, Halts, HaltsBy, EndsLate, IsClosed, AsksOrder, MayEnd};
 
-use cast_carrier::Parcel;
-use cast_desk::OrderIn;
+use crate::order::OrderIn;
+use crate::parcel::Parcel;
 use cast_log::{Entry, EntryKind, Log, OpenLog, Origin};
 use cast_message::{Config, Event, Frame, FrameKind, Item, NodeId, Outcome, StepFault};
 use cast_node::{EngineEnd, Node, no_news};

@@ -8,10 +8,10 @@ use Rattle.cast_log.specs.declared.entry.Entry.{Entry}
 use Rattle.cast_log.specs.declared.entry.Origin.{Origin}
 use Rattle.cast_log.specs.declared.entry.EntryKind.TheVariants.{Step as StepEntry, Refused}
 use Rattle.cast_node.specs.Linked.{event_of, outcome_in_answer}
-use Rattle.cast_desk.specs.declared.desk.OrderIn.{OrderIn}
-use Rattle.cast_carrier.specs.declared.parcel.Parcel.{Parcel}
-use Rattle.cast_carrier.specs.Lists.{Has}
-use Rattle.cast_carrier.proofs.Lists.{has_left, has_last, has_none, has_snoc}
+use Rattle.cast_journal.specs.declared.order.OrderIn.{OrderIn}
+use Rattle.cast_journal.specs.declared.parcel.Parcel.{Parcel}
+use Rattle.cast_journal.specs.Lists.{Has}
+use Rattle.cast_journal.proofs.Lists.{has_left, has_last, has_none, has_snoc}
 use Rattle.cast_journal.specs.Journals.{JournalState, LogsStep, LogsRefusal, LogsOrder, OnlyEnds, Halts, Rises, is_arrival_event, KeepsOf}
 use Rattle.cast_journal.specs.Runs.{origin_of}
 use Rattle.cast_journal.proofs.Journaling.{rises_more}

@@ -10,9 +10,9 @@ use Rattle.cast_node.specs.Linked.{Trail, IsLogOf, made_in, stamped, taken, Link
 use Rattle.cast_node.specs.Linking.{WasPutBefore, NodeTells}
 use Rattle.cast_node.proofs.Linking.{linked_from}
 use Rattle.cast_node.proofs.Logging.{each_arrival}
-use Rattle.cast_carrier.specs.declared.parcel.Parcel.{Parcel}
-use Rattle.cast_carrier.specs.Lists.{Has}
-use Rattle.cast_carrier.proofs.Lists.{has_left}
+use Rattle.cast_journal.specs.declared.parcel.Parcel.{Parcel}
+use Rattle.cast_journal.specs.Lists.{Has}
+use Rattle.cast_journal.proofs.Lists.{has_left}
 use Rattle.cast_journal.specs.Journals.{JournalState}
 use Rattle.cast_journal.specs.Runs.{EngineKeeps, parcel, trail_of, parcels_of, made_of, CameBefore}
 use Rattle.cast_journal.proofs.RunLogs.{rises_pairs, run_tells, run_taken, run_arrivals, handed_made}

@@ -10,9 +10,9 @@ use Rattle.cast_message.specs.declared.message.FrameKind.{FrameKind}
 use Rattle.cast_node.specs.Kept.{nothing_kept}
 use Rattle.cast_node.specs.Linked.{Linked}
 use Rattle.cast_node.specs.declared.report.NodeReport.{NodeReport}
-use Rattle.cast_desk.specs.declared.desk.OrderIn.{OrderIn}
-use Rattle.cast_carrier.specs.declared.parcel.Parcel.{Parcel}
-use Rattle.cast_carrier.specs.Lists.{Has}
+use Rattle.cast_journal.specs.declared.order.OrderIn.{OrderIn}
+use Rattle.cast_journal.specs.declared.parcel.Parcel.{Parcel}
+use Rattle.cast_journal.specs.Lists.{Has}
 use Rattle.cast_journal.specs.Journals.{JournalState, LogsOrder, Halts}
 use Rattle.cast_wire.specs.Law.{HasNumbers}
 use Rattle.cast_peer.specs.Peers.{packet_of, bytes_of, MakesFrame, Takes}

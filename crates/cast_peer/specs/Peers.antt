@@ -12,7 +12,7 @@ use Rattle.cast_message.specs.declared.message.FrameBody.TheVariants as bodies
 use Rattle.cast_message.specs.declared.message.FrameKind.{FrameKind}
 use Rattle.cast_model.specs.Steps.{Arrived, making}
 use Rattle.cast_node.specs.Turns.{frame_made}
-use Rattle.cast_carrier.specs.declared.parcel.Parcel.{Parcel}
+use Rattle.cast_journal.specs.declared.parcel.Parcel.{Parcel}
 use Rattle.cast_wire.specs.declared.packet.Packet.{Packet}
 use Rattle.cast_wire.specs.Wire.{packet_bytes}
 use Rattle.cast_wire.specs.Law.{HasNumbers}

@@ -2,8 +2,8 @@
 use Rattle.std.proofs.Common.{◌≡◌, ◌<◌, ℕ, zero, suc, arith, List, ◌∷◌, ◌++◌, take, drop, refl, sym, subst, inl, inr, ⊎_elim, ◌⊎◌}
 use Rattle.std.specs.List.{insert}
 use Rattle.std.proofs.lemmas.List.{take-append-drop}
-use Rattle.cast_carrier.specs.Lists.{Has}
-use Rattle.cast_carrier.proofs.Lists.{has_left, has_right, has_either}
+use Rattle.cast_journal.specs.Lists.{Has}
+use Rattle.cast_journal.proofs.Lists.{has_left, has_right, has_either}
 use Rattle.cast_resend.specs.declared.due.Due.{Due}
 use Rattle.cast_resend.specs.Dues.{AddsAgain}
 

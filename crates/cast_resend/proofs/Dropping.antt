@@ -3,7 +3,7 @@ use Rattle.std.proofs.Common.{◌≡◌, ℕ, zero, suc, ◌+◌, ◌-◌, ◌�
 use Rattle.std.specs.Prelude.{option_to_list, MatchOption}
 use Rattle.std.proofs.lemmas.List.{append-nil, length_push}
 use Rattle.cast_box.proofs.Closing.{get_middle}
-use Rattle.cast_carrier.specs.Lists.{Has}
+use Rattle.cast_journal.specs.Lists.{Has}
 use Rattle.cast_node.specs.Kept.{Kept}
 use Rattle.cast_resend.specs.Dues.{owes, AreNotOwed, EndsNotOwed, Drops}
 

@@ -1,7 +1,7 @@
 -- What is remembered while peers are looked at, and while nodes owe less, or more after what was given.
 use Rattle.std.proofs.Common.{◌≡◌, ℕ, ◌<◌, ◌≤◌, Bool, true, false, length, slice_get, Option, Some, None, refl, sym, ◌∙◌, subst, inl, inr, ⊎_elim, ◌⊎◌, arith}
 use Rattle.std.specs.FinSet as set
-use Rattle.cast_carrier.specs.Lists.{Has}
+use Rattle.cast_journal.specs.Lists.{Has}
 use Rattle.cast_node.specs.Kept.{Kept, link_to}
 use Rattle.cast_resend.specs.declared.due.Due.{Due}
 use Rattle.cast_resend.specs.declared.resend.Resend.{Resend}

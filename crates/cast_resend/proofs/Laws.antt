@@ -2,8 +2,8 @@
 use Rattle.std.proofs.Common.{◌≡◌, ℕ, suc, ◌-◌, ◌<◌, ◌≤◌, true, false, List, [], length, slice_get, Some, sym, ap, ◌∙◌, subst, inl, inr, ⊎_elim, arith}
 use Rattle.std.specs.FinSet as set
 use Rattle.std.proofs.lemmas.Bool.Decides.{leb_tells}
-use Rattle.cast_carrier.specs.Lists.{Has}
-use Rattle.cast_carrier.proofs.Lists.{has_none}
+use Rattle.cast_journal.specs.Lists.{Has}
+use Rattle.cast_journal.proofs.Lists.{has_none}
 use Rattle.cast_node.specs.Kept.{Kept}
 use Rattle.cast_resend.specs.declared.due.Due.{Due}
 use Rattle.cast_resend.specs.declared.resend.Resend.{Resend}

@@ -5,14 +5,14 @@ use Rattle.std.specs.Vec.{with_item}
 use Rattle.std.proofs.lemmas.Bool.Decides.{eqb_tells}
 use Rattle.std.proofs.lemmas.Option.{slice_get_past}
 use Rattle.cast_box.proofs.Same.{get_set}
-use Rattle.cast_carrier.specs.Lists.{Has}
+use Rattle.cast_journal.specs.Lists.{Has}
 use Rattle.cast_node.specs.Kept.{Kept}
 use Rattle.cast_resend.specs.declared.due.Due.{Due}
 use Rattle.cast_resend.specs.declared.resend.Resend.{Resend}
 use Rattle.cast_resend.specs.Dues.{owes, NoneDue, Drops, AddsAgain}
 use Rattle.cast_resend.specs.Hopes.{IsNoneDueTo}
 use Rattle.cast_resend.specs.Keeps.{Keeps, GivesPast, LooksAt, MakesDue}
-use Rattle.cast_carrier.proofs.Lists.{has_left, has_either}
+use Rattle.cast_journal.proofs.Lists.{has_left, has_either}
 use Rattle.cast_resend.proofs.Members.{stays_in, was_in, is_out}
 use Rattle.cast_resend.proofs.Hoping.{none_dropped}
 use Rattle.cast_resend.proofs.Keeping.{Moves, keeps_more, less_past, less_self}

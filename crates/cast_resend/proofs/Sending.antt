@@ -9,8 +9,8 @@ use Rattle.std.proofs.lemmas.List.{append-nil, length_push, length-set}
 use Rattle.std.proofs.lemmas.Option.{slice_get_within}
 use Rattle.cast_box.proofs.Same.{get_set}
 use Rattle.cast_box.proofs.Closing.{get_middle}
-use Rattle.cast_carrier.specs.Lists.{Has}
-use Rattle.cast_carrier.proofs.Lists.{has_left, has_either, has_none}
+use Rattle.cast_journal.specs.Lists.{Has}
+use Rattle.cast_journal.proofs.Lists.{has_left, has_either, has_none}
 use Rattle.cast_node.specs.Kept.{Kept, link_to}
 use Rattle.cast_resend.specs.declared.due.Due.{Due}
 use Rattle.cast_resend.specs.declared.resend.Sent.{Sent}

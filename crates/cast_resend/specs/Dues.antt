@@ -6,7 +6,7 @@
 --     NoneDue kept to window due     no slot that is owed is due
 use Rattle.std.specs.Prelude.{◌≡◌, ℕ, ◌+◌, ◌-◌, ◌≤◌, ◌<◌, Bool, true, false, ◌&&◌, ◌⊎◌, List, ◌++◌, length, slice_get, Some, option_to_list, Option}
 use Rattle.std.specs.FinMap as finite
-use Rattle.cast_carrier.specs.Lists.{Has}
+use Rattle.cast_journal.specs.Lists.{Has}
 use Rattle.cast_node.specs.Kept.{Kept, link_to}
 use Rattle.cast_node.specs.Calls.{is_peer}
 use Rattle.cast_resend.specs.declared.due.Due.{Due}

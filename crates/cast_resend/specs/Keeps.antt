@@ -9,7 +9,7 @@
 --     ForgetsNothing           if nothing is due, each owed slot was sent lately, or has no room in the window
 use Rattle.std.specs.Prelude.{◌≡◌, ◌≢◌, ℕ, ◌-◌, ◌<◌, ◌≤◌, true, ◌⊎◌, length, slice_get, Some, None}
 use Rattle.std.specs.FinSet as set
-use Rattle.cast_carrier.specs.Lists.{Has}
+use Rattle.cast_journal.specs.Lists.{Has}
 use Rattle.cast_node.specs.Kept.{Kept, link_to}
 use Rattle.cast_resend.specs.declared.due.Due.{Due}
 use Rattle.cast_resend.specs.declared.resend.Sent.{Sent}

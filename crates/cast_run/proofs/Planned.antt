@@ -13,9 +13,9 @@ use Rattle.cast_message.specs.declared.plan.Fault.{Fault}
 use Rattle.cast_node.specs.declared.report.NodeReport.{NodeReport}
 use Rattle.cast_node.specs.Linked.{Trail, Made, IsLogOf, EachArrival, made_in}
 use Rattle.cast_node.proofs.Logging.{choose, each_arrival, made_numbered}
-use Rattle.cast_carrier.specs.declared.parcel.Parcel.{Parcel}
+use Rattle.cast_journal.specs.declared.parcel.Parcel.{Parcel}
 use Rattle.cast_carrier.specs.declared.fate.Ordinals.{Ordinals}
-use Rattle.cast_carrier.specs.Lists.{Has}
+use Rattle.cast_journal.specs.Lists.{Has}
 use Rattle.cast_journal.specs.Runs.{parcel, made_of}
 use Rattle.cast_journal.proofs.Arrivals.{HasTakenEach, was_taken, arrivals_came, no_more_arrived}
 use Rattle.cast_carrier.specs.Fates.{fate_in, counted_in}

@@ -3,7 +3,7 @@ use Rattle.std.proofs.Common.{◌≡◌, ◌≢◌, ◌∙◌, ◌<◌, ℕ, Boo
 use Rattle.std.proofs.lemmas.List.{length-set}
 use Rattle.std.proofs.lemmas.Option.{slice_get_read}
 use Rattle.cast_box.proofs.Same.{get_set, taker_same, taker_again, putters_same, putters_again}
-use Rattle.cast_desk.specs.declared.desk.OrderIn.{OrderIn}
+use Rattle.cast_journal.specs.declared.order.OrderIn.{OrderIn}
 use Rattle.cast_desk.specs.declared.notice.Notice.{Notice}
 use Rattle.cast_engine.specs.Engines.{EngineState, IsSameEngine}
 use Rattle.cast_engine.proofs.Again.{desk_same}

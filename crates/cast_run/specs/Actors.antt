@@ -5,7 +5,7 @@
 --     HaveBegun fact jobs       no job has taken a step
 --     CameBack fact old new     the engines, carriers and jobs of a group are the same, some steps later
 use Rattle.std.specs.Prelude.{◌≡◌, ℕ, Bool, List, length, slice_get, Some}
-use Rattle.cast_desk.specs.declared.desk.OrderIn.{OrderIn}
+use Rattle.cast_journal.specs.declared.order.OrderIn.{OrderIn}
 use Rattle.cast_desk.specs.declared.notice.Notice.{Notice}
 use Rattle.cast_engine.specs.Engines.{IsSameEngine}
 use Rattle.cast_carrier.specs.Carriers.{IsSameCarrier}

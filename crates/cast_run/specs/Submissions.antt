@@ -7,7 +7,7 @@ use Rattle.cast_message.specs.declared.message.Item.{Item}
 use Rattle.cast_desk.specs.Desk.{ClientState, IsRefusal, next_ticket}
 use Rattle.cast_desk.specs.declared.client.DeskFault.{DeskFault}
 use Rattle.cast_desk.specs.declared.client.DeskFault.TheVariants.{Full, Tickets}
-use Rattle.cast_desk.specs.declared.desk.OrderIn.{OrderIn}
+use Rattle.cast_journal.specs.declared.order.OrderIn.{OrderIn}
 
 -- these orders have the first of the items, and these items are left
 abbrev pub AreFirst : List Item → List Item → List OrderIn → Type 0

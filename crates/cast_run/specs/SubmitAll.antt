@@ -1,7 +1,7 @@
 -- What the job that submits a list of items keeps to.
 --     SubmitsGiven        its fact
 use Rattle.std.specs.Prelude.{◌≡◌, ◌≤◌, List, [], Bool, true, length}
-use Rattle.cast_desk.specs.declared.desk.OrderIn.{OrderIn}
+use Rattle.cast_journal.specs.declared.order.OrderIn.{OrderIn}
 use Rattle.cast_desk.specs.declared.notice.Notice.{Notice}
 use Rattle.cast_run.specs.declared.submit_all.SubmitAll.{SubmitAll}
 use Rattle.cast_run.specs.Jobs.{replies_in}

@@ -6,8 +6,9 @@ ghost use Rattle.cast_run.specs.Actors.{ComesFrom, StaysFrom};
 
 use crate::actor::{Actor, Step};
 use cast_box::Putter;
-use cast_carrier::{Board, Parcel, Pause};
+use cast_carrier::{Board, Pause};
 use cast_engine::{Engine, EngineParts, Gate, Quiet, Turn};
+use cast_journal::Parcel;
 use std::alloc::{AllocError, Global};
 use std::marker::Model;
 use std::sync::Wait;

@@ -6,8 +6,8 @@ ghost use Rattle.cast_run.specs.Rooms.{HasEndRoom, HasRoom};
 
 use crate::reports::{ClientReport, Draft, LeftCounts, Row, make_rows};
 use cast_box::Taker;
-use cast_carrier::Parcel;
 use cast_desk::Desk;
+use cast_journal::Parcel;
 use cast_node::NodeReport;
 use std::alloc::{AllocError, Global};
 

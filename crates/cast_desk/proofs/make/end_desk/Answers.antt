@@ -2,7 +2,7 @@ use Rattle.std.proofs.Common.{◌≡◌, ◌∙◌, ◌∷◌, ◌++◌, ◌≤�
 use Rattle.std.specs.Option.{option_to_list}
 use Rattle.cast_box.specs.Lists.{StartsWith, IsFair}
 use Rattle.cast_box.specs.Ends.{PutterEnd, TakerEnd, AreAllEnds, IsNextToEnd}
-use Rattle.cast_desk.specs.declared.desk.OrderIn.{OrderIn}
+use Rattle.cast_journal.specs.declared.order.OrderIn.{OrderIn}
 use Rattle.cast_desk.specs.declared.notice.Notice.{Notice}
 use Rattle.cast_desk.proofs.Ending.{with_ended, ending_none, next_to_end, tray_ends, ending_more, have_ended, put_all, same_taken, same_size, all_took, orders_fair}
 use Rattle.cast_desk.proofs.make.end_desk.Goals as goal

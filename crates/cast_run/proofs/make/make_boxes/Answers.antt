@@ -1,6 +1,6 @@
 use Rattle.std.proofs.Common.{◌≡◌, sym, subst, rules, length, List}
 use Rattle.cast_box.specs.Ends.{PutterEnd}
-use Rattle.cast_carrier.specs.declared.parcel.Parcel.{Parcel}
+use Rattle.cast_journal.specs.declared.parcel.Parcel.{Parcel}
 use Rattle.cast_run.specs.Fresh.{AreNewOutboxes}
 use Rattle.cast_run.proofs.Grid.{grid_none, grid_wide, grid_more, grid_done}
 use Rattle.cast_run.proofs.make.make_boxes.Goals as goal

@@ -1,5 +1,5 @@
 use Rattle.std.proofs.Common.{◌∙◌, ap, refl, sym, subst, arith, Option, Some}
-use Rattle.cast_carrier.specs.declared.parcel.Parcel.{Parcel}
+use Rattle.cast_journal.specs.declared.parcel.Parcel.{Parcel}
 use Rattle.cast_journal.specs.Journals.{JournalState}
 use Rattle.cast_journal.proofs.Running.{waits_mine}
 use Rattle.std.specs.Prelude.{IsFalse}

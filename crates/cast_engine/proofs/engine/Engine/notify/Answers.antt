@@ -6,7 +6,7 @@ use Rattle.cast_engine.proofs.Again.{desk_used}
 use Rattle.std.proofs.Common.{◌∙◌, ap, sym, subst, Option, Some, List}
 use Rattle.cast_log.specs.declared.entry.Entry.{Entry}
 use Rattle.cast_desk.specs.declared.desk.Desk.{Desk}
-use Rattle.cast_desk.specs.declared.desk.OrderIn.{OrderIn}
+use Rattle.cast_journal.specs.declared.order.OrderIn.{OrderIn}
 use Rattle.cast_box.specs.Ends.{TakerEnd}
 use Rattle.cast_engine.specs.Engines.{trays_at, taken_at}
 use Rattle.cast_engine.specs.Feeding.{AreFed}
