@@ -1,5 +1,5 @@
-/* castgroup for C and C++: groups that broadcast numbered items, the judge of their records, and texts of their
- * scripts. It is plain C99, and C++98.
+/* castgroup for C and C++: groups that broadcast numbered items, the judge of their records, texts of their scripts,
+ * and peers, which are nodes in processes of their own. It is plain C99, and C++98.
  *
  * Link libcastgroup, which `bindings/library FOLDER` makes. Each function of this header checks for null pointers, and
  * then calls the library function with cast_c_ in place of cast_. What that returns is proved: the crate cast_c has the
@@ -18,7 +18,7 @@
  * - A handle is used by one thread at a time. Another may use it after a lock, or after a thread was started or joined.
  * - No call is made in a signal handler, nor in the forked child of a process with threads.
  * - malloc, realloc and free belong to one allocator, and align blocks as C says.
- * A group or a judge that is not dropped is never freed. */
+ * A group, a judge or a peer that is not dropped is never freed. */
 #ifndef CASTGROUP_H
 #define CASTGROUP_H
 
@@ -42,7 +42,7 @@ enum cast_status {
     CAST_DONE = 0,          /* done; from a judge: the record is good */
     CAST_MISUSED = 1,       /* a null pointer, a handle that holds nothing, or something where it should not, or an
                                unknown kind */
-    CAST_REFUSED = 2,       /* a configuration, a script, or the number of a node or an item was refused */
+    CAST_REFUSED = 2,       /* a configuration, a script, a packet, or the number of a node or an item was refused */
     CAST_BAD = 3,           /* the record is bad */
     CAST_OUT_OF_MEMORY = 5, /* unless a function says otherwise, what a handle holds is unchanged */
     CAST_TOO_SHORT = 6      /* the buffer has no room */
@@ -54,6 +54,10 @@ struct cast_judging {
     void *at;
 };
 struct cast_world {
+    bool held;
+    void *at;
+};
+struct cast_peer {
     bool held;
     void *at;
 };
@@ -97,6 +101,29 @@ struct cast_item {
     uint64_t kind, length, instance, value;
 };
 
+/* When a peer gives out packets and reports news: once the entries that record them are saved, or at once, for tests. */
+enum cast_saving { CAST_SAVE_FIRST = 0, CAST_SAVE_NEVER = 1 };
+
+/* What a peer gives next: a packet of `length` bytes for node `to`, which the line `place` of its log records; or that
+ * it made and logged a packet, so ask again; or that packets wait until more of the log is saved; or nothing. */
+enum cast_packet_kind { CAST_PACKET = 0, CAST_MADE = 1, CAST_UNSAVED = 2, CAST_NO_PACKET = 3 };
+struct cast_packet {
+    uint64_t kind, to, place, length;
+};
+/* The most bytes of a packet, and of an item. */
+#define CAST_MOST_PACKET 1071
+#define CAST_MOST_BYTES 1024
+
+/* What is new to the application at a peer. CAST_ORDERED: an item that was ordered here has this `number`.
+ * CAST_DELIVERED: the item of the kind `item` that `sender` gave this `number`; it has `length` bytes, or proposes
+ * `value` in `instance`. CAST_DECIDED: the `value` of an `instance`. The other numbers are 0. */
+enum cast_news_kind { CAST_NO_NEWS = 0, CAST_ORDERED = 1, CAST_DELIVERED = 2, CAST_DECIDED = 3 };
+struct cast_news {
+    uint64_t kind, sender, number, item, length, instance, value;
+};
+/* The last line of the log of a node that did not crash. */
+#define CAST_LOG_END "end\n"
+
 /* The length of a text, or why there is none. Fault 1: the script has more than 67,108,864 bytes. 2: it is no JSON.
  * 3: the element `place`, counted from 1, or 0 for the whole, does not have its form. 4: the configuration is
  * refused with code `place` (cast_config_text). */
@@ -122,6 +149,20 @@ uint32_t cast_c_world_owed(struct cast_world *world, uint8_t from, uint8_t to, u
 uint32_t cast_c_world_live(struct cast_world *world, uint8_t node, bool *is_so);
 uint32_t cast_c_world_at_rest(struct cast_world *world, bool *is_so);
 void cast_c_world_drop(struct cast_world *world);
+uint32_t cast_c_peer_new(struct cast_peer *peer, const struct cast_config *config, uint64_t group, uint8_t me, uint32_t saving,
+                         uint64_t *fault);
+uint32_t cast_c_peer_order(struct cast_peer *peer, const struct cast_event *order, const uint8_t *bytes, size_t count,
+                           uint64_t *fault);
+uint32_t cast_c_peer_receive(struct cast_peer *peer, const uint8_t *bytes, size_t count, uint64_t *fault);
+uint32_t cast_c_peer_saved(struct cast_peer *peer, uint64_t count);
+uint32_t cast_c_peer_tick(struct cast_peer *peer);
+uint32_t cast_c_peer_give_up(struct cast_peer *peer, uint8_t node);
+uint32_t cast_c_peer_next(struct cast_peer *peer, struct cast_packet *packet, uint8_t *buffer, size_t room);
+uint32_t cast_c_peer_news(struct cast_peer *peer, struct cast_news *news, uint8_t *buffer, size_t room);
+uint32_t cast_c_peer_is_quiet(struct cast_peer *peer, bool *is_so);
+uint32_t cast_c_peer_log_length(struct cast_peer *peer, uint64_t *count);
+uint32_t cast_c_peer_log(struct cast_peer *peer, uint64_t place, uint64_t *length, uint8_t *buffer, size_t room);
+void cast_c_peer_drop(struct cast_peer *peer);
 uint32_t cast_c_run(const uint8_t *script, size_t count, uint8_t *out, size_t room, struct cast_text *told);
 uint32_t cast_c_draw(const uint8_t *script, size_t count, uint64_t from, uint64_t to, uint8_t *out, size_t room,
                      struct cast_text *told);
@@ -189,6 +230,23 @@ static inline const char *cast_config_text(uint64_t fault) {
     case 6: return "the box size is not 1 to 4096";
     case 7: return "no such mode; or uniform mode, and not fewer than half of the nodes may crash";
     default: return "no such code";
+    }
+}
+
+/* Why a peer takes no packet or order: the `fault` of a call. From 20 on it is a refusal, at 20 and its code. */
+static inline const char *cast_peer_text(uint64_t fault) {
+    switch (fault) {
+    case 1: return "the bytes do not begin as a packet does";
+    case 2: return "a packet of another version";
+    case 3: return "a packet of no known kind";
+    case 4: return "the packet is too short";
+    case 5: return "the packet is too long";
+    case 11: return "a packet of another group";
+    case 12: return "a packet for another node";
+    case 13: return "a packet with the last stamp";
+    case 14: return "a packet that no peer could have made";
+    case 15: return "the log or the clock is full";
+    default: return fault > 20 ? cast_refusal_text(fault - 20) : "no such code";
     }
 }
 
@@ -302,6 +360,99 @@ static inline uint32_t cast_world_at_rest(struct cast_world *world, bool *is_so)
 
 static inline void cast_world_drop(struct cast_world *world) {
     if (world != NULL) cast_c_world_drop(world);
+}
+
+/* A peer: a node of a group between processes, with its log and its clock. It takes the bytes that a network delivered,
+ * and gives those that a network is to carry. It knows neither sockets nor time. The program around it keeps five
+ * rules:
+ * 1. The log comes first. Append its lines to the log file in order, each of them once, and call cast_peer_saved. Until
+ *    then, a peer made with CAST_SAVE_FIRST gives out no packet and no news of these lines. So a killed process leaves a
+ *    log of all that anybody saw of it.
+ * 2. Each number runs once. Make the log file with O_EXCL, so that a process which starts again fails. Its node has
+ *    crashed.
+ * 3. Each start of a group has a new number `group`, drawn at random. A peer drops the packets of another start.
+ * 4. A packet is a datagram of at most CAST_MOST_PACKET bytes. It may get lost, or arrive twice or late. On a byte
+ *    stream, send the length of each packet before the packet.
+ * 5. Ticks are yours, for example a hundred in a second. What isn't acknowledged is sent again after some ticks.
+ * In a turn, call cast_peer_next until it gives no more packet, save the new lines, and repeat that if there were any.
+ * Then take the news. `castgroup merge` makes one run of the logs of all nodes, or names the line that does not fit. */
+
+/* Makes the node `me` of a group, with room for its whole log. CAST_DONE; CAST_MISUSED: the handle holds something, or
+ * there is no such `saving`; CAST_REFUSED: `fault` is 21 if there is no such node, or else the code of the
+ * configuration (cast_config_text); CAST_OUT_OF_MEMORY. */
+static inline uint32_t cast_peer_new(struct cast_peer *peer, const struct cast_config *config, uint64_t group, uint8_t me,
+                                     enum cast_saving saving, uint64_t *fault) {
+    if (peer == NULL || config == NULL || fault == NULL) return CAST_MISUSED;
+    return cast_c_peer_new(peer, config, group, me, (uint32_t)saving, fault);
+}
+/* Broadcasts an item. Of `order` only `item`, and for a proposal `number` and `value`, are read. The bytes are copied,
+ * and read only if it orders some. CAST_DONE: it is logged, and news says later which number it has; CAST_MISUSED: the
+ * handle holds no peer, or there is no such item; CAST_REFUSED: `fault` says why (cast_peer_text), and the log has what
+ * the node refused; CAST_OUT_OF_MEMORY: it is refused, and the log may have that. */
+static inline uint32_t cast_peer_order(struct cast_peer *peer, const struct cast_event *order, const void *bytes, size_t count,
+                                       uint64_t *fault) {
+    if (peer == NULL || order == NULL || !cast_has(bytes, count) || fault == NULL) return CAST_MISUSED;
+    return cast_c_peer_order(peer, order, cast_some(bytes), count, fault);
+}
+/* Takes a packet. CAST_DONE: its arrival is logged, or its content was known; CAST_MISUSED: the handle holds no peer;
+ * CAST_REFUSED: it is dropped, and `fault` says why (cast_peer_text); CAST_OUT_OF_MEMORY: it counts as lost. */
+static inline uint32_t cast_peer_receive(struct cast_peer *peer, const void *packet, size_t count, uint64_t *fault) {
+    if (peer == NULL || !cast_has(packet, count) || fault == NULL) return CAST_MISUSED;
+    return cast_c_peer_receive(peer, cast_some(packet), count, fault);
+}
+/* Gives the next packet, or makes and logs one, or says what has to be done first. CAST_DONE; CAST_MISUSED: the handle
+ * holds no peer; CAST_TOO_SHORT: there is no room for CAST_MOST_PACKET bytes, and nothing changed;
+ * CAST_OUT_OF_MEMORY: the log may have an entry more, and nothing is lost for good. */
+static inline uint32_t cast_peer_next(struct cast_peer *peer, struct cast_packet *packet, void *buffer, size_t room) {
+    if (peer == NULL || packet == NULL || !cast_has(buffer, room)) return CAST_MISUSED;
+    return cast_c_peer_next(peer, packet, cast_some(buffer), room);
+}
+/* Notes how many entries of the log are saved. The number never falls, and is at most that of all entries. CAST_DONE,
+ * CAST_MISUSED. */
+static inline uint32_t cast_peer_saved(struct cast_peer *peer, uint64_t count) {
+    if (peer == NULL) return CAST_MISUSED;
+    return cast_c_peer_saved(peer, count);
+}
+/* Notes that time has passed. What isn't acknowledged is due again, each time after twice as many calls: CAST_DONE,
+ * CAST_MISUSED. */
+static inline uint32_t cast_peer_tick(struct cast_peer *peer) {
+    if (peer == NULL) return CAST_MISUSED;
+    return cast_c_peer_tick(peer);
+}
+/* Gives a node up for good: no message is sent to it any more. This may be a mistake: no promise depends on it.
+ * CAST_DONE, CAST_MISUSED. */
+static inline uint32_t cast_peer_give_up(struct cast_peer *peer, uint8_t node) {
+    if (peer == NULL) return CAST_MISUSED;
+    return cast_c_peer_give_up(peer, node);
+}
+/* Whether nothing is owed to any node that was not given up, no packet waits, and nothing is still to be acknowledged:
+ * CAST_DONE, CAST_MISUSED. */
+static inline uint32_t cast_peer_is_quiet(struct cast_peer *peer, bool *is_so) {
+    if (peer == NULL || is_so == NULL) return CAST_MISUSED;
+    return cast_c_peer_is_quiet(peer, is_so);
+}
+/* The next news that was not reported, with the bytes of a delivered item. CAST_DONE; CAST_MISUSED: the handle holds no
+ * peer; CAST_TOO_SHORT: there is no room for CAST_MOST_BYTES bytes, and nothing changed; CAST_OUT_OF_MEMORY: the news
+ * stays the next. */
+static inline uint32_t cast_peer_news(struct cast_peer *peer, struct cast_news *news, void *buffer, size_t room) {
+    if (peer == NULL || news == NULL || !cast_has(buffer, room)) return CAST_MISUSED;
+    return cast_c_peer_news(peer, news, cast_some(buffer), room);
+}
+/* How many entries the log has: CAST_DONE, CAST_MISUSED. */
+static inline uint32_t cast_peer_log_length(struct cast_peer *peer, uint64_t *count) {
+    if (peer == NULL || count == NULL) return CAST_MISUSED;
+    return cast_c_peer_log_length(peer, count);
+}
+/* A line of the log, with its line feed, and its length. The first line is at place 0, and the entries are at the
+ * places from 1 to their number. The file of a node that stops ends with CAST_LOG_END. CAST_DONE; CAST_MISUSED: the
+ * handle holds no peer; CAST_REFUSED: there is no such line; CAST_TOO_SHORT: no byte is written, and `length` says how
+ * much room it needs; CAST_OUT_OF_MEMORY. */
+static inline uint32_t cast_peer_log(struct cast_peer *peer, uint64_t place, uint64_t *length, void *buffer, size_t room) {
+    if (peer == NULL || length == NULL || !cast_has(buffer, room)) return CAST_MISUSED;
+    return cast_c_peer_log(peer, place, length, cast_some(buffer), room);
+}
+static inline void cast_peer_drop(struct cast_peer *peer) {
+    if (peer != NULL) cast_c_peer_drop(peer);
 }
 
 /* The record of a script, and the picture of its events `from` to `to` (0 and UINT64_MAX: all). CAST_DONE;

@@ -165,6 +165,116 @@ static int codes(void) {
     NEED(strcmp(cast_config_text(1), "the number of nodes is not 1 to 64") == 0);
     NEED(strcmp(cast_status_text(CAST_TOO_SHORT), "the buffer has no room") == 0);
     NEED(strcmp(cast_status_text(4), "no such code") == 0);
+    NEED(strcmp(cast_peer_text(14), "a packet that no peer could have made") == 0);
+    NEED(strcmp(cast_peer_text(27), "the stream is full") == 0 && strcmp(cast_peer_text(33), "no such code") == 0);
+    NEED(strcmp(cast_peer_text(20), "no such code") == 0 && strcmp(cast_peer_text(0), "no such code") == 0);
+    return 0;
+}
+
+/* Handles without a peer answer alike. */
+static int holds_no_peer(struct cast_peer *peer) {
+    struct cast_event event = {.kind = CAST_ORDER, .item = CAST_CLOSE};
+    struct cast_packet packet;
+    struct cast_news news;
+    uint64_t number;
+    bool is_so = false;
+    char bytes[4];
+    NEED(cast_peer_order(peer, &event, NULL, 0, &number) == CAST_MISUSED && cast_peer_receive(peer, "a", 1, &number) == CAST_MISUSED);
+    NEED(cast_peer_next(peer, &packet, bytes, 4) == CAST_MISUSED && cast_peer_news(peer, &news, bytes, 4) == CAST_MISUSED);
+    NEED(cast_peer_saved(peer, 0) == CAST_MISUSED && cast_peer_tick(peer) == CAST_MISUSED && cast_peer_give_up(peer, 0) == CAST_MISUSED);
+    NEED(cast_peer_is_quiet(peer, &is_so) == CAST_MISUSED && cast_peer_log_length(peer, &number) == CAST_MISUSED);
+    NEED(cast_peer_log(peer, 0, &number, bytes, 4) == CAST_MISUSED);
+    cast_peer_drop(peer);
+    return 0;
+}
+
+static int peers(void) {
+    struct cast_peer peer = CAST_EMPTY;
+    struct cast_config config = CAST_CONFIG(2, 0), wrong = CAST_CONFIG(65, 0);
+    struct cast_event event = {.kind = CAST_ORDER, .item = CAST_DATA};
+    struct cast_packet packet;
+    char bytes[CAST_MOST_PACKET];
+    uint64_t fault = 0;
+    bool is_so = false;
+    NEED(holds_no_peer(NULL) == 0 && holds_no_peer(&peer) == 0);
+    NEED(cast_peer_new(NULL, &config, 7, 0, CAST_SAVE_FIRST, &fault) == CAST_MISUSED);
+    NEED(cast_peer_new(&peer, NULL, 7, 0, CAST_SAVE_FIRST, &fault) == CAST_MISUSED);
+    NEED(cast_peer_new(&peer, &config, 7, 0, CAST_SAVE_FIRST, NULL) == CAST_MISUSED);
+    NEED(cast_peer_new(&peer, &config, 7, 0, (enum cast_saving)2, &fault) == CAST_MISUSED);
+    NEED(cast_peer_new(&peer, &wrong, 7, 0, CAST_SAVE_FIRST, &fault) == CAST_REFUSED && fault == 1);
+    NEED(cast_peer_new(&peer, &config, 7, 2, CAST_SAVE_FIRST, &fault) == CAST_REFUSED && fault == 21 && holds_no_peer(&peer) == 0);
+    NEED(cast_peer_new(&peer, &config, 7, 1, CAST_SAVE_FIRST, &fault) == CAST_DONE);
+    NEED(cast_peer_new(&peer, &config, 7, 1, CAST_SAVE_FIRST, &fault) == CAST_MISUSED);
+    NEED(cast_peer_order(&peer, NULL, "abc", 3, &fault) == CAST_MISUSED && cast_peer_order(&peer, &event, "abc", 3, NULL) == CAST_MISUSED);
+    NEED(cast_peer_order(&peer, &event, NULL, 3, &fault) == CAST_MISUSED);
+    event.item = 3;
+    NEED(cast_peer_order(&peer, &event, "abc", 3, &fault) == CAST_MISUSED);
+    NEED(cast_peer_receive(&peer, NULL, 1, &fault) == CAST_MISUSED && cast_peer_receive(&peer, "abcd", 4, NULL) == CAST_MISUSED);
+    NEED(cast_peer_receive(&peer, NULL, 0, &fault) == CAST_REFUSED && fault == 4);
+    NEED(cast_peer_receive(&peer, "abcd", 4, &fault) == CAST_REFUSED && fault == 1);
+    NEED(cast_peer_next(&peer, NULL, NULL, 0) == CAST_MISUSED && cast_peer_next(&peer, &packet, NULL, 1) == CAST_MISUSED);
+    NEED(cast_peer_next(&peer, &packet, bytes, sizeof bytes) == CAST_DONE && packet.kind == CAST_NO_PACKET);
+    NEED(cast_peer_news(&peer, NULL, NULL, 0) == CAST_MISUSED && cast_peer_log_length(&peer, NULL) == CAST_MISUSED);
+    NEED(cast_peer_is_quiet(&peer, NULL) == CAST_MISUSED && cast_peer_log(&peer, 0, NULL, NULL, 0) == CAST_MISUSED);
+    NEED(cast_peer_is_quiet(&peer, &is_so) == CAST_DONE && is_so);
+    cast_peer_drop(&peer);
+    NEED(holds_no_peer(&peer) == 0);
+    return 0;
+}
+
+/* What is saved first goes out, and a buffer that is too short loses nothing. The packet brings the item to a peer that saves
+ * nothing; no other group, and no other node, takes it. */
+static int packets(void) {
+    struct cast_peer peer = CAST_EMPTY, other = CAST_EMPTY, foreign = CAST_EMPTY;
+    struct cast_config config = CAST_CONFIG(2, 0);
+    struct cast_event event = {.kind = CAST_ORDER, .item = CAST_DATA};
+    struct cast_packet packet;
+    struct cast_news news;
+    uint64_t fault, length;
+    char bytes[CAST_MOST_PACKET + 1] = "zzz";
+    NEED(cast_peer_new(&peer, &config, 7, 0, CAST_SAVE_FIRST, &fault) == CAST_DONE);
+    NEED(cast_peer_new(&other, &config, 7, 1, CAST_SAVE_NEVER, &fault) == CAST_DONE);
+    NEED(cast_peer_new(&foreign, &config, 8, 1, CAST_SAVE_NEVER, &fault) == CAST_DONE);
+    NEED(cast_peer_order(&peer, &event, bytes, 1025, &fault) == CAST_REFUSED && fault == 25);
+    NEED(cast_peer_order(&peer, &event, "abc", 3, &fault) == CAST_DONE);
+    NEED(cast_peer_next(&peer, &packet, bytes, sizeof bytes) == CAST_DONE && packet.kind == CAST_MADE);
+    NEED(cast_peer_next(&peer, &packet, bytes, sizeof bytes) == CAST_DONE && packet.kind == CAST_UNSAVED);
+    NEED(cast_peer_news(&peer, &news, bytes, CAST_MOST_BYTES) == CAST_DONE && news.kind == CAST_NO_NEWS);
+    NEED(cast_peer_log_length(&peer, &length) == CAST_DONE && length == 3 && cast_peer_saved(&peer, 9) == CAST_DONE);
+    NEED(cast_peer_next(&peer, &packet, bytes, CAST_MOST_PACKET - 1) == CAST_TOO_SHORT && strcmp(bytes, "zzz") == 0);
+    NEED(cast_peer_next(&peer, &packet, bytes, CAST_MOST_PACKET) == CAST_DONE && packet.kind == CAST_PACKET && packet.to == 1);
+    NEED(packet.place == 3 && packet.length == 50 && memcmp(bytes + 47, "abc", 3) == 0);
+    NEED(cast_peer_receive(&foreign, bytes, 50, &fault) == CAST_REFUSED && fault == 11);
+    NEED(cast_peer_receive(&peer, bytes, 50, &fault) == CAST_REFUSED && fault == 12);
+    NEED(cast_peer_receive(&other, bytes, 50, &fault) == CAST_DONE);
+    NEED(cast_peer_news(&other, &news, bytes, CAST_MOST_BYTES - 1) == CAST_TOO_SHORT);
+    NEED(cast_peer_news(&other, &news, bytes, CAST_MOST_BYTES) == CAST_DONE && news.kind == CAST_DELIVERED);
+    NEED(news.sender == 0 && news.number == 0 && news.item == CAST_DATA && news.length == 3 && memcmp(bytes, "abc", 3) == 0);
+    NEED(cast_peer_news(&other, &news, bytes, sizeof bytes) == CAST_DONE && news.kind == CAST_NO_NEWS);
+    cast_peer_drop(&peer), cast_peer_drop(&other), cast_peer_drop(&foreign);
+    return 0;
+}
+
+/* The log has its first line at place 0, and then its entries. */
+static int lines(void) {
+    static const char HEAD[] = "cast-log/1 1 0 1 basic 4096 18446744073709551615 0\n", ENTRY[] = " order close d 0 0 close\n";
+    struct cast_peer peer = CAST_EMPTY;
+    struct cast_config config = CAST_CONFIG(1, 0);
+    struct cast_event event = {.kind = CAST_ORDER, .item = CAST_CLOSE};
+    struct cast_news news;
+    uint64_t fault, length;
+    char line[CAST_MOST_BYTES] = "zzz";
+    NEED(cast_peer_new(&peer, &config, UINT64_MAX, 0, CAST_SAVE_FIRST, &fault) == CAST_DONE);
+    NEED(cast_peer_log(&peer, 0, &length, line, sizeof HEAD - 2) == CAST_TOO_SHORT && length == sizeof HEAD - 1);
+    NEED(strcmp(line, "zzz") == 0 && cast_peer_log(&peer, 1, &length, line, sizeof line) == CAST_REFUSED);
+    NEED(cast_peer_log(&peer, 0, &length, line, sizeof line) == CAST_DONE && memcmp(line, HEAD, sizeof HEAD - 1) == 0);
+    NEED(cast_peer_order(&peer, &event, NULL, 0, &fault) == CAST_DONE);
+    NEED(cast_peer_log(&peer, 1, &length, line, sizeof line) == CAST_DONE && length > 0 && line[length - 1] == '\n');
+    NEED(memcmp(strchr(line, ' '), ENTRY, sizeof ENTRY - 1) == 0);
+    NEED(cast_peer_saved(&peer, 1) == CAST_DONE);
+    NEED(cast_peer_news(&peer, &news, line, sizeof line) == CAST_DONE && news.kind == CAST_ORDERED && news.number == 0);
+    NEED(cast_peer_news(&peer, &news, line, sizeof line) == CAST_DONE && news.kind == CAST_DELIVERED && news.item == CAST_CLOSE);
+    cast_peer_drop(&peer);
     return 0;
 }
 
@@ -191,5 +301,8 @@ int main(void) {
     if (wrong == 0) wrong = many();
     if (wrong == 0) wrong = codes();
     if (wrong == 0) wrong = texts();
+    if (wrong == 0) wrong = peers();
+    if (wrong == 0) wrong = packets();
+    if (wrong == 0) wrong = lines();
     return wrong;
 }

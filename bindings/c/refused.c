@@ -67,6 +67,54 @@ static int worlds(void) {
     return 0;
 }
 
+/* Saves the whole log of a peer, and gives its packets to the other. What ran out of memory is asked again. */
+static int hand_on(struct cast_peer *peer, struct cast_peer *other) {
+    struct cast_packet packet = {CAST_MADE, 0, 0, 0};
+    uint64_t count, length, fault;
+    while (packet.kind != CAST_NO_PACKET) {
+        uint32_t status = cast_peer_next(peer, &packet, out, sizeof out);
+        NEED(status == CAST_DONE || status == CAST_OUT_OF_MEMORY);
+        NEED(cast_peer_log_length(peer, &count) == CAST_DONE && cast_peer_saved(peer, count) == CAST_DONE);
+        if (status == CAST_OUT_OF_MEMORY) {
+            packet.kind = CAST_MADE;
+        } else if (packet.kind == CAST_PACKET) {
+            status = cast_peer_receive(other, out, packet.length, &fault);
+            NEED(status == CAST_DONE || status == CAST_OUT_OF_MEMORY);
+        }
+        status = cast_peer_log(peer, count, &length, out, sizeof out);
+        NEED(status == CAST_DONE || status == CAST_OUT_OF_MEMORY);
+    }
+    return 0;
+}
+
+/* What was lost for want of memory is sent again. */
+static int peers(void) {
+    struct cast_peer peer = CAST_EMPTY, other = CAST_EMPTY;
+    struct cast_config config = CAST_CONFIG(2, 0);
+    struct cast_event order = {.kind = CAST_ORDER, .item = CAST_DATA};
+    struct cast_news news = {CAST_NO_NEWS, 0, 0, 0, 0, 0, 0};
+    uint64_t fault;
+    bool is_quiet = false;
+    uint32_t status = cast_peer_new(&peer, &config, 7, 0, CAST_SAVE_FIRST, &fault);
+    NEED(status == CAST_DONE || (status == CAST_OUT_OF_MEMORY && cast_peer_new(&peer, &config, 7, 0, CAST_SAVE_FIRST, &fault) == CAST_DONE));
+    status = cast_peer_new(&other, &config, 7, 1, CAST_SAVE_FIRST, &fault);
+    NEED(status == CAST_DONE || (status == CAST_OUT_OF_MEMORY && cast_peer_new(&other, &config, 7, 1, CAST_SAVE_FIRST, &fault) == CAST_DONE));
+    status = cast_peer_order(&peer, &order, "abcd", 4, &fault);
+    NEED(status == CAST_DONE || (status == CAST_OUT_OF_MEMORY && cast_peer_order(&peer, &order, "abcd", 4, &fault) == CAST_DONE));
+    for (int turn = 0; turn < 8; turn++) {
+        int wrong = hand_on(&peer, &other);
+        if (wrong == 0) wrong = hand_on(&other, &peer);
+        if (wrong != 0) return wrong;
+        NEED(cast_peer_tick(&peer) == CAST_DONE && cast_peer_tick(&other) == CAST_DONE);
+    }
+    NEED(cast_peer_is_quiet(&peer, &is_quiet) == CAST_DONE && is_quiet);
+    status = cast_peer_news(&other, &news, out, sizeof out);
+    NEED(status == CAST_DONE || (status == CAST_OUT_OF_MEMORY && cast_peer_news(&other, &news, out, sizeof out) == CAST_DONE));
+    NEED(news.kind == CAST_DELIVERED && memcmp(out, "abcd", 4) == 0);
+    cast_peer_drop(&peer), cast_peer_drop(&other);
+    return 0;
+}
+
 static int texts(void) {
     struct cast_text told;
     uint32_t status = cast_run(SCRIPT, sizeof SCRIPT - 1, out, sizeof out, &told);
@@ -90,6 +138,7 @@ static int each(int (*calls)(void)) {
 int main(void) {
     int wrong = each(judges);
     if (wrong == 0) wrong = each(worlds);
+    if (wrong == 0) wrong = each(peers);
     if (wrong == 0) wrong = each(texts);
     return wrong;
 }

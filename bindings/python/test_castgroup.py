@@ -1,6 +1,7 @@
 """Tests the binding for Python: what it returns, what it refuses, and that calls on a closed handle are safe.
 
-usage: python3 test_castgroup.py [PROGRAM]      with a program, `castgroup run` and `judge` must write the same
+usage: python3 test_castgroup.py [PROGRAM]      with a program, `castgroup run` and `judge` must write the same, and `merge` must
+                                                take the logs of peers
 
 If hypothesis is installed (python3-hypothesis of Debian), groups and records are tried at random too.
 """
@@ -9,13 +10,14 @@ import random
 import re
 import subprocess
 import sys
+import tempfile
 import threading
 import time
 import unittest
 from pathlib import Path
 
 import castgroup
-from castgroup import Ack, Arrive, Close, Crash, Order, Propose, Send, Verdict
+from castgroup import Ack, Arrive, Close, Crash, Decided, Delivered, Order, Ordered, Peer, Propose, Send, Verdict
 
 try:
     from hypothesis import given, settings, strategies
@@ -107,8 +109,11 @@ class Texts(unittest.TestCase):
             castgroup.BadScript(4, 1): "nodes must be from 1 to 64 (code 1)",
             castgroup.BadScript(2, 0): "it is no JSON",
             castgroup.Closed(): "it was finished or closed",
+            castgroup.Dropped(12): "a packet for another node (code 12)",
+            castgroup.Ended(): "the log or the clock of the peer is full",
             castgroup.TooLong(): "2^63 bytes",
             castgroup.Refused(99): "no code that is known",
+            castgroup.Dropped(99): "no code that is known",
         }
         for error, words in errors.items():
             again = pickle.loads(pickle.dumps(error))
@@ -245,6 +250,177 @@ class Threads(unittest.TestCase):
         for thread in threads:
             thread.join()
         self.assertEqual([world.delivered(node, node) for node in range(4)], [[b"%d" % number for number in range(300)]] * 4)
+
+
+class Network:
+    """Peers whose packets come in any order; some are lost, and some come twice."""
+
+    def __init__(self, nodes, seed):
+        self.peers = [Peer(nodes, 1, 7, me) for me in range(nodes)]
+        self.logs, self.news = [bytearray() for _ in self.peers], [[] for _ in self.peers]
+        self.under_way, self.numbers = [], random.Random(seed)
+
+    def turn(self, peer):
+        """Takes all that a peer gives."""
+        while True:
+            for packet in peer.packets():
+                self.under_way += [packet] * self.numbers.choice([0, 1, 1, 2])
+            if not peer.save(self.logs[peer.me].extend):
+                break
+        self.news[peer.me] += peer.news()
+
+    def settle(self):
+        while True:
+            for peer in self.peers:
+                self.turn(peer)
+            if all(peer.is_quiet for peer in self.peers):
+                return
+            self.numbers.shuffle(self.under_way)
+            while self.under_way:
+                packet = self.under_way.pop()
+                self.peers[packet.to].receive(packet.data)
+            for peer in self.peers:
+                peer.tick()
+
+    def close(self):
+        for peer in self.peers:
+            peer.close()
+
+
+class Peers(unittest.TestCase):
+    def test_peers_deliver_the_same_over_a_bad_network(self):
+        network = Network(3, 1)
+        items = [b"a\0b", b"", Propose(9, 4), bytes(1024), Close()]
+        for item in items:
+            for peer in network.peers:
+                peer.order(item)
+        network.settle()
+        for news in network.news:
+            self.assertEqual([each.number for each in news if isinstance(each, Ordered)], [0, 1, 2, 3, 4])
+            self.assertEqual([each for each in news if isinstance(each, Decided)], [Decided(9, 4)])
+            for sender in range(3):
+                delivered = [each for each in news if isinstance(each, Delivered) and each.sender == sender]
+                self.assertEqual(delivered, [Delivered(sender, number, item) for number, item in enumerate(items)])
+        self.merge(network.logs)
+        network.close()
+
+    def merge(self, logs):
+        """The program must make one good run of the logs."""
+        if PROGRAM is None:
+            return
+        with tempfile.TemporaryDirectory() as folder:
+            paths = [Path(folder) / f"{node}.log" for node in range(len(logs))]
+            for path, log in zip(paths, logs):
+                path.write_bytes(log + castgroup.LOG_END)
+            done = subprocess.run([PROGRAM, "merge", *paths], stdout=subprocess.PIPE)
+        self.assertEqual((done.returncode, done.stdout[-22:]), (0, b"rest yes\nverdict good\n"))
+
+    def test_nothing_goes_out_before_it_is_saved(self):
+        with Peer(2, 0, 7, 0) as peer:
+            log = []
+            peer.order(b"a")
+            self.assertEqual((peer.next_packet(), peer.next_news()), (None, None))
+            self.assertEqual((peer.save(log.append), peer.save(log.append)), (True, False))
+            self.assertEqual(list(peer.news()), [Ordered(0), Delivered(0, 0, b"a")])
+            to, data, place = peer.next_packet()
+            self.assertEqual((to, len(data), place, peer.log_length), (1, 48, 2, 2))
+            self.assertFalse(peer.is_quiet)
+            peer.give_up(1)
+            self.assertTrue(peer.is_quiet)
+        with Peer(2, 0, 7, 0, save_first=False) as peer:
+            peer.order(Close())
+            self.assertEqual((peer.next_packet().to, len(list(peer.news()))), (1, 2))
+
+    def test_what_is_not_saved_waits(self):
+        peer = Peer(2, 0, 7, 0)
+        peer.order(b"a")
+        peer.saved(1)
+        self.assertEqual(len(list(peer.news())), 2)
+        self.assertIsNone(peer.next_packet())
+        peer.saved(10**6)
+        self.assertEqual(peer.next_packet().place, 2)
+
+        def fail(lines):
+            raise OSError(28, "no space")
+
+        peer.order(b"b")
+        self.assertRaises(OSError, peer.save, fail)
+        self.assertIsNone(peer.next_news())
+        peer.close()
+
+    def test_a_log(self):
+        peer, log = Peer(1, 0, 2**64 - 1, 0), bytearray()
+        self.assertEqual((peer.group, peer.me, peer.log_line(1)), (2**64 - 1, 0, None))
+        peer.order(b"\xab" * 1024)
+        self.assertRaises(castgroup.Refused, peer.order, bytes(1025))
+        self.assertEqual(peer.log_length, 2)
+        lines = [peer.log_line(place) for place in range(3)]
+        self.assertEqual(lines[0], b"cast-log/1 1 0 1 basic 4096 18446744073709551615 0\n")
+        self.assertTrue(len(lines[1]) > 4096 and lines[1].endswith(b"ab\n") and lines[2].endswith(b" refused 5\n"))
+        self.assertTrue(peer.save(lambda text: log.extend(text[:9]) or len(text[:9])))  # a write that takes no more
+        self.assertEqual(bytes(log), b"".join(lines))
+        self.assertTrue(peer.is_quiet)
+
+    def test_packets_are_dropped_for_their_cause(self):
+        peer, other = Peer(2, 0, 7, 0), Peer(2, 0, 7, 1)
+        peer.order(b"a")
+        self.assertEqual((list(peer.packets()), peer.save(len)), ([], True))
+        data = peer.next_packet().data
+        changes = {1: {0: 0}, 2: {2: 2}, 3: {3: 9}, 4: {3: 2}, 5: {3: 0}, 11: {4: 8}, 12: {21: 0}, 14: {20: 1},
+                   13: dict.fromkeys(range(12, 20), 255)}
+        for code, change in changes.items():
+            changed = bytearray(data)
+            for place, byte in change.items():
+                changed[place] = byte
+            with self.assertRaises(castgroup.Dropped) as caught:
+                other.receive(changed)
+            self.assertEqual(caught.exception.code, code)
+        self.assertRaises(castgroup.Dropped, other.receive, b"")
+        self.assertEqual(other.log_length, 0)
+        for kind in (bytes, bytearray, memoryview):
+            other.receive(kind(data))
+        self.assertGreater(other.log_length, 0)
+
+    def test_orders_are_refused(self):
+        peer, full = Peer(2, 0, 7, 0), Peer(2, 0, 7, 0, log_limit=1)
+        peer.order(Propose(1, 1))
+        with self.assertRaises(castgroup.Refused) as caught:
+            peer.order(Propose(1, 2))
+        self.assertEqual(caught.exception.code, 6)
+        peer.order(Close())
+        with self.assertRaises(castgroup.Refused) as caught:
+            peer.order(bytearray(b"b"))
+        self.assertEqual(caught.exception.code, 4)
+        full.order(b"a")
+        self.assertRaises(castgroup.Ended, full.order, b"b")
+
+    def test_traps(self):
+        peer = Peer(2, 0, 7, 0)
+        for item in (5, (7, 3), "a", None):
+            self.assertRaises(TypeError, peer.order, item)
+            self.assertRaises(TypeError, peer.receive, item)
+        for call in (lambda: Peer(2, 0, 7.0, 0), lambda: Peer(2, 0, 7, "0"), lambda: Peer(2, 0, 7, 0, save_first=1),
+                     lambda: peer.give_up(0.5), lambda: peer.order(Propose(1.0, 2))):
+            self.assertRaises(TypeError, call)
+        for call in (lambda: Peer(2, 0, -1, 0), lambda: Peer(2, 0, 2**64, 0), lambda: Peer(2, 0, 7, 256), lambda: peer.give_up(256),
+                     lambda: peer.saved(-1), lambda: peer.log_line(2**64), lambda: peer.order(Propose(-1, 0))):
+            self.assertRaises(ValueError, call)
+        with self.assertRaises(castgroup.BadConfig) as caught:
+            Peer(2, 2, 7, 0)
+        self.assertEqual(caught.exception.code, 2)
+        with self.assertRaises(castgroup.Refused) as refused:
+            Peer(2, 0, 7, 2)
+        self.assertEqual(refused.exception.code, 1)
+
+    def test_a_closed_peer_answers(self):
+        peer = Peer(2, 0, 7, 0)
+        peer.close()
+        peer.close()
+        for call in (peer.next_packet, peer.next_news, peer.tick, lambda: peer.log_length, lambda: peer.is_quiet, lambda: peer.order(b"a"),
+                     lambda: peer.receive(b"a"), lambda: peer.saved(1), lambda: peer.give_up(1), lambda: peer.log_line(0),
+                     lambda: peer.save(len)):
+            self.assertRaises(castgroup.Closed, call)
+        self.assertNotEqual(Ordered(1), (1,))
 
 
 class Package(unittest.TestCase):

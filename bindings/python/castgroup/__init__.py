@@ -1,4 +1,5 @@
-"""castgroup for Python: the judge of records, groups as values, and the texts of scripts, over the proved library.
+"""castgroup for Python: the judge of records, groups as values, peers, which are nodes in processes of their own, and
+the texts of scripts, over the proved library.
 
     import castgroup
     castgroup.judge(b"cast/1 1 0 1\\nx 0\\nb 0 0 data:61\\nend\\n")      # Verdict(line=3, rule=5), which is false
@@ -7,12 +8,13 @@
         world.round()
         list(world.deliveries(1, 0))                                     # [b"a"]
 
-It loads libcastgroup.so from this package, or the file that CASTGROUP_LIBRARY names. Threads may share a group or a
-judge, whose calls run one after another. Calls that may take long release the interpreter's lock.
+It loads libcastgroup.so from this package, or the file that CASTGROUP_LIBRARY names. Threads may share a group, a judge
+or a peer, whose calls run one after another. Calls that may take long release the interpreter's lock.
 """
-from ._errors import BadConfig, BadScript, Closed, Error, Refused, TooLong
+from ._errors import BadConfig, BadScript, Closed, Dropped, Ended, Error, Refused, TooLong
 from ._events import Ack, Arrive, Close, Crash, Event, Item, Order, Propose, Reply, Send
 from ._judge import Judge, Verdict, judge
+from ._peer import LOG_END, MOST_PACKET, Decided, Delivered, News, Ordered, Packet, Peer
 from ._texts import draw, run
 from ._world import World
 
@@ -26,11 +28,21 @@ __all__ = [
     "Close",
     "Closed",
     "Crash",
+    "Decided",
+    "Delivered",
+    "Dropped",
+    "Ended",
     "Error",
     "Event",
     "Item",
     "Judge",
+    "LOG_END",
+    "MOST_PACKET",
+    "News",
     "Order",
+    "Ordered",
+    "Packet",
+    "Peer",
     "Propose",
     "Refused",
     "Reply",

@@ -15,6 +15,17 @@ _REFUSALS = (
     "a frame that was not made",
     "a node that has made all its frames",
 )
+_DROPS = {
+    1: "bytes that do not begin as a packet does",
+    2: "a packet of another version",
+    3: "a packet of no known kind",
+    4: "a packet that is too short",
+    5: "a packet that is too long",
+    11: "a packet of another group",
+    12: "a packet for another node",
+    13: "a packet with the last stamp",
+    14: "a packet that no peer could have made",
+}
 _CONFIGS = (
     "nodes must be from 1 to 64",
     "faults must be below nodes",
@@ -37,7 +48,8 @@ class Error(Exception):
 
 
 class Refused(Error):
-    """An event is refused, and changed nothing. `code` is that of docs/FORMATS.md, 1 to 12."""
+    """An event or an order is refused, and changed nothing, except that the log of a peer has the refusal. `code` is
+    that of docs/FORMATS.md, 1 to 12."""
 
     def __init__(self, code: int) -> None:
         super().__init__(code)
@@ -45,6 +57,25 @@ class Refused(Error):
 
     def __str__(self) -> str:
         return f"the event is refused: {_word(_REFUSALS, self.code)} (code {self.code})"
+
+
+class Dropped(Error):
+    """A peer drops a packet, which changed nothing. `code` is 1 to 5 if it is no packet, and 11 to 14 if it is none for
+    this peer."""
+
+    def __init__(self, code: int) -> None:
+        super().__init__(code)
+        self.code = code
+
+    def __str__(self) -> str:
+        return f"the packet is dropped: {_DROPS.get(self.code, 'no code that is known')} (code {self.code})"
+
+
+class Ended(Error):
+    """The log or the clock of a peer is full, so its node takes no more steps."""
+
+    def __str__(self) -> str:
+        return "the log or the clock of the peer is full"
 
 
 class BadConfig(Error, ValueError):
@@ -78,7 +109,7 @@ class BadScript(Error, ValueError):
 
 
 class Closed(Error, ValueError):
-    """A group was closed, or a judge was finished or closed."""
+    """A group or a peer was closed, or a judge was finished or closed."""
 
     def __str__(self) -> str:
         return "it was finished or closed"

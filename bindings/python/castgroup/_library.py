@@ -21,7 +21,7 @@ Readable = Union[bytes, bytearray, memoryview]
 
 
 class Handle(ctypes.Structure):
-    """A group or a judge, or none."""
+    """A group, a judge or a peer, or none."""
 
     _fields_ = [("held", c_bool), ("at", c_void_p)]
 
@@ -40,6 +40,33 @@ class ConfigNumbers(ctypes.Structure):
         ("box_size", c_uint64),
         ("first_stamp", c_uint64),
         ("mode", c_uint64),
+    ]
+
+
+class EventNumbers(ctypes.Structure):
+    _fields_ = [
+        ("kind", c_uint8),
+        ("node", c_uint8),
+        ("to", c_uint8),
+        ("item", c_uint8),
+        ("number", c_uint64),
+        ("value", c_uint64),
+    ]
+
+
+class PacketNumbers(ctypes.Structure):
+    _fields_ = [("kind", c_uint64), ("to", c_uint64), ("place", c_uint64), ("length", c_uint64)]
+
+
+class NewsNumbers(ctypes.Structure):
+    _fields_ = [
+        ("kind", c_uint64),
+        ("sender", c_uint64),
+        ("number", c_uint64),
+        ("item", c_uint64),
+        ("length", c_uint64),
+        ("instance", c_uint64),
+        ("value", c_uint64),
     ]
 
 
@@ -71,6 +98,18 @@ _EXPORTS: dict[str, tuple[Any, ...]] = {
     "world_live": (c_void_p, c_uint8, c_void_p),
     "world_at_rest": (c_void_p, c_void_p),
     "world_drop": (c_void_p,),
+    "peer_new": (c_void_p, c_void_p, c_uint64, c_uint8, c_uint32, c_void_p),
+    "peer_order": (c_void_p, c_void_p, *_BYTES, c_void_p),
+    "peer_receive": (c_void_p, *_BYTES, c_void_p),
+    "peer_saved": (c_void_p, c_uint64),
+    "peer_tick": (c_void_p,),
+    "peer_give_up": (c_void_p, c_uint8),
+    "peer_next": (c_void_p, c_void_p, *_ROOM),
+    "peer_news": (c_void_p, c_void_p, *_ROOM),
+    "peer_is_quiet": (c_void_p, c_void_p),
+    "peer_log_length": (c_void_p, c_void_p),
+    "peer_log": (c_void_p, c_uint64, c_void_p, *_ROOM),
+    "peer_drop": (c_void_p,),
     "run": (*_BYTES, *_ROOM, c_void_p),
     "draw": (*_BYTES, c_uint64, c_uint64, *_ROOM, c_void_p),
 }

@@ -41,19 +41,7 @@ class World:
         first_stamp: SupportsIndex = 0,
         uniform: bool = False,
     ) -> None:
-        if not isinstance(uniform, bool):
-            raise TypeError(f"uniform is True or False, and no {type(uniform).__name__}")
-        most = count(faults, "faults")
-        config = library.ConfigNumbers(
-            count(nodes, "nodes"),
-            most,
-            most + 1 if choices is None else count(choices, "choices"),
-            count(item_limit, "item_limit"),
-            count(log_limit, "log_limit"),
-            count(box_size, "box_size"),
-            count(first_stamp, "first_stamp"),
-            uniform,
-        )
+        config = config_numbers(nodes, faults, choices, item_limit, log_limit, box_size, first_stamp, uniform)
         fault, self._handle, self._lock = c_uint64(), library.Handle(), threading.RLock()
         # The calls read and write these numbers, each in its own place.
         self._event, self._reply = create_string_buffer(_EVENT.size), create_string_buffer(_REPLY.size)
@@ -75,7 +63,7 @@ class World:
 
     def order_data(self, node: SupportsIndex, data: Readable) -> Reply:
         """The node broadcasts bytes."""
-        return self._take(_ORDER, node, 0, _DATA, 0, 0, _bytes_of(data))
+        return self._take(_ORDER, node, 0, _DATA, 0, 0, bytes_of(data))
 
     def propose(self, node: SupportsIndex, instance: SupportsIndex, value: SupportsIndex) -> Reply:
         """The node proposes a value in an instance."""
@@ -212,7 +200,33 @@ class World:
             self.close()
 
 
-def _bytes_of(item: Readable) -> bytes:
+def config_numbers(
+    nodes: SupportsIndex,
+    faults: SupportsIndex,
+    choices: SupportsIndex | None,
+    item_limit: SupportsIndex,
+    log_limit: SupportsIndex,
+    box_size: SupportsIndex,
+    first_stamp: SupportsIndex,
+    uniform: bool,
+) -> library.ConfigNumbers:
+    """The configuration as its eight numbers."""
+    if not isinstance(uniform, bool):
+        raise TypeError(f"uniform is True or False, and no {type(uniform).__name__}")
+    most = count(faults, "faults")
+    return library.ConfigNumbers(
+        count(nodes, "nodes"),
+        most,
+        most + 1 if choices is None else count(choices, "choices"),
+        count(item_limit, "item_limit"),
+        count(log_limit, "log_limit"),
+        count(box_size, "box_size"),
+        count(first_stamp, "first_stamp"),
+        uniform,
+    )
+
+
+def bytes_of(item: Readable) -> bytes:
     """The bytes of an item. A number or a tuple is refused, although `bytes` would accept it."""
     try:
         return library.read(item)

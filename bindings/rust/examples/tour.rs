@@ -1,7 +1,34 @@
 //! Calls everything once or more, with refusals: the program that is checked for leaks.
-use castgroup::{draw, judge, run, Config, Event, Item, Judge, World};
+use castgroup::{draw, judge, run, Config, Event, Item, Judge, Peer, Saving, World};
+use std::error::Error;
 
-fn main() -> Result<(), Box<dyn std::error::Error>> {
+/// A peer that orders, and one that gets its packets, some of them spoilt.
+fn exchange() -> Result<(), Box<dyn Error>> {
+    let mut maker = Peer::new(&Config::of(2, 0), 7, 0, Saving::First)?;
+    let mut taker = Peer::new(&Config::of(2, 0), 7, 1, Saving::Never)?;
+    let refused = |nodes, me| Peer::new(&Config::of(nodes, 0), 7, me, Saving::First).err();
+    println!("{:?} {:?}", refused(65, 0), refused(2, 2));
+    maker.order("abc")?;
+    maker.order(Item::Close)?;
+    println!("{:?} {:?}", maker.order("a"), maker.next_packet()?);
+    let mut log = Vec::new();
+    maker.save(&mut log)?;
+    while let Some(packet) = maker.next_packet()? {
+        println!("{:?} {:?}", taker.receive(&packet.bytes[..40]), taker.receive(&packet.bytes));
+    }
+    while let Some(packet) = taker.next_packet()? {
+        maker.receive(&packet.bytes)?;
+    }
+    maker.tick();
+    taker.give_up(0);
+    while let Some(news) = taker.next_news()? {
+        println!("{news:?}");
+    }
+    println!("{} {:?} {:?} {maker:?}", maker.is_quiet(), maker.log_line(1)?.map(|line| line.len()), maker.log_line(99)?);
+    Ok(())
+}
+
+fn main() -> Result<(), Box<dyn Error>> {
     let mut world = World::new(&Config::of(4, 1))?;
     for node in 0..4 {
         world.step(&Event::Order { node, item: Item::Data(vec![node; 1_000]) })?;
@@ -23,5 +50,5 @@ fn main() -> Result<(), Box<dyn std::error::Error>> {
     let mut judge = Judge::new()?;
     judge.feed(&record)?;
     println!("{:?}", judge.finish()?);
-    Ok(())
+    exchange()
 }

@@ -90,6 +90,37 @@ pub enum TextError {
     OutOfMemory,
 }
 
+/// Why a peer isn't made, or takes no packet or order.
+#[derive(Clone, Copy, Debug, PartialEq, Eq, PartialOrd, Ord, Hash)]
+pub enum PeerError {
+    /// A number of its configuration is out of range.
+    Config(ConfigError),
+    /// 1: bytes that don't begin as a packet does.
+    Foreign,
+    /// 2: a packet of another version.
+    Version,
+    /// 3: a packet of no known kind.
+    Kind,
+    /// 4: a packet that is too short for its kind.
+    Short,
+    /// 5: a packet that is too long for its kind.
+    Long,
+    /// 11: a packet of another group, or of another start of this one.
+    OtherGroup,
+    /// 12: a packet for another node.
+    NotForMe,
+    /// 13: a packet with the last stamp.
+    LastStamp,
+    /// 14: a packet that no peer of the group could have made.
+    Impossible,
+    /// 15: the log or the clock is full, so the node takes no more steps.
+    Ended,
+    /// From 21 on, at 20 and its code: the node refuses it.
+    Refused(Refusal),
+    /// The library ran out of memory. A packet that was not taken counts as lost.
+    OutOfMemory,
+}
+
 const CONFIG_ERRORS: [ConfigError; 7] = [
     ConfigError::Nodes,
     ConfigError::Faults,
@@ -114,6 +145,23 @@ const REFUSALS: [Refusal; 12] = [
     Refusal::NoFrame,
     Refusal::FramesFull,
 ];
+
+/// The faults of a peer by their codes.
+const PEER_ERRORS: [(u64, PeerError); 10] = [
+    (1, PeerError::Foreign),
+    (2, PeerError::Version),
+    (3, PeerError::Kind),
+    (4, PeerError::Short),
+    (5, PeerError::Long),
+    (11, PeerError::OtherGroup),
+    (12, PeerError::NotForMe),
+    (13, PeerError::LastStamp),
+    (14, PeerError::Impossible),
+    (15, PeerError::Ended),
+];
+
+/// The code of a refusal at a peer is its own, and this.
+const REFUSED_AT: u64 = 20;
 
 fn by_code<T: Copy>(all: &[T], code: u64) -> Option<T> {
     let place = usize::try_from(code).ok()?.checked_sub(1)?;
@@ -141,6 +189,24 @@ impl Refusal {
     /// The number of the refusal, 1 to 12.
     pub fn code(self) -> u64 {
         self as u64 + 1
+    }
+}
+
+impl PeerError {
+    /// The fault of an order or a packet with this code, if there is one.
+    pub fn from_code(code: u64) -> Option<PeerError> {
+        match PEER_ERRORS.iter().find(|known| known.0 == code) {
+            Some(known) => Some(known.1),
+            None => Refusal::from_code(code.checked_sub(REFUSED_AT)?).map(PeerError::Refused),
+        }
+    }
+
+    /// The code of a fault of an order or a packet; the other variants have none.
+    pub fn code(self) -> Option<u64> {
+        match self {
+            PeerError::Refused(refusal) => Some(REFUSED_AT + refusal.code()),
+            _ => PEER_ERRORS.iter().find(|known| known.1 == self).map(|known| known.0),
+        }
     }
 }
 
@@ -193,6 +259,26 @@ impl fmt::Display for StepError {
     }
 }
 
+impl fmt::Display for PeerError {
+    fn fmt(&self, f: &mut fmt::Formatter<'_>) -> fmt::Result {
+        f.write_str(match self {
+            PeerError::Config(fault) => return write!(f, "the configuration is refused: {fault}"),
+            PeerError::Foreign => "the bytes don't begin as a packet does",
+            PeerError::Version => "a packet of another version",
+            PeerError::Kind => "a packet of no known kind",
+            PeerError::Short => "the packet is too short",
+            PeerError::Long => "the packet is too long",
+            PeerError::OtherGroup => "a packet of another group",
+            PeerError::NotForMe => "a packet for another node",
+            PeerError::LastStamp => "a packet with the last stamp",
+            PeerError::Impossible => "a packet that no peer could have made",
+            PeerError::Ended => "the log or the clock is full",
+            PeerError::Refused(refusal) => return write!(f, "refused: {refusal}"),
+            PeerError::OutOfMemory => return OutOfMemory.fmt(f),
+        })
+    }
+}
+
 impl fmt::Display for JudgeError {
     fn fmt(&self, f: &mut fmt::Formatter<'_>) -> fmt::Result {
         match self {
@@ -221,6 +307,12 @@ impl From<OutOfMemory> for StepError {
     }
 }
 
+impl From<OutOfMemory> for PeerError {
+    fn from(_: OutOfMemory) -> PeerError {
+        PeerError::OutOfMemory
+    }
+}
+
 impl From<TryReserveError> for OutOfMemory {
     fn from(_: TryReserveError) -> OutOfMemory {
         OutOfMemory
@@ -237,6 +329,16 @@ impl Error for StepError {
         match self {
             StepError::Refused(refusal) => Some(refusal),
             StepError::OutOfMemory => None,
+        }
+    }
+}
+
+impl Error for PeerError {
+    fn source(&self) -> Option<&(dyn Error + 'static)> {
+        match self {
+            PeerError::Config(fault) => Some(fault),
+            PeerError::Refused(refusal) => Some(refusal),
+            _ => None,
         }
     }
 }

@@ -1,5 +1,6 @@
-//! Groups that broadcast numbered items and settle k-set agreement, as values; the judge of records of any such system;
-//! and the texts of scripts. This is safe Rust over a proved library.
+//! Groups that broadcast numbered items and settle k-set agreement, as values; peers, which are nodes of a group in
+//! processes of their own; the judge of records of any such system; and the texts of scripts. This is safe Rust over a
+//! proved library.
 //!
 //! ```
 //! use castgroup::{Config, Event, Item, World};
@@ -26,14 +27,16 @@
 mod error;
 mod event;
 mod judge;
+mod peer;
 mod raw;
 mod record;
 mod text;
 mod world;
 
-pub use error::{ConfigError, JudgeError, OutOfMemory, Refusal, StepError, TextError};
+pub use error::{ConfigError, JudgeError, OutOfMemory, PeerError, Refusal, StepError, TextError};
 pub use event::{Config, Decision, Delivery, Event, Item, Mode, Outcome, Reply};
 pub use judge::{judge, rule_text, Judge, Verdict};
+pub use peer::{News, Packet, Peer, Saving, LOG_END, MOST_PACKET};
 pub use text::{draw, run};
 pub use world::World;
 

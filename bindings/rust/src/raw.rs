@@ -5,7 +5,7 @@ pub(crate) const REFUSED: u32 = 2;
 pub(crate) const BAD: u32 = 3;
 pub(crate) const TOO_SHORT: u32 = 6;
 
-/// A group or a judge in the library, or none.
+/// A group, a judge or a peer in the library, or none.
 #[repr(C)]
 pub(crate) struct Handle {
     held: bool,
@@ -68,6 +68,27 @@ pub(crate) struct Item {
 
 #[repr(C)]
 #[derive(Default)]
+pub(crate) struct Packet {
+    pub kind: u64,
+    pub to: u64,
+    pub place: u64,
+    pub length: u64,
+}
+
+#[repr(C)]
+#[derive(Default)]
+pub(crate) struct News {
+    pub kind: u64,
+    pub sender: u64,
+    pub number: u64,
+    pub item: u64,
+    pub length: u64,
+    pub instance: u64,
+    pub value: u64,
+}
+
+#[repr(C)]
+#[derive(Default)]
 pub(crate) struct Text {
     pub length: u64,
     pub fault: u64,
@@ -114,6 +135,37 @@ extern "C" {
     pub(crate) fn cast_c_world_live(world: *mut Handle, node: u8, is_so: *mut bool) -> u32;
     pub(crate) fn cast_c_world_at_rest(world: *mut Handle, is_so: *mut bool) -> u32;
     pub(crate) fn cast_c_world_drop(world: *mut Handle);
+    pub(crate) fn cast_c_peer_new(
+        peer: *mut Handle,
+        config: *const Config,
+        group: u64,
+        me: u8,
+        saving: u32,
+        fault: *mut u64,
+    ) -> u32;
+    pub(crate) fn cast_c_peer_order(
+        peer: *mut Handle,
+        order: *const Event,
+        bytes: *const u8,
+        count: usize,
+        fault: *mut u64,
+    ) -> u32;
+    pub(crate) fn cast_c_peer_receive(peer: *mut Handle, bytes: *const u8, count: usize, fault: *mut u64) -> u32;
+    pub(crate) fn cast_c_peer_saved(peer: *mut Handle, count: u64) -> u32;
+    pub(crate) fn cast_c_peer_tick(peer: *mut Handle) -> u32;
+    pub(crate) fn cast_c_peer_give_up(peer: *mut Handle, node: u8) -> u32;
+    pub(crate) fn cast_c_peer_next(peer: *mut Handle, packet: *mut Packet, buffer: *mut u8, room: usize) -> u32;
+    pub(crate) fn cast_c_peer_news(peer: *mut Handle, news: *mut News, buffer: *mut u8, room: usize) -> u32;
+    pub(crate) fn cast_c_peer_is_quiet(peer: *mut Handle, is_so: *mut bool) -> u32;
+    pub(crate) fn cast_c_peer_log_length(peer: *mut Handle, count: *mut u64) -> u32;
+    pub(crate) fn cast_c_peer_log(
+        peer: *mut Handle,
+        place: u64,
+        length: *mut u64,
+        buffer: *mut u8,
+        room: usize,
+    ) -> u32;
+    pub(crate) fn cast_c_peer_drop(peer: *mut Handle);
     pub(crate) fn cast_c_run(script: *const u8, count: usize, out: *mut u8, room: usize, told: *mut Text) -> u32;
     pub(crate) fn cast_c_draw(
         script: *const u8,

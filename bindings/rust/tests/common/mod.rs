@@ -261,3 +261,17 @@ pub fn program(word: &str, input: &[u8]) -> Option<Vec<u8>> {
     child.stdin.take().expect("its input").write_all(input).expect("it reads");
     Some(child.wait_with_output().expect("it ends").stdout)
 }
+
+/// The status and the summary of the program that merges these logs, if CASTGROUP names it.
+pub fn merged(logs: &[Vec<u8>]) -> Option<(Option<i32>, String)> {
+    let path = std::env::var_os("CASTGROUP")?;
+    let folder = std::env::temp_dir().join(format!("castgroup-logs-{}", std::process::id()));
+    std::fs::create_dir(&folder).expect("a folder");
+    let names: Vec<_> = (0..logs.len()).map(|node| folder.join(format!("{node}.log"))).collect();
+    for (name, log) in names.iter().zip(logs) {
+        std::fs::write(name, log).expect("a file");
+    }
+    let done = Command::new(path).arg("merge").args(&names).output().expect("the program");
+    std::fs::remove_dir_all(&folder).expect("a folder");
+    Some((done.status.code(), String::from_utf8_lossy(&done.stdout).into_owned()))
+}
