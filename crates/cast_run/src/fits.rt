@@ -1,5 +1,6 @@
 //! Whether the jobs, gates and plan given for a group fit it.
-ghost use Rattle.std.specs.Prelude.{IfOk, IfErr, IfSome, IfNone, OnOk, OnErr};
+ghost use Rattle.std.specs.Prelude.{◌≢◌, IfOk, IfErr, IfSome, IfNone, OnOk, OnErr};
+ghost use Rattle.cast_message.specs.declared.live_fault.LiveFault.TheVariants.{Threads};
 ghost use Rattle.cast_run.specs.Faults.{Fits, IsFaultOf, IsMisfit};
 ghost use Rattle.cast_run.specs.Jobs.{IsCount};
 
@@ -19,6 +20,7 @@ pub fn count_fitting<J>(
     ensures fits { OnOk result (Fits config.now.nodes jobs.now gates plan.now.faults) }
     ensures fault { IfErr result (IsFaultOf config.now.nodes jobs.now gates plan.now.faults) }
     ensures misfit { OnErr result (¬ Fits config.now.nodes jobs.now gates plan.now.faults) }
+    ensures alone { IfErr result (λ fault. fault ≢ Threads) }
 {
     let nodes = config.nodes();
     let Some(counts) = count_jobs(nodes, jobs) else {

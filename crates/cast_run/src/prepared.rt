@@ -1,5 +1,6 @@
 //! Everything a run needs before its first step.
-ghost use Rattle.std.specs.Prelude.{◌≡◌, ℕ, length, map, slice_get, Some, IfOk, IfErr, OnOk, vec_len};
+ghost use Rattle.std.specs.Prelude.{◌≡◌, ◌≢◌, ℕ, length, map, slice_get, Some, IfOk, IfErr, OnOk, vec_len};
+ghost use Rattle.cast_message.specs.declared.live_fault.LiveFault.TheVariants.{Threads};
 ghost use Rattle.cast_run.specs.declared.jobs.Seat.{Seat};
 ghost use Rattle.cast_run.specs.Faults.{JobsFit, Fits, IsFaultOf};
 ghost use Rattle.cast_run.specs.Group.{IsGroup, AreSetUp};
@@ -47,6 +48,7 @@ pub fn prepare<J: Drop, G: Drop>(
         (Fits config.now.nodes jobs.items (vec_len gates) plan.now.faults) }
     ensures fault { IfErr result
         (IsFaultOf config.now.nodes jobs.items (vec_len gates) plan.now.faults) }
+    ensures alone { IfErr result (λ fault. fault ≢ Threads) }
 {
     let nodes = config.nodes() as usize;
     let counts = count_fitting(config, plan, jobs.as_slice(), gates.len())?;
