@@ -8,6 +8,7 @@ mod explain;
 mod input;
 mod judge;
 mod live;
+mod lots;
 mod merge;
 mod output;
 mod outputs;
@@ -37,7 +38,7 @@ fn main(rt: HostRuntime) -> ExitCode {
     ExitCode::from(run(&rt, rt.stderr()).code())
 }
 
-fn run<R: Runtime + AllocGlobal + Threads + Wait + Clock + Copy + Send + 'static>(
+fn run<R: Runtime + AllocGlobal + Threads + Wait + Clock + Copy + Send + Sync + 'static>(
     rt: &R,
     stderr: Stderr,
 ) -> Status {
@@ -52,7 +53,7 @@ fn run<R: Runtime + AllocGlobal + Threads + Wait + Clock + Copy + Send + 'static
 }
 
 // Does what the words ask for. The help of `run` ends with `refusals`.
-fn run_words<R: Runtime + AllocGlobal + Threads + Wait + Clock + Copy + Send + 'static>(
+fn run_words<R: Runtime + AllocGlobal + Threads + Wait + Clock + Copy + Send + Sync + 'static>(
     rt: &R,
     stderr: Stderr,
     words: &[String],
@@ -67,7 +68,7 @@ fn run_words<R: Runtime + AllocGlobal + Threads + Wait + Clock + Copy + Send + '
     }
 }
 
-fn perform<R: Runtime + AllocGlobal + Threads + Wait + Clock + Copy + Send + 'static>(
+fn perform<R: Runtime + AllocGlobal + Threads + Wait + Clock + Copy + Send + Sync + 'static>(
     console: &Console<'_, R>,
     task: Task<'_>,
 ) -> Status {
