@@ -19,7 +19,7 @@ use std::sync::Wait;
 use std::thread::Threads;
 
 /// Runs the group of a script, and writes what was requested.
-pub fn run_live<R: Runtime + AllocGlobal + Threads + Wait + Clock + Copy + Send + Sync + 'static>(
+pub fn run_live<R: Runtime + AllocGlobal + Threads + Wait + Clock + Copy + Send + 'static>(
     console: &Console<'_, R>,
     task: LiveTask<'_>,
 ) -> Status {

@@ -7,9 +7,8 @@ use cast_record::Meter;
 use cast_run::{Progress, Seeded};
 use cast_text::TextFault;
 use std::alloc::{AllocError, Global};
-use std::rt::Runtime;
 use std::sync::{Arc, Wait};
-use std::thread::Threads;
+use std::thread::{JoinHandle, Threads};
 use std::{io, thread};
 
 /// What is reported of the run of a seed.
@@ -45,54 +44,76 @@ impl Batch {
 }
 
 /// Runs the seeds of a batch, each lot in a thread of its own where one can be started, else after the others.
-pub fn run_batch<R: Runtime + AllocGlobal + Threads + Wait + Copy + Send + Sync + 'static>(
-    rt: &R,
-    text: &[u8],
+pub fn run_batch<R: Threads + Wait + Copy + Send + 'static>(
+    rt: R,
+    alloc: Global,
+    text: &Arc<Vec<u8>, Global>,
     seeds: Seeds,
     batch: Batch,
 ) -> Result<Vec<Lot>, AllocError> {
     let Batch { start, lots, size } = batch;
-    thread::map_indices(
-        rt,
-        rt.alloc(),
-        lots as usize,
-        &|lot: usize| {
-            let first = start.saturating_add((lot as u64).saturating_mul(size));
-            run_lot(rt, text, seeds, first, size)
-        },
-    )
+    let mut lots_running = Vec::with_capacity(alloc, lots as usize)?;
+    let mut lots_done = Vec::with_capacity(alloc, lots as usize)?;
+    for lot in 0..lots {
+        let first = start.saturating_add(lot.saturating_mul(size));
+        lots_running.push((first, start_lot(rt, alloc, text, seeds, first, size)))?;
+    }
+    for (first, running) in lots_running {
+        let lot = match running {
+            Some(thread) => thread.join(&rt),
+            None => run_lot(&rt, alloc, text.as_slice(), seeds, first, size),
+        };
+        lots_done.push(lot)?;
+    }
+    Ok(lots_done)
+}
+
+// Runs a lot in a thread of its own, if there is memory for it and it starts.
+fn start_lot<R: Threads + Wait + Copy + Send + 'static>(
+    rt: R,
+    alloc: Global,
+    text: &Arc<Vec<u8>, Global>,
+    seeds: Seeds,
+    first: u64,
+    size: u64,
+) -> Option<JoinHandle<Lot>> {
+    let text = Arc::try_clone(text).ok()?;
+    let run = move || run_lot(&rt, alloc, text.as_slice(), seeds, first, size);
+    thread::spawn(&rt, run).ok()
 }
 
 // Runs the seeds of these numbers, but none past the last.
-fn run_lot<R: Runtime + AllocGlobal + Threads + Wait + Copy + Send + 'static>(
+fn run_lot<R: Threads + Wait + Copy + Send + 'static>(
     rt: &R,
+    alloc: Global,
     text: &[u8],
     seeds: Seeds,
     first: u64,
     size: u64,
 ) -> Lot {
-    let mut reports = Vec::new(rt.alloc());
+    let mut reports = Vec::new(alloc);
     let end = first.saturating_add(size).min(seeds.times);
-    let run = run_seeds(rt, text, seeds, first, end, &mut reports);
+    let run = run_seeds(rt, alloc, text, seeds, first, end, &mut reports);
     Lot {
         reports,
         fault: run.err(),
     }
 }
 
-fn run_seeds<R: Runtime + AllocGlobal + Threads + Wait + Copy + Send + 'static>(
+fn run_seeds<R: Threads + Wait + Copy + Send + 'static>(
     rt: &R,
+    alloc: Global,
     text: &[u8],
     seeds: Seeds,
     first: u64,
     end: u64,
     reports: &mut Vec<SeedReport>,
 ) -> Result<(), TextFault> {
-    let progress = Progress::for_group(rt.alloc())?;
+    let progress = Progress::for_group(alloc)?;
     for number in first..end {
         let seed = seeds.first.wrapping_add(number);
-        let run = run_seed(rt, text, &progress, seed)?;
-        let oddities = oddities_of(rt.alloc(), &run)?;
+        let run = run_seed(rt, alloc, text, &progress, seed)?;
+        let oddities = oddities_of(alloc, &run)?;
         let report = SeedReport {
             seed,
             summary: run.summary,
@@ -106,8 +127,9 @@ fn run_seeds<R: Runtime + AllocGlobal + Threads + Wait + Copy + Send + 'static>(
 }
 
 // Runs the script's group by the seed. Nobody reads the summary's text.
-fn run_seed<R: Runtime + AllocGlobal + Threads + Wait + Copy + Send + 'static>(
+fn run_seed<R: Threads + Wait + Copy + Send + 'static>(
     rt: &R,
+    alloc: Global,
     mut text: &[u8],
     progress: &Arc<Progress, Global>,
     seed: u64,
@@ -119,7 +141,7 @@ fn run_seed<R: Runtime + AllocGlobal + Threads + Wait + Copy + Send + 'static>(
     };
     let mut reader = Meter::new(&mut text);
     let way = Way::By(Seeded::mixed(seed));
-    live_text(*rt, rt.alloc(), &mut reader, &mut outputs, progress, way)
+    live_text(*rt, alloc, &mut reader, &mut outputs, progress, way)
 }
 
 // What makes the run odd, each after a blank. Nodes that neither stopped nor crashed are odd; a crash is not, since

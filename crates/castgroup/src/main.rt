@@ -38,7 +38,7 @@ fn main(rt: HostRuntime) -> ExitCode {
     ExitCode::from(run(&rt, rt.stderr()).code())
 }
 
-fn run<R: Runtime + AllocGlobal + Threads + Wait + Clock + Copy + Send + Sync + 'static>(
+fn run<R: Runtime + AllocGlobal + Threads + Wait + Clock + Copy + Send + 'static>(
     rt: &R,
     stderr: Stderr,
 ) -> Status {
@@ -53,7 +53,7 @@ fn run<R: Runtime + AllocGlobal + Threads + Wait + Clock + Copy + Send + Sync + 
 }
 
 // Does what the words ask for. The help of `run` ends with `refusals`.
-fn run_words<R: Runtime + AllocGlobal + Threads + Wait + Clock + Copy + Send + Sync + 'static>(
+fn run_words<R: Runtime + AllocGlobal + Threads + Wait + Clock + Copy + Send + 'static>(
     rt: &R,
     stderr: Stderr,
     words: &[String],
@@ -68,7 +68,7 @@ fn run_words<R: Runtime + AllocGlobal + Threads + Wait + Clock + Copy + Send + S
     }
 }
 
-fn perform<R: Runtime + AllocGlobal + Threads + Wait + Clock + Copy + Send + Sync + 'static>(
+fn perform<R: Runtime + AllocGlobal + Threads + Wait + Clock + Copy + Send + 'static>(
     console: &Console<'_, R>,
     task: Task<'_>,
 ) -> Status {

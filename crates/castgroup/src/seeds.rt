@@ -11,10 +11,10 @@ use cast_command::{LiveTask, Seeds, Taken};
 use cast_live::Summary;
 use cast_record::Meter;
 use cast_text::{TextFault, Verdict, read_input};
-use std::alloc::AllocError;
+use std::alloc::{AllocError, Global};
 use std::io::{Read, Write};
 use std::rt::{Clock, Runtime};
-use std::sync::Wait;
+use std::sync::{Arc, Wait};
 use std::thread;
 use std::thread::Threads;
 use std::time::Instant;
@@ -30,7 +30,7 @@ const SHORT_MILLIS: u128 = 100;
 
 /// Runs the group of a script by each of the seeds, several at once. The requested texts are those of the first odd run, or else of the
 /// last.
-pub fn live_seeds<R: Runtime + AllocGlobal + Threads + Wait + Clock + Copy + Send + Sync + 'static>(
+pub fn live_seeds<R: Runtime + AllocGlobal + Threads + Wait + Clock + Copy + Send + 'static>(
     console: &Console<'_, R>,
     task: &LiveTask<'_>,
     seeds: Seeds,
@@ -49,7 +49,7 @@ pub fn live_seeds<R: Runtime + AllocGlobal + Threads + Wait + Clock + Copy + Sen
 fn run_and_keep<
     'a,
     I: Read + Drop,
-    R: Runtime + AllocGlobal + Threads + Wait + Clock + Copy + Send + Sync + 'static,
+    R: Runtime + AllocGlobal + Threads + Wait + Clock + Copy + Send + 'static,
 >(
     console: &Console<'a, R>,
     input: I,
@@ -60,8 +60,11 @@ fn run_and_keep<
         Ok(text) => text,
         Err(fault) => return Err(Stop::Fault(fault)),
     };
+    let Ok(text) = Arc::new(console.rt.alloc(), text) else {
+        return Err(Stop::Fault(TextFault::Memory));
+    };
     let mut lines = open_sink(console, summary_target(&task.places));
-    let tally = run_all(console, text.as_slice(), task, seeds, &mut lines)?;
+    let tally = run_all(console, &text, task, seeds, &mut lines)?;
     let kept = keep_one(console, text.as_slice(), task, tally.kept);
     let Tally { at_rest, good, .. } = tally;
     let times = seeds.times;
@@ -142,9 +145,9 @@ impl Tally {
 }
 
 // Runs all, batch by batch, and writes a line for each odd run.
-fn run_all<'a, R: Runtime + AllocGlobal + Threads + Wait + Clock + Copy + Send + Sync + 'static>(
+fn run_all<'a, R: Runtime + AllocGlobal + Threads + Wait + Clock + Copy + Send + 'static>(
     console: &Console<'a, R>,
-    text: &[u8],
+    text: &Arc<Vec<u8>, Global>,
     task: &LiveTask<'a>,
     seeds: Seeds,
     lines: &mut Sink<'a, R>,
@@ -160,7 +163,7 @@ fn run_all<'a, R: Runtime + AllocGlobal + Threads + Wait + Clock + Copy + Send +
             break;
         }
         let began = Instant::now(console.rt).ok();
-        let Ok(lots) = run_batch(console.rt, text, seeds, batch) else {
+        let Ok(lots) = run_batch(*console.rt, console.rt.alloc(), text, seeds, batch) else {
             return Err(Stop::Fault(TextFault::Memory));
         };
         for lot in lots {
