@@ -5,13 +5,13 @@ _castgroup() {
         [[ -n $command || " run judge live merge migrate draw help " != *" $before "* ]] || command=$before
     done
     COMPREPLY=()
-    [[ " --draw --from --record --replay --seed --times --to " != *" $before "* ]] || return
+    [[ " --draw --from --jobs --record --replay --seed --times --to " != *" $before "* ]] || return
     case $command in
     '') COMPREPLY=($(compgen -W "run judge live merge migrate draw help --explain --terse --help --version" -- "$word")) ;;
     help) COMPREPLY=($(compgen -W "run judge live merge migrate draw help" -- "$word")) ;;
     run) [[ $word != -* ]] || COMPREPLY=($(compgen -W "--explain --terse --help" -- "$word")) ;;
     judge) [[ $word != -* ]] || COMPREPLY=($(compgen -W "--explain --terse --help" -- "$word")) ;;
-    live) [[ $word != -* ]] || COMPREPLY=($(compgen -W "--seed --times --record --replay --draw --progress --explain --terse --help" -- "$word")) ;;
+    live) [[ $word != -* ]] || COMPREPLY=($(compgen -W "--seed --times --jobs --record --replay --draw --progress --explain --terse --help" -- "$word")) ;;
     merge) [[ $word != -* ]] || COMPREPLY=($(compgen -W "--record --replay --draw --explain --terse --help" -- "$word")) ;;
     migrate) [[ $word != -* ]] || COMPREPLY=($(compgen -W "--explain --terse --help" -- "$word")) ;;
     draw) [[ $word != -* ]] || COMPREPLY=($(compgen -W "--from --to --html --explain --terse --help" -- "$word")) ;;

@@ -158,9 +158,11 @@ pub fn merge_command<'a>(alloc: Global) -> Result<Command<'a>, AllocError> {
 fn with_seeds<'a>(alloc: Global, command: Command<'a>) -> Result<Command<'a>, AllocError> {
     let seed = "Run in one thread, by the schedule of seed N: the same run each time";
     let times = "Run M seeds from N on, and tell of those runs that are not as one hopes";
+    let jobs = "Run J seeds at once; as many as there are processors if absent";
     command
         .arg(number(alloc, "seed", "N", seed))?
-        .arg(number(alloc, "times", "M", times).requires_arg("seed")?)
+        .arg(number(alloc, "times", "M", times).requires_arg("seed")?)?
+        .arg(number(alloc, "jobs", "J", jobs).requires_arg("times")?)
 }
 
 fn with_outputs<'a>(alloc: Global, command: Command<'a>) -> Result<Command<'a>, AllocError> {

@@ -94,6 +94,8 @@ fn is_again(place: Option<Place<'_>>, other: Option<Place<'_>>) -> bool {
 pub struct Seeds {
     pub first: u64,
     pub times: u64,
+    /// How many are run at once; as many as there are processors if absent.
+    pub at_once: Option<u64>,
 }
 
 #[derive(Clone, Copy)]
@@ -300,14 +302,19 @@ fn live<'a>(alloc: Global, matches: &ArgMatches<'a>) -> Result<Task<'a>, Refusal
     }))
 }
 
-// (a number of times without a seed was refused before)
+// (a number of times without a seed, and of jobs without a number of times, was refused before)
 fn running_of(alloc: Global, matches: &ArgMatches<'_>) -> Result<Running, Refusal> {
     let seed = number_of(alloc, matches, "seed", 0)?;
     let times = number_of(alloc, matches, "times", 1)?;
+    let at_once = number_of(alloc, matches, "jobs", 1)?;
     Ok(match (seed, times) {
         (None, _) => Running::InThreads,
         (Some(seed), None) => Running::BySeed(seed),
-        (Some(first), Some(times)) => Running::BySeeds(Seeds { first, times }),
+        (Some(first), Some(times)) => Running::BySeeds(Seeds {
+            first,
+            times,
+            at_once,
+        }),
     })
 }
 
@@ -329,7 +336,7 @@ fn number_of(
 
 fn number_fault(alloc: Global, name: &str, least: u64, word: &str) -> Result<Refusal, AllocError> {
     let command = match name {
-        "seed" | "times" => live_command(alloc)?.bin_name("castgroup live")?,
+        "seed" | "times" | "jobs" => live_command(alloc)?.bin_name("castgroup live")?,
         _ => draw_command(alloc)?.bin_name("castgroup draw")?,
     };
     let shown = escaped(alloc, word.as_bytes())?;

@@ -8,6 +8,7 @@ mod explain;
 mod input;
 mod judge;
 mod live;
+mod lots;
 mod merge;
 mod output;
 mod outputs;

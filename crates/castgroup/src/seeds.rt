@@ -2,24 +2,33 @@
 use crate::console::Console;
 use crate::explain::{Stop, tell_stop};
 use crate::live::{Group, open_script, progress_stream, run_group, status_of};
+use crate::lots::{Batch, Lot, SeedReport, run_batch};
 use crate::output::{Sink, Target, open_sink};
 use crate::outputs::summary_target;
 use crate::remarks::remark_on_script;
 use crate::status::Status;
 use cast_command::{LiveTask, Seeds, Taken};
-use cast_live::{FinishedRun, RunOutputs, Way, live_text};
-use cast_node::EngineEnd;
+use cast_live::Summary;
 use cast_record::Meter;
-use cast_run::{Progress, Seeded};
 use cast_text::{TextFault, Verdict, read_input};
 use std::alloc::{AllocError, Global};
-use std::io::{self, Read, Write};
+use std::io::{Read, Write};
 use std::rt::{Clock, Runtime};
 use std::sync::{Arc, Wait};
+use std::thread;
 use std::thread::Threads;
 use std::time::Instant;
 
-/// Runs the group of a script by each of the seeds. The requested texts are those of the first odd run, or else of the
+// More threads than this are not started at once.
+const MOST_AT_ONCE: u64 = 256;
+
+// A lot has no more seeds than this.
+const LARGEST_LOT: u64 = 64;
+
+// Lots that take less time than this may be larger.
+const SHORT_MILLIS: u128 = 100;
+
+/// Runs the group of a script by each of the seeds, several at once. The requested texts are those of the first odd run, or else of the
 /// last.
 pub fn live_seeds<R: Runtime + AllocGlobal + Threads + Wait + Clock + Copy + Send + 'static>(
     console: &Console<'_, R>,
@@ -51,8 +60,11 @@ fn run_and_keep<
         Ok(text) => text,
         Err(fault) => return Err(Stop::Fault(fault)),
     };
+    let Ok(text) = Arc::new(console.rt.alloc(), text) else {
+        return Err(Stop::Fault(TextFault::Memory));
+    };
     let mut lines = open_sink(console, summary_target(&task.places));
-    let tally = run_all(console, text.as_slice(), task, seeds, &mut lines)?;
+    let tally = run_all(console, &text, task, seeds, &mut lines)?;
     let kept = keep_one(console, text.as_slice(), task, tally.kept);
     let Tally { at_rest, good, .. } = tally;
     let times = seeds.times;
@@ -120,8 +132,7 @@ impl Tally {
         }
     }
 
-    fn add(&mut self, seed: u64, run: &FinishedRun, is_as_hoped: bool) {
-        let summary = run.summary;
+    fn add(&mut self, seed: u64, summary: Summary, is_as_hoped: bool) {
         let is_good = matches!(summary.verdict, Verdict::Good);
         self.at_rest = self.at_rest.saturating_add(u64::from(summary.rest));
         self.good = self.good.saturating_add(u64::from(is_good));
@@ -133,36 +144,90 @@ impl Tally {
     }
 }
 
-// Runs all, and writes a line for each odd run.
+// Runs all, batch by batch, and writes a line for each odd run.
 fn run_all<'a, R: Runtime + AllocGlobal + Threads + Wait + Clock + Copy + Send + 'static>(
     console: &Console<'a, R>,
-    text: &[u8],
+    text: &Arc<Vec<u8>, Global>,
     task: &LiveTask<'a>,
     seeds: Seeds,
     lines: &mut Sink<'a, R>,
 ) -> Result<Tally, Stop<'a>> {
-    let alloc = console.rt.alloc();
-    let Ok(progress) = Progress::for_group(alloc) else {
-        return Err(Stop::Fault(TextFault::Memory));
-    };
     let mut tally = Tally::new(seeds);
     let mut last = match progress_stream(console, task) {
         Some(_) => Instant::now(console.rt).ok(),
         None => None,
     };
-    for number in 0..seeds.times {
-        let seed = seeds.first.wrapping_add(number);
-        let run = run_seed(console.rt, text, &progress, seed)?;
-        let Ok(oddities) = oddities_of(alloc, &run) else {
+    let mut batch = first_batch(console.rt, seeds);
+    for _ in 0..seeds.times {
+        if batch.start >= seeds.times {
+            break;
+        }
+        let began = Instant::now(console.rt).ok();
+        let Ok(lots) = run_batch(*console.rt, console.rt.alloc(), text, seeds, batch) else {
             return Err(Stop::Fault(TextFault::Memory));
         };
+        for lot in lots {
+            tell_lot(console, lot, &mut tally, lines)?;
+        }
+        let end = batch.end();
+        batch = Batch {
+            start: end,
+            size: next_size(console.rt, began, batch.size),
+            ..batch
+        };
+        last = tell_runs(console, last, end.min(seeds.times), seeds.times);
+    }
+    Ok(tally)
+}
+
+// One seed for each thread: as many threads as were asked for, or as there are processors.
+fn first_batch<R: Threads>(rt: &R, seeds: Seeds) -> Batch {
+    let processors = match thread::available_parallelism(rt) {
+        Ok(count) => count.get() as u64,
+        Err(_) => 1,
+    };
+    Batch {
+        start: 0,
+        lots: seeds
+            .at_once
+            .unwrap_or(processors)
+            .min(seeds.times)
+            .min(MOST_AT_ONCE),
+        size: 1,
+    }
+}
+
+// The size of the next lots: twice the last, if those took so little time that starting threads counts.
+fn next_size<R: Clock>(rt: &R, began: Option<Instant>, size: u64) -> u64 {
+    match began.and_then(|began| began.elapsed(rt).ok()) {
+        Some(took) if took.as_millis() < SHORT_MILLIS => size.saturating_mul(2).min(LARGEST_LOT),
+        _ => size,
+    }
+}
+
+// Adds the runs of a lot, and writes a line for each odd one.
+fn tell_lot<'a, R: Runtime + AllocGlobal>(
+    console: &Console<'a, R>,
+    lot: Lot,
+    tally: &mut Tally,
+    lines: &mut Sink<'a, R>,
+) -> Result<(), Stop<'a>> {
+    let alloc = console.rt.alloc();
+    for report in lot.reports {
+        let SeedReport {
+            seed,
+            summary,
+            oddities,
+        } = report;
         if !oddities.is_empty() {
             put_line(format!(in alloc; "seed {seed}{oddities}\n"), lines)?;
         }
-        tally.add(seed, &run, oddities.is_empty());
-        last = tell_runs(console, last, number, seeds.times);
+        tally.add(seed, summary, oddities.is_empty());
     }
-    Ok(tally)
+    match lot.fault {
+        Some(fault) => Err(Stop::Fault(fault)),
+        None => Ok(()),
+    }
 }
 
 // Reports how many runs were made, if the last report is a second or more ago, and returns its time. Returns nothing if
@@ -170,72 +235,13 @@ fn run_all<'a, R: Runtime + AllocGlobal + Threads + Wait + Clock + Copy + Send +
 fn tell_runs<R: Clock>(
     console: &Console<'_, R>,
     last: Option<Instant>,
-    before: u64,
+    runs: u64,
     times: u64,
 ) -> Option<Instant> {
     if last?.elapsed(console.rt).ok()?.as_secs() == 0 {
         return last;
     }
-    let runs = before.saturating_add(1);
     // If standard error fails, there is nobody to report to.
     let _ = eprintln!(console.stderr; "castgroup: {runs} of {times} runs");
     Instant::now(console.rt).ok()
-}
-
-// Runs the script's group by the seed. Nobody reads the summary's text.
-fn run_seed<'a, R: Runtime + AllocGlobal + Threads + Wait + Copy + Send + 'static>(
-    rt: &R,
-    mut text: &[u8],
-    progress: &Arc<Progress, Global>,
-    seed: u64,
-) -> Result<FinishedRun, Stop<'a>> {
-    let mut outputs: RunOutputs<io::Sink, io::Sink> = RunOutputs {
-        summary: Meter::new(io::sink()),
-        record: None,
-        replay: None,
-    };
-    let mut reader = Meter::new(&mut text);
-    let run = live_text(
-        *rt,
-        rt.alloc(),
-        &mut reader,
-        &mut outputs,
-        progress,
-        Way::By(Seeded::mixed(seed)),
-    );
-    match run {
-        Ok(run) => Ok(run),
-        Err(fault) => Err(Stop::Fault(fault)),
-    }
-}
-
-// What makes the run odd, each after a blank. Nodes that neither stopped nor crashed are odd; a crash is not, since
-// only the plan causes it. So are a group that is not at rest, and orders that were left in desks or refused.
-fn oddities_of(alloc: Global, run: &FinishedRun) -> Result<String, AllocError> {
-    let mut odd = String::new(alloc);
-    for (node, report) in run.report.reports().iter().enumerate() {
-        if let Some(end) = odd_end(report.ended) {
-            odd.push_str(format!(in alloc; " ends {node} {end}")?.as_str())?;
-        }
-    }
-    if !run.summary.rest {
-        odd.push_str(" rest no")?;
-    }
-    if run.left > 0 {
-        odd.push_str(format!(in alloc; " left {}", run.left)?.as_str())?;
-    }
-    let refused = run.count_refused();
-    if refused > 0 {
-        odd.push_str(format!(in alloc; " refused {refused}")?.as_str())?;
-    }
-    Ok(odd)
-}
-
-fn odd_end(ended: EngineEnd) -> Option<&'static str> {
-    match ended {
-        EngineEnd::Stopped | EngineEnd::Crashed => None,
-        EngineEnd::TurnLimit => Some("turnlimit"),
-        EngineEnd::LogFull => Some("logfull"),
-        EngineEnd::ClockFull => Some("clockfull"),
-    }
 }
