@@ -1,6 +1,7 @@
 -- What the exports of a judge say.
 --     IsFed old piece status new      the clauses of the call that takes a piece
 --     IsDone old status told          the clauses of the call that returns the verdict
+--     IsSoFar held status lines told  the clauses of the call that says what was found so far
 use Rattle.std.specs.Prelude.{◌≡◌, ◌≢◌, ◌⊎◌, ℕ, ◌+◌, ◌^◌, ◌<◌, ◌≤◌, ◌++◌, true, false, List, length}
 use Rattle.cast_record.specs.declared.verdict.Verdict.TheVariants.{Good, Bad}
 use Rattle.cast_record.specs.Verdicts.{verdict}
@@ -33,3 +34,12 @@ pub record IsDone (old : Judging) (status : ℕ) (told : VerdictNumbers) : Type 
       status ≡ 3 → verdict text ≡ Bad told.line told.rule
   pub refused : is_refused old ≡ true → status ≡ 5
   pub ok : is_refused old ≡ false → status ≢ 5
+
+-- what was found so far, whatever follows
+pub record IsSoFar (held : Judging) (status lines : ℕ) (told : VerdictNumbers) : Type 0 where
+  pub lines_are : lines ≡ held.lines
+  pub known : (status ≡ 0) ⊎ (status ≡ 3) ⊎ (status ≡ 5)
+  pub good : status ≡ 0 → is_reading held ≡ true
+  pub bad : (text more : List ℕ) → Stands text held →
+      status ≡ 3 → verdict (text ++ more) ≡ Bad told.line told.rule
+  pub memory : status ≡ 5 → is_refused held ≡ true

@@ -4,7 +4,9 @@
 --     status_of_reply, status_of_round       5 if memory ran out, otherwise 0
 --     IsStep old event status told new       after the event, the status, the numbers of the reply, and the new group
 --     IsStepBy old numbers bytes status told new    the same for an event given as numbers and bytes
---     IsRound old status told new            the same for a round, with its status
+--     IsFault old event code                 the number of the refusal of an event, or 0
+--     IsFaultBy old numbers bytes status code       the same for an event given as numbers and bytes, with the status
+--     IsRound old status told new            the clauses of a round, with its status
 --     numbers_of_item, bytes_of, PutsItem    an item as numbers and bytes, and its bytes in a buffer
 --     CountsDelivered, TellsItem             what the readers say about the deliveries
 --     shown_by, decision_by                  a number, if the status is 0; a value, if one was found
@@ -22,7 +24,7 @@ use Rattle.cast_message.specs.declared.message.Item.TheVariants.{Data, Propose, 
 use Rattle.cast_message.specs.declared.message.Message.{Message}
 use Rattle.cast_model.specs.Delivery.{delivered}
 use Rattle.cast_model.specs.History.{History}
-use Rattle.cast_model.specs.Replies.{IsAccepted, reply}
+use Rattle.cast_model.specs.Replies.{IsAccepted, fault, reply}
 use Rattle.cast_model.specs.Rounds.{Rest, AreAccepted, HoldTheSame, after_round, plan}
 use Rattle.cast_model.specs.Shown.{item_of}
 use Rattle.cast_world.specs.Group.{State, Stands, StandingFor, Continues, IsFar, IsCrash, IsRefusedForCause}
@@ -97,6 +99,23 @@ IsStepOf old (Some event) status told new =
 
 abbrev pub IsStepBy : State → EventNumbers → List ℕ → ℕ → ReplyNumbers → State → Type 0
 IsStepBy old numbers bytes status told new = IsStepOf old (event_in numbers bytes) status told new
+
+abbrev pub code_of : Option StepFault → ℕ
+code_of None = 0
+code_of (Some fault) = step_code fault
+
+-- the number of the refusal, or 0
+abbrev pub IsFault : State → Event → ℕ → Type 0
+IsFault old event code = StandingFor old (λ config past. code ≡ code_of (fault config past event))
+
+-- the same for an event given as numbers and bytes
+abbrev pub IsFaultOf : State → Option Event → ℕ → ℕ → Type 0
+IsFaultOf old None status code = (status ≡ 1) ⊎ (status ≡ 5)
+IsFaultOf old (Some event) status code =
+    ((status ≡ 5) × (orders_bytes event ≡ true)) ⊎ ((status ≡ 0) × IsFault old event code)
+
+abbrev pub IsFaultBy : State → EventNumbers → List ℕ → ℕ → ℕ → Type 0
+IsFaultBy old numbers bytes status code = IsFaultOf old (event_in numbers bytes) status code
 
 abbrev pub numbers_of_round : Result ℕ StepFault → ReplyNumbers
 numbers_of_round (Ok frames) = only_number 0 frames

@@ -5,7 +5,7 @@ ghost use Rattle.cast_record.specs.declared.verdict.Verdict.TheVariants.{Good, B
 ghost use Rattle.cast_judge.specs.FitLines.{BeginsWell};
 ghost use Rattle.cast_judge.specs.Judged.{Stands, is_reading};
 ghost use Rattle.cast_c.specs.Numbers.{Tells};
-ghost use Rattle.cast_c.specs.Pieces.{IsDone, IsFed};
+ghost use Rattle.cast_c.specs.Pieces.{IsDone, IsFed, IsSoFar};
 
 use crate::judge_handle::JudgeHandle;
 use crate::numbers::{VerdictNumbers, status_of};
@@ -82,6 +82,41 @@ fn feed(judging: &mut Judging, piece: &[u8]) -> u32
     }
     match judging.feed(piece) {
         Ok(()) => DONE,
+        Err(_) => OUT_OF_MEMORY,
+    }
+}
+
+/// What was found in the pieces so far, and how many lines broke no rule. 0: nothing; 1: the handle holds no judge; 3: a
+/// line offends, whatever follows; 5: a piece ran out of memory.
+#[unsafe(no_mangle)]
+pub extern "C" fn cast_c_judge_so_far(
+    alloc: Global,
+    judge: &mut JudgeHandle,
+    lines: &mut u64,
+    said: &mut VerdictNumbers,
+) -> u32
+    ensures found { IfSome judge.old.loose.judging (λ held. IsSoFar held result lines.new said.new) }
+    ensures none { judge.old.loose.judging ≡ None → result ≡ 1 }
+    ensures kept { judge.new.loose.judging ≡ judge.old.loose.judging }
+{
+    let Some(held) = judge.take(alloc) else {
+        return MISUSED;
+    };
+    *lines = held.lines();
+    let status = tell_so_far(&held, said);
+    *judge = JudgeHandle::of(held);
+    status
+}
+
+fn tell_so_far(judging: &Judging, said: &mut VerdictNumbers) -> u32
+    ensures { IsSoFar judging.now result judging.now.lines said.new }
+{
+    match judging.so_far() {
+        Ok(None) => DONE,
+        Ok(Some(verdict)) => {
+            *said = VerdictNumbers::of(verdict);
+            status_of(verdict)
+        }
         Err(_) => OUT_OF_MEMORY,
     }
 }

@@ -1,5 +1,5 @@
 //! Reads a text piece by piece.
-ghost use Rattle.std.specs.Prelude.{◌≡◌, ℕ, ◌+◌, ◌^◌, ◌<◌, ◌≤◌, ◌++◌, [], ◌∷◌, List, length, nat_lt, option_map, true, false, Some, IfOk, OnOk, OnErr, IsOk, IsErr};
+ghost use Rattle.std.specs.Prelude.{◌≡◌, ℕ, ◌+◌, ◌^◌, ◌<◌, ◌≤◌, ◌++◌, [], ◌∷◌, List, length, nat_lt, option_map, is_some, true, false, Some, IfOk, IfSome, OnOk, OnErr, IsOk, IsErr};
 ghost use Rattle.cast_record.specs.Verdicts.{verdict};
 ghost use Rattle.cast_judge.specs.FitLines.{HasNone, BeginsWell};
 
@@ -108,6 +108,31 @@ impl Judging {
         ensures { result + self.now.fed ≡ 2 ^ 63 }
     {
         MOST_BYTES - self.fed
+    }
+
+    /// What was found so far: nothing, or the verdict, whatever text follows. Out of memory if a piece was refused.
+    pub fn so_far(&self) -> Result<Option<Verdict>, AllocError>
+        ensures found { (text more : List ℕ) → Stands text self.now →
+            IfOk result (λ found. IfSome found (λ said. verdict (text ++ more) ≡ said)) }
+        ensures offended { IfOk result (λ found. is_some found ≡ is_offended self.now) }
+        ensures refused { is_refused self.now ≡ true → IsErr result }
+        ensures ok { is_refused self.now ≡ false → IsOk result }
+    {
+        match self.state {
+            State::Reading => Ok(None),
+            State::Offended { rule } => Ok(Some(Verdict::Bad {
+                line: self.lines + 1,
+                rule,
+            })),
+            State::Refused => Err(AllocError),
+        }
+    }
+
+    /// How many lines were read that broke no rule.
+    pub fn lines(&self) -> u64
+        ensures { result ≡ self.now.lines }
+    {
+        self.lines
     }
 
     /// The verdict on all pieces joined. It allocates nothing, and reports out of memory only if a piece was refused.
