@@ -7,13 +7,13 @@ ghost use Rattle.cast_model.specs.Rounds.{Rest, HaveFewCrashed, FewCrashedIn};
 ghost use Rattle.cast_model.specs.Shown.{ShowsOwed};
 ghost use Rattle.cast_world.specs.Group.{StandingFor};
 ghost use Rattle.cast_world.specs.Rounds.{AgreesAtRest, HaveWhatAnyDelivered};
-ghost use Rattle.cast_c.specs.Steps.{CountsDelivered, TellsItem, shown_by, decision_by};
+ghost use Rattle.cast_c.specs.Steps.{CountsDelivered, IsFault, IsFaultBy, TellsItem, shown_by, decision_by};
 
 use crate::deliveries::put_item;
-use crate::numbers::ItemNumbers;
-use crate::status::{DONE, MISUSED, REFUSED};
+use crate::numbers::{EventNumbers, ItemNumbers};
+use crate::status::{DONE, MISUSED, OUT_OF_MEMORY, REFUSED};
 use crate::world_handle::WorldHandle;
-use cast_message::NodeId;
+use cast_message::{Event, NodeId};
 use cast_world::World;
 use std::alloc::Global;
 
@@ -199,4 +199,55 @@ pub extern "C" fn cast_c_world_at_rest(
     *is_so = held.at_rest();
     *world = WorldHandle::of(held);
     DONE
+}
+
+/// Why the group would refuse the event now, if it would. 0: done, and `code` is the number of the refusal, or 0; 1: the
+/// handle holds no group, or no kind has this number; 5: out of memory. It never says that a step would run out of it.
+#[unsafe(no_mangle)]
+pub extern "C" fn cast_c_world_fault(
+    alloc: Global,
+    world: &mut WorldHandle,
+    event: &EventNumbers,
+    bytes: &[u8],
+    code: &mut u64,
+) -> u32
+    ensures fault { IfSome world.old.loose.world (λ old.
+        IsFaultBy old event.now bytes.now result code.new) }
+    ensures none { world.old.loose.world ≡ None → result ≡ 1 }
+    ensures kept { world.new.loose.world ≡ world.old.loose.world }
+{
+    let Some(held) = world.take(alloc) else {
+        return MISUSED;
+    };
+    let status = fault_by(alloc, &held, event, bytes, code);
+    *world = WorldHandle::of(held);
+    status
+}
+
+fn fault_by(
+    alloc: Global,
+    world: &World,
+    event: &EventNumbers,
+    bytes: &[u8],
+    code: &mut u64,
+) -> u32
+    ensures { IsFaultBy world.now event.now bytes.now result code.new }
+{
+    let Ok(event) = event.event(alloc, bytes) else {
+        return OUT_OF_MEMORY;
+    };
+    let Some(event) = event else {
+        return MISUSED;
+    };
+    *code = fault_code(world, &event);
+    DONE
+}
+
+fn fault_code(world: &World, event: &Event) -> u64
+    ensures { IsFault world.now event.now result }
+{
+    match world.fault(event) {
+        Some(fault) => fault.code(),
+        None => 0,
+    }
 }

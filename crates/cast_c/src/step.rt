@@ -1,6 +1,6 @@
-//! The call by which a group takes an event, and the one that says why it would refuse it.
+//! The call by which a group takes an event.
 ghost use Rattle.std.specs.Prelude.{◌≡◌, None, IfSome, IsSomeAnd};
-ghost use Rattle.cast_c.specs.Steps.{IsFault, IsFaultBy, IsStep, IsStepBy};
+ghost use Rattle.cast_c.specs.Steps.{IsStep, IsStepBy};
 
 use crate::deliveries::numbers_of;
 use crate::numbers::{EventNumbers, ReplyNumbers};
@@ -59,56 +59,5 @@ fn step(world: &mut World, event: &Event, reply: &mut ReplyNumbers) -> u32
         OUT_OF_MEMORY
     } else {
         DONE
-    }
-}
-
-/// Why the group would refuse the event now, if it would. 0: done, and `code` is the number of the refusal, or 0; 1: the
-/// handle holds no group, or no kind has this number; 5: out of memory. It never says that a step would run out of it.
-#[unsafe(no_mangle)]
-pub extern "C" fn cast_c_world_fault(
-    alloc: Global,
-    world: &mut WorldHandle,
-    event: &EventNumbers,
-    bytes: &[u8],
-    code: &mut u64,
-) -> u32
-    ensures fault { IfSome world.old.loose.world (λ old.
-        IsFaultBy old event.now bytes.now result code.new) }
-    ensures none { world.old.loose.world ≡ None → result ≡ 1 }
-    ensures kept { world.new.loose.world ≡ world.old.loose.world }
-{
-    let Some(held) = world.take(alloc) else {
-        return MISUSED;
-    };
-    let status = fault_by(alloc, &held, event, bytes, code);
-    *world = WorldHandle::of(held);
-    status
-}
-
-fn fault_by(
-    alloc: Global,
-    world: &World,
-    event: &EventNumbers,
-    bytes: &[u8],
-    code: &mut u64,
-) -> u32
-    ensures { IsFaultBy world.now event.now bytes.now result code.new }
-{
-    let Ok(event) = event.event(alloc, bytes) else {
-        return OUT_OF_MEMORY;
-    };
-    let Some(event) = event else {
-        return MISUSED;
-    };
-    *code = fault_code(world, &event);
-    DONE
-}
-
-fn fault_code(world: &World, event: &Event) -> u64
-    ensures { IsFault world.now event.now result }
-{
-    match world.fault(event) {
-        Some(fault) => fault.code(),
-        None => 0,
     }
 }
