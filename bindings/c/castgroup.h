@@ -135,6 +135,7 @@ struct cast_text {
 uint32_t cast_c_judge(const uint8_t *record, size_t count, struct cast_verdict *verdict);
 uint32_t cast_c_judge_new(struct cast_judging *judge);
 uint32_t cast_c_judge_feed(struct cast_judging *judge, const uint8_t *piece, size_t count);
+uint32_t cast_c_judge_so_far(struct cast_judging *judge, uint64_t *lines, struct cast_verdict *verdict);
 uint32_t cast_c_judge_finish(struct cast_judging *judge, struct cast_verdict *verdict);
 void cast_c_judge_drop(struct cast_judging *judge);
 uint32_t cast_c_world_new(struct cast_world *world, const struct cast_config *config, uint64_t *fault);
@@ -169,6 +170,8 @@ uint32_t cast_c_draw(const uint8_t *script, size_t count, uint64_t from, uint64_
 
 /* Two more, in plain C over these. */
 uint32_t cast_c_version(void);
+uint32_t cast_c_world_fault(struct cast_world *world, const struct cast_event *event, const uint8_t *bytes, size_t count,
+                            uint64_t *code);
 uint32_t cast_c_world_steps(struct cast_world *world, const struct cast_event *events, size_t count, const uint8_t *bytes,
                             size_t size, struct cast_reply *replies, uint64_t *taken);
 
@@ -276,6 +279,13 @@ static inline uint32_t cast_judge_feed(struct cast_judging *judge, const void *p
     if (judge == NULL || !cast_has(piece, count)) return CAST_MISUSED;
     return cast_c_judge_feed(judge, cast_some(piece), count);
 }
+/* What was found in the pieces so far. `lines` is the number of lines that break no rule. CAST_DONE: no line breaks one;
+ * CAST_MISUSED: the handle holds no judge; CAST_BAD: this will be the verdict, whatever follows; CAST_OUT_OF_MEMORY: a
+ * piece ran out of memory. */
+static inline uint32_t cast_judge_so_far(struct cast_judging *judge, uint64_t *lines, struct cast_verdict *verdict) {
+    if (judge == NULL || lines == NULL || verdict == NULL) return CAST_MISUSED;
+    return cast_c_judge_so_far(judge, lines, verdict);
+}
 /* CAST_DONE: it is good; CAST_MISUSED: the handle holds no judge; CAST_BAD; CAST_OUT_OF_MEMORY: a piece ran out of
  * memory. */
 static inline uint32_t cast_judge_finish(struct cast_judging *judge, struct cast_verdict *verdict) {
@@ -301,6 +311,14 @@ static inline uint32_t cast_world_step(struct cast_world *world, const struct ca
                                        struct cast_reply *reply) {
     if (world == NULL || event == NULL || !cast_has(bytes, count) || reply == NULL) return CAST_MISUSED;
     return cast_c_world_step(world, event, cast_some(bytes), count, reply);
+}
+
+/* Why the group would refuse the event now: `code` is 0 if it would not, or the refusal's. The group is as before.
+ * CAST_DONE; CAST_MISUSED: the handle holds no group, or there is no such kind; CAST_OUT_OF_MEMORY. */
+static inline uint32_t cast_world_fault(struct cast_world *world, const struct cast_event *event, const void *bytes, size_t count,
+                                        uint64_t *code) {
+    if (world == NULL || event == NULL || !cast_has(bytes, count) || code == NULL) return CAST_MISUSED;
+    return cast_c_world_fault(world, event, cast_some(bytes), count, code);
 }
 
 /* Takes `count` events by cast_world_step, and writes a reply for each. For an order of bytes, `number` is where

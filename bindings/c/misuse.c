@@ -12,6 +12,7 @@ static const char RECORD[] = "cast/1 2 0 1\nb 0 0 data:61\nd 0 0 0 data:61\nend\
 static int judges(void) {
     struct cast_verdict verdict = {9, 9};
     struct cast_judging judge = CAST_EMPTY;
+    uint64_t lines = 0;
     NEED(cast_judge(NULL, 1, &verdict) == CAST_MISUSED && cast_judge(RECORD, 1, NULL) == CAST_MISUSED);
     NEED(cast_judge(RECORD, (size_t)-1, &verdict) == CAST_MISUSED);
     NEED(cast_judge(NULL, 0, &verdict) == CAST_BAD && verdict.line == 1 && verdict.rule == 0);
@@ -22,7 +23,9 @@ static int judges(void) {
     NEED(cast_judge_new(&judge) == CAST_DONE && cast_judge_new(&judge) == CAST_MISUSED);
     NEED(cast_judge_feed(NULL, "a", 1) == CAST_MISUSED && cast_judge_feed(&judge, NULL, 1) == CAST_MISUSED);
     NEED(cast_judge_feed(&judge, NULL, 0) == CAST_DONE && cast_judge_finish(&judge, NULL) == CAST_MISUSED);
+    NEED(cast_judge_so_far(NULL, &lines, &verdict) == CAST_MISUSED && cast_judge_so_far(&judge, NULL, &verdict) == CAST_MISUSED);
     NEED(cast_judge_feed(&judge, RECORD, sizeof RECORD - 1) == CAST_DONE);
+    NEED(cast_judge_so_far(&judge, &lines, &verdict) == CAST_DONE && lines > 1);
     verdict.line = verdict.rule = 9;
     NEED(cast_judge_finish(&judge, &verdict) == CAST_DONE && verdict.line == 0 && verdict.rule == 0);
     NEED(cast_judge_feed(&judge, "a", 1) == CAST_MISUSED && cast_judge_finish(&judge, &verdict) == CAST_MISUSED);
@@ -56,7 +59,7 @@ static int worlds(void) {
     struct cast_event event = {.kind = CAST_ORDER, .item = CAST_DATA};
     struct cast_reply reply;
     struct cast_item item;
-    uint64_t fault, count;
+    uint64_t fault, count, code;
     char bytes[4] = "zzz";
     wrong.mode = 1, odd.mode = 2;
     NEED(is_empty(NULL) == 0 && is_empty(&world) == 0);
@@ -78,6 +81,9 @@ static int worlds(void) {
     NEED(cast_world_step(&world, &event, "abc", 3, &reply) == CAST_DONE && reply.code == 0 && reply.deliveries == 1);
     event.node = 255;
     NEED(cast_world_step(&world, &event, "abc", 3, &reply) == CAST_DONE && reply.code == 1);
+    NEED(cast_world_fault(&world, &event, "abc", 3, &code) == CAST_DONE && code == 1);
+    NEED(cast_world_fault(NULL, &event, "abc", 3, &code) == CAST_MISUSED);
+    NEED(cast_world_fault(&world, &event, "abc", 3, NULL) == CAST_MISUSED);
     NEED(cast_world_item(&world, 0, 0, 0, NULL, bytes, 4) == CAST_MISUSED);
     NEED(cast_world_item(&world, 0, 0, 0, &item, NULL, 4) == CAST_MISUSED);
     NEED(cast_world_item(&world, 0, 0, 0, &item, bytes, 2) == CAST_TOO_SHORT && item.length == 3 && strcmp(bytes, "zzz") == 0);

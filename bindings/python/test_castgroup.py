@@ -72,6 +72,15 @@ class Records(unittest.TestCase):
         with castgroup.Judge() as other:
             other.feed(b"cast/1 ")
 
+    def test_a_judge_says_what_it_found_so_far(self):
+        judge = castgroup.Judge()
+        judge.feed(b"cast/1 2 0 1\n")
+        self.assertEqual((judge.so_far(), judge.lines), (None, 1))
+        judge.feed(b"d 0 1 0 close\nend\n")
+        self.assertEqual((judge.so_far(), judge.lines), ((2, 1), 1))
+        self.assertEqual(judge.finish(), (2, 1))
+        self.assertRaises(ValueError, judge.so_far)
+
     def test_the_program_says_the_same(self):
         if PROGRAM is None:
             self.skipTest("no program")
@@ -188,6 +197,10 @@ class Groups(unittest.TestCase):
             with self.assertRaises(castgroup.Refused) as caught:
                 call()
             self.assertEqual(caught.exception.code, code)
+        for event, code in ((castgroup.Crash(2), 1), (castgroup.Order(0, b"a" * 1025), 5), (castgroup.Arrive(0, 7), 11)):
+            self.assertEqual(world.fault(event).code, code)
+        self.assertIsNone(world.fault(castgroup.Order(0, castgroup.Propose(1, 2))))
+        self.assertRaises(ValueError, world.fault, castgroup.Crash(256))
         for call in (lambda: world.crash(256), lambda: world.crash(-1), lambda: world.arrive(0, 2**64), lambda: world.propose(0, 0, -1),
                      lambda: world.send(0, 300, 0), lambda: world.owed(0, 256), lambda: castgroup.World(-1, 0)):
             self.assertRaises(ValueError, call)

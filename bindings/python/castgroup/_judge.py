@@ -2,7 +2,7 @@
 from __future__ import annotations
 
 import threading
-from ctypes import addressof
+from ctypes import addressof, c_uint64
 from types import TracebackType
 from typing import NamedTuple
 
@@ -23,10 +23,11 @@ _RULES = (
 )
 
 _judge = free["judge"]
-_new, _feed, _feed_long, _finish, _drop = (
+_new, _feed, _feed_long, _so_far, _finish, _drop = (
     held["judge_new"],
     held["judge_feed"],
     free["judge_feed"],
+    held["judge_so_far"],
     free["judge_finish"],
     free["judge_drop"],
 )
@@ -75,6 +76,23 @@ class Judge:
             status = feed(self._at, data, len(data))
         if accept(status) == library.REFUSED:
             raise TooLong()
+
+    def so_far(self) -> Verdict | None:
+        """A line that breaks a rule, which will be the verdict whatever follows; None if there is none so far."""
+        verdict = self._look()[1]
+        return None if verdict.good else verdict
+
+    @property
+    def lines(self) -> int:
+        """How many lines so far break no rule."""
+        return self._look()[0]
+
+    def _look(self) -> tuple[int, Verdict]:
+        lines, said = c_uint64(), library.VerdictNumbers()
+        with self._lock:
+            status = _so_far(self._at, addressof(lines), addressof(said))
+        accept(status)
+        return lines.value, Verdict(said.line, said.rule)
 
     def finish(self) -> Verdict:
         """The verdict on all pieces joined. Afterwards the judge takes no more."""

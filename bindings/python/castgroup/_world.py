@@ -21,7 +21,7 @@ _EVENT = Struct("=4B4xQQ")
 _REPLY = Struct("=6Q")
 
 _new, _drop = held["world_new"], held["world_drop"]
-_step, _round = held["world_step"], free["world_round"]
+_step, _fault, _round = held["world_step"], held["world_fault"], free["world_round"]
 _delivered, _item, _decision = held["world_delivered"], held["world_item"], held["world_decision"]
 _owed, _live, _at_rest = held["world_owed"], held["world_live"], held["world_at_rest"]
 
@@ -112,6 +112,17 @@ class World:
                 _explain(node, to, number, value)
             accept(_step(self._at, self._at_event, data, len(data), self._at_reply))
             return self._replied()
+
+    def fault(self, event: Event) -> Refused | None:
+        """Why the group would refuse the event now, if it would. A step may still run out of memory."""
+        numbers, data = _numbers_and_bytes(event)
+        with self._lock:
+            try:
+                _EVENT.pack_into(self._event, 0, *numbers)
+            except StructError:
+                _explain(numbers[1], numbers[2], numbers[4], numbers[5])
+            accept(_fault(self._at, self._at_event, data, len(data), self._at_number))
+            return Refused(self._number.value) if self._number.value else None
 
     def round(self) -> int:
         """Takes the events of one round, and returns the number of frames made. If the round is refused or runs out of
@@ -245,6 +256,16 @@ def _numbers(event: Event) -> tuple[int, int, int, int, int, int]:
     if isinstance(event, Crash):
         return _CRASH, event.node, 0, 0, 0, 0
     raise TypeError(f"an event is Order, Send, Ack, Arrive or Crash, and no {type(event).__name__}")
+
+
+def _numbers_and_bytes(event: Event) -> tuple[tuple[int, int, int, int, int, int], bytes]:
+    if not isinstance(event, Order):
+        return _numbers(event), b""
+    if isinstance(event.item, Propose):
+        return (_ORDER, event.node, 0, _PROPOSE, event.item.instance, event.item.value), b""
+    if isinstance(event.item, Close):
+        return (_ORDER, event.node, 0, _CLOSE, 0, 0), b""
+    return (_ORDER, event.node, 0, _DATA, 0, 0), bytes_of(event.item)
 
 
 def _pair(first: SupportsIndex, second: SupportsIndex) -> tuple[int, int]:

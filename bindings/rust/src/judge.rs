@@ -107,6 +107,38 @@ impl Judge {
         }
     }
 
+    /// What was found in the pieces so far: a line that breaks a rule, which will be the verdict whatever follows, or nothing.
+    ///
+    /// ```
+    /// use castgroup::{Judge, Verdict};
+    ///
+    /// let mut judge = Judge::new()?;
+    /// judge.feed(b"cast/1 2 0 1\n")?;
+    /// assert_eq!(judge.so_far()?, None);
+    /// judge.feed(b"d 0 1 0 close\n")?;
+    /// assert_eq!(judge.so_far()?, Some(Verdict::Bad { line: 2, rule: 1 }));
+    /// # Ok::<(), Box<dyn std::error::Error>>(())
+    /// ```
+    pub fn so_far(&mut self) -> Result<Option<Verdict>, OutOfMemory> {
+        let (_, status, said) = self.look();
+        match verdict(status, &said)? {
+            Verdict::Good => Ok(None),
+            bad => Ok(Some(bad)),
+        }
+    }
+
+    /// How many lines so far break no rule.
+    pub fn lines(&mut self) -> u64 {
+        self.look().0
+    }
+
+    fn look(&mut self) -> (u64, u32, raw::Verdict) {
+        let (mut lines, mut said) = (0, raw::Verdict::default());
+        // SAFETY: see `raw`.
+        let status = unsafe { raw::cast_c_judge_so_far(&mut self.handle, &mut lines, &mut said) };
+        (lines, status, said)
+    }
+
     /// The verdict on all pieces joined.
     pub fn finish(mut self) -> Result<Verdict, OutOfMemory> {
         let mut said = raw::Verdict::default();

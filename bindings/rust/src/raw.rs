@@ -103,6 +103,7 @@ extern "C" {
     pub(crate) fn cast_c_judge(record: *const u8, count: usize, verdict: *mut Verdict) -> u32;
     pub(crate) fn cast_c_judge_new(judge: *mut Handle) -> u32;
     pub(crate) fn cast_c_judge_feed(judge: *mut Handle, piece: *const u8, count: usize) -> u32;
+    pub(crate) fn cast_c_judge_so_far(judge: *mut Handle, lines: *mut u64, verdict: *mut Verdict) -> u32;
     pub(crate) fn cast_c_judge_finish(judge: *mut Handle, verdict: *mut Verdict) -> u32;
     pub(crate) fn cast_c_judge_drop(judge: *mut Handle);
     pub(crate) fn cast_c_world_new(world: *mut Handle, config: *const Config, fault: *mut u64) -> u32;
@@ -112,6 +113,13 @@ extern "C" {
         bytes: *const u8,
         count: usize,
         reply: *mut Reply,
+    ) -> u32;
+    pub(crate) fn cast_c_world_fault(
+        world: *mut Handle,
+        event: *const Event,
+        bytes: *const u8,
+        count: usize,
+        code: *mut u64,
     ) -> u32;
     pub(crate) fn cast_c_world_round(world: *mut Handle, reply: *mut Reply) -> u32;
     pub(crate) fn cast_c_world_delivered(world: *mut Handle, node: u8, sender: u8, count: *mut u64) -> u32;

@@ -77,6 +77,28 @@ impl World {
         Ok(event.reply(&told))
     }
 
+    /// Why the group would refuse the event now, if it would. A step may still run out of memory.
+    ///
+    /// ```
+    /// use castgroup::{Config, Event, Refusal, World};
+    ///
+    /// let world = World::new(&Config::of(2, 0)).unwrap();
+    /// let arrival = Event::Arrive { node: 0, seq: 0 };
+    /// assert_eq!(world.fault(&arrival), Ok(Some(Refusal::NoFrame)));
+    /// ```
+    pub fn fault(&self, event: &Event) -> Result<Option<Refusal>, OutOfMemory> {
+        let (numbers, bytes) = event.numbers();
+        let mut code = 0;
+        // SAFETY: see `raw`.
+        let status = unsafe {
+            raw::cast_c_world_fault(self.handle.get(), &numbers, bytes.as_ptr(), bytes.len(), &mut code)
+        };
+        match status {
+            raw::DONE => Ok(Refusal::from_code(code)),
+            _ => Err(OutOfMemory),
+        }
+    }
+
     /// Takes the events of one round: live nodes send, take and acknowledge all that they owe one another. Returns the
     /// number of frames made. After two accepted rounds the group is at rest.
     pub fn round(&mut self) -> Result<u64, StepError> {
