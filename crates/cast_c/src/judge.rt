@@ -9,8 +9,8 @@ ghost use Rattle.cast_c.specs.Pieces.{IsDone, IsFed, IsSoFar};
 
 use crate::judge_handle::JudgeHandle;
 use crate::numbers::{VerdictNumbers, status_of};
-use crate::status::{DONE, MISUSED, OUT_OF_MEMORY, REFUSED};
-use cast_judge::{Judging, Verdict, judge};
+use crate::status::{BAD, DONE, MISUSED, OUT_OF_MEMORY, REFUSED};
+use cast_judge::{Judging, Offence, Verdict, judge};
 use std::alloc::{AllocError, Global};
 
 /// The verdict on a record. 0: good; 3: bad; 5: out of memory.
@@ -113,9 +113,9 @@ fn tell_so_far(judging: &Judging, said: &mut VerdictNumbers) -> u32
 {
     match judging.so_far() {
         Ok(None) => DONE,
-        Ok(Some(verdict)) => {
-            *said = VerdictNumbers::of(verdict);
-            status_of(verdict)
+        Ok(Some(Offence { line, rule })) => {
+            *said = VerdictNumbers { line, rule };
+            BAD
         }
         Err(_) => OUT_OF_MEMORY,
     }

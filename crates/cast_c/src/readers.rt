@@ -224,13 +224,7 @@ pub extern "C" fn cast_c_world_fault(
     status
 }
 
-fn fault_by(
-    alloc: Global,
-    world: &World,
-    event: &EventNumbers,
-    bytes: &[u8],
-    code: &mut u64,
-) -> u32
+fn fault_by(alloc: Global, world: &World, event: &EventNumbers, bytes: &[u8], code: &mut u64) -> u32
     ensures { IsFaultBy world.now event.now bytes.now result code.new }
 {
     let Ok(event) = event.event(alloc, bytes) else {

@@ -13,8 +13,8 @@ use Rattle.cast_log.specs.declared.entry.Origin.{Origin}
 use Rattle.cast_node.specs.Kept.{Kept, link_to}
 use Rattle.cast_node.specs.Turns.{kept_after}
 use Rattle.cast_desk.specs.declared.desk.Desk.{Desk}
-use Rattle.cast_desk.specs.declared.desk.OrderIn.{OrderIn}
-use Rattle.cast_carrier.specs.declared.parcel.Parcel.{Parcel}
+use Rattle.cast_journal.specs.declared.order.OrderIn.{OrderIn}
+use Rattle.cast_journal.specs.declared.parcel.Parcel.{Parcel}
 use Rattle.cast_journal.specs.Journals.{JournalState, LogsStep, LogsOrder, OnlyEnds, Halts, MayLog}
 use Rattle.cast_resend.specs.declared.resend.Resend.{Resend}
 use Rattle.cast_resend.specs.Dues.{owes}

@@ -1,6 +1,7 @@
 //! Reads a text piece by piece.
 ghost use Rattle.std.specs.Prelude.{◌≡◌, ℕ, ◌+◌, ◌^◌, ◌<◌, ◌≤◌, ◌++◌, [], ◌∷◌, List, length, nat_lt, option_map, is_some, true, false, Some, IfOk, IfSome, OnOk, OnErr, IsOk, IsErr};
 ghost use Rattle.cast_record.specs.Verdicts.{verdict};
+ghost use Rattle.cast_record.specs.declared.verdict.Verdict.TheVariants.{Bad};
 ghost use Rattle.cast_judge.specs.FitLines.{HasNone, BeginsWell};
 
 use crate::kept::Kept;
@@ -13,6 +14,13 @@ const MOST_UNFINISHED: usize = 4_096;
 
 /// All pieces together have fewer bytes than this.
 const MOST_BYTES: u64 = 1 << 63;
+
+/// The first line that breaks a rule, counted from 1, and the least rule that it breaks.
+#[derive(Clone, Copy)]
+pub struct Offence {
+    pub line: u64,
+    pub rule: u64,
+}
 
 /// Whether the judge goes on.
 #[derive(Clone, Copy)]
@@ -110,17 +118,17 @@ impl Judging {
         MOST_BYTES - self.fed
     }
 
-    /// What was found so far: nothing, or the verdict, whatever text follows. Out of memory if a piece was refused.
-    pub fn so_far(&self) -> Result<Option<Verdict>, AllocError>
-        ensures found { (text more : List ℕ) → Stands text self.now →
-            IfOk result (λ found. IfSome found (λ said. verdict (text ++ more) ≡ said)) }
+    /// The line that breaks a rule, whatever text follows, or nothing so far. Out of memory if a piece was refused.
+    pub fn so_far(&self) -> Result<Option<Offence>, AllocError>
+        ensures found { (text more : List ℕ) → Stands text self.now → IfOk result (λ found.
+            IfSome found (λ offence. verdict (text ++ more) ≡ Bad offence.line offence.rule)) }
         ensures offended { IfOk result (λ found. is_some found ≡ is_offended self.now) }
         ensures refused { is_refused self.now ≡ true → IsErr result }
         ensures ok { is_refused self.now ≡ false → IsOk result }
     {
         match self.state {
             State::Reading => Ok(None),
-            State::Offended { rule } => Ok(Some(Verdict::Bad {
+            State::Offended { rule } => Ok(Some(Offence {
                 line: self.lines + 1,
                 rule,
             })),

@@ -14,4 +14,4 @@ mod lines;
 mod rules;
 
 pub use cast_record::Verdict;
-pub use judging::{Judging, judge};
+pub use judging::{Judging, Offence, judge};
