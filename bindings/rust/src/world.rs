@@ -83,7 +83,7 @@ impl World {
     /// use castgroup::{Config, Event, Refusal, World};
     ///
     /// let world = World::new(&Config::of(2, 0)).unwrap();
-    /// let arrival = Event::Arrive { node: 0, seq: 0 };
+    /// let arrival = Event::Arrive { from: 0, seq: 0 };
     /// assert_eq!(world.fault(&arrival), Ok(Some(Refusal::NoFrame)));
     /// ```
     pub fn fault(&self, event: &Event) -> Result<Option<Refusal>, OutOfMemory> {
