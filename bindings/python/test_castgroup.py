@@ -231,7 +231,11 @@ class Threads(unittest.TestCase):
         self.assertTrue(judge.finish())
 
     def turns_during(self, call):
-        """How many turns this thread had while another was in the call, which takes some hundredths of a second."""
+        """How many turns this thread had while another was in the call. No thread is made to yield, so it has a turn only where the
+        call lets the lock go."""
+        interval = sys.getswitchinterval()
+        sys.setswitchinterval(60)
+        self.addCleanup(sys.setswitchinterval, interval)
         began, ended = threading.Event(), threading.Event()
 
         def run():
@@ -242,7 +246,6 @@ class Threads(unittest.TestCase):
         thread, turns = threading.Thread(target=run), 0
         thread.start()
         began.wait()
-        time.sleep(0.005)
         while not ended.is_set():
             turns += 1
             time.sleep(0.001)
