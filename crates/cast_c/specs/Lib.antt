@@ -1,4 +1,5 @@
 -- The definitions that the contracts of the exports use.
+pub mod Exploring
 pub mod Freeing
 pub mod JudgeOwning
 pub mod Numbers

@@ -4,9 +4,13 @@
 --     IsRefused script told                    the script is refused, and this says why
 --     IsText Writes status told old new        a text, its length, and the text in the buffer, if that has room
 --     PutsText made status told old new        a text in the buffer, or why there is none
+--     PutsMigrated text status count old new   the text with the new head in the buffer, or why there is none
 use Rattle.std.specs.Prelude.{◌≡◌, ℕ, ◌<◌, ◌≤◌, List, length, Result, Ok, Err}
 use Rattle.std.specs.Global.{Vec}
 use Rattle.cast_message.specs.Limits.{config_code}
+use Rattle.cast_record.specs.Migration.{Migrates}
+use Rattle.cast_record.specs.declared.migration.MigrateFault.{MigrateFault}
+use Rattle.cast_record.specs.declared.migration.MigrateFault.TheVariants as migrations
 use Rattle.cast_script.specs.Script.{Reads}
 use Rattle.cast_script.specs.declared.script.ScriptFault.TheVariants as scripts
 use Rattle.cast_text.specs.Text.{input_limit}
@@ -58,3 +62,13 @@ PutsText (Ok text) status told old new =
     Puts text.items status old new × (told ≡ only_length (length text.items))
 PutsText (Err fault) status told old new =
     (status ≡ status_of_fault fault) × (told ≡ numbers_of_fault fault) × (new ≡ old)
+
+abbrev pub PutsMade : Result (Vec ℕ) MigrateFault → ℕ → ℕ → List ℕ → List ℕ → Type 0
+PutsMade (Ok text) status count old new = Puts text.items status old new × (count ≡ length text.items)
+PutsMade (Err migrations.NotV1) status count old new = (status ≡ 2) × (new ≡ old)
+PutsMade (Err migrations.Memory) status count old new = (status ≡ 5) × (new ≡ old)
+
+pub record PutsMigrated (text : List ℕ) (status count : ℕ) (old new : List ℕ) : Type 0 where
+  pub made : Result (Vec ℕ) MigrateFault
+  pub migrates : Migrates text made
+  pub puts : PutsMade made status count old new

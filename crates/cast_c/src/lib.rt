@@ -12,6 +12,7 @@
 #![tactic(auto)]
 
 mod deliveries;
+mod exploring;
 mod judge;
 mod judge_handle;
 mod numbers;

@@ -70,6 +70,18 @@ pub struct ItemNumbers {
     pub value: u64,
 }
 
+/// What a frame carries. Kind 0 is the message `number` of `sender` in a slot, 1 the acknowledgement of a slot. `to` is
+/// the frame's target.
+#[repr(C)]
+#[derive(Clone, Copy)]
+pub struct FrameNumbers {
+    pub kind: u64,
+    pub to: u64,
+    pub slot: u64,
+    pub sender: u64,
+    pub number: u64,
+}
+
 /// How long a text is, or why there is none. Cause 1: the script has more than 67,108,864 bytes. Cause 2: it is no
 /// JSON. Cause 3: the element `place` is malformed, counted from 1, or 0 for the whole. Cause 4: the configuration is
 /// refused with the code `place`.

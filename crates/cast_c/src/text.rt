@@ -2,14 +2,14 @@
 ghost use Rattle.std.specs.Prelude.{◌≡◌, ◌⊎◌, [], Some, IfOk, IfErr};
 ghost use Rattle.cast_text.specs.Text.{WritesRecord};
 ghost use Rattle.cast_text.specs.Drawing.{WritesDrawing};
-ghost use Rattle.cast_c.specs.Texts.{IsText, PutsText, IsRefused, RefusesAs, numbers_of_fault, status_of_fault, only_length};
+ghost use Rattle.cast_c.specs.Texts.{IsText, PutsText, PutsMigrated, IsRefused, RefusesAs, numbers_of_fault, status_of_fault, only_length};
 
 use crate::deliveries::put_bytes;
 use crate::numbers::TextNumbers;
 use crate::status::{MISUSED, OUT_OF_MEMORY, REFUSED};
-use cast_record::Meter;
+use cast_record::{Meter, MigrateFault, migrate};
 use cast_script::ScriptFault;
-use cast_text::{TextFault, Window, draw_text, run_text};
+use cast_text::{TextFault, Window, draw_text, page_text, run_text};
 use std::alloc::Global;
 
 /// Writes the record of a script. 0: done; 2: the script is refused; 5: out of memory; 6: the buffer has no room for
@@ -65,6 +65,55 @@ fn picture_of(alloc: Global, script: &[u8], window: Window) -> Result<Vec<u8>, T
     let mut writer = Meter::new(Vec::new(alloc));
     draw_text(alloc, window, &mut reader, &mut writer)?;
     Ok(writer.into_inner())
+}
+
+/// Writes the page that steps through the events of a script from one place to another, both included. The statuses are the
+/// same. What stands in a page has no contract.
+#[unsafe(no_mangle)]
+pub extern "C" fn cast_c_page(
+    alloc: Global,
+    script: &[u8],
+    from: u64,
+    to: u64,
+    out: &mut [u8],
+    told: &mut TextNumbers,
+) -> u32
+    ensures written { (result ≡ 0) ⊎ (result ≡ 6) → IsText (λ _. Unit {0})
+        result told.new out.old out.new }
+    ensures refused { result ≡ 2 → IsRefused script.now told.new }
+    ensures kept { (result ≡ 0) ⊎ (out.new ≡ out.old) }
+{
+    put_text(page_of(alloc, script, Window { from, to }), out, told)
+}
+
+fn page_of(alloc: Global, script: &[u8], window: Window) -> Result<Vec<u8>, TextFault>
+    ensures { IfErr result (RefusesAs script.now) }
+{
+    let mut reader = Meter::new(script);
+    let mut writer = Meter::new(Vec::new(alloc));
+    page_text(alloc, window, &mut reader, &mut writer)?;
+    Ok(writer.into_inner())
+}
+
+/// Writes a record with its head `cast/1` changed to `cast/2`, in basic mode. 0: done; 2: the text begins with no such head; 5:
+/// out of memory; 6: the buffer has no room for the new text, and `length` has its length.
+#[unsafe(no_mangle)]
+pub extern "C" fn cast_c_migrate(
+    alloc: Global,
+    text: &[u8],
+    out: &mut [u8],
+    length: &mut u64,
+) -> u32
+    ensures { PutsMigrated text.now result length.new out.old out.new }
+{
+    match migrate(alloc, text) {
+        Ok(new) => {
+            *length = new.len() as u64;
+            put_bytes(new.as_slice(), out)
+        }
+        Err(MigrateFault::NotV1) => REFUSED,
+        Err(MigrateFault::Memory) => OUT_OF_MEMORY,
+    }
 }
 
 // Puts the text into the buffer, or reports why there is none.

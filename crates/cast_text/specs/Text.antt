@@ -83,6 +83,12 @@ IsOfScript input read_failed (faults.Script fault) =
     IfSome input (λ bytes. (length bytes ≤ input_limit) × Reads (Err fault) bytes)
 IsOfScript input read_failed fault = IsOfInput input read_failed fault
 
+-- the same for a text whose script was read, which may run out of memory later, or break off
+abbrev pub IsOfText : Option (List ℕ) → Bool → TextFault → Type 0
+IsOfText input read_failed faults.Memory = Unit {0}
+IsOfText input read_failed faults.Write = Unit {0}
+IsOfText input read_failed fault = IsOfScript input read_failed fault
+
 -- The record was written, or a fault has its cause. After a fault nothing was written, unless the record broke off.
 abbrev pub Records : Option (List ℕ) → Bool → Option (List ℕ) → Option (List ℕ) → Bool
     → Result (Unit {0}) TextFault → Type 0

@@ -1,16 +1,14 @@
 //! A page that steps through the run of a script. It has the script's picture, the steps as lines of words, and a
 //! browser program that shows what each step does.
-ghost use Rattle.std.specs.Prelude.{◌≡◌, true, false, IfErr, OnErr, OnOk};
-ghost use Rattle.cast_text.specs.Text.{UsesStreams};
+ghost use Rattle.std.specs.Prelude.{◌≡◌, false, IfErr};
+ghost use Rattle.cast_text.specs.Text.{IsOfText, UsesStreams};
 
 use crate::fault::TextFault;
-use crate::page_parts::{AFTER_PICTURE, AFTER_STEPS, BEFORE_PICTURE};
 use crate::play::{Observer, play};
-use crate::steps::Steps;
 use crate::text::read_script_text;
-use cast_draw::{Drawing, Picture, Window, write_drawing};
+use cast_draw::{Picture, Steps, Window, write_page};
 use cast_message::{Event, Reply};
-use cast_record::{Meter, Written, write_bytes};
+use cast_record::Meter;
 use cast_script::Script;
 use cast_world::World;
 use std::alloc::Global;
@@ -26,6 +24,8 @@ pub fn page_text<R: Read, W: Write>(
     writer: &mut Meter<W>,
 ) -> Result<(), TextFault>
     requires { (reader.old.failed ≡ false) × (writer.old.failed ≡ false) }
+    // A fault of the script has its cause.
+    ensures cause { IfErr result (IsOfText (R.remaining reader.old.inner) reader.new.failed) }
     // Exactly what failed is reported. At most one byte past the limit is read.
     ensures streams { UsesStreams R.remaining reader.old reader.new writer.new.failed result }
 {
@@ -56,18 +56,6 @@ fn play_page(alloc: Global, script: &Script, window: Window) -> Result<Page, Tex
     // (if the window has no event, the page shows how the run ends)
     page.steps.begin()?;
     Ok(page)
-}
-
-fn write_page<W: Write>(drawing: &Drawing, steps: &[u8], writer: &mut Meter<W>) -> Written
-    requires { writer.old.failed ≡ false }
-    ensures ok { OnOk result (writer.new.failed ≡ false) }
-    ensures err { OnErr result (writer.new.failed ≡ true) }
-{
-    write_bytes(BEFORE_PICTURE, writer)?;
-    write_drawing(drawing, writer)?;
-    write_bytes(AFTER_PICTURE, writer)?;
-    write_bytes(steps, writer)?;
-    write_bytes(AFTER_STEPS, writer)
 }
 
 // What it sees is drawn, and is a step.

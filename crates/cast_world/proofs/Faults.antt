@@ -1,12 +1,12 @@
 -- Why an event is refused is read off the nodes that it names.
 use Rattle.std.proofs.Common.{◌≡◌, ℕ, ◌<◌, ◌≤◌, refl, sym, ◌∙◌, ap, subst, length, Option, Some, None}
-use Rattle.std.specs.Prelude.{slice_get, option_map}
+use Rattle.std.specs.Prelude.{◌≢◌, slice_get, option_map, IsSomeAnd, IfErr, Result, Ok, Err}
 use Rattle.std.proofs.lemmas.Option.{slice_get-map}
 use Rattle.cast_message.specs.declared.config.Config.{Config}
 use Rattle.cast_message.specs.declared.event.Event.{Event}
 use Rattle.cast_message.specs.declared.event.Event.TheVariants.{Arrive}
 use Rattle.cast_message.specs.declared.event.StepFault.{StepFault}
-use Rattle.cast_message.specs.declared.event.StepFault.TheVariants.{NoNode}
+use Rattle.cast_message.specs.declared.event.StepFault.TheVariants.{NoNode, Memory}
 use Rattle.cast_message.specs.declared.message.Frame.{Frame}
 use Rattle.cast_message.specs.declared.message.FrameBody.TheVariants.{Took}
 use Rattle.cast_model.specs.History.{History, frames}
@@ -15,13 +15,14 @@ use Rattle.cast_model.specs.Steps.{Step, Arrived, Stopped, steps_of}
 use Rattle.cast_model.specs.OwnSteps.{IsStep, takes}
 use Rattle.cast_model.proofs.Members.{Member-slice_get}
 use Rattle.cast_model.proofs.OwnReplies.{own_fault-steps_of, frame_ends}
+use Rattle.cast_model.proofs.Sound.{sound}
 use Rattle.cast_node.specs.Kept.{Kept}
 use Rattle.cast_node.specs.Turns.{kept_fault}
 use Rattle.cast_node.proofs.Refusals.{faults_are}
 use Rattle.cast_world.specs.declared.frames.Mark.{Mark}
-use Rattle.cast_world.specs.Group.{State, node_at, marks_at, mark_of, Stands}
+use Rattle.cast_world.specs.Group.{State, node_at, marks_at, mark_of, frame_by, Stands}
 use Rattle.cast_world.specs.Moves.{actor_of, missing}
-use Rattle.cast_world.proofs.Stepping.{made_all, outside, no_frame, to_again}
+use Rattle.cast_world.proofs.Stepping.{made_all, outside, no_frame, to_again, body_again}
 
 module _ (config : Config) (past : History) (world : State) (st : Stands config past world) where
   -- an event that names no node
@@ -79,3 +80,26 @@ module _ (config : Config) (past : History) (world : State) (st : Stands config 
       by_frame (Some frame) at =
           let e = sym none ∙ marked from seq ∙ ap (option_map mark_of) at in
           absurd cc
+
+  -- the frame of a mark is the one that was made
+  pub made_again : (from seq : ℕ) (mark : Mark) → slice_get (marks_at world from) seq ≡ Some mark → (frame : Frame) → frame ≡ frame_by world from seq mark → IsSomeAnd (slice_get (frames past from) seq) (λ made. frame ≡ record made { seq = seq })
+  made_again from seq mark there frame is =
+      let m = marked_frame from seq mark there in
+      let made = m.0 in
+      let ok = (sound config past st.accepted).frames_ok from made (Member-slice_get (frames past from) seq made m.1) in
+      let again : frame_by world from seq (mark_of made) ≡ record made { seq = seq } = λ k. record { from = sym ok.from_is k; seq = seq; to = to_again made.to made.body k; body = body_again config past world st from made.to made.body ok.body_ok k } in
+      subst (λ o. IsSomeAnd o (λ f. frame ≡ record f { seq = seq })) (sym m.1) (is ∙ ap (frame_by world from seq) m.2 ∙ again)
+
+  -- where there is no mark, there is no frame
+  pub never_made : (from seq : ℕ) → slice_get (marks_at world from) seq ≡ None → slice_get (frames past from) seq ≡ None
+  never_made from seq none = by_frame (slice_get (frames past from) seq) refl
+    where
+      by_frame : (o : Option Frame) → slice_get (frames past from) seq ≡ o → slice_get (frames past from) seq ≡ None
+      by_frame None at = at
+      by_frame (Some frame) at =
+          let e = sym none ∙ marked from seq ∙ ap (option_map mark_of) at in
+          absurd cc
+
+  pub never_told : (r : Result Frame StepFault) (from seq : ℕ) → slice_get (marks_at world from) seq ≡ None → IfErr r (λ fault. fault ≢ Memory → slice_get (frames past from) seq ≡ None)
+  never_told (Ok frame) from seq none = tt
+  never_told (Err fault) from seq none = λ _. never_made from seq none

@@ -1,7 +1,7 @@
 //! The group as one value: events go in, replies come out.
-ghost use Rattle.std.specs.Prelude.{◌≡◌, ◌≢◌, ◌<◌, ◌≤◌, ◌^◌, ◌∷◌, IsTrue, IsFalse, IfOk, IfSome, IfNone, OnErr, [], length, take, option_map, nat_lt, ◌&&◌, Ok, Err};
+ghost use Rattle.std.specs.Prelude.{◌≡◌, ◌≢◌, ◌<◌, ◌≤◌, ◌^◌, ◌∷◌, IsTrue, IsFalse, IfOk, IfErr, IfSome, IfNone, IsSomeAnd, OnErr, [], length, take, slice_get, option_map, nat_lt, ◌&&◌, Ok, Err, None};
 ghost use Rattle.cast_message.specs.declared.event.StepFault.TheVariants.{Memory};
-ghost use Rattle.cast_model.specs.History.{is_live};
+ghost use Rattle.cast_model.specs.History.{frames, is_live};
 ghost use Rattle.cast_model.specs.Replies.{reply};
 ghost use Rattle.cast_model.specs.Delivery.{decision};
 ghost use Rattle.cast_model.specs.Shown.{ShowsDelivered, ShowsStream, ShowsOwed};
@@ -14,7 +14,7 @@ ghost use Rattle.cast_world.specs.Rounds.{TakesSilently};
 use crate::due_slots::DueSlot;
 use crate::frames::{self, Mark};
 use cast_message::FrameKind::{Carry, Took};
-use cast_message::{Answer, Config, Event, FrameKind, Item, NodeId, Reply, StepFault};
+use cast_message::{Answer, Config, Event, Frame, FrameKind, Item, NodeId, Reply, StepFault};
 use cast_node::{Node, no_news};
 use std::alloc::{AllocError, Global};
 use std::marker::Model;
@@ -319,6 +319,18 @@ impl World {
         ensures size { length self.now.nodes ≡ self.now.config.nodes }
     {
         &self.nodes[usize::from(node.0)]
+    }
+
+    /// The frame with this number that node `from` made, if there is one. It can also be out of memory.
+    pub fn frame(&self, from: NodeId, seq: u64) -> Result<Frame, StepFault>
+        ensures found { StandingFor self.now (λ config past.
+            IfOk result (λ frame. IsSomeAnd (slice_get (frames past from) seq)
+            (λ made. frame ≡ record made { seq = seq }))) }
+        ensures none { StandingFor self.now (λ config past. IfErr result (λ fault.
+            fault ≢ Memory → slice_get (frames past from) seq ≡ None)) }
+    {
+        let mark = self.mark(from, seq)?;
+        Ok(frames::rebuild(&self.nodes, from, seq, mark)?)
     }
 
     pub(crate) fn mark(&self, from: NodeId, seq: u64) -> Result<Mark, StepFault>

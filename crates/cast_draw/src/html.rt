@@ -1,8 +1,26 @@
-//! What stands around the picture and the steps in a page: its look, its buttons, and its program. Nothing of them is drawn from a
-//! script, and the page asks no network.
+//! The HTML page that steps through a run: the picture, the steps, and what is around them, which is its look, its buttons
+//! and its program. Nothing around them comes from a script, and the page asks no network.
+ghost use Rattle.std.specs.Prelude.{◌≡◌, true, false, OnOk, OnErr};
 
-/// The page up to the picture.
-pub const BEFORE_PICTURE: &[u8] = br##"<!DOCTYPE html>
+use crate::page::{Drawing, write_drawing};
+use cast_record::{Meter, Written, write_bytes};
+use std::io::Write;
+
+/// Writes the page: the picture, and the steps that `Steps` gathered as lines.
+pub fn write_page<W: Write>(drawing: &Drawing, steps: &[u8], writer: &mut Meter<W>) -> Written
+    requires { writer.old.failed ≡ false }
+    ensures ok { OnOk result (writer.new.failed ≡ false) }
+    ensures err { OnErr result (writer.new.failed ≡ true) }
+{
+    write_bytes(BEFORE_PICTURE, writer)?;
+    write_drawing(drawing, writer)?;
+    write_bytes(AFTER_PICTURE, writer)?;
+    write_bytes(steps, writer)?;
+    write_bytes(AFTER_STEPS, writer)
+}
+
+// The page up to the picture.
+const BEFORE_PICTURE: &[u8] = br##"<!DOCTYPE html>
 <html lang="en">
 <head>
 <meta charset="utf-8">
@@ -41,8 +59,8 @@ header button{font:inherit;min-width:44px;min-height:32px}
 <div id="picture">
 "##;
 
-/// What stands between the picture and the steps.
-pub const AFTER_PICTURE: &[u8] = br##"</div>
+// What is between the picture and the steps.
+const AFTER_PICTURE: &[u8] = br##"</div>
 <table id="nodes">
 <thead><tr><th>node</th><th>delivered, by sender</th><th>decided (instance:value)</th><th>owes, not yet acknowledged</th></tr></thead>
 <tbody></tbody>
@@ -50,8 +68,8 @@ pub const AFTER_PICTURE: &[u8] = br##"</div>
 <script type="text/plain" id="steps">
 "##;
 
-/// The page from the end of the steps.
-pub const AFTER_STEPS: &[u8] = br##"</script>
+// The page from the end of the steps.
+const AFTER_STEPS: &[u8] = br##"</script>
 <script>
 "use strict";
 const COLOURS = ["#0072b2", "#d55e00", "#009e73", "#cc79a7", "#e69f00", "#56b4e9", "#7a5195", "#6b6b00"];

@@ -15,8 +15,9 @@
 //! An event has the words that it has in a script, with its item as in a record: `order P ITEM`, `send P Q SLOT`,
 //! `ack P Q SLOT`, `arrive P SEQ` or `crash P`. A reply is the number of the item or of the frame, or the node at which the
 //! frame arrives. No line has a letter that HTML has other uses for.
-use cast_draw::Piece::{Number, Text, Word};
-use cast_draw::{Ink, Window};
+use crate::ink::Ink;
+use crate::ink::Piece::{Number, Text, Word};
+use crate::window::Window;
 use cast_message::{Answer, Config, Decision, Event, Message, NodeId, Outcome, REFUSALS, Reply};
 use cast_world::{World, is_want_of_memory};
 use std::alloc::{AllocError, Global};
