@@ -405,10 +405,10 @@ static inline uint32_t cast_world_frame(struct cast_world *world, uint8_t node, 
 /* Events, for which `events` has `room` places. Each is a CAST_SEND, a CAST_ACK or a CAST_ARRIVE, which cast_world_step
  * takes as it is. CAST_DONE: `count` is their number; CAST_MISUSED; CAST_OUT_OF_MEMORY; CAST_TOO_SHORT: no event is
  * written, and `count` says how many places they need, so an empty buffer asks for that.
- * Those that may happen next and yield something new, without orders and crashes. First come, for each slot that a live
- * node owes another, its send, and its acknowledgement if it was taken. Then come the arrivals of frames that tell a live
- * node something. The group would refuse none of them. There is no event if the group is at rest, and else only if a
- * live node can make no more frames. */
+ * Those that may happen next and yield something new, apart from orders and crashes. For each slot that a live node owes
+ * another, there is its send, and its acknowledgement if it was taken. After these, there is the arrival of each frame
+ * that tells a live node something. The group would refuse none of them. If there is no event, the group is at rest, or
+ * a live node can make no more frames. */
 static inline uint32_t cast_world_enabled(struct cast_world *world, struct cast_event *events, size_t room, uint64_t *count) {
     if (world == NULL || !cast_has_events(events, room) || count == NULL) return CAST_MISUSED;
     return cast_c_world_enabled(world, cast_some_events(events), room, count);

@@ -13,7 +13,7 @@ fn scripts_give_the_record_of_run() {
         assert_eq!(String::from_utf8_lossy(&record), group.record, "script {round}: {script}");
         assert_eq!(format!("{}end\n", group.written), group.record);
         assert_eq!(castgroup::judge(&record), Ok(castgroup::Verdict::Good));
-        if let Some(written) = program("run", script.as_bytes()) {
+        if let Some(written) = program(&["run"], script.as_bytes()) {
             assert_eq!(written, record, "script {round}: {script}");
         }
     }

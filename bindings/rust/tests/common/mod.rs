@@ -255,9 +255,9 @@ fn random_item(numbers: &mut Numbers) -> Item {
 }
 
 /// What the program writes for an input, if CASTGROUP names it.
-pub fn program(word: &str, input: &[u8]) -> Option<Vec<u8>> {
+pub fn program(words: &[&str], input: &[u8]) -> Option<Vec<u8>> {
     let path = std::env::var_os("CASTGROUP")?;
-    let mut child = Command::new(path).arg(word).stdin(Stdio::piped()).stdout(Stdio::piped()).spawn().expect("the program");
+    let mut child = Command::new(path).args(words).stdin(Stdio::piped()).stdout(Stdio::piped()).spawn().expect("the program");
     child.stdin.take().expect("its input").write_all(input).expect("it reads");
     Some(child.wait_with_output().expect("it ends").stdout)
 }
