@@ -13,8 +13,8 @@
  * What a caller must keep to, since no function can check it:
  * - A handle begins as zeros (CAST_EMPTY). It is passed by its address and never copied, and its content is the
  *   library's.
- * - A pointer leads to what its type says, and bytes to as many as their count, below 2^63. What a call writes overlaps
- *   nothing else that the call is given.
+ * - A pointer leads to what its type says, and bytes and events to as many as their count or their room, in less than
+ *   2^63 bytes. What a call writes overlaps nothing else that the call is given.
  * - A handle is used by one thread at a time. Another may use it after a lock, or after a thread was started or joined.
  * - No call is made in a signal handler, nor in the forked child of a process with threads.
  * - malloc, realloc and free belong to one allocator, and align blocks as C says.
@@ -42,7 +42,8 @@ enum cast_status {
     CAST_DONE = 0,          /* done; from a judge: the record is good */
     CAST_MISUSED = 1,       /* a null pointer, a handle that holds nothing, or something where it should not, or an
                                unknown kind */
-    CAST_REFUSED = 2,       /* a configuration, a script, a packet, or the number of a node or an item was refused */
+    CAST_REFUSED = 2,       /* a configuration, a script, a record, a packet, or the number of a node, an item or a frame
+                               was refused */
     CAST_BAD = 3,           /* the record is bad */
     CAST_OUT_OF_MEMORY = 5, /* unless a function says otherwise, what a handle holds is unchanged */
     CAST_TOO_SHORT = 6      /* the buffer has no room */
@@ -148,6 +149,8 @@ void cast_c_judge_drop(struct cast_judging *judge);
 uint32_t cast_c_world_new(struct cast_world *world, const struct cast_config *config, uint64_t *fault);
 uint32_t cast_c_world_step(struct cast_world *world, const struct cast_event *event, const uint8_t *bytes, size_t count,
                            struct cast_reply *reply);
+uint32_t cast_c_world_fault(struct cast_world *world, const struct cast_event *event, const uint8_t *bytes, size_t count,
+                            uint64_t *code);
 uint32_t cast_c_world_round(struct cast_world *world, struct cast_reply *reply);
 uint32_t cast_c_world_delivered(struct cast_world *world, uint8_t node, uint8_t sender, uint64_t *count);
 uint32_t cast_c_world_item(struct cast_world *world, uint8_t node, uint8_t sender, uint64_t number, struct cast_item *item,
@@ -183,8 +186,6 @@ uint32_t cast_c_migrate(const uint8_t *record, size_t count, uint8_t *out, size_
 
 /* Two more, in plain C over these. */
 uint32_t cast_c_version(void);
-uint32_t cast_c_world_fault(struct cast_world *world, const struct cast_event *event, const uint8_t *bytes, size_t count,
-                            uint64_t *code);
 uint32_t cast_c_world_steps(struct cast_world *world, const struct cast_event *events, size_t count, const uint8_t *bytes,
                             size_t size, struct cast_reply *replies, uint64_t *taken);
 
@@ -403,7 +404,7 @@ static inline uint32_t cast_world_frame(struct cast_world *world, uint8_t node, 
     return cast_c_world_frame(world, node, number, frame);
 }
 /* Events, for which `events` has `room` places. Each is a CAST_SEND, a CAST_ACK or a CAST_ARRIVE, which cast_world_step
- * takes as it is. CAST_DONE: `count` is their number; CAST_MISUSED; CAST_OUT_OF_MEMORY; CAST_TOO_SHORT: no event is
+ * and cast_world_steps take as it is. CAST_DONE: `count` is their number; CAST_MISUSED; CAST_OUT_OF_MEMORY; CAST_TOO_SHORT: no event is
  * written, and `count` says how many places they need, so an empty buffer asks for that.
  * Those that may happen next and yield something new, apart from orders and crashes. For each slot that a live node owes
  * another, there is its send, and its acknowledgement if it was taken. After these, there is the arrival of each frame

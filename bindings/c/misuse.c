@@ -180,8 +180,8 @@ static int nexts(void) {
     struct cast_event order = {.kind = CAST_ORDER, .item = CAST_DATA}, events[16];
     struct cast_event crash = {.kind = CAST_CRASH, .node = 2};
     struct cast_frame frame = {9, 9, 9, 9, 9};
-    struct cast_reply reply;
-    uint64_t fault, count = 9;
+    struct cast_reply reply, replies[4];
+    uint64_t fault, count = 9, taken = 0;
     bool is_so = false;
     NEED(cast_world_new(&world, &config, &fault) == CAST_DONE);
     NEED(cast_world_enabled(&world, NULL, 0, &count) == CAST_DONE && count == 0);
@@ -223,6 +223,10 @@ static int nexts(void) {
     NEED(cast_world_at_rest(&world, &is_so) == CAST_DONE && is_so);
     NEED(cast_world_enabled(&world, NULL, 0, &count) == CAST_DONE && count == 0);
     NEED(cast_world_plan(&world, events, 16, &count) == CAST_DONE && count == 0);
+    NEED(cast_world_step(&world, &order, "d", 1, &reply) == CAST_DONE && reply.code == 0);
+    NEED(cast_world_plan(&world, events, 16, &count) == CAST_DONE && count == 4);
+    NEED(cast_world_steps(&world, events, 4, NULL, 0, replies, &taken) == CAST_DONE && taken == 4 && replies[1].deliveries == 1);
+    NEED(cast_world_at_rest(&world, &is_so) == CAST_DONE && is_so);
     cast_world_drop(&world);
     return 0;
 }

@@ -106,7 +106,7 @@ pub(crate) struct Text {
 }
 
 // SAFETY of all calls: each pointer comes from a reference or a slice of this crate's callers. So it is not null, is
-// not shared if it is written through, and leads to as many bytes as the call says. A handle begins empty, doesn't move
+// not shared if it is written through, and leads to as many bytes or events as the call says. A handle begins empty, doesn't move
 // during a call, and is never copied.
 extern "C" {
     pub(crate) fn cast_c_version() -> u32;
