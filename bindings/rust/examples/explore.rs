@@ -2,10 +2,10 @@
 //!
 //! usage: explore [STATES]      looks at no more than this many states (5,000) for each check
 //!
-//! Nodes 0 and 1 of three broadcast an item each. Any frame may get lost, come late or come twice, and node 0 may crash. The
-//! first check holds in each state, as is proved of every group. The second one does not: nodes deliver the items of two
-//! senders in any order. The shortest list of events to a state where a check fails is written as a script, and
-//! `castgroup draw --html` makes a page of it.
+//! Nodes 0 and 1 of three broadcast an item each. Any frame may get lost or come late, and node 0 may crash. The first check
+//! holds in each state, as is proved of every group. The second one does not: nodes deliver the items of two senders in any
+//! order. The shortest list of events to a state where a check fails is written as a script, and `castgroup draw --html`
+//! makes a page of it.
 use castgroup::{Config, Event, OutOfMemory, World};
 use std::collections::{BTreeSet, HashSet, VecDeque};
 use std::error::Error;

@@ -298,7 +298,7 @@ impl World {
 fn read_events(mut read: impl FnMut(&mut [raw::Event], &mut u64) -> u32) -> Result<Vec<Event>, OutOfMemory> {
     let (mut places, mut count, mut room) = (Vec::new(), 0, FIRST_PLACES);
     loop {
-        places.try_reserve_exact(room - places.len())?;
+        places.try_reserve_exact(room.saturating_sub(places.len()))?;
         places.resize_with(room, raw::Event::default);
         match read(&mut places, &mut count) {
             raw::DONE => break,
