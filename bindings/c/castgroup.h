@@ -403,19 +403,20 @@ static inline uint32_t cast_world_frame(struct cast_world *world, uint8_t node, 
     if (world == NULL || frame == NULL) return CAST_MISUSED;
     return cast_c_world_frame(world, node, number, frame);
 }
-/* Events, for which `events` has `room` places. Each is a CAST_SEND, a CAST_ACK or a CAST_ARRIVE, which cast_world_step
- * and cast_world_steps take as it is. CAST_DONE: `count` is their number; CAST_MISUSED; CAST_OUT_OF_MEMORY; CAST_TOO_SHORT: no event is
- * written, and `count` says how many places they need, so an empty buffer asks for that.
- * Those that may happen next and yield something new, apart from orders and crashes. For each slot that a live node owes
- * another, there is its send, and its acknowledgement if it was taken. After these, there is the arrival of each frame
- * that tells a live node something. The group would refuse none of them. If there is no event, the group is at rest, or
- * a live node can make no more frames. */
+/* The next two give events, and `events` has room for `room` of them. Each is a CAST_SEND, a CAST_ACK or a CAST_ARRIVE,
+ * which cast_world_step and cast_world_steps take as it is. CAST_DONE: `count` is their number; CAST_MISUSED;
+ * CAST_OUT_OF_MEMORY; CAST_TOO_SHORT: no event is written, and `count` says how much room they need, so an empty buffer
+ * asks for that.
+ * The events that may happen next and yield something new, apart from orders and crashes. For each slot that a live node
+ * owes another, there is its send, and its acknowledgement if it was taken. After these, there is the arrival of each
+ * frame that tells a live node something. The group would refuse none of them. If there is no event, the group is at
+ * rest, or a live node can make no more frames. */
 static inline uint32_t cast_world_enabled(struct cast_world *world, struct cast_event *events, size_t room, uint64_t *count) {
     if (world == NULL || !cast_has_events(events, room) || count == NULL) return CAST_MISUSED;
     return cast_c_world_enabled(world, cast_some_events(events), room, count);
 }
-/* Those that cast_world_round would take now, in order: for each slot that a live node owes another, a send, its arrival,
- * an acknowledgement, and its arrival. Frames are numbered as if a node could make any number of them. */
+/* The events that cast_world_round would take now, in order: for each slot that a live node owes another, a send, its
+ * arrival, an acknowledgement, and its arrival. Frames are numbered as if a node could make any number of them. */
 static inline uint32_t cast_world_plan(struct cast_world *world, struct cast_event *events, size_t room, uint64_t *count) {
     if (world == NULL || !cast_has_events(events, room) || count == NULL) return CAST_MISUSED;
     return cast_c_world_plan(world, cast_some_events(events), room, count);
