@@ -13,8 +13,8 @@
  * What a caller must keep to, since no function can check it:
  * - A handle begins as zeros (CAST_EMPTY). It is passed by its address and never copied, and its content is the
  *   library's.
- * - A pointer leads to what its type says, and bytes to as many as their count, below 2^63. What a call writes overlaps
- *   nothing else that the call is given.
+ * - A pointer leads to what its type says, and bytes and events to as many as their count or their room, in less than
+ *   2^63 bytes. What a call writes overlaps nothing else that the call is given.
  * - A handle is used by one thread at a time. Another may use it after a lock, or after a thread was started or joined.
  * - No call is made in a signal handler, nor in the forked child of a process with threads.
  * - malloc, realloc and free belong to one allocator, and align blocks as C says.
@@ -42,7 +42,8 @@ enum cast_status {
     CAST_DONE = 0,          /* done; from a judge: the record is good */
     CAST_MISUSED = 1,       /* a null pointer, a handle that holds nothing, or something where it should not, or an
                                unknown kind */
-    CAST_REFUSED = 2,       /* a configuration, a script, a packet, or the number of a node or an item was refused */
+    CAST_REFUSED = 2,       /* a configuration, a script, a record, a packet, or the number of a node, an item or a frame
+                               was refused */
     CAST_BAD = 3,           /* the record is bad */
     CAST_OUT_OF_MEMORY = 5, /* unless a function says otherwise, what a handle holds is unchanged */
     CAST_TOO_SHORT = 6      /* the buffer has no room */
@@ -101,6 +102,13 @@ struct cast_item {
     uint64_t kind, length, instance, value;
 };
 
+/* What a frame for node `to` carries. CAST_CARRY: the item `number` of `sender`, in slot `slot` of the link to that node.
+ * CAST_TOOK: that slot `slot` of the link from that node was taken; the last two are then 0. */
+enum cast_frame_kind { CAST_CARRY = 0, CAST_TOOK = 1 };
+struct cast_frame {
+    uint64_t kind, to, slot, sender, number;
+};
+
 /* When a peer gives out packets and reports news: once the entries that record them are saved, or at once, for tests. */
 enum cast_saving { CAST_SAVE_FIRST = 0, CAST_SAVE_NEVER = 1 };
 
@@ -141,6 +149,8 @@ void cast_c_judge_drop(struct cast_judging *judge);
 uint32_t cast_c_world_new(struct cast_world *world, const struct cast_config *config, uint64_t *fault);
 uint32_t cast_c_world_step(struct cast_world *world, const struct cast_event *event, const uint8_t *bytes, size_t count,
                            struct cast_reply *reply);
+uint32_t cast_c_world_fault(struct cast_world *world, const struct cast_event *event, const uint8_t *bytes, size_t count,
+                            uint64_t *code);
 uint32_t cast_c_world_round(struct cast_world *world, struct cast_reply *reply);
 uint32_t cast_c_world_delivered(struct cast_world *world, uint8_t node, uint8_t sender, uint64_t *count);
 uint32_t cast_c_world_item(struct cast_world *world, uint8_t node, uint8_t sender, uint64_t number, struct cast_item *item,
@@ -149,6 +159,9 @@ uint32_t cast_c_world_decision(struct cast_world *world, uint8_t node, uint64_t 
 uint32_t cast_c_world_owed(struct cast_world *world, uint8_t from, uint8_t to, uint64_t *count);
 uint32_t cast_c_world_live(struct cast_world *world, uint8_t node, bool *is_so);
 uint32_t cast_c_world_at_rest(struct cast_world *world, bool *is_so);
+uint32_t cast_c_world_frame(struct cast_world *world, uint8_t node, uint64_t number, struct cast_frame *frame);
+uint32_t cast_c_world_enabled(struct cast_world *world, struct cast_event *events, size_t room, uint64_t *count);
+uint32_t cast_c_world_plan(struct cast_world *world, struct cast_event *events, size_t room, uint64_t *count);
 void cast_c_world_drop(struct cast_world *world);
 uint32_t cast_c_peer_new(struct cast_peer *peer, const struct cast_config *config, uint64_t group, uint8_t me, uint32_t saving,
                          uint64_t *fault);
@@ -167,11 +180,12 @@ void cast_c_peer_drop(struct cast_peer *peer);
 uint32_t cast_c_run(const uint8_t *script, size_t count, uint8_t *out, size_t room, struct cast_text *told);
 uint32_t cast_c_draw(const uint8_t *script, size_t count, uint64_t from, uint64_t to, uint8_t *out, size_t room,
                      struct cast_text *told);
+uint32_t cast_c_page(const uint8_t *script, size_t count, uint64_t from, uint64_t to, uint8_t *out, size_t room,
+                     struct cast_text *told);
+uint32_t cast_c_migrate(const uint8_t *record, size_t count, uint8_t *out, size_t room, uint64_t *length);
 
 /* Two more, in plain C over these. */
 uint32_t cast_c_version(void);
-uint32_t cast_c_world_fault(struct cast_world *world, const struct cast_event *event, const uint8_t *bytes, size_t count,
-                            uint64_t *code);
 uint32_t cast_c_world_steps(struct cast_world *world, const struct cast_event *events, size_t count, const uint8_t *bytes,
                             size_t size, struct cast_reply *replies, uint64_t *taken);
 
@@ -258,6 +272,14 @@ static inline bool cast_has(const void *bytes, size_t count) { return (bytes != 
 static inline uint8_t *cast_some(const void *bytes) {
     static uint8_t none;
     return bytes != NULL ? (uint8_t *)bytes : &none;
+}
+/* The same for a buffer of events. */
+static inline bool cast_has_events(const struct cast_event *events, size_t room) {
+    return (events != NULL || room == 0) && room <= (size_t)-1 / 2 / sizeof *events;
+}
+static inline struct cast_event *cast_some_events(struct cast_event *events) {
+    static struct cast_event none;
+    return events != NULL ? events : &none;
 }
 
 /* Judges a record. CAST_DONE: it is good; CAST_BAD: it is bad, and `verdict` says where; CAST_OUT_OF_MEMORY. */
@@ -375,6 +397,30 @@ static inline uint32_t cast_world_at_rest(struct cast_world *world, bool *is_so)
     if (world == NULL || is_so == NULL) return CAST_MISUSED;
     return cast_c_world_at_rest(world, is_so);
 }
+/* The frame with this number, from 0, of those that `node` made: CAST_DONE; CAST_MISUSED; CAST_REFUSED: it made no such
+ * frame; CAST_OUT_OF_MEMORY. */
+static inline uint32_t cast_world_frame(struct cast_world *world, uint8_t node, uint64_t number, struct cast_frame *frame) {
+    if (world == NULL || frame == NULL) return CAST_MISUSED;
+    return cast_c_world_frame(world, node, number, frame);
+}
+/* The next two give events, and `events` has room for `room` of them. Each is a CAST_SEND, a CAST_ACK or a CAST_ARRIVE,
+ * which cast_world_step and cast_world_steps take as it is. CAST_DONE: `count` is their number; CAST_MISUSED;
+ * CAST_OUT_OF_MEMORY; CAST_TOO_SHORT: no event is written, and `count` says how much room they need, so an empty buffer
+ * asks for that.
+ * The events that may happen next and yield something new, apart from orders and crashes. For each slot that a live node
+ * owes another, there is its send, and its acknowledgement if it was taken. After these, there is the arrival of each
+ * frame that tells a live node something. The group would refuse none of them. If there is no event, the group is at
+ * rest, or a live node can make no more frames. */
+static inline uint32_t cast_world_enabled(struct cast_world *world, struct cast_event *events, size_t room, uint64_t *count) {
+    if (world == NULL || !cast_has_events(events, room) || count == NULL) return CAST_MISUSED;
+    return cast_c_world_enabled(world, cast_some_events(events), room, count);
+}
+/* The events that cast_world_round would take now, in order: for each slot that a live node owes another, a send, its
+ * arrival, an acknowledgement, and its arrival. Frames are numbered as if a node could make any number of them. */
+static inline uint32_t cast_world_plan(struct cast_world *world, struct cast_event *events, size_t room, uint64_t *count) {
+    if (world == NULL || !cast_has_events(events, room) || count == NULL) return CAST_MISUSED;
+    return cast_c_world_plan(world, cast_some_events(events), room, count);
+}
 
 static inline void cast_world_drop(struct cast_world *world) {
     if (world != NULL) cast_c_world_drop(world);
@@ -473,9 +519,9 @@ static inline void cast_peer_drop(struct cast_peer *peer) {
     if (peer != NULL) cast_c_peer_drop(peer);
 }
 
-/* The record of a script, and the picture of its events `from` to `to` (0 and UINT64_MAX: all). CAST_DONE;
- * CAST_TOO_SHORT: nothing is written, and `told` has the length of the text, so an empty buffer asks for that;
- * CAST_REFUSED: `told` says why; CAST_OUT_OF_MEMORY. */
+/* The record of a script, and the picture of its events `from` to `to` (0 and UINT64_MAX: all), as SVG and as an HTML
+ * page that steps through them. CAST_DONE; CAST_TOO_SHORT: nothing is written, and `told` has the length of the text, so
+ * an empty buffer asks for that; CAST_REFUSED: `told` says why; CAST_OUT_OF_MEMORY. */
 static inline uint32_t cast_run(const void *script, size_t count, void *out, size_t room, struct cast_text *told) {
     if (!cast_has(script, count) || !cast_has(out, room) || told == NULL) return CAST_MISUSED;
     return cast_c_run(cast_some(script), count, cast_some(out), room, told);
@@ -484,6 +530,19 @@ static inline uint32_t cast_draw(const void *script, size_t count, uint64_t from
                                  struct cast_text *told) {
     if (!cast_has(script, count) || !cast_has(out, room) || told == NULL) return CAST_MISUSED;
     return cast_c_draw(cast_some(script), count, from, to, cast_some(out), room, told);
+}
+static inline uint32_t cast_page(const void *script, size_t count, uint64_t from, uint64_t to, void *out, size_t room,
+                                 struct cast_text *told) {
+    if (!cast_has(script, count) || !cast_has(out, room) || told == NULL) return CAST_MISUSED;
+    return cast_c_page(cast_some(script), count, from, to, cast_some(out), room, told);
+}
+
+/* A record of format cast/1 with the head of cast/2, and otherwise the same bytes. CAST_DONE: `length` is the number of
+ * its bytes; CAST_REFUSED: the text does not begin with a head of cast/1, or has more than 67,108,864 bytes;
+ * CAST_OUT_OF_MEMORY; CAST_TOO_SHORT: nothing is written, and `length` says how much room it needs. */
+static inline uint32_t cast_migrate(const void *record, size_t count, void *out, size_t room, uint64_t *length) {
+    if (!cast_has(record, count) || !cast_has(out, room) || length == NULL) return CAST_MISUSED;
+    return cast_c_migrate(cast_some(record), count, cast_some(out), room, length);
 }
 
 #ifdef __cplusplus

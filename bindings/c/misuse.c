@@ -41,6 +41,7 @@ static int is_empty(struct cast_world *world) {
     struct cast_event event = {.kind = CAST_CRASH};
     struct cast_reply reply;
     struct cast_item item;
+    struct cast_frame frame;
     uint64_t count;
     bool is_so = false;
     char bytes[4];
@@ -48,7 +49,8 @@ static int is_empty(struct cast_world *world) {
     NEED(cast_world_delivered(world, 0, 0, &count) == CAST_MISUSED && cast_world_owed(world, 0, 1, &count) == CAST_MISUSED);
     NEED(cast_world_item(world, 0, 0, 0, &item, bytes, sizeof bytes) == CAST_MISUSED);
     NEED(cast_world_decision(world, 0, 0, &is_so, &count) == CAST_MISUSED && cast_world_live(world, 0, &is_so) == CAST_MISUSED);
-    NEED(cast_world_at_rest(world, &is_so) == CAST_MISUSED);
+    NEED(cast_world_at_rest(world, &is_so) == CAST_MISUSED && cast_world_frame(world, 0, 0, &frame) == CAST_MISUSED);
+    NEED(cast_world_enabled(world, &event, 1, &count) == CAST_MISUSED && cast_world_plan(world, &event, 1, &count) == CAST_MISUSED);
     cast_world_drop(world);
     return 0;
 }
@@ -158,6 +160,73 @@ static int many(void) {
     NEED(cast_world_steps(&world, events + 5, 1, "abcde", 5, replies, &taken) == CAST_MISUSED && taken == 0);
     events[5].kind = 9;
     NEED(cast_world_steps(&world, events + 5, 1, "abcde", 5, replies, &taken) == CAST_MISUSED && taken == 0);
+    cast_world_drop(&world);
+    return 0;
+}
+
+static bool is_event(const struct cast_event *event, int kind, int node, int to, uint64_t number) {
+    return event->kind == kind && event->node == node && event->to == to && event->number == number && event->value == 0;
+}
+
+static bool is_frame(const struct cast_frame *frame, int kind, int to, uint64_t slot, uint64_t sender, uint64_t number) {
+    return frame->kind == (uint64_t)kind && frame->to == (uint64_t)to && frame->slot == slot && frame->sender == sender &&
+           frame->number == number;
+}
+
+/* What may happen next, and what a round takes: no room, too little of it, and enough. */
+static int nexts(void) {
+    struct cast_world world = CAST_EMPTY;
+    struct cast_config config = CAST_CONFIG(3, 1);
+    struct cast_event order = {.kind = CAST_ORDER, .item = CAST_DATA}, events[16];
+    struct cast_event crash = {.kind = CAST_CRASH, .node = 2};
+    struct cast_frame frame = {9, 9, 9, 9, 9};
+    struct cast_reply reply, replies[4];
+    uint64_t fault, count = 9, taken = 0;
+    bool is_so = false;
+    NEED(cast_world_new(&world, &config, &fault) == CAST_DONE);
+    NEED(cast_world_enabled(&world, NULL, 0, &count) == CAST_DONE && count == 0);
+    NEED(cast_world_plan(&world, NULL, 0, &count) == CAST_DONE && count == 0);
+    NEED(cast_world_enabled(&world, NULL, 1, &count) == CAST_MISUSED && cast_world_plan(&world, NULL, 1, &count) == CAST_MISUSED);
+    NEED(cast_world_enabled(&world, events, 16, NULL) == CAST_MISUSED && cast_world_plan(&world, events, 16, NULL) == CAST_MISUSED);
+    NEED(cast_world_enabled(&world, events, (size_t)-1 / 16, &count) == CAST_MISUSED);
+    NEED(cast_world_plan(&world, events, (size_t)-1 / 16, &count) == CAST_MISUSED);
+    NEED(cast_world_frame(&world, 0, 0, NULL) == CAST_MISUSED && cast_world_frame(&world, 0, 0, &frame) == CAST_REFUSED);
+    NEED(cast_world_frame(&world, 3, 0, &frame) == CAST_REFUSED && cast_world_frame(&world, 0, UINT64_MAX, &frame) == CAST_REFUSED);
+
+    NEED(cast_world_step(&world, &order, "abc", 3, &reply) == CAST_DONE && reply.code == 0);
+    memset(events, 'z', sizeof events);
+    NEED(cast_world_enabled(&world, NULL, 0, &count) == CAST_TOO_SHORT && count == 2);
+    NEED(cast_world_enabled(&world, events, 1, &count) == CAST_TOO_SHORT && count == 2 && events[0].kind == 'z');
+    NEED(cast_world_enabled(&world, events, 2, &count) == CAST_DONE && count == 2 && events[2].kind == 'z');
+    NEED(is_event(&events[0], CAST_SEND, 0, 1, 0) && is_event(&events[1], CAST_SEND, 0, 2, 0));
+    memset(events, 'z', sizeof events);
+    NEED(cast_world_plan(&world, NULL, 0, &count) == CAST_TOO_SHORT && count == 8);
+    NEED(cast_world_plan(&world, events, 7, &count) == CAST_TOO_SHORT && count == 8 && events[0].kind == 'z');
+    NEED(cast_world_plan(&world, events, 16, &count) == CAST_DONE && count == 8 && events[8].kind == 'z');
+    NEED(is_event(&events[0], CAST_SEND, 0, 1, 0) && is_event(&events[1], CAST_ARRIVE, 0, 0, 0));
+    NEED(is_event(&events[2], CAST_ACK, 1, 0, 0) && is_event(&events[3], CAST_ARRIVE, 1, 0, 0));
+    NEED(is_event(&events[4], CAST_SEND, 0, 2, 0) && is_event(&events[5], CAST_ARRIVE, 0, 0, 1));
+    NEED(is_event(&events[6], CAST_ACK, 2, 0, 0) && is_event(&events[7], CAST_ARRIVE, 2, 0, 0));
+
+    NEED(cast_world_step(&world, &events[0], NULL, 0, &reply) == CAST_DONE && reply.code == 0);
+    NEED(cast_world_frame(&world, 0, 0, &frame) == CAST_DONE && is_frame(&frame, CAST_CARRY, 1, 0, 0, 0));
+    NEED(cast_world_enabled(&world, events, 16, &count) == CAST_DONE && count == 3 && is_event(&events[2], CAST_ARRIVE, 0, 0, 0));
+    NEED(cast_world_step(&world, &events[2], NULL, 0, &reply) == CAST_DONE && reply.number == 1 && reply.deliveries == 1);
+    NEED(cast_world_enabled(&world, events, 16, &count) == CAST_DONE && count == 4);
+    NEED(is_event(&events[0], CAST_SEND, 0, 1, 0) && is_event(&events[1], CAST_ACK, 1, 0, 0));
+    NEED(is_event(&events[2], CAST_SEND, 0, 2, 0) && is_event(&events[3], CAST_SEND, 1, 2, 0));
+    NEED(cast_world_step(&world, &events[1], NULL, 0, &reply) == CAST_DONE && reply.code == 0);
+    NEED(cast_world_frame(&world, 1, 0, &frame) == CAST_DONE && is_frame(&frame, CAST_TOOK, 0, 0, 0, 0));
+    NEED(cast_world_step(&world, &crash, NULL, 0, &reply) == CAST_DONE && reply.code == 0);
+    NEED(cast_world_enabled(&world, events, 16, &count) == CAST_DONE && count == 3 && is_event(&events[2], CAST_ARRIVE, 1, 0, 0));
+    NEED(cast_world_step(&world, &events[2], NULL, 0, &reply) == CAST_DONE && reply.code == 0);
+    NEED(cast_world_at_rest(&world, &is_so) == CAST_DONE && is_so);
+    NEED(cast_world_enabled(&world, NULL, 0, &count) == CAST_DONE && count == 0);
+    NEED(cast_world_plan(&world, events, 16, &count) == CAST_DONE && count == 0);
+    NEED(cast_world_step(&world, &order, "d", 1, &reply) == CAST_DONE && reply.code == 0);
+    NEED(cast_world_plan(&world, events, 16, &count) == CAST_DONE && count == 4);
+    NEED(cast_world_steps(&world, events, 4, NULL, 0, replies, &taken) == CAST_DONE && taken == 4 && replies[1].deliveries == 1);
+    NEED(cast_world_at_rest(&world, &is_so) == CAST_DONE && is_so);
     cast_world_drop(&world);
     return 0;
 }
@@ -300,13 +369,53 @@ static int texts(void) {
     return 0;
 }
 
+static int pages(void) {
+    static const char BEGIN[] = "<!DOCTYPE html>\n", END[] = "</html>\n";
+    static char out[65536];
+    struct cast_text told;
+    memset(out, 'z', sizeof out);
+    NEED(cast_page(NULL, 1, 0, 9, out, sizeof out, &told) == CAST_MISUSED && cast_page(SCRIPT, 1, 0, 9, NULL, 1, &told) == CAST_MISUSED);
+    NEED(cast_page(SCRIPT, sizeof SCRIPT - 1, 0, 9, out, sizeof out, NULL) == CAST_MISUSED);
+    NEED(cast_page(SCRIPT, 5, 0, 9, out, sizeof out, &told) == CAST_REFUSED && told.fault == 2);
+    NEED(cast_page(SCRIPT, sizeof SCRIPT - 1, 0, 9, NULL, 0, &told) == CAST_TOO_SHORT && told.length > 1000);
+    size_t length = told.length;
+    NEED(length < sizeof out);
+    NEED(cast_page(SCRIPT, sizeof SCRIPT - 1, 0, 9, out, length - 1, &told) == CAST_TOO_SHORT && told.length == length && out[0] == 'z');
+    NEED(cast_page(SCRIPT, sizeof SCRIPT - 1, 0, 9, out, length, &told) == CAST_DONE && told.length == length && out[length] == 'z');
+    NEED(memcmp(out, BEGIN, sizeof BEGIN - 1) == 0 && memcmp(out + length - (sizeof END - 1), END, sizeof END - 1) == 0);
+    return 0;
+}
+
+static int migrations(void) {
+    static const char NEW[] = "cast/2 2 0 1 basic\nb 0 0 data:61\nd 0 0 0 data:61\nend\n";
+    static char most[67108865];
+    uint64_t length = 0;
+    char out[64];
+    memset(out, 'z', sizeof out);
+    NEED(cast_migrate(NULL, 1, out, sizeof out, &length) == CAST_MISUSED && cast_migrate(RECORD, 1, NULL, 1, &length) == CAST_MISUSED);
+    NEED(cast_migrate(RECORD, sizeof RECORD - 1, out, sizeof out, NULL) == CAST_MISUSED);
+    NEED(cast_migrate(RECORD, sizeof RECORD - 1, NULL, 0, &length) == CAST_TOO_SHORT && length == sizeof NEW - 1);
+    NEED(cast_migrate(RECORD, sizeof RECORD - 1, out, sizeof NEW - 2, &length) == CAST_TOO_SHORT && out[0] == 'z');
+    NEED(cast_migrate(RECORD, sizeof RECORD - 1, out, sizeof out, &length) == CAST_DONE && length == sizeof NEW - 1);
+    NEED(memcmp(out, NEW, sizeof NEW - 1) == 0 && out[sizeof NEW - 1] == 'z');
+    NEED(cast_migrate(NEW, sizeof NEW - 1, out, sizeof out, &length) == CAST_REFUSED);
+    NEED(cast_migrate(NULL, 0, out, sizeof out, &length) == CAST_REFUSED && cast_migrate(RECORD, 9, out, sizeof out, &length) == CAST_REFUSED);
+    memcpy(most, RECORD, sizeof RECORD - 1);
+    NEED(cast_migrate(most, sizeof most, NULL, 0, &length) == CAST_REFUSED);
+    NEED(cast_migrate(most, sizeof most - 1, NULL, 0, &length) == CAST_TOO_SHORT && length == sizeof most - 1 + 6);
+    return 0;
+}
+
 int main(void) {
     int wrong = judges();
     if (wrong == 0) wrong = worlds();
     if (wrong == 0) wrong = limits();
     if (wrong == 0) wrong = many();
+    if (wrong == 0) wrong = nexts();
     if (wrong == 0) wrong = codes();
     if (wrong == 0) wrong = texts();
+    if (wrong == 0) wrong = pages();
+    if (wrong == 0) wrong = migrations();
     if (wrong == 0) wrong = peers();
     if (wrong == 0) wrong = packets();
     if (wrong == 0) wrong = lines();

@@ -38,6 +38,26 @@ static int judges(void) {
     return 0;
 }
 
+/* Readers that run out of memory leave the group as it was, so that the same call then answers. */
+static int nexts(struct cast_world *world) {
+    struct cast_event events[16];
+    struct cast_frame frame;
+    struct cast_reply reply;
+    uint64_t count = 9, planned = 9;
+    uint32_t status = cast_world_enabled(world, events, 16, &count);
+    NEED(status == CAST_DONE || (status == CAST_OUT_OF_MEMORY && cast_world_enabled(world, events, 16, &count) == CAST_DONE));
+    NEED(count == 6 && events[0].kind == CAST_SEND && events[0].node == 0 && events[0].to == 1);
+    status = cast_world_step(world, &events[0], NULL, 0, &reply);
+    NEED(status == CAST_DONE || (status == CAST_OUT_OF_MEMORY && cast_world_step(world, &events[0], NULL, 0, &reply) == CAST_DONE));
+    status = cast_world_frame(world, 0, 0, &frame);
+    NEED(status == CAST_DONE || (status == CAST_OUT_OF_MEMORY && cast_world_frame(world, 0, 0, &frame) == CAST_DONE));
+    NEED(frame.kind == CAST_CARRY && frame.to == 1 && frame.slot == 0 && frame.sender == 0 && frame.number == 0);
+    status = cast_world_plan(world, NULL, 0, &planned);
+    NEED(status == CAST_TOO_SHORT || (status == CAST_OUT_OF_MEMORY && cast_world_plan(world, NULL, 0, &planned) == CAST_TOO_SHORT));
+    NEED(planned == 24);
+    return 0;
+}
+
 static int worlds(void) {
     struct cast_world world = CAST_EMPTY;
     struct cast_config config = CAST_CONFIG(3, 1);
@@ -57,6 +77,8 @@ static int worlds(void) {
         }
         NEED(status == CAST_DONE && reply.code == 0 && reply.deliveries == 1);
     }
+    int wrong = nexts(&world);
+    if (wrong != 0) return wrong;
     for (int round = 0; round < 3; round++) {
         status = cast_world_round(&world, &reply);
         NEED(status == CAST_DONE || status == CAST_OUT_OF_MEMORY);
@@ -117,9 +139,14 @@ static int peers(void) {
 
 static int texts(void) {
     struct cast_text told;
+    uint64_t length;
     uint32_t status = cast_run(SCRIPT, sizeof SCRIPT - 1, out, sizeof out, &told);
     NEED(status == CAST_DONE || status == CAST_OUT_OF_MEMORY);
     status = cast_draw(SCRIPT, sizeof SCRIPT - 1, 0, 9, out, sizeof out, &told);
+    NEED(status == CAST_DONE || status == CAST_OUT_OF_MEMORY);
+    status = cast_page(SCRIPT, sizeof SCRIPT - 1, 0, 9, out, sizeof out, &told);
+    NEED(status == CAST_DONE || status == CAST_OUT_OF_MEMORY);
+    status = cast_migrate(RECORD, sizeof RECORD - 1, out, sizeof out, &length);
     NEED(status == CAST_DONE || status == CAST_OUT_OF_MEMORY);
     return 0;
 }

@@ -1,7 +1,7 @@
 """Tests the binding for Python: what it returns, what it refuses, and that calls on a closed handle are safe.
 
-usage: python3 test_castgroup.py [PROGRAM]      with a program, `castgroup run` and `judge` must write the same, and `merge` must
-                                                take the logs of peers
+usage: python3 test_castgroup.py [PROGRAM]      with a program, `castgroup run`, `draw`, `judge` and `migrate` must write the
+                                                same, and `merge` must take the logs of peers
 
 If hypothesis is installed (python3-hypothesis of Debian), groups and records are tried at random too.
 """
@@ -17,7 +17,7 @@ import unittest
 from pathlib import Path
 
 import castgroup
-from castgroup import Ack, Arrive, Close, Crash, Decided, Delivered, Order, Ordered, Peer, Propose, Send, Verdict
+from castgroup import Ack, Arrive, Carry, Close, Crash, Decided, Delivered, Order, Ordered, Peer, Propose, Send, Took, Verdict
 
 try:
     from hypothesis import given, settings, strategies
@@ -100,8 +100,31 @@ class Texts(unittest.TestCase):
         for kind in (bytearray, memoryview):
             self.assertEqual(castgroup.run(kind(SCRIPT)), RECORD)
         self.assertRaises(TypeError, castgroup.run, SCRIPT.decode())
-        self.assertRaises(TypeError, castgroup.draw, SCRIPT, 1.5)
-        self.assertRaises(ValueError, castgroup.draw, SCRIPT, -1)
+        for picture in (castgroup.draw, castgroup.page):
+            self.assertRaises(TypeError, picture, SCRIPT, 1.5)
+            self.assertRaises(ValueError, picture, SCRIPT, -1)
+
+    def test_pages(self):
+        page = castgroup.page(SCRIPT)
+        self.assertTrue(page.startswith(b"<!DOCTYPE html>\n") and page.endswith(b"</html>\n"))
+        self.assertNotEqual(castgroup.page(SCRIPT, 0, 1), page)
+        self.assertEqual(castgroup.page(memoryview(SCRIPT), 0, 9), page)
+        with self.assertRaises(castgroup.BadScript) as caught:
+            castgroup.page(SCRIPT.replace(b'"settle"', b"7"))
+        self.assertEqual((caught.exception.fault, caught.exception.place), (3, 4))
+
+    def test_migrated_records(self):
+        migrated = RECORD.replace(b"cast/1 3 1 2", b"cast/2 3 1 2 basic")
+        for kind in (bytes, bytearray, memoryview):
+            self.assertEqual(castgroup.migrate(kind(RECORD)), migrated)
+        self.assertTrue(castgroup.judge(migrated))
+        long = RECORD + bytes(67_108_865 - len(RECORD))
+        for record, fault in ((b"", 2), (migrated, 2), (RECORD[:12], 2), (RECORD.replace(b"3", b"17", 1), 2), (long, 1)):
+            with self.assertRaises(castgroup.BadRecord) as caught:
+                castgroup.migrate(record)
+            self.assertEqual(caught.exception.fault, fault)
+        for wrong in (RECORD.decode(), 5, None):
+            self.assertRaises(TypeError, castgroup.migrate, wrong)
 
     def test_refused_scripts(self):
         for script, fault in ((b"{", (2, 0)), (b"{}", (3, 0)), (SCRIPT.replace(b'"settle"', b"7"), (3, 4)),
@@ -117,6 +140,8 @@ class Texts(unittest.TestCase):
             castgroup.BadScript(3, 4): "element 4 is not of its form",
             castgroup.BadScript(4, 1): "nodes must be from 1 to 64 (code 1)",
             castgroup.BadScript(2, 0): "it is no JSON",
+            castgroup.BadRecord(1): "it has more than 67,108,864 bytes",
+            castgroup.BadRecord(2): "it does not begin with a head of cast/1",
             castgroup.Closed(): "it was finished or closed",
             castgroup.Dropped(12): "a packet for another node (code 12)",
             castgroup.Ended(): "the log or the clock of the peer is full",
@@ -129,14 +154,17 @@ class Texts(unittest.TestCase):
             self.assertIsInstance(error, castgroup.Error)
             self.assertEqual((type(again), vars(again), str(again)), (type(error), vars(error), str(error)))
             self.assertIn(words, str(error))
-        self.assertTrue(all(issubclass(kind, ValueError) for kind in (castgroup.BadConfig, castgroup.BadScript, castgroup.Closed)))
+        self.assertTrue(all(issubclass(kind, ValueError) for kind in (castgroup.BadConfig, castgroup.BadRecord, castgroup.BadScript,
+                                                                     castgroup.Closed)))
 
     def test_the_program_writes_the_same(self):
         if PROGRAM is None:
             self.skipTest("no program")
-        for word, make in (("run", castgroup.run), ("draw", castgroup.draw)):
-            written = subprocess.run([PROGRAM, word], input=SCRIPT, stdout=subprocess.PIPE).stdout
-            self.assertEqual(written, make(SCRIPT))
+        for words, make, text in ((["run"], castgroup.run, SCRIPT), (["draw"], castgroup.draw, SCRIPT),
+                                  (["draw", "--html"], castgroup.page, SCRIPT), (["migrate"], castgroup.migrate, RECORD),
+                                  (["draw", "--html", "--from", "1", "--to", "2"], lambda script: castgroup.page(script, 1, 2), SCRIPT)):
+            written = subprocess.run([PROGRAM, *words], input=text, stdout=subprocess.PIPE).stdout
+            self.assertEqual(written, make(text))
 
 
 class Groups(unittest.TestCase):
@@ -173,6 +201,40 @@ class Groups(unittest.TestCase):
             self.assertEqual(list(world.deliveries(0, 0, 2)), [Close()])
             self.assertEqual(list(world.deliveries(7, 0)), [])
         self.assertRaises(castgroup.Closed, world.at_rest)
+
+    def test_what_may_happen_next(self):
+        with castgroup.World(3, 1) as world:
+            self.assertEqual((world.events_enabled(), world.round_plan(), world.frame(0, 0)), ([], [], None))
+            world.order(0, b"a")
+            self.assertEqual(world.events_enabled(), [Send(0, 1, 0), Send(0, 2, 0)])
+            settles = [[Send(0, to, 0), Arrive(0, to - 1), Ack(to, 0, 0), Arrive(to, 0)] for to in (1, 2)]
+            self.assertEqual(world.round_plan(), settles[0] + settles[1])
+            for event in settles[0][:3]:
+                world.step(event)
+            self.assertEqual(world.frame(0, 0), Carry(1, 0, 0, 0))
+            self.assertEqual(world.frame(1, 0), Took(0, 0))
+            self.assertNotEqual(Carry(0, 0, 0, 0), Took(0, 0))
+            self.assertEqual((world.frame(0, 1), world.frame(3, 0), world.frame(255, 2**64 - 1)), (None, None, None))
+            self.assertEqual(world.events_enabled(), [Send(0, 1, 0), Ack(1, 0, 0), Send(0, 2, 0), Send(1, 2, 0), Arrive(1, 0)])
+            world.crash(2)
+            world.arrive(1, 0)
+            self.assertTrue(world.at_rest())
+            self.assertEqual((world.events_enabled(), world.round_plan()), ([], []))
+            for call in (lambda: world.frame("0", 0), lambda: world.frame(0, 0.5)):
+                self.assertRaises(TypeError, call)
+            for call in (lambda: world.frame(256, 0), lambda: world.frame(0, -1)):
+                self.assertRaises(ValueError, call)
+
+    def test_many_events(self):
+        with castgroup.World(8, 0) as world:
+            for number in range(160):
+                world.order(number % 8, b"%d" % number)
+            enabled, plan = world.events_enabled(), world.round_plan()
+            self.assertEqual((len(enabled), len(plan)), (8 * 7 * 20, 4 * 8 * 7 * 20))
+            self.assertTrue(all(world.fault(event) is None for event in enabled))
+            for event in plan:
+                world.step(event)
+            self.assertEqual(world.delivered_count(7, 0), 20)
 
     def test_traps(self):
         world = castgroup.World(2, 0)
@@ -213,7 +275,8 @@ class Groups(unittest.TestCase):
         world.close()
         world.close()
         for call in (world.round, world.at_rest, lambda: world.order(0, b"a"), lambda: world.delivered(0, 0), lambda: world.live(0),
-                     lambda: world.owed(0, 1), lambda: world.decision(0, 0), lambda: world.item(0, 0, 0)):
+                     lambda: world.owed(0, 1), lambda: world.decision(0, 0), lambda: world.item(0, 0, 0), lambda: world.frame(0, 0),
+                     world.events_enabled, world.round_plan):
             self.assertRaises(ValueError, call)
 
 

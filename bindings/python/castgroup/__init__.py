@@ -11,11 +11,11 @@ the texts of scripts, over the proved library.
 It loads libcastgroup.so from this package, or the file that CASTGROUP_LIBRARY names. Threads may share a group, a judge
 or a peer, whose calls run one after another. Calls that may take long release the interpreter's lock.
 """
-from ._errors import BadConfig, BadScript, Closed, Dropped, Ended, Error, Refused, TooLong
-from ._events import Ack, Arrive, Close, Crash, Event, Item, Order, Propose, Reply, Send
+from ._errors import BadConfig, BadRecord, BadScript, Closed, Dropped, Ended, Error, Refused, TooLong
+from ._events import Ack, Arrive, Carry, Close, Crash, Event, Frame, Item, Order, Propose, Reply, Send, Took
 from ._judge import Judge, Verdict, judge
 from ._peer import LOG_END, MOST_PACKET, Decided, Delivered, News, Ordered, Packet, Peer
-from ._texts import draw, run
+from ._texts import draw, migrate, page, run
 from ._world import World
 
 __version__ = "0.2.0"
@@ -24,7 +24,9 @@ __all__ = [
     "Ack",
     "Arrive",
     "BadConfig",
+    "BadRecord",
     "BadScript",
+    "Carry",
     "Close",
     "Closed",
     "Crash",
@@ -34,6 +36,7 @@ __all__ = [
     "Ended",
     "Error",
     "Event",
+    "Frame",
     "Item",
     "Judge",
     "LOG_END",
@@ -48,9 +51,12 @@ __all__ = [
     "Reply",
     "Send",
     "TooLong",
+    "Took",
     "Verdict",
     "World",
     "draw",
     "judge",
+    "migrate",
+    "page",
     "run",
 ]

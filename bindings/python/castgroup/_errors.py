@@ -108,6 +108,18 @@ class BadScript(Error, ValueError):
         return _word(("it has more than 67,108,864 bytes", "it is no JSON", "it is not of its form as a whole"), self.fault)
 
 
+class BadRecord(Error, ValueError):
+    """A record is not migrated. `fault` is 1: too long, 2: no head of cast/1."""
+
+    def __init__(self, fault: int) -> None:
+        super().__init__(fault)
+        self.fault = fault
+
+    def __str__(self) -> str:
+        words = ("it has more than 67,108,864 bytes", "it does not begin with a head of cast/1")
+        return f"the record is refused: {_word(words, self.fault)}"
+
+
 class Closed(Error, ValueError):
     """A group or a peer was closed, or a judge was finished or closed."""
 

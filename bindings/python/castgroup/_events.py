@@ -68,6 +68,27 @@ class Crash:
 Event = Union[Order, Send, Ack, Arrive, Crash]
 
 
+@dataclass(frozen=True)
+class Carry:
+    """A frame with a message for a node: the item with this number of a sender, in this slot of the link to that node."""
+
+    to: int
+    slot: int
+    sender: int
+    number: int
+
+
+@dataclass(frozen=True)
+class Took:
+    """A frame by which its maker acknowledges this slot of the link from that node."""
+
+    to: int
+    slot: int
+
+
+Frame = Union[Carry, Took]
+
+
 class Reply(NamedTuple):
     """The reply to an event. `number` is that of the new item or frame, or the node at which a frame arrived. The node
     delivered the items `first` to `first + deliveries - 1` of `sender`, and decided `decisions` times."""

@@ -74,6 +74,16 @@ class ItemNumbers(ctypes.Structure):
     _fields_ = [("kind", c_uint64), ("length", c_uint64), ("instance", c_uint64), ("value", c_uint64)]
 
 
+class FrameNumbers(ctypes.Structure):
+    _fields_ = [
+        ("kind", c_uint64),
+        ("to", c_uint64),
+        ("slot", c_uint64),
+        ("sender", c_uint64),
+        ("number", c_uint64),
+    ]
+
+
 class TextNumbers(ctypes.Structure):
     _fields_ = [("length", c_uint64), ("fault", c_uint64), ("place", c_uint64)]
 
@@ -99,6 +109,9 @@ _EXPORTS: dict[str, tuple[Any, ...]] = {
     "world_owed": (c_void_p, c_uint8, c_uint8, c_void_p),
     "world_live": (c_void_p, c_uint8, c_void_p),
     "world_at_rest": (c_void_p, c_void_p),
+    "world_frame": (c_void_p, c_uint8, c_uint64, c_void_p),
+    "world_enabled": (c_void_p, *_ROOM, c_void_p),
+    "world_plan": (c_void_p, *_ROOM, c_void_p),
     "world_drop": (c_void_p,),
     "peer_new": (c_void_p, c_void_p, c_uint64, c_uint8, c_uint32, c_void_p),
     "peer_order": (c_void_p, c_void_p, *_BYTES, c_void_p),
@@ -114,6 +127,8 @@ _EXPORTS: dict[str, tuple[Any, ...]] = {
     "peer_drop": (c_void_p,),
     "run": (*_BYTES, *_ROOM, c_void_p),
     "draw": (*_BYTES, c_uint64, c_uint64, *_ROOM, c_void_p),
+    "page": (*_BYTES, c_uint64, c_uint64, *_ROOM, c_void_p),
+    "migrate": (*_BYTES, *_ROOM, c_void_p),
 }
 
 

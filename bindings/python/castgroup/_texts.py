@@ -1,4 +1,4 @@
-"""The record of a script, and the picture of its events."""
+"""The record of a script, the picture of its events, the page that steps through them, and a record that is migrated."""
 from __future__ import annotations
 
 import mmap
@@ -6,15 +6,16 @@ from ctypes import addressof, c_char
 from typing import Callable, SupportsIndex
 
 from . import _library as library
-from ._errors import BadScript
+from ._errors import BadRecord, BadScript
 from ._library import Readable, accept, count, free
 
 # The room for a text. A page takes memory only after it is written, so ample room costs nothing, and a text is made
 # once.
 _AMPLE = 2**30
 _LEAST = 2**16
+_MOST_RECORD = 67_108_864  # bytes of a record that is migrated
 
-_run, _draw = free["run"], free["draw"]
+_run, _draw, _page, _migrate = free["run"], free["draw"], free["page"], free["migrate"]
 
 
 def run(script: Readable) -> bytes:
@@ -29,8 +30,34 @@ def draw(script: Readable, first: SupportsIndex = 0, last: SupportsIndex = 2**64
     return _text(lambda out, room, told: _draw(data, len(data), *window, out, room, told))
 
 
+def page(script: Readable, first: SupportsIndex = 0, last: SupportsIndex = 2**64 - 1) -> bytes:
+    """The page that steps through a script's events, as `castgroup draw --html` writes it. It shows those from place `first` to
+    place `last`."""
+    data, window = library.read(script), (count(first, "place"), count(last, "place"))
+    return _text(lambda out, room, told: _page(data, len(data), *window, out, room, told))
+
+
+def migrate(record: Readable) -> bytes:
+    """A record of format cast/1 with the head of cast/2, and otherwise the same bytes, as `castgroup migrate` writes it."""
+    data = library.read(record)
+    # (the call takes the address of a length, which is the first number of a result)
+    status, text, _told = _made(lambda out, room, length: _migrate(data, len(data), out, room, length))
+    if status == library.REFUSED:
+        raise BadRecord(1 if len(data) > _MOST_RECORD else 2)
+    return text
+
+
 def _text(make: Callable[[int, int, int], int]) -> bytes:
-    """The text that a call makes. The call gets an address, the room there, and the address of its result's numbers."""
+    """The text that a call makes of a script."""
+    status, text, told = _made(make)
+    if status == library.REFUSED:
+        raise BadScript(told.fault, told.place)
+    return text
+
+
+def _made(make: Callable[[int, int, int], int]) -> tuple[int, bytes, library.TextNumbers]:
+    """The status of a call, the text that it makes, and its numbers. The call gets an address, the room there, and the address of
+    its result's numbers."""
     told, room, least = library.TextNumbers(), _AMPLE, _LEAST
     while True:
         with _pages(room, least) as pages:
@@ -39,11 +66,8 @@ def _text(make: Callable[[int, int, int], int]) -> bytes:
             del out  # (pages that are still lent can't be freed)
             text = pages[: told.length] if status == library.DONE else b""
         if accept(status) != library.TOO_SHORT:
-            break
+            return status, text, told
         room = least = told.length
-    if status == library.REFUSED:
-        raise BadScript(told.fault, told.place)
-    return text
 
 
 def _pages(room: int, least: int) -> mmap.mmap:

@@ -5,16 +5,18 @@ import threading
 from ctypes import addressof, c_bool, c_uint64, create_string_buffer, string_at
 from struct import Struct, error as StructError
 from types import TracebackType
-from typing import Iterator, NoReturn, SupportsIndex, Union
+from typing import Callable, Iterator, NoReturn, SupportsIndex, Union
 
 from . import _library as library
 from ._errors import BadConfig, Refused
-from ._events import Ack, Arrive, Close, Crash, Event, Item, Order, Propose, Reply, Send
+from ._events import Ack, Arrive, Carry, Close, Crash, Event, Frame, Item, Order, Propose, Reply, Send, Took
 from ._library import DONE, Readable, accept, count, free, held, node
 
 _ORDER, _SEND, _ACK, _ARRIVE, _CRASH = range(5)
 _DATA, _PROPOSE, _CLOSE = range(3)
+_CARRY = 0
 _MOST_BYTES = 1_024  # of an item
+_FIRST_PLACES = 256  # of the first buffer for events
 # kind, node, to, kind of item; number, value
 _EVENT = Struct("=4B4xQQ")
 # code; number, sender, first, deliveries, decisions
@@ -24,6 +26,7 @@ _new, _drop = held["world_new"], held["world_drop"]
 _step, _fault, _round = held["world_step"], held["world_fault"], free["world_round"]
 _delivered, _item, _decision = held["world_delivered"], held["world_item"], held["world_decision"]
 _owed, _live, _at_rest = held["world_owed"], held["world_live"], held["world_at_rest"]
+_frame, _enabled, _plan = held["world_frame"], free["world_enabled"], free["world_plan"]
 
 
 class World:
@@ -195,6 +198,37 @@ class World:
             accept(_at_rest(self._at, self._at_flag))
             return self._flag.value
 
+    def frame(self, node: SupportsIndex, number: SupportsIndex) -> Frame | None:
+        """The frame with this number of those that a node made, if it made one."""
+        who, place, told = library.node(node), count(number), library.FrameNumbers()
+        with self._lock:
+            status = accept(_frame(self._at, who, place, addressof(told)))
+        if status != DONE:
+            return None
+        return Carry(told.to, told.slot, told.sender, told.number) if told.kind == _CARRY else Took(told.to, told.slot)
+
+    def events_enabled(self) -> list[Event]:
+        """The events that may happen next and yield something new, apart from orders and crashes. For each slot that a live node
+        owes another, there is its send, and its acknowledgement if it was taken. After these, there is the arrival of each frame
+        that tells a live node something. The group would refuse none of them.
+
+        If there is no event, the group is at rest, or a live node can make no more frames."""
+        return self._events(_enabled)
+
+    def round_plan(self) -> list[Event]:
+        """The events that `round` would take now, in order: for each slot that a live node owes another, a send, its arrival, an
+        acknowledgement, and its arrival. Frames are numbered as if a node could make any number of them."""
+        return self._events(_plan)
+
+    def _events(self, read: Callable[..., int]) -> list[Event]:
+        room, status = _FIRST_PLACES, library.TOO_SHORT
+        with self._lock:
+            while status == library.TOO_SHORT:
+                places = create_string_buffer(room * _EVENT.size)
+                status = accept(read(self._at, addressof(places), room, self._at_number))
+                room = self._number.value
+        return [_event_of(*numbers) for numbers in _EVENT.iter_unpack(memoryview(places)[: room * _EVENT.size])]
+
     def close(self) -> None:
         """Frees the group, which then takes no more."""
         with self._lock:
@@ -266,6 +300,13 @@ def _numbers_and_bytes(event: Event) -> tuple[tuple[int, int, int, int, int, int
     if isinstance(event.item, Close):
         return (_ORDER, event.node, 0, _CLOSE, 0, 0), b""
     return (_ORDER, event.node, 0, _DATA, 0, 0), bytes_of(event.item)
+
+
+def _event_of(kind: int, node: int, to: int, item: int, number: int, value: int) -> Event:
+    """The event with these numbers, of the kinds that a group itself gives."""
+    if kind == _SEND:
+        return Send(node, to, number)
+    return Ack(node, to, number) if kind == _ACK else Arrive(node, number)
 
 
 def _pair(first: SupportsIndex, second: SupportsIndex) -> tuple[int, int]:

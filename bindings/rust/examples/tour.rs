@@ -1,5 +1,5 @@
 //! Calls everything once or more, with refusals: the program that is checked for leaks.
-use castgroup::{draw, judge, run, Config, Event, Item, Judge, Peer, Saving, World};
+use castgroup::{draw, judge, migrate, page, run, Config, Event, Item, Judge, Peer, Saving, World};
 use std::error::Error;
 
 /// A peer that orders, and one that gets its packets, some of them spoilt.
@@ -36,7 +36,8 @@ fn main() -> Result<(), Box<dyn Error>> {
         println!("{:?}", world.step(&Event::Order { node, item: Item::Data(vec![node; 1_025]) }));
     }
     println!("{:?}", world.step(&Event::Send { from: 0, to: 1, slot: 0 })?);
-    println!("{:?}", world.step(&Event::Arrive { from: 0, seq: 0 })?);
+    println!("{:?} {:?} {}", world.frame(0, 0)?, world.frame(9, 0)?, world.events_enabled()?.len());
+    println!("{:?} {}", world.step(&Event::Arrive { from: 0, seq: 0 })?, world.round_plan()?.len());
     world.step(&Event::Crash { node: 3 })?;
     let mut world = std::thread::spawn(move || world.round().map(|_| world)).join().expect("a thread")?;
     world.round()?;
@@ -45,6 +46,8 @@ fn main() -> Result<(), Box<dyn Error>> {
     let script = br#"{"nodes":2,"faults":0,"choices":1,"events":[["order",0,"data","61"],["settle"]]}"#;
     let record = run(script)?;
     println!("{:?} {} {:?}", judge(&record)?, draw(script, 0..=1)?.len() > 1_000, run(&script[1..]));
+    println!("{} {:?}", page(script, ..)?.len() > 1_000, page(&script[1..], ..));
+    println!("{} {:?}", migrate(&record)?.len() - record.len(), migrate(&record[1..]));
     let mut left = Judge::new()?;
     left.feed(&record[..20])?;
     let mut judge = Judge::new()?;

@@ -90,6 +90,17 @@ pub enum TextError {
     OutOfMemory,
 }
 
+/// A record is not migrated.
+#[derive(Clone, Copy, Debug, PartialEq, Eq, PartialOrd, Ord, Hash)]
+pub enum MigrateError {
+    /// The record has more than 67,108,864 bytes.
+    TooLong,
+    /// The text doesn't begin with a head of `cast/1`.
+    NotV1,
+    /// The library ran out of memory.
+    OutOfMemory,
+}
+
 /// Why a peer isn't made, or takes no packet or order.
 #[derive(Clone, Copy, Debug, PartialEq, Eq, PartialOrd, Ord, Hash)]
 pub enum PeerError {
@@ -301,6 +312,16 @@ impl fmt::Display for TextError {
     }
 }
 
+impl fmt::Display for MigrateError {
+    fn fmt(&self, f: &mut fmt::Formatter<'_>) -> fmt::Result {
+        match self {
+            MigrateError::TooLong => f.write_str("the record is too long"),
+            MigrateError::NotV1 => f.write_str("the text doesn't begin with a head of cast/1"),
+            MigrateError::OutOfMemory => OutOfMemory.fmt(f),
+        }
+    }
+}
+
 impl From<OutOfMemory> for StepError {
     fn from(_: OutOfMemory) -> StepError {
         StepError::OutOfMemory
@@ -323,6 +344,7 @@ impl Error for OutOfMemory {}
 impl Error for ConfigError {}
 impl Error for Refusal {}
 impl Error for JudgeError {}
+impl Error for MigrateError {}
 
 impl Error for StepError {
     fn source(&self) -> Option<&(dyn Error + 'static)> {

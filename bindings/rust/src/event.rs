@@ -105,6 +105,29 @@ pub enum Event {
     },
 }
 
+/// What one step of a node puts on the network.
+#[derive(Clone, Copy, Debug, PartialEq, Eq, PartialOrd, Ord, Hash)]
+pub enum Frame {
+    /// A message: item `number` of `sender`.
+    Carry {
+        /// The target of the frame.
+        to: u8,
+        /// The slot of the message, in the link from the frame's maker to its target.
+        slot: u64,
+        /// The sender of the item.
+        sender: u8,
+        /// The number of the item in the sender's stream.
+        number: u64,
+    },
+    /// An acknowledgement: its maker took what is in this slot.
+    Took {
+        /// The target of the frame.
+        to: u8,
+        /// The slot, in the link from the frame's target to its maker.
+        slot: u64,
+    },
+}
+
 /// What a step delivers and decides at its node. [`World::deliveries_of`](crate::World::deliveries_of) reads the items,
 /// [`World::decisions_of`](crate::World::decisions_of) the decisions.
 #[derive(Clone, Copy, Debug, Default, PartialEq, Eq, PartialOrd, Ord, Hash)]
@@ -255,6 +278,23 @@ impl From<&str> for Item {
     }
 }
 
+impl Frame {
+    /// The node that the frame is for.
+    pub fn to(&self) -> u8 {
+        match *self {
+            Frame::Carry { to, .. } | Frame::Took { to, .. } => to,
+        }
+    }
+
+    pub(crate) fn of_numbers(told: &raw::Frame) -> Frame {
+        let raw::Frame { kind, to, slot, sender, number } = *told;
+        match kind {
+            0 => Frame::Carry { to: to as u8, slot, sender: sender as u8, number },
+            _ => Frame::Took { to: to as u8, slot },
+        }
+    }
+}
+
 impl Reply {
     /// The node that took the event, and what it delivered and decided, if the event can deliver.
     pub fn outcome(&self, event: &Event) -> Option<(u8, Outcome)> {
@@ -346,6 +386,16 @@ impl Event {
             Event::Ack { from, to, slot } => (raw::Event { kind: 2, node: from, to, number: slot, ..none }, &[]),
             Event::Arrive { from, seq } => (raw::Event { kind: 3, node: from, number: seq, ..none }, &[]),
             Event::Crash { node } => (raw::Event { kind: 4, node, ..none }, &[]),
+        }
+    }
+
+    /// The event with these numbers, of the kinds that [`World::events_enabled`](crate::World::events_enabled) gives.
+    pub(crate) fn of_numbers(told: &raw::Event) -> Event {
+        let raw::Event { kind, node, to, number, .. } = *told;
+        match kind {
+            1 => Event::Send { from: node, to, slot: number },
+            2 => Event::Ack { from: node, to, slot: number },
+            _ => Event::Arrive { from: node, seq: number },
         }
     }
 

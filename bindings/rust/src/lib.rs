@@ -33,11 +33,11 @@ mod record;
 mod text;
 mod world;
 
-pub use error::{ConfigError, JudgeError, OutOfMemory, PeerError, Refusal, StepError, TextError};
-pub use event::{Config, Decision, Delivery, Event, Item, Mode, Outcome, Reply};
+pub use error::{ConfigError, JudgeError, MigrateError, OutOfMemory, PeerError, Refusal, StepError, TextError};
+pub use event::{Config, Decision, Delivery, Event, Frame, Item, Mode, Outcome, Reply};
 pub use judge::{judge, rule_text, Judge, Verdict};
 pub use peer::{News, Packet, Peer, Saving, LOG_END, MOST_PACKET};
-pub use text::{draw, run};
+pub use text::{draw, migrate, page, run};
 pub use world::World;
 
 /// The version of the linked library: 10,000 times its major number, plus 100 times its minor number, plus its patch.

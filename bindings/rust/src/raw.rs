@@ -68,6 +68,16 @@ pub(crate) struct Item {
 
 #[repr(C)]
 #[derive(Default)]
+pub(crate) struct Frame {
+    pub kind: u64,
+    pub to: u64,
+    pub slot: u64,
+    pub sender: u64,
+    pub number: u64,
+}
+
+#[repr(C)]
+#[derive(Default)]
 pub(crate) struct Packet {
     pub kind: u64,
     pub to: u64,
@@ -96,7 +106,7 @@ pub(crate) struct Text {
 }
 
 // SAFETY of all calls: each pointer comes from a reference or a slice of this crate's callers. So it is not null, is
-// not shared if it is written through, and leads to as many bytes as the call says. A handle begins empty, doesn't move
+// not shared if it is written through, and leads to as many bytes or events as the call says. A handle begins empty, doesn't move
 // during a call, and is never copied.
 extern "C" {
     pub(crate) fn cast_c_version() -> u32;
@@ -142,6 +152,9 @@ extern "C" {
     pub(crate) fn cast_c_world_owed(world: *mut Handle, from: u8, to: u8, count: *mut u64) -> u32;
     pub(crate) fn cast_c_world_live(world: *mut Handle, node: u8, is_so: *mut bool) -> u32;
     pub(crate) fn cast_c_world_at_rest(world: *mut Handle, is_so: *mut bool) -> u32;
+    pub(crate) fn cast_c_world_frame(world: *mut Handle, node: u8, number: u64, frame: *mut Frame) -> u32;
+    pub(crate) fn cast_c_world_enabled(world: *mut Handle, events: *mut Event, room: usize, count: *mut u64) -> u32;
+    pub(crate) fn cast_c_world_plan(world: *mut Handle, events: *mut Event, room: usize, count: *mut u64) -> u32;
     pub(crate) fn cast_c_world_drop(world: *mut Handle);
     pub(crate) fn cast_c_peer_new(
         peer: *mut Handle,
@@ -183,5 +196,21 @@ extern "C" {
         out: *mut u8,
         room: usize,
         told: *mut Text,
+    ) -> u32;
+    pub(crate) fn cast_c_page(
+        script: *const u8,
+        count: usize,
+        from: u64,
+        to: u64,
+        out: *mut u8,
+        room: usize,
+        told: *mut Text,
+    ) -> u32;
+    pub(crate) fn cast_c_migrate(
+        record: *const u8,
+        count: usize,
+        out: *mut u8,
+        room: usize,
+        length: *mut u64,
     ) -> u32;
 }

@@ -1,10 +1,13 @@
-//! The texts of scripts.
-use crate::error::{ConfigError, OutOfMemory, TextError};
+//! The texts of scripts, and the record that is migrated.
+use crate::error::{ConfigError, MigrateError, OutOfMemory, TextError};
 use crate::raw;
 use std::ops::{Bound, RangeBounds};
 
 /// The first buffer has this many bytes.
 const FIRST_ROOM: usize = 65_536;
+
+/// The most bytes of a record that is migrated.
+const MOST_RECORD: usize = 67_108_864;
 
 /// The record of a script, as `castgroup run` writes it.
 ///
@@ -34,6 +37,44 @@ pub fn draw(script: &[u8], window: impl RangeBounds<u64>) -> Result<Vec<u8>, Tex
         // SAFETY: see `raw`.
         unsafe { raw::cast_c_draw(script.as_ptr(), script.len(), from, to, out.as_mut_ptr(), out.len(), told) }
     })
+}
+
+/// The page that steps through a script's run, as HTML: its picture, and for each event in words what happened. It has
+/// the events whose places are in the range, as `castgroup draw --html` writes them.
+///
+/// ```
+/// let script = br#"{"nodes":1,"faults":0,"choices":1,"events":[["crash",0]]}"#;
+/// assert!(castgroup::page(script, ..)?.starts_with(b"<!DOCTYPE html>"));
+/// # Ok::<(), castgroup::TextError>(())
+/// ```
+pub fn page(script: &[u8], window: impl RangeBounds<u64>) -> Result<Vec<u8>, TextError> {
+    let (from, to) = ends(&window);
+    text(|out, told| {
+        // SAFETY: see `raw`.
+        unsafe { raw::cast_c_page(script.as_ptr(), script.len(), from, to, out.as_mut_ptr(), out.len(), told) }
+    })
+}
+
+/// A record of format `cast/1` with the head of `cast/2`, and otherwise the same bytes.
+///
+/// ```
+/// use castgroup::{migrate, MigrateError};
+///
+/// assert_eq!(migrate(b"cast/1 2 0 1\nend\n")?, b"cast/2 2 0 1 basic\nend\n");
+/// assert_eq!(migrate(b"cast/2 2 0 1 basic\nend\n"), Err(MigrateError::NotV1));
+/// # Ok::<(), MigrateError>(())
+/// ```
+pub fn migrate(record: &[u8]) -> Result<Vec<u8>, MigrateError> {
+    let answer = asked(|out, told| {
+        // SAFETY: see `raw`.
+        unsafe { raw::cast_c_migrate(record.as_ptr(), record.len(), out.as_mut_ptr(), out.len(), &mut told.length) }
+    });
+    match answer {
+        Ok((raw::DONE, out, _)) => Ok(out),
+        Ok((raw::REFUSED, ..)) if record.len() > MOST_RECORD => Err(MigrateError::TooLong),
+        Ok((raw::REFUSED, ..)) => Err(MigrateError::NotV1),
+        _ => Err(MigrateError::OutOfMemory),
+    }
 }
 
 /// Calls for a text, and again if the first buffer was too short. Returns the status, the text and its numbers.

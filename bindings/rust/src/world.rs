@@ -1,12 +1,15 @@
 //! A group as one value.
 use crate::error::{ConfigError, OutOfMemory, Refusal, StepError};
-use crate::event::{Config, Decision, Delivery, Event, Item, Outcome, Reply};
+use crate::event::{Config, Decision, Delivery, Event, Frame, Item, Outcome, Reply};
 use crate::raw;
 use std::cell::UnsafeCell;
 use std::fmt;
 
 /// The most bytes of a payload.
 const MOST_BYTES: usize = 1_024;
+
+/// The first buffer for events has this many places.
+const FIRST_PLACES: usize = 256;
 
 /// A group: it takes events and returns replies, and readers show what each node has delivered, decided and owes. It
 /// may go to another thread, but only one may use it at a time. It is not `Sync`, since a reader too takes the group
@@ -225,6 +228,89 @@ impl World {
         unsafe { raw::cast_c_world_at_rest(self.handle.get(), &mut is_so) };
         is_so
     }
+
+    /// The frame with this number, from 0, of those that `node` made, if it made one.
+    ///
+    /// ```
+    /// use castgroup::{Config, Event, Frame, World};
+    ///
+    /// let mut world = World::new(&Config::of(2, 0))?;
+    /// world.step(&Event::order(0, "a"))?;
+    /// world.step(&Event::send(0, 1, 0))?;
+    /// assert_eq!(world.frame(0, 0)?, Some(Frame::Carry { to: 1, slot: 0, sender: 0, number: 0 }));
+    /// assert_eq!(world.frame(0, 1)?, None);
+    /// # Ok::<(), Box<dyn std::error::Error>>(())
+    /// ```
+    pub fn frame(&self, node: u8, number: u64) -> Result<Option<Frame>, OutOfMemory> {
+        let mut told = raw::Frame::default();
+        // SAFETY: see `raw`.
+        match unsafe { raw::cast_c_world_frame(self.handle.get(), node, number, &mut told) } {
+            raw::DONE => Ok(Some(Frame::of_numbers(&told))),
+            raw::REFUSED => Ok(None),
+            _ => Err(OutOfMemory),
+        }
+    }
+
+    /// The events that may happen next and yield something new, apart from orders and crashes. For each slot that a live
+    /// node owes another, there is its send, and its acknowledgement if it was taken. After these, there is the arrival
+    /// of each frame that tells a live node something. The group would refuse none of them.
+    ///
+    /// If there is no event, the group is at rest, or a live node can make no more frames. A call looks at every slot
+    /// that is owed and at every frame that was made.
+    ///
+    /// ```
+    /// use castgroup::{Config, Event, World};
+    ///
+    /// let mut world = World::new(&Config::of(3, 1))?;
+    /// world.step(&Event::order(0, "a"))?;
+    /// assert_eq!(world.events_enabled()?, [Event::send(0, 1, 0), Event::send(0, 2, 0)]);
+    /// # Ok::<(), Box<dyn std::error::Error>>(())
+    /// ```
+    pub fn events_enabled(&self) -> Result<Vec<Event>, OutOfMemory> {
+        read_events(|places, count| {
+            // SAFETY: see `raw`.
+            unsafe { raw::cast_c_world_enabled(self.handle.get(), places.as_mut_ptr(), places.len(), count) }
+        })
+    }
+
+    /// The events that [`round`](World::round) would take now, in order: for each slot that a live node owes another, a
+    /// send, its arrival, an acknowledgement, and its arrival. Frames are numbered as if a node could make any number of
+    /// them.
+    ///
+    /// ```
+    /// use castgroup::{Config, Event, World};
+    ///
+    /// let mut world = World::new(&Config::of(2, 0))?;
+    /// world.step(&Event::order(0, "a"))?;
+    /// let events = world.round_plan()?;
+    /// assert_eq!(events, [Event::send(0, 1, 0), Event::arrive(0, 0), Event::ack(1, 0, 0), Event::arrive(1, 0)]);
+    /// # Ok::<(), Box<dyn std::error::Error>>(())
+    /// ```
+    pub fn round_plan(&self) -> Result<Vec<Event>, OutOfMemory> {
+        read_events(|places, count| {
+            // SAFETY: see `raw`.
+            unsafe { raw::cast_c_world_plan(self.handle.get(), places.as_mut_ptr(), places.len(), count) }
+        })
+    }
+}
+
+/// Reads events, and reads them again if the first buffer was too short.
+fn read_events(mut read: impl FnMut(&mut [raw::Event], &mut u64) -> u32) -> Result<Vec<Event>, OutOfMemory> {
+    let (mut places, mut count, mut room) = (Vec::new(), 0, FIRST_PLACES);
+    loop {
+        places.try_reserve_exact(room.saturating_sub(places.len()))?;
+        places.resize_with(room, raw::Event::default);
+        match read(&mut places, &mut count) {
+            raw::DONE => break,
+            raw::TOO_SHORT => room = count as usize,
+            _ => return Err(OutOfMemory),
+        }
+    }
+    places.truncate(count as usize);
+    let mut events = Vec::new();
+    events.try_reserve_exact(places.len())?;
+    events.extend(places.iter().map(Event::of_numbers));
+    Ok(events)
 }
 
 fn read_item(read: impl FnOnce(&mut raw::Item, &mut [u8]) -> u32) -> Result<Option<Item>, OutOfMemory> {

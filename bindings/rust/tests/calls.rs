@@ -1,7 +1,11 @@
-//! Refusals, errors, and handles.
+//! Refusals, errors, handles, and texts.
+mod common;
+
 use castgroup::{
-    rule_text, Config, ConfigError, Event, Item, Judge, Mode, OutOfMemory, Refusal, Reply, StepError, TextError, World,
+    rule_text, Config, ConfigError, Event, Frame, Item, Judge, MigrateError, Mode, OutOfMemory, Refusal, Reply, StepError, TextError,
+    World,
 };
+use common::program;
 use std::error::Error;
 use std::io::Write;
 
@@ -81,6 +85,43 @@ fn readers_say_what_is_there() {
 }
 
 #[test]
+fn a_group_says_what_may_happen_next() {
+    let mut world = World::new(&Config::of(3, 1)).unwrap();
+    assert_eq!((world.events_enabled(), world.round_plan()), (Ok(vec![]), Ok(vec![])));
+    assert_eq!((world.frame(0, 0), world.frame(3, 0), world.frame(0, u64::MAX)), (Ok(None), Ok(None), Ok(None)));
+    world.step(&Event::order(0, "a")).unwrap();
+    world.step(&Event::order(0, "b")).unwrap();
+    world.step(&Event::send(0, 1, 1)).unwrap();
+    world.step(&Event::arrive(0, 0)).unwrap();
+    world.step(&Event::ack(1, 0, 1)).unwrap();
+    assert_eq!(world.frame(0, 0), Ok(Some(Frame::Carry { to: 1, slot: 1, sender: 0, number: 1 })));
+    assert_eq!(world.frame(1, 0), Ok(Some(Frame::Took { to: 0, slot: 1 })));
+    assert_eq!(world.frame(0, 0).unwrap().map(|frame| frame.to()), Some(1));
+    let (send, ack) = (Event::send, Event::ack);
+    let next = [send(0, 1, 0), send(0, 1, 1), ack(1, 0, 1), send(0, 2, 0), send(0, 2, 1), send(1, 2, 0), Event::arrive(1, 0)];
+    assert_eq!(world.events_enabled().unwrap(), next);
+    world.step(&Event::crash(2)).unwrap();
+    let arrive = Event::arrive;
+    let (first, second) = ([send(0, 1, 0), arrive(0, 1), ack(1, 0, 0), arrive(1, 1)], [send(0, 1, 1), arrive(0, 2), ack(1, 0, 1), arrive(1, 2)]);
+    assert_eq!(world.round_plan().unwrap(), [first, second].concat());
+}
+
+#[test]
+fn many_events_may_happen_next() {
+    let mut world = World::new(&Config::of(8, 0)).unwrap();
+    for node in 0..8 {
+        for item in 0..20 {
+            world.step(&Event::order(node, [node, item].as_slice())).unwrap();
+        }
+    }
+    let (next, plan) = (world.events_enabled().unwrap(), world.round_plan().unwrap());
+    assert_eq!((next.len(), plan.len()), (8 * 7 * 20, 4 * 8 * 7 * 20));
+    assert!(next.iter().all(|event| world.fault(event) == Ok(None)));
+    assert!(plan.iter().all(|event| world.step(event).is_ok()));
+    assert_eq!(world.delivered_count(7, 0), Some(20));
+}
+
+#[test]
 fn words_and_orders() {
     assert!((0..=6).all(|rule| rule_text(rule).is_some()) && rule_text(7).is_none());
     assert!(Event::crash(1) > Event::arrive(9, 9) && Item::Close > Item::from("a"));
@@ -116,4 +157,30 @@ fn texts_are_as_long_as_they_are() {
     assert!(castgroup::run(many).unwrap_err().source().is_some());
     assert_eq!(castgroup::run(&vec![b' '; 67_108_865]), Err(TextError::TooLong));
     assert_eq!(OutOfMemory.to_string(), "out of memory");
+}
+
+#[test]
+fn a_page_and_a_migrated_record_are_those_of_the_program() {
+    let orders = r#"["order",0,"data","00112233"],"#.repeat(400);
+    let script = format!(r#"{{"nodes":2,"faults":0,"choices":1,"events":[{orders}["settle"],["crash",0],["crash",0]]}}"#);
+    let page = castgroup::page(script.as_bytes(), ..).unwrap();
+    assert!(page.len() > 100_000 && page.starts_with(b"<!DOCTYPE html>\n") && page.ends_with(b"</html>\n"));
+    assert_ne!(castgroup::page(script.as_bytes(), 0..=1), Ok(page.clone()));
+    assert_eq!(castgroup::page(b"{", ..), Err(TextError::NotJson));
+    assert_eq!(castgroup::page(br#"{"nodes":2,"faults":2,"choices":1}"#, ..), Err(TextError::Config(ConfigError::Faults)));
+    let record = castgroup::run(script.as_bytes()).unwrap();
+    let migrated = castgroup::migrate(&record).unwrap();
+    assert_eq!(migrated, [b"cast/2 2 0 1 basic\n", &record[13..]].concat());
+    if let (Some(drawn), Some(written)) = (program(&["draw", "--html"], script.as_bytes()), program(&["migrate"], &record)) {
+        assert!(drawn == page && written == migrated);
+    }
+    assert_eq!(castgroup::migrate(&migrated), Err(MigrateError::NotV1));
+    assert_eq!(castgroup::migrate(b""), Err(MigrateError::NotV1));
+    let mut most = vec![b' '; 67_108_865];
+    most[..13].copy_from_slice(&record[..13]);
+    assert_eq!(castgroup::migrate(&most), Err(MigrateError::TooLong));
+    assert_eq!(castgroup::migrate(&most[1..]), Err(MigrateError::NotV1));
+    assert_eq!(castgroup::migrate(&most[..67_108_864]).map(|text| text.len()), Ok(67_108_870));
+    let words = [MigrateError::TooLong, MigrateError::NotV1, MigrateError::OutOfMemory].map(|error| error.to_string());
+    assert_eq!(words, ["the record is too long", "the text doesn't begin with a head of cast/1", "out of memory"]);
 }

@@ -42,7 +42,7 @@ fn pieces_give_the_verdict_of_the_whole() {
             }
         };
         if round % 10 == 0 {
-            if let Some(said) = program("judge", &record) {
+            if let Some(said) = program(&["judge"], &record) {
                 assert_eq!(String::from_utf8_lossy(&said), line);
             }
         }

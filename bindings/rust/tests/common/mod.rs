@@ -1,6 +1,6 @@
 //! Random scripts, how a group takes them event by event, and the program to compare with, which CASTGROUP names.
 #![allow(dead_code)] // each test uses some of it
-use castgroup::{Config, Event, Item, Mode, Outcome, Reply, StepError, World};
+use castgroup::{Config, Event, Frame, Item, Mode, Outcome, Reply, StepError, World};
 use std::collections::HashSet;
 use std::io::Write;
 use std::process::{Command, Stdio};
@@ -33,6 +33,7 @@ pub struct Group {
     pub world: World,
     // For each of a node's frames: the target, the slot, and whether it acknowledges.
     frames: Vec<Vec<(u8, u64, bool)>>,
+    taken: HashSet<(u8, u8, u64)>,
     acked: HashSet<(u8, u8, u64)>,
     decided: HashSet<(u8, u64)>,
 }
@@ -56,6 +57,7 @@ impl Group {
             record: head,
             world,
             frames,
+            taken: HashSet::new(),
             acked: HashSet::new(),
             decided: HashSet::new(),
         }
@@ -75,6 +77,7 @@ impl Group {
 
     /// Takes two rounds, slot by slot, up to a refused event.
     pub fn settle(&mut self) {
+        self.look_ahead();
         let index = self.elements.len();
         self.elements.push(Element::Settle);
         for _ in 0..2 {
@@ -106,6 +109,30 @@ impl Group {
         events
     }
 
+    // The events that may happen next and yield something new: those that make a frame for a slot that is due, and the arrivals of
+    // frames whose slot the target has not taken, or still owes.
+    fn enabled(&self) -> Vec<Event> {
+        let mut events = Vec::new();
+        for event in self.round() {
+            let Event::Send { from, to, slot } = event else { continue };
+            events.push(event);
+            events.extend(self.taken.contains(&(from, to, slot)).then_some(Event::Ack { from: to, to: from, slot }));
+        }
+        for (from, made) in (0..).zip(&self.frames) {
+            for (seq, &(to, slot, acks)) in (0..).zip(made) {
+                let is_known = if acks { self.acked.contains(&(to, from, slot)) } else { self.taken.contains(&(from, to, slot)) };
+                events.extend((self.world.live(to) && !is_known).then_some(Event::Arrive { from, seq }));
+            }
+        }
+        events
+    }
+
+    /// The group says what may happen next, and which events a round has.
+    pub fn look_ahead(&self) {
+        assert_eq!(self.world.events_enabled().expect("memory"), self.enabled());
+        assert_eq!(self.world.round_plan().expect("memory"), self.round());
+    }
+
     // Returns whether the event was accepted.
     fn step(&mut self, event: &Event, index: usize) -> bool {
         let answer = self.world.step(event);
@@ -130,6 +157,8 @@ impl Group {
                 assert_eq!(to, *node);
                 if acks {
                     self.acked.insert((to, *from, slot));
+                } else {
+                    self.taken.insert((*from, to, slot));
                 }
                 self.tell(*node, outcome);
             }
@@ -143,6 +172,11 @@ impl Group {
         let row = &mut self.frames[from as usize];
         assert_eq!(row.len() as u64, seq);
         row.push(frame);
+        let told = match self.world.frame(from, seq).expect("memory").expect("a frame that was made") {
+            Frame::Carry { to, slot, .. } => (to, slot, false),
+            Frame::Took { to, slot } => (to, slot, true),
+        };
+        assert_eq!(told, frame);
     }
 
     fn tell(&mut self, node: u8, outcome: &Outcome) {
@@ -255,9 +289,9 @@ fn random_item(numbers: &mut Numbers) -> Item {
 }
 
 /// What the program writes for an input, if CASTGROUP names it.
-pub fn program(word: &str, input: &[u8]) -> Option<Vec<u8>> {
+pub fn program(words: &[&str], input: &[u8]) -> Option<Vec<u8>> {
     let path = std::env::var_os("CASTGROUP")?;
-    let mut child = Command::new(path).arg(word).stdin(Stdio::piped()).stdout(Stdio::piped()).spawn().expect("the program");
+    let mut child = Command::new(path).args(words).stdin(Stdio::piped()).stdout(Stdio::piped()).spawn().expect("the program");
     child.stdin.take().expect("its input").write_all(input).expect("it reads");
     Some(child.wait_with_output().expect("it ends").stdout)
 }
