@@ -538,8 +538,7 @@ static inline uint32_t cast_page(const void *script, size_t count, uint64_t from
 }
 
 /* A record of format cast/1 with the head of cast/2, and otherwise the same bytes. CAST_DONE: `length` is the number of
- * its bytes; CAST_REFUSED: the text does not begin with a head of cast/1, or has more than 67,108,864 bytes;
- * CAST_OUT_OF_MEMORY; CAST_TOO_SHORT: nothing is written, and `length` says how much room it needs. */
+ * its bytes; CAST_REFUSED: the text does not begin with a head of cast/1; CAST_OUT_OF_MEMORY; CAST_TOO_SHORT: nothing is written, and `length` says how much room it needs. */
 static inline uint32_t cast_migrate(const void *record, size_t count, void *out, size_t room, uint64_t *length) {
     if (!cast_has(record, count) || !cast_has(out, room) || length == NULL) return CAST_MISUSED;
     return cast_c_migrate(cast_some(record), count, cast_some(out), room, length);

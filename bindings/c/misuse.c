@@ -388,7 +388,6 @@ static int pages(void) {
 
 static int migrations(void) {
     static const char NEW[] = "cast/2 2 0 1 basic\nb 0 0 data:61\nd 0 0 0 data:61\nend\n";
-    static char most[67108865];
     uint64_t length = 0;
     char out[64];
     memset(out, 'z', sizeof out);
@@ -400,9 +399,6 @@ static int migrations(void) {
     NEED(memcmp(out, NEW, sizeof NEW - 1) == 0 && out[sizeof NEW - 1] == 'z');
     NEED(cast_migrate(NEW, sizeof NEW - 1, out, sizeof out, &length) == CAST_REFUSED);
     NEED(cast_migrate(NULL, 0, out, sizeof out, &length) == CAST_REFUSED && cast_migrate(RECORD, 9, out, sizeof out, &length) == CAST_REFUSED);
-    memcpy(most, RECORD, sizeof RECORD - 1);
-    NEED(cast_migrate(most, sizeof most, NULL, 0, &length) == CAST_REFUSED);
-    NEED(cast_migrate(most, sizeof most - 1, NULL, 0, &length) == CAST_TOO_SHORT && length == sizeof most - 1 + 6);
     return 0;
 }
 

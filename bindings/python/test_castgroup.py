@@ -118,11 +118,8 @@ class Texts(unittest.TestCase):
         for kind in (bytes, bytearray, memoryview):
             self.assertEqual(castgroup.migrate(kind(RECORD)), migrated)
         self.assertTrue(castgroup.judge(migrated))
-        long = RECORD + bytes(67_108_865 - len(RECORD))
-        for record, fault in ((b"", 2), (migrated, 2), (RECORD[:12], 2), (RECORD.replace(b"3", b"17", 1), 2), (long, 1)):
-            with self.assertRaises(castgroup.BadRecord) as caught:
-                castgroup.migrate(record)
-            self.assertEqual(caught.exception.fault, fault)
+        for record in (b"", migrated, RECORD[:12], RECORD.replace(b"3", b"17", 1)):
+            self.assertRaises(castgroup.BadRecord, castgroup.migrate, record)
         for wrong in (RECORD.decode(), 5, None):
             self.assertRaises(TypeError, castgroup.migrate, wrong)
 
@@ -140,8 +137,7 @@ class Texts(unittest.TestCase):
             castgroup.BadScript(3, 4): "element 4 is not of its form",
             castgroup.BadScript(4, 1): "nodes must be from 1 to 64 (code 1)",
             castgroup.BadScript(2, 0): "it is no JSON",
-            castgroup.BadRecord(1): "it has more than 67,108,864 bytes",
-            castgroup.BadRecord(2): "it does not begin with a head of cast/1",
+            castgroup.BadRecord(): "does not begin with a head of cast/1",
             castgroup.Closed(): "it was finished or closed",
             castgroup.Dropped(12): "a packet for another node (code 12)",
             castgroup.Ended(): "the log or the clock of the peer is full",

@@ -109,15 +109,10 @@ class BadScript(Error, ValueError):
 
 
 class BadRecord(Error, ValueError):
-    """A record is not migrated. `fault` is 1: too long, 2: no head of cast/1."""
-
-    def __init__(self, fault: int) -> None:
-        super().__init__(fault)
-        self.fault = fault
+    """A record is not migrated."""
 
     def __str__(self) -> str:
-        words = ("it has more than 67,108,864 bytes", "it does not begin with a head of cast/1")
-        return f"the record is refused: {_word(words, self.fault)}"
+        return "the record does not begin with a head of cast/1"
 
 
 class Closed(Error, ValueError):

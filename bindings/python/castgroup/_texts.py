@@ -13,7 +13,6 @@ from ._library import Readable, accept, count, free
 # once.
 _AMPLE = 2**30
 _LEAST = 2**16
-_MOST_RECORD = 67_108_864  # bytes of a record that is migrated
 
 _run, _draw, _page, _migrate = free["run"], free["draw"], free["page"], free["migrate"]
 
@@ -43,7 +42,7 @@ def migrate(record: Readable) -> bytes:
     # (the call takes the address of a length, which is the first number of a result)
     status, text, _told = _made(lambda out, room, length: _migrate(data, len(data), out, room, length))
     if status == library.REFUSED:
-        raise BadRecord(1 if len(data) > _MOST_RECORD else 2)
+        raise BadRecord()
     return text
 
 

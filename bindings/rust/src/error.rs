@@ -93,8 +93,6 @@ pub enum TextError {
 /// A record is not migrated.
 #[derive(Clone, Copy, Debug, PartialEq, Eq, PartialOrd, Ord, Hash)]
 pub enum MigrateError {
-    /// The record has more than 67,108,864 bytes.
-    TooLong,
     /// The text doesn't begin with a head of `cast/1`.
     NotV1,
     /// The library ran out of memory.
@@ -315,7 +313,6 @@ impl fmt::Display for TextError {
 impl fmt::Display for MigrateError {
     fn fmt(&self, f: &mut fmt::Formatter<'_>) -> fmt::Result {
         match self {
-            MigrateError::TooLong => f.write_str("the record is too long"),
             MigrateError::NotV1 => f.write_str("the text doesn't begin with a head of cast/1"),
             MigrateError::OutOfMemory => OutOfMemory.fmt(f),
         }

@@ -6,9 +6,6 @@ use std::ops::{Bound, RangeBounds};
 /// The first buffer has this many bytes.
 const FIRST_ROOM: usize = 65_536;
 
-/// The most bytes of a record that is migrated.
-const MOST_RECORD: usize = 67_108_864;
-
 /// The record of a script, as `castgroup run` writes it.
 ///
 /// ```
@@ -71,7 +68,6 @@ pub fn migrate(record: &[u8]) -> Result<Vec<u8>, MigrateError> {
     });
     match answer {
         Ok((raw::DONE, out, _)) => Ok(out),
-        Ok((raw::REFUSED, ..)) if record.len() > MOST_RECORD => Err(MigrateError::TooLong),
         Ok((raw::REFUSED, ..)) => Err(MigrateError::NotV1),
         _ => Err(MigrateError::OutOfMemory),
     }

@@ -176,11 +176,6 @@ fn a_page_and_a_migrated_record_are_those_of_the_program() {
     }
     assert_eq!(castgroup::migrate(&migrated), Err(MigrateError::NotV1));
     assert_eq!(castgroup::migrate(b""), Err(MigrateError::NotV1));
-    let mut most = vec![b' '; 67_108_865];
-    most[..13].copy_from_slice(&record[..13]);
-    assert_eq!(castgroup::migrate(&most), Err(MigrateError::TooLong));
-    assert_eq!(castgroup::migrate(&most[1..]), Err(MigrateError::NotV1));
-    assert_eq!(castgroup::migrate(&most[..67_108_864]).map(|text| text.len()), Ok(67_108_870));
-    let words = [MigrateError::TooLong, MigrateError::NotV1, MigrateError::OutOfMemory].map(|error| error.to_string());
-    assert_eq!(words, ["the record is too long", "the text doesn't begin with a head of cast/1", "out of memory"]);
+    let words = [MigrateError::NotV1, MigrateError::OutOfMemory].map(|error| error.to_string());
+    assert_eq!(words, ["the text doesn't begin with a head of cast/1", "out of memory"]);
 }
