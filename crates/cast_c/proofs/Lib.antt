@@ -2,3 +2,4 @@ mod AsJudgeBox
 mod AsPeerBox
 mod AsWorldBox
 mod Holds
+mod NewPeers

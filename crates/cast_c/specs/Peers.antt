@@ -4,27 +4,32 @@
 --     KeepsJournal old new                if there was a peer, there is one with the same node, log and clock
 --     IsOrdered old item status new       the clauses of the call that takes an order
 --     IsOrderedBy old numbers bytes status new    the same for an item given as numbers and bytes
---     IsReceived old bytes status new     the clauses of the call that takes what the network brought
+--     IsNewPeer numbers group me peer     a peer with these numbers, which has done nothing
+--     IsNoPeer numbers told               why there is no such peer, as a number
+--     IsReceived old bytes status told new    the clauses of the call that takes what the network brought
 --     GivesNext old room status told new  the clauses of the call that gives packets, with this much room for them
 --     TellsNews old room status new       the clauses of the call that reports news, with this much room for its bytes
 --     HasLine peer place is               whether the log has this line
 --     TellsLine peer place status count old new    a line in a buffer, and how many bytes it has
-use Rattle.std.specs.Prelude.{◌≡◌, ◌⊎◌, ◌↔◌, ℕ, ◌+◌, ◌-◌, ◌^◌, ◌<◌, ◌≤◌, min, Bool, List, length, Option, None, Some, Result, Ok, Err, IfOk, IfErr, IfSome, IsSomeAnd, IsTrue}
+use Rattle.std.specs.Prelude.{◌≡◌, ◌⊎◌, ◌↔◌, ℕ, ◌+◌, ◌-◌, ◌^◌, ◌<◌, ◌≤◌, min, Bool, List, length, Option, None, Some, Result, Ok, Err, IfOk, IfErr, IfNone, IfSome, IsSomeAnd, IsTrue}
+use Rattle.cast_message.specs.declared.config.Config.{Config}
 use Rattle.cast_message.specs.declared.event.StepFault.TheVariants as steps
 use Rattle.cast_message.specs.declared.message.Decision.{Decision}
 use Rattle.cast_message.specs.declared.message.Item.{Item}
 use Rattle.cast_message.specs.declared.message.Message.{Message}
 use Rattle.cast_journal.specs.Journals.{Halts, LogsOrder}
 use Rattle.cast_wire.specs.declared.packet.WireFault.TheVariants as wires
-use Rattle.cast_peer.specs.Peers.{Drops, LogsFrameAtMost, Receives}
+use Rattle.cast_peer.specs.New.{IsNew}
+use Rattle.cast_peer.specs.Peers.{Drops, LogsFrameAtMost, Receives, peer_code}
 use Rattle.cast_peer.specs.declared.fault.PeerFault.{PeerFault}
 use Rattle.cast_peer.specs.declared.fault.PeerFault.TheVariants as faults
 use Rattle.cast_peer.specs.declared.peer.NextPacket.{NextPacket}
 use Rattle.cast_peer.specs.declared.peer.NextPacket.TheVariants as next
 use Rattle.cast_peer.specs.declared.peer.Peer.{Peer}
 use Rattle.cast_peer.specs.declared.peer.Received.{Received}
-use Rattle.cast_c.specs.Numbers.{item_in}
+use Rattle.cast_c.specs.Numbers.{IsOf, first_code, item_in}
 use Rattle.cast_c.specs.Steps.{Puts}
+use Rattle.cast_c.specs.declared.numbers.ConfigNumbers.{ConfigNumbers}
 use Rattle.cast_c.specs.declared.numbers.EventNumbers.{EventNumbers}
 use Rattle.cast_c.specs.declared.numbers.ItemNumbers.{ItemNumbers}
 use Rattle.cast_c.specs.declared.peer_numbers.NewsNumbers.{NewsNumbers}
@@ -82,6 +87,21 @@ abbrev pub KeepsJournal : Option Peer → Option Peer → Type 0
 KeepsJournal old new =
     IfSome old (λ before. IsSomeAnd new (λ after. after.journal ≡ before.journal))
 
+-- a peer with these numbers, which has done nothing
+pub record IsNewPeer (numbers : ConfigNumbers) (group me : ℕ) (peer : Peer) : Type 0 where
+  pub config : Config
+  pub same : IsOf numbers config
+  pub new : IsNew config group me peer
+
+-- the first fault of the configuration, or else 21, as there is no such node
+abbrev pub IsNoPeer : ConfigNumbers → ℕ → Type 0
+IsNoPeer numbers told = IfNone (first_code numbers) (told ≡ 21)
+    × IfSome (first_code numbers) (λ code. told ≡ code)
+
+-- the number of the fault, if there is one
+abbrev pub TellsFault : {T : Type 0} → Result T PeerFault → ℕ → Type 0
+TellsFault made told = IfErr made (λ fault. told ≡ peer_code fault)
+
 -- the clauses of the call
 pub record IsOrdered (old : Peer) (item : Item) (status : ℕ) (new : Peer) : Type 0 where
   pub logs : Halts old.journal new.journal
@@ -102,8 +122,9 @@ status_of_received (Ok received) = 0
 status_of_received (Err fault) = status_of_fault fault
 
 -- the clauses of the call
-pub record IsReceived (old : Peer) (bytes : List ℕ) (status : ℕ) (new : Peer) : Type 0 where
+pub record IsReceived (old : Peer) (bytes : List ℕ) (status told : ℕ) (new : Peer) : Type 0 where
   pub made : Result Received PeerFault
+  pub fault : TellsFault made told
   pub by_status : status ≡ status_of_received made
   pub ok : IfOk made (λ received.
       Receives old.config old.group old.journal bytes received new.journal)

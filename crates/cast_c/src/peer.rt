@@ -1,7 +1,8 @@
 //! Makes a peer, gives it orders and packets, says what happened outside, and drops it.
 ghost use Rattle.std.specs.Prelude.{◌≡◌, ◌<◌, ◌⊎◌, None, Some, true, cond, is_some, IfSome, IsSomeAnd};
 ghost use Rattle.cast_c.specs.Numbers.{first_code};
-ghost use Rattle.cast_c.specs.Peers.{IsOrdered, IsOrderedBy, IsReceived, KeepsJournal, status_of_received};
+ghost use Rattle.cast_c.specs.Peers.{IsNewPeer, IsNoPeer, IsOrdered, IsOrderedBy, IsReceived, KeepsJournal, TellsFault, status_of_received};
+ghost use Rattle.cast_peer.specs.New.{IsNew};
 
 use crate::numbers::{ConfigNumbers, EventNumbers};
 use crate::peer_handle::PeerHandle;
@@ -25,9 +26,9 @@ pub extern "C" fn cast_c_peer_new(
     saving: u32,
     fault: &mut u64,
 ) -> u32
-    ensures made { result ≡ 0 → is_some peer.new.loose.peer ≡ true }
+    ensures made { result ≡ 0 → IsSomeAnd peer.new.loose.peer (IsNewPeer config.now group me) }
     ensures fit { result ≡ 0 → first_code config.now ≡ None }
-    ensures refused { result ≡ 2 → (first_code config.now ≡ None) ⊎ (first_code config.now ≡ Some fault.new) }
+    ensures refused { result ≡ 2 → IsNoPeer config.now fault.new }
     ensures held { result ≡ 1 → (1 < saving) ⊎ (is_some peer.old.loose.peer ≡ true) }
     ensures kept { (result ≡ 0) ⊎ (peer.new ≡ peer.old) }
     ensures status { (result ≡ 0) ⊎ (result ≡ 1) ⊎ (result ≡ 2) ⊎ (result ≡ 5) }
@@ -58,7 +59,8 @@ fn make(
     saving: Saving,
     fault: &mut u64,
 ) -> u32
-    ensures made { result ≡ 0 → is_some peer.new.loose.peer ≡ true }
+    ensures made { result ≡ 0 → IsSomeAnd peer.new.loose.peer (IsNew config.now group me) }
+    ensures refused { result ≡ 2 → fault.new ≡ 21 }
     ensures kept { (result ≡ 0) ⊎ (peer.new ≡ peer.old) }
     ensures status { (result ≡ 0) ⊎ (result ≡ 2) ⊎ (result ≡ 5) }
 {
@@ -146,7 +148,7 @@ pub extern "C" fn cast_c_peer_receive(
     fault: &mut u64,
 ) -> u32
     ensures received { IfSome peer.old.loose.peer (λ old.
-        IsSomeAnd peer.new.loose.peer (IsReceived old bytes.now result)) }
+        IsSomeAnd peer.new.loose.peer (IsReceived old bytes.now result fault.new)) }
     ensures none { peer.old.loose.peer ≡ None → (result ≡ 1) × (peer.new.loose.peer ≡ None) }
 {
     let Some(mut held) = peer.take(alloc) else {
@@ -158,14 +160,15 @@ pub extern "C" fn cast_c_peer_receive(
 }
 
 fn receive(peer: &mut Peer, bytes: &[u8], fault: &mut u64) -> u32
-    ensures { IsReceived peer.old bytes.now result peer.new }
+    ensures { IsReceived peer.old bytes.now result fault.new peer.new }
 {
     let received = peer.receive(bytes);
     status_of_received(received, fault)
 }
 
 fn status_of_received(received: Result<Received, PeerFault>, fault: &mut u64) -> u32
-    ensures { result ≡ status_of_received received }
+    ensures status { result ≡ status_of_received received }
+    ensures fault { TellsFault received fault.new }
 {
     match received {
         Ok(_) => DONE,

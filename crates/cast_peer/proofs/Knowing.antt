@@ -18,8 +18,8 @@ use Rattle.cast_journal.proofs.Journaling.{rises_more}
 use Rattle.cast_journal.proofs.Running.{halt_kept, came_kept, same_me, order_kept, made_kept}
 use Rattle.cast_journal.proofs.RunLogs.{keeps_new}
 use Rattle.cast_wire.specs.Law.{HasNumbers}
-use Rattle.cast_peer.specs.Peers.{packet_of, bytes_of, Takes}
-use Rattle.cast_peer.specs.Law.{Did, Gave, Lost, Took, Asked, Ended, Makes, Does, begun, IsRunOf}
+use Rattle.cast_peer.specs.Peers.{begun, packet_of, bytes_of, Takes}
+use Rattle.cast_peer.specs.Law.{Did, Gave, Lost, Took, Asked, Ended, Makes, Does, IsRunOf}
 
 pub record Known (group : ℕ) (config : Config) (me : ℕ) (ds : List Did) (j : JournalState) : Type 0 where
   pub put : List Parcel

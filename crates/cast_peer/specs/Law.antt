@@ -7,7 +7,6 @@
 use Rattle.std.specs.Prelude.{◌≡◌, ℕ, ◌<◌, List, [], ◌∷◌, length, slice_get, Option, Some, None}
 use Rattle.cast_message.specs.declared.config.Config.{Config}
 use Rattle.cast_message.specs.declared.message.FrameKind.{FrameKind}
-use Rattle.cast_node.specs.Kept.{nothing_kept}
 use Rattle.cast_node.specs.Linked.{Linked}
 use Rattle.cast_node.specs.declared.report.NodeReport.{NodeReport}
 use Rattle.cast_journal.specs.declared.order.OrderIn.{OrderIn}
@@ -15,7 +14,7 @@ use Rattle.cast_journal.specs.declared.parcel.Parcel.{Parcel}
 use Rattle.cast_journal.specs.Lists.{Has}
 use Rattle.cast_journal.specs.Journals.{JournalState, LogsOrder, Halts}
 use Rattle.cast_wire.specs.Law.{HasNumbers}
-use Rattle.cast_peer.specs.Peers.{packet_of, bytes_of, MakesFrame, Takes}
+use Rattle.cast_peer.specs.Peers.{begun, packet_of, bytes_of, MakesFrame, Takes}
 
 pub data Did : Type 0 where
   Gave : List ℕ → Did  -- it made a frame of these bytes, to be sent
@@ -38,17 +37,6 @@ Does group old Lost new = (x : Parcel) × Makes group old x new
 Does group old (Took bytes) new = Takes group old bytes new
 Does group old (Asked order) new = LogsOrder old new order
 Does group old Ended new = Halts old new
-
-abbrev pub begun : Config → ℕ → ℕ → JournalState
-begun config me turns = record {
-  config = config;
-  node = nothing_kept config me;
-  log = [];
-  clock = config.first_stamp;
-  crash = None;
-  ended = None;
-  turns = turns;
-}
 
 -- the newest first
 unfoldable pub IsRunOf : ℕ → Config → ℕ → List Did → JournalState → Type 0

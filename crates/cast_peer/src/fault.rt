@@ -1,4 +1,7 @@
 //! Why a peer does nothing.
+ghost use Rattle.std.specs.Prelude.{◌≡◌};
+ghost use Rattle.cast_peer.specs.Peers.{peer_code, wire_code};
+
 use cast_message::StepFault;
 use cast_wire::WireFault;
 use thiserror::Error;
@@ -25,7 +28,9 @@ pub enum PeerFault {
 impl PeerFault {
     /// Its number. 1 to 6: no packet (foreign, version, kind, short, long, out of memory). 11: another group; 12:
     /// another node; 13: the last stamp; 14: impossible; 15: ended. From 20: a refusal, at 20 and its code.
-    pub fn code(self) -> u64 {
+    pub fn code(self) -> u64
+        ensures { result ≡ peer_code self }
+    {
         match self {
             PeerFault::Wire(fault) => wire_code(fault),
             PeerFault::OtherGroup => 11,
@@ -33,12 +38,14 @@ impl PeerFault {
             PeerFault::LastStamp => 13,
             PeerFault::Impossible => 14,
             PeerFault::Ended => 15,
-            PeerFault::Refused(fault) => fault.code().saturating_add(20),
+            PeerFault::Refused(fault) => 20 + fault.code(),
         }
     }
 }
 
-fn wire_code(fault: WireFault) -> u64 {
+fn wire_code(fault: WireFault) -> u64
+    ensures { result ≡ wire_code fault }
+{
     match fault {
         WireFault::Foreign => 1,
         WireFault::Version => 2,

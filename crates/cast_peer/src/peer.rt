@@ -2,7 +2,8 @@
 ghost use Rattle.std.specs.Prelude.{◌≡◌, ◌+◌, ◌<◌, ◌^◌, ◌⊎◌, ◌≢◌, true, IfErr, IfNone, IfOk, IfSome, OnErr, OnOk};
 ghost use Rattle.cast_journal.specs.Journals.{MayLog, LogsOrder, Halts};
 ghost use Rattle.cast_peer.specs.Peers.{TakesParcel, TakesIn, Receives, Drops, MakesFrame, LogsFrameAtMost, IsSaved, may_be_made, parcel_in};
-ghost use Rattle.cast_peer.specs.declared.fault.PeerFault.TheVariants.{Ended};
+ghost use Rattle.cast_peer.specs.New.{IsNew, no_node_of};
+ghost use Rattle.cast_peer.specs.declared.fault.PeerFault.TheVariants.{Ended, Refused};
 
 use crate::fault::PeerFault;
 use crate::flight::Flight;
@@ -98,7 +99,10 @@ impl Peer {
         group: u64,
         me: NodeId,
         saving: Saving,
-    ) -> Result<Peer, PeerFault> {
+    ) -> Result<Peer, PeerFault>
+        ensures begun { IfOk result (λ peer. IsNew config.now group me peer) }
+        ensures refusal { IfErr result (λ fault. fault ≡ Refused (no_node_of config.now me)) }
+    {
         if u64::from(me.0) >= config.nodes() {
             return Err(PeerFault::Refused(StepFault::NoNode));
         }
@@ -116,6 +120,7 @@ impl Peer {
         saving: Saving,
     ) -> Result<Peer, AllocError>
         requires { me < config.now.nodes }
+        ensures { IfOk result (λ peer. IsNew config.now group me peer) }
     {
         let journal = Journal::new(alloc, config, me, None, u64::MAX)?;
         let mut flights = Vec::new(alloc);
