@@ -1,12 +1,14 @@
 //! Everything in a group that takes steps, and how it takes them in the order of a schedule.
-ghost use Rattle.std.specs.Prelude.{◌<◌, IfOk, IfSome};
+ghost use Rattle.std.specs.Prelude.{IfOk};
 ghost use Rattle.cast_run.specs.Actors.{AreStill, CameBack, ComesFrom, HaveBegun, StaysFrom};
 
 use crate::actor::{Actor, Step};
 use crate::engine_actor::EngineActor;
 use crate::job::ClientJob;
 use crate::jobs::Seat;
+use crate::limits::Steps;
 use crate::schedule::Schedule;
+use crate::waits::{Place, Waits};
 use cast_carrier::{Board, Carrier};
 use cast_engine::Gate;
 use std::alloc::{AllocError, Global};
@@ -18,14 +20,6 @@ pub struct Actors<J, G> {
     pub engines: Vec<EngineActor<G>>,
     pub carriers: Vec<Carrier>,
     pub jobs: Vec<Seat<J>>,
-}
-
-// An engine or carrier by its node, or a job by its place.
-#[derive(Clone, Copy)]
-enum Place {
-    Engine(usize),
-    Carrier(usize),
-    Job(usize),
 }
 
 impl<J: ClientJob + Drop, G: Gate + Drop> Actors<J, G> {
@@ -56,48 +50,31 @@ fn step_at<A: Actor, R: Wait>(rt: &R, board: &Board, actors: &mut Vec<A>, place:
     }
 }
 
-fn everyone(alloc: Global, nodes: usize, jobs: usize) -> Result<Vec<Place>, AllocError> {
-    let mut all = Vec::new(alloc);
-    for node in 0..nodes {
-        all.push(Place::Engine(node))?;
-        all.push(Place::Carrier(node))?;
-    }
-    for place in 0..jobs {
-        all.push(Place::Job(place))?;
-    }
-    Ok(all)
-}
-
-// One of the places, unless there is none.
-fn choose<S: Schedule>(schedule: &mut S, places: usize) -> Option<usize>
-    ensures { IfSome result (λ place. place < places) }
-{
-    if places == 0 {
-        return None;
-    }
-    Some(schedule.next(places as u64) as usize)
-}
-
-/// Runs the actors in this thread, one step at a time in the order of the schedule, until all have ended or `steps`
-/// steps were taken.
+/// Runs the actors in this thread, one step at a time, until all have ended or as many steps were taken as they may. The
+/// schedule chooses who is next, unless an actor has waited too long.
 pub fn run_by<J: ClientJob + Drop, G: Gate + Drop, S: Schedule, R: Wait>(
     rt: &R,
     alloc: Global,
     mut actors: Actors<J, G>,
     board: &Board,
-    steps: u64,
+    steps: Steps,
     schedule: &mut S,
 ) -> Result<Actors<J, G>, AllocError>
     requires begun { HaveBegun J.fact actors.jobs.items }
     ensures { IfOk result (CameBack J.fact actors) }
 {
-    let mut live = everyone(alloc, actors.engines.len(), actors.jobs.len())?;
-    for _ in 0..steps {
-        let Some(place) = choose(schedule, live.len()) else {
+    let mut waits = Waits::new(
+        alloc,
+        actors.engines.len(),
+        actors.jobs.len(),
+        steps.longest_wait,
+    )?;
+    for _ in 0..steps.most {
+        let Some(place) = waits.next(schedule) else {
             break;
         };
-        if !actors.step(rt, board, live[place]) {
-            live.swap_remove(place);
+        if !actors.step(rt, board, waits.at(place)) {
+            waits.end(place);
         }
     }
     Ok(actors)
