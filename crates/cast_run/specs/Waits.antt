@@ -1,9 +1,12 @@
 -- Who takes the next step of a run by a schedule.
 --     IsNext w p a               the actor at place p takes the next step
 --     NoneWaitsTooLong w         none has waited for as many steps as `longest` and the number of actors make
-use Rattle.std.specs.Prelude.{◌≡◌, ◌<◌, ◌≤◌, ℕ, ◌+◌, ◌-◌, ◌⊎◌, Bool, nat_le, List, length, slice_get, slice_set, Some}
+use Rattle.std.specs.Prelude.{◌≡◌, ◌<◌, ◌≤◌, ℕ, ◌+◌, ◌-◌, ◌*◌, ◌⊎◌, Bool, nat_le, List, length, slice_get, slice_set, Some}
 use Rattle.std.specs.List.{count_by, swap_remove}
 use Rattle.cast_run.specs.declared.waits.LiveActor.{LiveActor}
+use Rattle.cast_run.specs.declared.waits.Place.{Place}
+use Rattle.cast_journal.specs.Lists.{Has}
+use Rattle.cast_run.specs.Fairly.{IsActorOf}
 
 -- the actors that have not ended, the steps taken so far, after how many an actor goes first, and how many actors there
 -- were at the beginning
@@ -43,6 +46,16 @@ StepsNext old p new =
 abbrev pub HasLeft : WaitsState → ℕ → WaitsState → Type 0
 HasLeft old p new =
     (a : LiveActor) × (slice_get old.live p ≡ Some a) × (new ≡ record old { live = swap_remove old.live p a })
+
+-- some actor of the list is this one
+abbrev pub Names : List LiveActor → Place → Type 0
+Names live a = (b : LiveActor) × Has live b × (b.place ≡ a)
+
+-- each actor of a group with this many nodes and jobs is in the list, and none has taken a step
+abbrev pub AreNewActors : ℕ → ℕ → List LiveActor → Type 0
+AreNewActors nodes jobs live =
+    (length live ≡ 2 * nodes + jobs) × OfEach (λ a. a.last ≡ 0) live
+    × ((a : Place) → IsActorOf nodes jobs a → Names live a)
 
 abbrev pub NoneWaitsTooLong : WaitsState → Type 0
 NoneWaitsTooLong w = NoneWaits (w.longest + w.most) w

@@ -1,6 +1,7 @@
 //! Everything in a group that takes steps, and how it takes them in the order of a schedule.
 ghost use Rattle.std.specs.Prelude.{IfOk};
 ghost use Rattle.cast_run.specs.Actors.{AreStill, CameBack, ComesFrom, HaveBegun, StaysFrom};
+ghost use Rattle.cast_run.specs.Fairly.{AreSameBut, ChangesOnly, RanFairly};
 
 use crate::actor::{Actor, Step};
 use crate::engine_actor::EngineActor;
@@ -26,7 +27,8 @@ impl<J: ClientJob + Drop, G: Gate + Drop> Actors<J, G> {
     // Runs one step of one actor. Returns whether it has another.
     fn step<R: Wait>(&mut self, rt: &R, board: &Board, place: Place) -> bool
         requires { ComesFrom (CameBack J.fact) self.old }
-        ensures { StaysFrom (CameBack J.fact) self.old self.new }
+        ensures same { StaysFrom (CameBack J.fact) self.old self.new }
+        ensures only { ChangesOnly place self.old self.new }
     {
         match place {
             Place::Engine(node) => step_at(rt, board, &mut self.engines, node),
@@ -38,7 +40,8 @@ impl<J: ClientJob + Drop, G: Gate + Drop> Actors<J, G> {
 
 fn step_at<A: Actor, R: Wait>(rt: &R, board: &Board, actors: &mut Vec<A>, place: usize) -> bool
     requires { ComesFrom (AreStill A.from) actors.old.items }
-    ensures { StaysFrom (AreStill A.from) actors.old.items actors.new.items }
+    ensures same { StaysFrom (AreStill A.from) actors.old.items actors.new.items }
+    ensures only { AreSameBut place actors.old.items actors.new.items }
 {
     if place >= actors.len() {
         return false;
@@ -51,7 +54,8 @@ fn step_at<A: Actor, R: Wait>(rt: &R, board: &Board, actors: &mut Vec<A>, place:
 }
 
 /// Runs the actors in this thread, one step at a time, until all have ended or as many steps were taken as they may. The
-/// schedule chooses who is next, unless an actor has waited too long.
+/// schedule chooses who is next, unless an actor has waited too long. So at each moment each actor has ended, or has waited
+/// for fewer steps than the longest wait and the number of actors make (`fair`).
 pub fn run_by<J: ClientJob + Drop, G: Gate + Drop, S: Schedule, R: Wait>(
     rt: &R,
     alloc: Global,
@@ -61,7 +65,8 @@ pub fn run_by<J: ClientJob + Drop, G: Gate + Drop, S: Schedule, R: Wait>(
     schedule: &mut S,
 ) -> Result<Actors<J, G>, AllocError>
     requires begun { HaveBegun J.fact actors.jobs.items }
-    ensures { IfOk result (CameBack J.fact actors) }
+    ensures back { IfOk result (CameBack J.fact actors) }
+    ensures fair { IfOk result (RanFairly steps.longest_wait actors) }
 {
     let mut waits = Waits::new(
         alloc,

@@ -1,6 +1,6 @@
 //! Who takes the next step of a run by a schedule: the one that the schedule chooses, unless an actor has waited too long.
-ghost use Rattle.std.specs.Prelude.{◌≡◌, ◌<◌, ◌+◌, ◌^◌, [], length, slice_get, Some, IfOk, IfNone, IfSome};
-ghost use Rattle.cast_run.specs.Waits.{OfEach, IsNext, IsOldest, StepsNext, HasLeft, NoneWaits, NoneWaitsTooLong, WaitsLongest};
+ghost use Rattle.std.specs.Prelude.{◌≡◌, ◌<◌, ◌+◌, ◌*◌, ◌^◌, [], length, slice_get, Some, IfOk, IfNone, IfSome};
+ghost use Rattle.cast_run.specs.Waits.{AreNewActors, IsNext, IsOldest, StepsNext, HasLeft, NoneWaits, NoneWaitsTooLong, WaitsLongest};
 
 use crate::schedule::Schedule;
 use std::alloc::{AllocError, Global};
@@ -56,7 +56,8 @@ impl Waits {
     /// An engine and a carrier of each node, and these jobs. None has taken a step. An actor that has waited for
     /// `longest` steps takes the next.
     pub fn new(alloc: Global, nodes: usize, jobs: usize, longest: u64) -> Result<Waits, AllocError>
-        ensures { IfOk result (λ w. (w.steps ≡ 0) × (w.longest ≡ longest)) }
+        ensures { IfOk result (λ w. (w.steps ≡ 0) × (w.longest ≡ longest)
+            × (w.most ≡ 2 * nodes + jobs) × AreNewActors nodes jobs w.live) }
     {
         let live = everyone(alloc, nodes, jobs)?;
         let most = live.len() as u64;
@@ -159,7 +160,7 @@ fn find_oldest(live: &[LiveActor]) -> usize
 }
 
 fn everyone(alloc: Global, nodes: usize, jobs: usize) -> Result<Vec<LiveActor>, AllocError>
-    ensures { IfOk result (λ all. OfEach (λ a. a.last ≡ 0) all.items) }
+    ensures { IfOk result (λ all. AreNewActors nodes jobs all.items) }
 {
     let mut all = Vec::new(alloc);
     for node in 0..nodes {
@@ -173,7 +174,7 @@ fn everyone(alloc: Global, nodes: usize, jobs: usize) -> Result<Vec<LiveActor>, 
 }
 
 fn new_actor(place: Place) -> LiveActor
-    ensures { result.last ≡ 0 }
+    ensures { result ≡ record { place = place; last = 0 } }
 {
     LiveActor { place, last: 0 }
 }
