@@ -33,9 +33,9 @@ pub use machine::Machine;
 // has the usual gates and limits; `run_live` and `run_scheduled` take them from you.
 pub use cast_desk::{Client, DeskFault, Notice};
 pub use cast_run::{
-    ClientJob, ClientReport, CountingGate, Gate, Limits, Listed, LiveFault, LiveRun, OpenGate,
-    Progress, Recorded, Schedule, Seeded, Submissions, SubmitAll, find_misfit, run_live,
-    run_scheduled,
+    ClientJob, ClientReport, CountingGate, Gate, LONGEST_WAIT, Limits, Listed, LiveFault, LiveRun,
+    OpenGate, Progress, Recorded, Schedule, Seeded, Steps, Submissions, SubmitAll, find_misfit,
+    run_live, run_scheduled,
 };
 pub use cast_script::{Fault, FaultPlan, Frames};
 pub use group::{USUAL_LIMITS, USUAL_STEPS, run_group, run_group_by_seed};

@@ -82,10 +82,14 @@ module _ {T : Type 0} where
       → (p.size ≡ taker.size) × (p.putters ≡ taker.putters) × (p.put ≡ []))
       × (taker.taken ≡ [])
 
-  -- at one moment of the call the box held `size` items, all from its putters; those of this putter were the last that
-  -- it had put
+  -- at one moment of the call the box held n items, all from its putters; those of this putter were the last that it had
+  -- put
+  abbrev pub HasHeld : ℕ → PutterEnd T → Type 0
+  HasHeld n p = Held n (HasOwn p.putters p.number p.put)
+
+  -- at one moment of the call each place of the box was taken
   abbrev pub WasFull : PutterEnd T → Type 0
-  WasFull p = Held p.size (HasOwn p.putters p.number p.put)
+  WasFull p = HasHeld p.size p
 
   -- if it is the only putter of its box, it has put at least as many items as the box has places
   abbrev pub FilledItAlone : PutterEnd T → Type 0

@@ -1,7 +1,7 @@
 //! The ends of a box: threads hold them, and they share a queue under the rule of `rule.rt`.
 ghost use Rattle.std.specs.Prelude.{◌≡◌, ◌++◌, ◌∷◌, [], ◌<◌, ◌≤◌, length, IsTrue, IfNone, OnErr, MatchResult};
 ghost use Rattle.cast_box.specs.Lists.{IsFair, HasTakenOfEnded};
-ghost use Rattle.cast_box.specs.Ends.{PutterEnd, TakerEnd, IsSamePutter, IsSameTaker, IsNextToEnd, HaveAllEnded, TakesItem, WasFull, FilledItAlone};
+ghost use Rattle.cast_box.specs.Ends.{PutterEnd, TakerEnd, IsSamePutter, IsSameTaker, IsNextToEnd, HaveAllEnded, TakesItem, HasHeld, WasFull, FilledItAlone};
 
 use crate::gathered::Gathered;
 use crate::rule::{BoxPass, BoxQueue, Close, EndPutter, Put, Take};
@@ -98,6 +98,16 @@ impl<T> Putter<T> {
             Ok(()) => Ok(()),
             Err((_, item)) => Err(Full { item }),
         }
+    }
+
+    /// How many items the box held at one moment of the call. Those of this putter were the last that it had put. The
+    /// call may spin while others put.
+    #[inline(always)]
+    pub fn len<R: Wait>(&mut self, rt: &R) -> u64
+        ensures same { self.new ≡ self.old }
+        ensures held { HasHeld result self.old }
+    {
+        self.queue.len_as::<Put, R>(rt, &mut self.pass) as u64
     }
 }
 

@@ -100,20 +100,20 @@ second : (twice : Bool) → (if twice then 1 else 0) + 1 ≡ copies twice
 second true = refl
 second false = refl
 
-most_one : (a b : List (PutterEnd Parcel)) (x : Parcel) → PutsOne a x b → PutsUpTo 1 a x b
-most_one a b x h =
+most_one : (room : ℕ) (a b : List (PutterEnd Parcel)) (x : Parcel) → PutsOne room a x b → PutsUpTo 1 a x b
+most_one room a b x h =
     ⊎_elim (λ t. subst (PutsUpTo 1 a x) (sym t.1) (put_none a x 1))
-    (λ t. subst (PutsUpTo 1 a x) (sym t.3) (put_once a x t.0 t.1 t.2 (⊎_elim (λ e. inl e) (λ e. inr e.0) t.5)))
+    (λ t. subst (PutsUpTo 1 a x) (sym t.3) (put_once a x t.0 t.1 t.2 (⊎_elim (λ e. inl e.0) (λ e. inr e.0) t.5)))
     h
 
-most_copy : (twice : Bool) (a b : List (PutterEnd Parcel)) (x : Parcel) → PutsCopy twice a x b → PutsUpTo (if twice then 1 else 0) a x b
-most_copy false a b x h = subst (PutsUpTo 0 a x) (sym h) (put_none a x 0)
-most_copy true a b x h = ⊎_elim (λ t. most_one a b x t) (λ t. subst (PutsUpTo 1 a x) (sym t.1) (put_none a x 1)) h
+most_copy : (room : ℕ) (twice : Bool) (a b : List (PutterEnd Parcel)) (x : Parcel) → PutsCopy room twice a x b → PutsUpTo (if twice then 1 else 0) a x b
+most_copy room false a b x h = subst (PutsUpTo 0 a x) (sym h) (put_none a x 0)
+most_copy room true a b x h = ⊎_elim (λ t. most_one room a b x t) (λ t. subst (PutsUpTo 1 a x) (sym t.1) (put_none a x 1)) h
 
-most_on : (twice : Bool) (a b : List (PutterEnd Parcel)) (x : Parcel) → HandsOn twice a x b → PutsUpTo (copies twice) a x b
-most_on twice a b x h test q old new at now =
-    let mid = (same_last twice a b x h).1 q new now in
-    omega (arith, most_copy twice a h.0 x h.1 test q old mid.0 at mid.1, most_one h.0 b x h.2 test q mid.0 new mid.1 now, split_for (is_for test q x) _ 1 _ (second twice))
+most_on : (room : ℕ) (twice : Bool) (a b : List (PutterEnd Parcel)) (x : Parcel) → HandsOn room twice a x b → PutsUpTo (copies twice) a x b
+most_on room twice a b x h test q old new at now =
+    let mid = (same_last room twice a b x h).1 q new now in
+    omega (arith, most_copy room twice a h.0 x h.1 test q old mid.0 at mid.1, most_one room h.0 b x h.2 test q mid.0 new mid.1 now, split_for (is_for test q x) _ 1 _ (second twice))
 
 -- ---- what is handed on, kept or lost
 
@@ -141,22 +141,22 @@ late zero h = refl
 late (suc n) h = absurd (false≢true (sym (ap not (lt-ltb 0 (suc n) (omega arith))) ∙ h))
 
 -- what is due is put in the place of being kept
-pub handed_no_more : (a b : List (PutterEnd Parcel)) (ds : List Delayed) → HandsOnAll a (filter is_due ds) b → IsNoMore a ds b (filter is_early ds)
+pub handed_no_more : (room : ℕ) (a b : List (PutterEnd Parcel)) (ds : List Delayed) → HandsOnAll room a (filter is_due ds) b → IsNoMore a ds b (filter is_early ds)
 unfolding HandsOnAll
-handed_no_more a b [] h =
+handed_no_more room a b [] h =
     λ test q more old new at now. let same = ap (λ (z : PutterEnd Parcel). count_by test z.put) (same_read a q old new at (ap (λ l. slice_get l q) (sym h) ∙ now)) in omega (arith, same)
-handed_no_more a b (d ∷ ds) h = by_test (is_early d) refl h (λ c on. handed_no_more c b ds on)
+handed_no_more room a b (d ∷ ds) h = by_test (is_early d) refl h (λ c on. handed_no_more room c b ds on)
   where
-    by_test : (t : Bool) → is_early d ≡ t → HandsOnAll a (if not t then d ∷ filter is_due ds else filter is_due ds) b
-        → ((c : List (PutterEnd Parcel)) → HandsOnAll c (filter is_due ds) b → IsNoMore c ds b (filter is_early ds)) → IsNoMore a (d ∷ ds) b (if t then d ∷ filter is_early ds else filter is_early ds)
+    by_test : (t : Bool) → is_early d ≡ t → HandsOnAll room a (if not t then d ∷ filter is_due ds else filter is_due ds) b
+        → ((c : List (PutterEnd Parcel)) → HandsOnAll room c (filter is_due ds) b → IsNoMore c ds b (filter is_early ds)) → IsNoMore a (d ∷ ds) b (if t then d ∷ filter is_early ds else filter is_early ds)
     by_test true is on rest test q more old new at now =
         let f : Delayed → ℕ = λ z. cond (is_for test q z.parcel && nat_le z.left more) (copies z.twice) 0 in
         omega (arith, rest a on test q more old new at now, sum_by-cons f d ds, sum_by-cons f d (filter is_early ds))
     by_test false is on rest test q more old new at now =
         let f : Delayed → ℕ = λ z. cond (is_for test q z.parcel && nat_le z.left more) (copies z.twice) 0 in
-        let mid = (same_all on.0 b (filter is_due ds) on.2).1 q new now in
+        let mid = (same_all room on.0 b (filter is_due ds) on.2).1 q new now in
         let own = counted_now (is_for test q d.parcel) d.left more (copies d.twice) (late d.left (ap not is)) in
-        omega (arith, most_on d.twice a on.0 d.parcel on.1 test q old mid.0 at mid.1, rest on.0 on.2 test q more mid.0 new mid.1 now, own, sum_by-cons f d ds)
+        omega (arith, most_on room d.twice a on.0 d.parcel on.1 test q old mid.0 at mid.1, rest on.0 on.2 test q more mid.0 new mid.1 now, own, sum_by-cons f d ds)
 
 allowed : (fate : Fate) (b : Bool) (more : ℕ) → fate.lost ≡ false → cond (b && nat_le fate.delay more) (copies fate.twice) 0 ≤ cond b (copies_after fate more) 0
 allowed fate false more spared = omega arith
@@ -187,24 +187,24 @@ or_parts : (x y : Bool) → x || y ≡ false → (x ≡ false) × (y ≡ false)
 or_parts true y h = absurd cc
 or_parts false y h = (refl, h)
 
-by_fate : (stays : Bool) (fate : Fate) (a mid b : List (PutterEnd Parcel)) (d e : List Delayed) (x : Parcel) (kept : Bool) → fate.lost || nat_lt 0 fate.delay ≡ stays
+by_fate : (room : ℕ) (stays : Bool) (fate : Fate) (a mid b : List (PutterEnd Parcel)) (d e : List Delayed) (x : Parcel) (kept : Bool) → fate.lost || nat_lt 0 fate.delay ≡ stays
     → IsNoMore a (map (counted_down x.frame.to) d) mid (waiting_on x.frame.to d) → (kept ≡ true → (fate.lost ≡ false) × (0 < fate.delay))
-    → e ≡ waiting_on x.frame.to d ++ cond kept (record { left = fate.delay; twice = fate.twice; parcel = x } ∷ []) [] → HandsOnUnless stays fate.twice mid x b → IsByFate fate a d x b e
-by_fate true fate a mid b d e x true stays no_more may is on =
+    → e ≡ waiting_on x.frame.to d ++ cond kept (record { left = fate.delay; twice = fate.twice; parcel = x } ∷ []) [] → HandsOnUnless room stays fate.twice mid x b → IsByFate fate a d x b e
+by_fate room true fate a mid b d e x true stays no_more may is on =
     let from : IsByFate fate a d x mid e = kept_so fate a mid d (waiting_on x.frame.to d) e x (may refl).0 no_more (true, is) in
     subst (λ l. IsByFate fate a d x l e) (sym on) from
-by_fate true fate a mid b d e x false stays no_more may is on =
+by_fate room true fate a mid b d e x false stays no_more may is on =
     let same : e ≡ waiting_on x.frame.to d = is ∙ append-nil (waiting_on x.frame.to d) in
     subst (λ l. IsByFate fate a d x l e) (sym on) (subst (IsByFate fate a d x mid) (sym same) (lost_so fate a mid d (waiting_on x.frame.to d) x no_more))
-by_fate false fate a mid b d e x kept stays no_more may is on =
+by_fate room false fate a mid b d e x kept stays no_more may is on =
     let goes = or_parts fate.lost (nat_lt 0 fate.delay) stays in
     let none : kept ≡ false = false_from_ne_true kept (λ yes. let some = (may yes).1 in let few = ltb-false 0 fate.delay goes.1 in omega (arith, some, few)) in
     let same : e ≡ waiting_on x.frame.to d = is ∙ (λ i. waiting_on x.frame.to d ++ cond (none i) (record { left = fate.delay; twice = fate.twice; parcel = x } ∷ []) []) ∙ append-nil (waiting_on x.frame.to d) in
-    subst (IsByFate fate a d x b) (sym same) (handed_so fate a mid b d (waiting_on x.frame.to d) x goes.0 (ltb-false 0 fate.delay goes.1) no_more (same_on fate.twice mid b x on) (most_on fate.twice mid b x on))
+    subst (IsByFate fate a d x b) (sym same) (handed_so fate a mid b d (waiting_on x.frame.to d) x goes.0 (ltb-false 0 fate.delay goes.1) no_more (same_on room fate.twice mid b x on) (most_on room fate.twice mid b x on))
 
-over_by_fate : (fate : Fate) (a b : List (PutterEnd Parcel)) (d e : List Delayed) (x : Parcel) → WaitsBy fate d x e → HandsOver fate a d x b → IsByFate fate a d x b e
-over_by_fate fate a b d e x waits hands =
-    by_fate (fate.lost || nat_lt 0 fate.delay) fate a hands.0 b d e x waits.0 refl (handed_no_more a hands.0 (map (counted_down x.frame.to) d) hands.1) waits.1 waits.2 hands.2
+over_by_fate : (room : ℕ) (fate : Fate) (a b : List (PutterEnd Parcel)) (d e : List Delayed) (x : Parcel) → WaitsBy fate d x e → HandsOver room fate a d x b → IsByFate fate a d x b e
+over_by_fate room fate a b d e x waits hands =
+    by_fate room (fate.lost || nat_lt 0 fate.delay) fate a hands.0 b d e x waits.0 refl (handed_no_more room a hands.0 (map (counted_down x.frame.to) d) hands.1) waits.1 waits.2 hands.2
 
 -- ---- a carrier
 
@@ -217,12 +217,12 @@ pub counted_back : (old new : List Ordinals) (frame : Frame) (len : ℕ) → len
 counted_back old new frame len long is =
     let same = ap length is ∙ counted_long old frame (slice_get old frame.to) in take_at new (drop (length new) old) len (same ∙ sym long) ∙ is
 
-pub planned_by : (faults : List Fault) (taken taken' : List (ℕ × Parcel)) (a b : List (PutterEnd Parcel)) (d e : List Delayed) (number : ℕ) (x : Parcel) (ordinals ordinals' : List Ordinals) (fate : Fate)
+pub planned_by : (room : ℕ) (faults : List Fault) (taken taken' : List (ℕ × Parcel)) (a b : List (PutterEnd Parcel)) (d e : List Delayed) (number : ℕ) (x : Parcel) (ordinals ordinals' : List Ordinals) (fate : Fate)
     → CarrierPlans faults ordinals taken a d → taken' ≡ taken ++ (number, x) ∷ [] → fate ≡ fate_in faults ordinals x.frame → ordinals' ≡ counted_in ordinals x.frame
-    → WaitsBy fate d x e → HandsOver fate a d x b → CarrierPlans faults ordinals' taken' b e
-planned_by faults taken taken' a b d e number x ordinals ordinals' fate k is by count waits hands =
-    let same = same_over fate a b d x hands in
-    let m = over_by_fate fate a b d e x waits hands in
+    → WaitsBy fate d x e → HandsOver room fate a d x b → CarrierPlans faults ordinals' taken' b e
+planned_by room faults taken taken' a b d e number x ordinals ordinals' fate k is by count waits hands =
+    let same = same_over room fate a b d x hands in
+    let m = over_by_fate room fate a b d e x waits hands in
     let add : List Ordinals → (ℕ × Parcel) → List Ordinals = λ s n. counted_in s n.1.frame in
     let more_so : ordinals' ≡ ordinals_after (length b) taken' =
     count ∙ ap (λ s. counted_in s x.frame) k.0 ∙ sym (fold-append add (replicate (length a) none_taken) taken ((number, x) ∷ [])) ∙ ap (λ n. ordinals_after n (taken ++ (number, x) ∷ [])) (sym same.0) ∙ ap (ordinals_after (length b)) (sym is) in (

@@ -50,14 +50,14 @@ waits_kept fate old x rest new false found delayed left is = waits_none fate old
 -- ---- what is handed on
 
 -- one more, behind the others
-pub hands_more : (a b c : List (PutterEnd Parcel)) (ds : List Delayed) (d : Delayed) → HandsOnAll a ds b → HandsOn d.twice b d.parcel c → HandsOnAll a (ds ++ d ∷ []) c
+pub hands_more : (room : ℕ) (a b c : List (PutterEnd Parcel)) (ds : List Delayed) (d : Delayed) → HandsOnAll room a ds b → HandsOn room d.twice b d.parcel c → HandsOnAll room a (ds ++ d ∷ []) c
 unfolding HandsOnAll
-hands_more a b c [] d h on = (c, subst (λ l. HandsOn d.twice l d.parcel c) h on, refl)
-hands_more a b c (x ∷ ds) d h on = (h.0, h.1, hands_more h.0 b c ds d h.2 on)
+hands_more room a b c [] d h on = (c, subst (λ l. HandsOn room d.twice l d.parcel c) h on, refl)
+hands_more room a b c (x ∷ ds) d h on = (h.0, h.1, hands_more room h.0 b c ds d h.2 on)
 
-pub hands_none : (a : List (PutterEnd Parcel)) → HandsOnAll a [] a
+pub hands_none : (room : ℕ) (a : List (PutterEnd Parcel)) → HandsOnAll room a [] a
 unfolding HandsOnAll
-hands_none a = refl
+hands_none room a = refl
 
 -- the next of those that are left passes the test, or does not
 module _ {A : Type 0} (test : A → Bool) where
@@ -84,31 +84,31 @@ module _ {A : Type 0} (test : A → Bool) where
   none_behind (suc n) (y ∷ ys) all = none_behind n ys (omega (arith, all))
 
 -- the first of those that are due were handed on; the others stand from here on
-abbrev pub HandedSo : List (PutterEnd Parcel) → List Delayed → ℕ → List (PutterEnd Parcel) → List Delayed → Type 0
-HandedSo a old n b delayed = (done : List Delayed) × HandsOnAll a done b × (done ++ filter is_due (drop n delayed) ≡ filter is_due old)
+abbrev pub HandedSo : (room : ℕ) → List (PutterEnd Parcel) → List Delayed → ℕ → List (PutterEnd Parcel) → List Delayed → Type 0
+HandedSo room a old n b delayed = (done : List Delayed) × HandsOnAll room a done b × (done ++ filter is_due (drop n delayed) ≡ filter is_due old)
 
-pub handed_first : (a : List (PutterEnd Parcel)) (old : List Delayed) → HandedSo a old 0 a old
-handed_first a old = ([], hands_none a, refl)
+pub handed_first : (room : ℕ) (a : List (PutterEnd Parcel)) (old : List Delayed) → HandedSo room a old 0 a old
+handed_first room a old = ([], hands_none room a, refl)
 
-pub handed_next : (a b c : List (PutterEnd Parcel)) (old delayed : List Delayed) (n : ℕ) (d : Delayed) → HandedSo a old n b delayed → slice_get delayed n ≡ Some d → is_early d ≡ false → HandsOn d.twice b d.parcel c
-    → HandedSo a old n c (take n delayed ++ drop (suc n) delayed)
-handed_next a b c old delayed n d so at late on = (
+pub handed_next : (room : ℕ) (a b c : List (PutterEnd Parcel)) (old delayed : List Delayed) (n : ℕ) (d : Delayed) → HandedSo room a old n b delayed → slice_get delayed n ≡ Some d → is_early d ≡ false → HandsOn room d.twice b d.parcel c
+    → HandedSo room a old n c (take n delayed ++ drop (suc n) delayed)
+handed_next room a b c old delayed n d so at late on = (
   so.0 ++ d ∷ [],
-  hands_more a b c so.0 d so.1 on,
+  hands_more room a b c so.0 d so.1 on,
   append_assoc so.0 (d ∷ []) _ ∙ ap (λ l. so.0 ++ d ∷ filter is_due l) (rest_behind is_due n delayed d at) ∙ ap (λ l. so.0 ++ l) (sym (next_passes is_due n delayed d at (ap not late))) ∙ so.2,
 )
 
-pub handed_past : (a b : List (PutterEnd Parcel)) (old delayed : List Delayed) (n : ℕ) (d : Delayed) → HandedSo a old n b delayed → slice_get delayed n ≡ Some d → is_early d ≡ true → HandedSo a old (suc n) b delayed
-handed_past a b old delayed n d so at early_now = (so.0, so.1, ap (λ l. so.0 ++ l) (next_fails is_due n delayed d at (ap not early_now)) ∙ so.2)
+pub handed_past : (room : ℕ) (a b : List (PutterEnd Parcel)) (old delayed : List Delayed) (n : ℕ) (d : Delayed) → HandedSo room a old n b delayed → slice_get delayed n ≡ Some d → is_early d ≡ true → HandedSo room a old (suc n) b delayed
+handed_past room a b old delayed n d so at early_now = (so.0, so.1, ap (λ l. so.0 ++ l) (next_fails is_due n delayed d at (ap not early_now)) ∙ so.2)
 
-pub handed_all : (a b : List (PutterEnd Parcel)) (old delayed : List Delayed) (n : ℕ) → HandedSo a old n b delayed → length delayed ≤ n → HandsOnAll a (filter is_due old) b
-handed_all a b old delayed n so all =
+pub handed_all : (room : ℕ) (a b : List (PutterEnd Parcel)) (old delayed : List Delayed) (n : ℕ) → HandedSo room a old n b delayed → length delayed ≤ n → HandsOnAll room a (filter is_due old) b
+handed_all room a b old delayed n so all =
     let done : so.0 ≡ filter is_due old = sym (append-nil so.0) ∙ ap (λ l. so.0 ++ filter is_due l) (sym (none_behind is_due n delayed all)) ∙ so.2 in
-    subst (λ l. HandsOnAll a l b) done so.1
+    subst (λ l. HandsOnAll room a l b) done so.1
 
 -- and then the parcel, by its fate
-pub hands_nothing : (fate : Fate) (a b : List (PutterEnd Parcel)) (delayed : List Delayed) (x : Parcel) → HandsOnAll a (due_by x.frame.to delayed) b → fate.lost || nat_lt 0 fate.delay ≡ true → HandsOver fate a delayed x b
-hands_nothing fate a b delayed x all stays = (b, all, subst (λ t. HandsOnUnless t fate.twice b x b) (sym stays) refl)
+pub hands_nothing : (room : ℕ) (fate : Fate) (a b : List (PutterEnd Parcel)) (delayed : List Delayed) (x : Parcel) → HandsOnAll room a (due_by x.frame.to delayed) b → fate.lost || nat_lt 0 fate.delay ≡ true → HandsOver room fate a delayed x b
+hands_nothing room fate a b delayed x all stays = (b, all, subst (λ t. HandsOnUnless room t fate.twice b x b) (sym stays) refl)
 
-pub hands_parcel : (fate : Fate) (a b c : List (PutterEnd Parcel)) (delayed : List Delayed) (x : Parcel) → HandsOnAll a (due_by x.frame.to delayed) b → fate.lost || nat_lt 0 fate.delay ≡ false → HandsOn fate.twice b x c → HandsOver fate a delayed x c
-hands_parcel fate a b c delayed x all goes on = (b, all, subst (λ t. HandsOnUnless t fate.twice b x c) (sym goes) on)
+pub hands_parcel : (room : ℕ) (fate : Fate) (a b c : List (PutterEnd Parcel)) (delayed : List Delayed) (x : Parcel) → HandsOnAll room a (due_by x.frame.to delayed) b → fate.lost || nat_lt 0 fate.delay ≡ false → HandsOn room fate.twice b x c → HandsOver room fate a delayed x c
+hands_parcel room fate a b c delayed x all goes on = (b, all, subst (λ t. HandsOnUnless room t fate.twice b x c) (sym goes) on)

@@ -1,17 +1,18 @@
 //! A carrier takes parcels from an outbox. It puts each into the inbox of its frame's target, once, twice or never, as
-//! the plan says.
-ghost use Rattle.std.specs.Prelude.{◌≡◌, [], IfOk, IsFalse, map};
+//! the plan says. Some places of an inbox are kept for acknowledgements.
+ghost use Rattle.std.specs.Prelude.{◌≡◌, [], IfOk, IsFalse, MatchBool, map};
 ghost use Rattle.std.specs.List.{filter};
 ghost use Rattle.cast_box.specs.Lists.{HasTakenOfEnded};
+ghost use Rattle.cast_box.specs.Ends.{IsSamePutter};
 ghost use Rattle.cast_carrier.specs.Copies.{IsByPlan};
-ghost use Rattle.cast_carrier.specs.Carriers.{IsSameCarrier, CarriesOne, AreUnused, Brings, IsKeptOrLost, WaitsBy, counted_down, is_early, is_due, waiting_on, due_by, PutsOne, PutsCopy, HandsOn, HandsOnAll, HandsOver};
+ghost use Rattle.cast_carrier.specs.Carriers.{IsSameCarrier, CarriesOne, AreUnused, Brings, IsKeptOrLost, WaitsBy, counted_down, is_early, is_due, waiting_on, due_by, HadRoom, HadNoRoom, PutsInto, PutsOne, PutsCopy, HandsOn, HandsOnAll, HandsOver};
 
 use crate::fate::{Fate, Ordinals, fate_of};
 use crate::faults::CarrierFaults;
 use crate::waiting::{Pause, SHORT_NAP};
 use cast_box::{Putter, Taker};
 use cast_journal::Parcel;
-use cast_message::{Fault, NodeId};
+use cast_message::{Fault, FrameKind, NodeId};
 use std::alloc::{AllocError, Global};
 use std::marker::Model;
 use std::sync::Wait;
@@ -38,6 +39,8 @@ pub struct Carrier {
     outbox: Taker<Parcel>,
     // By target.
     inboxes: Vec<Putter<Parcel>>,
+    // How many items an inbox may hold after a message was put.
+    room: u64,
     faults: CarrierFaults,
     // By target.
     ordinals: Vec<Ordinals>,
@@ -52,6 +55,7 @@ impl Model for Carrier {
     ghost view = { λ c. record {
       outbox = c.outbox;
       inboxes = c.inboxes.items;
+      room = c.room;
       faults = c.faults;
       delayed = c.delayed.items;
     } };
@@ -62,12 +66,14 @@ impl Model for Carrier {
 }
 
 impl Carrier {
-    /// A node's carrier with these unused ends, which acts on these faults of a plan.
+    /// A node's carrier with these unused ends, which acts on these faults of a plan. It puts a message into an inbox
+    /// only if that holds fewer than `room` items. All other places are kept for acknowledgements.
     pub fn new(
         alloc: Global,
         node: NodeId,
         outbox: Taker<Parcel>,
         inboxes: Vec<Putter<Parcel>>,
+        room: u64,
         faults: Vec<Fault>,
     ) -> Result<Carrier, AllocError>
         requires inboxes { AreUnused inboxes.items }
@@ -75,6 +81,7 @@ impl Carrier {
         ensures { IfOk result (λ c. c ≡ record {
           outbox = outbox;
           inboxes = inboxes.items;
+          room = room;
           faults = faults.items;
           delayed = [];
         }) }
@@ -85,6 +92,7 @@ impl Carrier {
             node,
             outbox,
             inboxes,
+            room,
             faults,
             ordinals,
             delayed: Vec::new(alloc),
@@ -97,10 +105,11 @@ impl Carrier {
     }
 
     /// Carries one parcel. First it hands on what this parcel makes due, in the order of arrival. Then it hands on the
-    /// parcel itself, unless its fate loses it or has it wait after the others. A parcel handed on is lost only if its
-    /// inbox is full or does not exist; a copy also if there is no memory for its bytes. One that is to wait is lost if
-    /// there is no memory to keep it. Returns whether there was a parcel. If there was none, nothing changed, and all
-    /// that an ended engine had put was taken.
+    /// parcel itself, unless its fate loses it or has it wait after the others. An acknowledgement that is handed on is
+    /// lost only if its inbox is full or does not exist. A message is also lost if its inbox has no room for it. A copy
+    /// is also lost if there is no memory for its bytes. One that is to wait is lost if there is no memory to keep it.
+    /// Returns whether there was a parcel. If there was none, nothing changed, and all that an ended engine had put was
+    /// taken.
     pub fn carry<R: Wait>(&mut self, rt: &R) -> bool
         ensures same { IsSameCarrier self.old self.new }
         ensures one { CarriesOne self.old self.new result }
@@ -110,7 +119,14 @@ impl Carrier {
         match self.outbox.take(rt) {
             Some(parcel) => {
                 let fate = fate_of(&self.faults, &mut self.ordinals, &parcel);
-                take_over(rt, &mut self.inboxes, &mut self.delayed, parcel, fate);
+                take_over(
+                    rt,
+                    &mut self.inboxes,
+                    self.room,
+                    &mut self.delayed,
+                    parcel,
+                    fate,
+                );
                 true
             }
             None => false,
@@ -137,14 +153,15 @@ impl Carrier {
 fn take_over<R: Wait>(
     rt: &R,
     inboxes: &mut Vec<Putter<Parcel>>,
+    room: u64,
     delayed: &mut Vec<Delayed>,
     parcel: Parcel,
     fate: Fate,
 )
     ensures waits { WaitsBy fate delayed.old.items parcel delayed.new.items }
-    ensures hands { HandsOver fate inboxes.old.items delayed.old.items parcel inboxes.new.items }
+    ensures hands { HandsOver room fate inboxes.old.items delayed.old.items parcel inboxes.new.items }
 {
-    pass_time(rt, inboxes, delayed, &parcel);
+    pass_time(rt, inboxes, room, delayed, &parcel);
     if fate.lost {
         drop(parcel);
         return;
@@ -153,22 +170,23 @@ fn take_over<R: Wait>(
         keep(delayed, parcel, fate);
         return;
     }
-    hand_on(rt, inboxes, parcel, fate.twice);
+    hand_on(rt, inboxes, room, parcel, fate.twice);
 }
 
 // Hands on what one more frame for the target makes due.
 fn pass_time<R: Wait>(
     rt: &R,
     inboxes: &mut Vec<Putter<Parcel>>,
+    room: u64,
     delayed: &mut Vec<Delayed>,
     parcel: &Parcel,
 )
     ensures waits { delayed.new.items ≡ waiting_on parcel.now.frame.to delayed.old.items }
-    ensures hands { HandsOnAll inboxes.old.items
+    ensures hands { HandsOnAll room inboxes.old.items
         (due_by parcel.now.frame.to delayed.old.items) inboxes.new.items }
 {
     count_down(delayed, parcel.frame.to);
-    release(rt, inboxes, delayed);
+    release(rt, inboxes, room, delayed);
 }
 
 // Counts one more frame taken for a target.
@@ -189,16 +207,21 @@ fn count_one(one: &mut Delayed, to: NodeId)
 }
 
 // Hands on what is due.
-fn release<R: Wait>(rt: &R, inboxes: &mut Vec<Putter<Parcel>>, delayed: &mut Vec<Delayed>)
+fn release<R: Wait>(
+    rt: &R,
+    inboxes: &mut Vec<Putter<Parcel>>,
+    room: u64,
+    delayed: &mut Vec<Delayed>,
+)
     ensures waits { delayed.new.items ≡ filter is_early delayed.old.items }
-    ensures hands { HandsOnAll inboxes.old.items (filter is_due delayed.old.items)
+    ensures hands { HandsOnAll room inboxes.old.items (filter is_due delayed.old.items)
         inboxes.new.items }
 {
     let mut place = 0;
     while place < delayed.len() {
         if delayed[place].left == 0 {
             let Delayed { parcel, twice, .. } = delayed.remove(place);
-            hand_on(rt, inboxes, parcel, twice);
+            hand_on(rt, inboxes, room, parcel, twice);
         } else {
             place += 1;
         }
@@ -219,33 +242,70 @@ fn keep(delayed: &mut Vec<Delayed>, parcel: Parcel, fate: Fate)
 
 // Hands on a parcel once or twice. A copy is lost if there is no memory for it.
 #[inline(always)]
-fn hand_on<R: Wait>(rt: &R, inboxes: &mut Vec<Putter<Parcel>>, parcel: Parcel, twice: bool)
-    ensures { HandsOn twice inboxes.old.items parcel inboxes.new.items }
+fn hand_on<R: Wait>(
+    rt: &R,
+    inboxes: &mut Vec<Putter<Parcel>>,
+    room: u64,
+    parcel: Parcel,
+    twice: bool,
+)
+    ensures { HandsOn room twice inboxes.old.items parcel inboxes.new.items }
 {
-    put_copy(rt, inboxes, &parcel, twice);
-    put(rt, inboxes, parcel);
+    put_copy(rt, inboxes, room, &parcel, twice);
+    put(rt, inboxes, room, parcel);
 }
 
 // Puts a copy if the parcel is handed on twice.
-fn put_copy<R: Wait>(rt: &R, inboxes: &mut Vec<Putter<Parcel>>, parcel: &Parcel, twice: bool)
-    ensures { PutsCopy twice inboxes.old.items parcel.now inboxes.new.items }
+fn put_copy<R: Wait>(
+    rt: &R,
+    inboxes: &mut Vec<Putter<Parcel>>,
+    room: u64,
+    parcel: &Parcel,
+    twice: bool,
+)
+    ensures { PutsCopy room twice inboxes.old.items parcel.now inboxes.new.items }
 {
     if !twice {
         return;
     }
     if let Ok(copy) = parcel.copy() {
-        put(rt, inboxes, copy);
+        put(rt, inboxes, room, copy);
     }
 }
 
-// Puts a parcel into the inbox of its target. It is lost if that is full.
+// Puts a parcel into the inbox of its target, if there is one.
 #[inline(always)]
-fn put<R: Wait>(rt: &R, inboxes: &mut Vec<Putter<Parcel>>, parcel: Parcel)
-    ensures { PutsOne inboxes.old.items parcel inboxes.new.items }
+fn put<R: Wait>(rt: &R, inboxes: &mut Vec<Putter<Parcel>>, room: u64, parcel: Parcel)
+    ensures { PutsOne room inboxes.old.items parcel inboxes.new.items }
 {
     let to = usize::from(parcel.frame.to.0);
     if to < inboxes.len() {
         let inbox = &mut inboxes[to];
-        let _ = inbox.put(rt, parcel);
+        put_into(rt, inbox, room, parcel);
+    }
+}
+
+// Puts a parcel into an inbox. It is lost if the inbox is full, and a message also if it finds no room.
+#[inline(always)]
+fn put_into<R: Wait>(rt: &R, inbox: &mut Putter<Parcel>, room: u64, parcel: Parcel)
+    ensures same { IsSamePutter inbox.old inbox.new }
+    ensures put { PutsInto room inbox.old parcel inbox.new }
+{
+    if finds_no_room(rt, inbox, room, parcel.frame.body.kind()) {
+        return;
+    }
+    let _ = inbox.put(rt, parcel);
+}
+
+// Whether a frame of this kind finds `room` items in the inbox and may not take a place that is kept for
+// acknowledgements.
+#[inline(always)]
+fn finds_no_room<R: Wait>(rt: &R, inbox: &mut Putter<Parcel>, room: u64, kind: FrameKind) -> bool
+    ensures same { inbox.new ≡ inbox.old }
+    ensures finds { MatchBool result (HadNoRoom room inbox.old kind) (HadRoom room inbox.old kind) }
+{
+    match kind {
+        FrameKind::Carry => inbox.len(rt) >= room,
+        FrameKind::Took => false,
     }
 }

@@ -46,13 +46,14 @@ engine_self e = record {
 }
 
 pub carrier_self : (c : CarrierState) → IsSameCarrier c c
-carrier_self c = (taker_same c.outbox, putters_same c.inboxes, refl)
+carrier_self c = (taker_same c.outbox, putters_same c.inboxes, refl, refl)
 
 pub carrier_again : (a b c : CarrierState) → IsSameCarrier a b → IsSameCarrier b c → IsSameCarrier a c
 carrier_again a b c f g = (
   taker_again a.outbox b.outbox c.outbox f.0 g.0,
   putters_again a.inboxes b.inboxes c.inboxes f.1 g.1,
   g.2 ∙ f.2,
+  g.3 ∙ f.3,
 )
 
 module _ {J : Type 0} (fact : J → J → List OrderIn → List Notice → Bool → Type 0) (old : Seat J) (going : old.done ≡ false) where

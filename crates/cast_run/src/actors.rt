@@ -1,12 +1,15 @@
 //! Everything in a group that takes steps, and how it takes them in the order of a schedule.
-ghost use Rattle.std.specs.Prelude.{◌<◌, IfOk, IfSome};
+ghost use Rattle.std.specs.Prelude.{IfOk};
 ghost use Rattle.cast_run.specs.Actors.{AreStill, CameBack, ComesFrom, HaveBegun, StaysFrom};
+ghost use Rattle.cast_run.specs.Fairly.{AreSameBut, ChangesOnly, RanFairly};
 
 use crate::actor::{Actor, Step};
 use crate::engine_actor::EngineActor;
 use crate::job::ClientJob;
 use crate::jobs::Seat;
+use crate::limits::Steps;
 use crate::schedule::Schedule;
+use crate::waits::{Place, Waits};
 use cast_carrier::{Board, Carrier};
 use cast_engine::Gate;
 use std::alloc::{AllocError, Global};
@@ -20,19 +23,12 @@ pub struct Actors<J, G> {
     pub jobs: Vec<Seat<J>>,
 }
 
-// An engine or carrier by its node, or a job by its place.
-#[derive(Clone, Copy)]
-enum Place {
-    Engine(usize),
-    Carrier(usize),
-    Job(usize),
-}
-
 impl<J: ClientJob + Drop, G: Gate + Drop> Actors<J, G> {
     // Runs one step of one actor. Returns whether it has another.
     fn step<R: Wait>(&mut self, rt: &R, board: &Board, place: Place) -> bool
         requires { ComesFrom (CameBack J.fact) self.old }
-        ensures { StaysFrom (CameBack J.fact) self.old self.new }
+        ensures same { StaysFrom (CameBack J.fact) self.old self.new }
+        ensures only { ChangesOnly place self.old self.new }
     {
         match place {
             Place::Engine(node) => step_at(rt, board, &mut self.engines, node),
@@ -44,7 +40,8 @@ impl<J: ClientJob + Drop, G: Gate + Drop> Actors<J, G> {
 
 fn step_at<A: Actor, R: Wait>(rt: &R, board: &Board, actors: &mut Vec<A>, place: usize) -> bool
     requires { ComesFrom (AreStill A.from) actors.old.items }
-    ensures { StaysFrom (AreStill A.from) actors.old.items actors.new.items }
+    ensures same { StaysFrom (AreStill A.from) actors.old.items actors.new.items }
+    ensures only { AreSameBut place actors.old.items actors.new.items }
 {
     if place >= actors.len() {
         return false;
@@ -56,48 +53,33 @@ fn step_at<A: Actor, R: Wait>(rt: &R, board: &Board, actors: &mut Vec<A>, place:
     }
 }
 
-fn everyone(alloc: Global, nodes: usize, jobs: usize) -> Result<Vec<Place>, AllocError> {
-    let mut all = Vec::new(alloc);
-    for node in 0..nodes {
-        all.push(Place::Engine(node))?;
-        all.push(Place::Carrier(node))?;
-    }
-    for place in 0..jobs {
-        all.push(Place::Job(place))?;
-    }
-    Ok(all)
-}
-
-// One of the places, unless there is none.
-fn choose<S: Schedule>(schedule: &mut S, places: usize) -> Option<usize>
-    ensures { IfSome result (λ place. place < places) }
-{
-    if places == 0 {
-        return None;
-    }
-    Some(schedule.next(places as u64) as usize)
-}
-
-/// Runs the actors in this thread, one step at a time in the order of the schedule, until all have ended or `steps`
-/// steps were taken.
+/// Runs the actors in this thread, one step at a time, until all have ended or as many steps were taken as they may. The
+/// schedule chooses who is next, unless an actor has waited too long. So at each moment each actor has ended, or has waited
+/// for fewer steps than the longest wait and the number of actors make (`fair`).
 pub fn run_by<J: ClientJob + Drop, G: Gate + Drop, S: Schedule, R: Wait>(
     rt: &R,
     alloc: Global,
     mut actors: Actors<J, G>,
     board: &Board,
-    steps: u64,
+    steps: Steps,
     schedule: &mut S,
 ) -> Result<Actors<J, G>, AllocError>
     requires begun { HaveBegun J.fact actors.jobs.items }
-    ensures { IfOk result (CameBack J.fact actors) }
+    ensures back { IfOk result (CameBack J.fact actors) }
+    ensures fair { IfOk result (RanFairly steps.longest_wait actors) }
 {
-    let mut live = everyone(alloc, actors.engines.len(), actors.jobs.len())?;
-    for _ in 0..steps {
-        let Some(place) = choose(schedule, live.len()) else {
+    let mut waits = Waits::new(
+        alloc,
+        actors.engines.len(),
+        actors.jobs.len(),
+        steps.longest_wait,
+    )?;
+    for _ in 0..steps.most {
+        let Some(place) = waits.next(schedule) else {
             break;
         };
-        if !actors.step(rt, board, live[place]) {
-            live.swap_remove(place);
+        if !actors.step(rt, board, waits.at(place)) {
+            waits.end(place);
         }
     }
     Ok(actors)

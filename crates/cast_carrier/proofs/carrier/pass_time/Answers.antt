@@ -7,4 +7,4 @@ pub returns-clause-waits : goal.returns-clause-waits
 returns-clause-waits g c = c.release.ensures.waits ∙ ap (filter is_early) c.count_down.ensures
 
 pub returns-clause-hands : goal.returns-clause-hands
-returns-clause-hands g c = subst (λ l. HandsOnAll c.args.inboxes.now.items (filter is_due l) c.release.new.inboxes.items) c.count_down.ensures c.release.ensures.hands
+returns-clause-hands g c = subst (λ l. HandsOnAll c.args.room c.args.inboxes.now.items (filter is_due l) c.release.new.inboxes.items) c.count_down.ensures c.release.ensures.hands

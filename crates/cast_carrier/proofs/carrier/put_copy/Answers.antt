@@ -6,4 +6,4 @@ pub returns-in-Ok : goal.returns-in-Ok
 returns-in-Ok g c =
     let a = c.args.inboxes.now.items in
     let b = c.put.new.inboxes.items in
-    subst (λ t. PutsCopy t a c.args.parcel.now b) (sym c.if-not-twice.false) (inl (subst (λ x. PutsOne a x b) c.in-Ok.ensures.ok c.put.ensures))
+    subst (λ t. PutsCopy c.args.room t a c.args.parcel.now b) (sym c.if-not-twice.false) (inl (subst (λ x. PutsOne c.args.room a x b) c.in-Ok.ensures.ok c.put.ensures))

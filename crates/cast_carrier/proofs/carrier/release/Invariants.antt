@@ -10,4 +10,4 @@ decreases-loop-place g l = length l.delayed.items - l.place
 abbrev pub invariant-loop-place : goal.invariant-loop-place
 invariant-loop-place g l =
     (sifted is_early l.place l.delayed.items ≡ filter is_early l.fn.delayed.items)
-    × HandedSo l.fn.inboxes.items l.fn.delayed.items l.place l.inboxes.items l.delayed.items
+    × HandedSo l.fn.room l.fn.inboxes.items l.fn.delayed.items l.place l.inboxes.items l.delayed.items

@@ -14,14 +14,14 @@ returns-clause-waits g c = waits_none c.args.fate c.args.delayed.now.items c.arg
 
 pub returns-then-fate-clause-hands : goal.returns-then-fate-clause-hands
 returns-then-fate-clause-hands g c =
-    hands_nothing c.args.fate c.args.inboxes.now.items c.pass_time.new.inboxes.items c.args.delayed.now.items c.args.parcel c.pass_time.ensures.hands (ap (λ b. b || nat_lt 0 c.args.fate.delay) c.if-fate.true)
+    hands_nothing c.args.room c.args.fate c.args.inboxes.now.items c.pass_time.new.inboxes.items c.args.delayed.now.items c.args.parcel c.pass_time.ensures.hands (ap (λ b. b || nat_lt 0 c.args.fate.delay) c.if-fate.true)
 
 pub returns-then-fate-gt0-clause-hands : goal.returns-then-fate-gt0-clause-hands
 returns-then-fate-gt0-clause-hands g c =
-    hands_nothing c.args.fate c.args.inboxes.now.items c.pass_time.new.inboxes.items c.args.delayed.now.items c.args.parcel c.pass_time.ensures.hands
+    hands_nothing c.args.room c.args.fate c.args.inboxes.now.items c.pass_time.new.inboxes.items c.args.delayed.now.items c.args.parcel c.pass_time.ensures.hands
     (ap (λ b. b || nat_lt 0 c.args.fate.delay) c.if-fate.false ∙ waits_longer c.args.fate.delay c.if-fate-gt0.true)
 
 pub returns-clause-hands : goal.returns-clause-hands
 returns-clause-hands g c =
-    hands_parcel c.args.fate c.args.inboxes.now.items c.pass_time.new.inboxes.items c.hand_on.new.inboxes.items c.args.delayed.now.items c.args.parcel c.pass_time.ensures.hands
+    hands_parcel c.args.room c.args.fate c.args.inboxes.now.items c.pass_time.new.inboxes.items c.hand_on.new.inboxes.items c.args.delayed.now.items c.args.parcel c.pass_time.ensures.hands
     (ap (λ b. b || nat_lt 0 c.args.fate.delay) c.if-fate.false ∙ goes_now c.args.fate.delay c.if-fate-gt0.false) c.hand_on.ensures

@@ -7,7 +7,7 @@ run_by-requires g c =
     record { begun = have_begun g.J.ClientJob.fact c.args.jobs.items made.made.actors.jobs.items made.ensures.ready.jobs_are made.ensures.ready.fresh c.requires.facts }
 
 pub finish-requires : goal.finish-requires
-finish-requires g c = (c.args.plan.now.faults, c.args.jobs.items, (c.in_ok-made.made.actors, c.in_ok-made.ensures.ready, c.in_ok-actors.ensures))
+finish-requires g c = (c.args.plan.now.faults, c.args.jobs.items, (c.in_ok-made.made.actors, c.in_ok-made.ensures.ready, c.in_ok-actors.ensures.back))
 
 pub returns-clause-ran : goal.returns-clause-ran
-returns-clause-ran g c = c.finish.ensures c.args.plan.now.faults c.args.jobs.items (c.in_ok-made.made.actors, c.in_ok-made.ensures.ready, c.in_ok-actors.ensures)
+returns-clause-ran g c = c.finish.ensures c.args.plan.now.faults c.args.jobs.items (c.in_ok-made.made.actors, c.in_ok-made.ensures.ready, c.in_ok-actors.ensures.back)

@@ -17,8 +17,8 @@ invariant_of-self g c =
     let fated = c.fate_of-fate in
     let by = fated.ensures.fate ∙ ap (λ s. fate_in i.faults s c.in-Some.parcel.frame) row in
     let count = counted_back i.ordinals.items fated.new.ordinals c.in-Some.parcel.frame i.ordinals.len i.ordinals.ok.0 (fated.ensures.counts ∙ ap (λ s. counted_in s c.in-Some.parcel.frame) row) in (
-      carried i.outbox.taken _ c.fate_of-fate.result i.inboxes.items c.take_over.new.inboxes.items i.delayed.items c.take_over.new.delayed.items took.0 c.in-Some.parcel keeps took.2 c.take_over.ensures.waits c.take_over.ensures.hands,
-      planned_by i.faults i.outbox.taken _ i.inboxes.items c.take_over.new.inboxes.items i.delayed.items c.take_over.new.delayed.items took.0 c.in-Some.parcel i.ordinals.items _ _ plans took.2
+      carried i.room i.outbox.taken _ c.fate_of-fate.result i.inboxes.items c.take_over.new.inboxes.items i.delayed.items c.take_over.new.delayed.items took.0 c.in-Some.parcel keeps took.2 c.take_over.ensures.waits c.take_over.ensures.hands,
+      planned_by i.room i.faults i.outbox.taken _ i.inboxes.items c.take_over.new.inboxes.items i.delayed.items c.take_over.new.delayed.items took.0 c.in-Some.parcel i.ordinals.items _ _ plans took.2
           by count c.take_over.ensures.waits c.take_over.ensures.hands,
     )
 
@@ -34,13 +34,13 @@ returns-in-Some-clause-one g c =
     let x = c.in-Some.parcel in
     let over = c.take_over in
     let fate_is = c.fate_of-fate.ensures.fate ∙ ap (λ s. fate_in i.faults s x.frame) (c.deref_mut.ensures.value ∙ c.self.invariant.1.0) in
-    let now : CarrierState = record { outbox = c.take.new.self; inboxes = over.new.inboxes.items; faults = i.faults; delayed = over.new.delayed.items } in
+    let now : CarrierState = record { outbox = c.take.new.self; inboxes = over.new.inboxes.items; room = i.room; faults = i.faults; delayed = over.new.delayed.items } in
     subst (λ s. CarriesOne s now true) c.self.view_is (
       (took.0, x),
       took.2,
       (
         subst (λ t. WaitsBy t i.delayed.items x over.new.delayed.items) fate_is over.ensures.waits,
-        subst (λ t. HandsOver t i.inboxes.items i.delayed.items x over.new.inboxes.items) fate_is over.ensures.hands,
+        subst (λ t. HandsOver i.room t i.inboxes.items i.delayed.items x over.new.inboxes.items) fate_is over.ensures.hands,
       ),
     )
 
@@ -49,12 +49,12 @@ returns-in-Some-clause-same g c =
     let is = c.self.view_is in
     let same = c.take.ensures.same in
     let i = c.self.inside in
-    let over = same_over c.fate_of-fate.result i.inboxes.items c.take_over.new.inboxes.items i.delayed.items c.in-Some.parcel c.take_over.ensures.hands in
-    ((same.0 ∙ ap (λ s. s.outbox.home) is, same.1 ∙ ap (λ s. s.outbox.size) is, same.2 ∙ ap (λ s. s.outbox.putters) is, same.3 ∙ ap (λ s. s.outbox.ended) is), subst (λ l. AreSamePutters l c.take_over.new.inboxes.items) (ap (λ s. s.inboxes) is) over, ap (λ s. s.faults) is)
+    let over = same_over i.room c.fate_of-fate.result i.inboxes.items c.take_over.new.inboxes.items i.delayed.items c.in-Some.parcel c.take_over.ensures.hands in
+    ((same.0 ∙ ap (λ s. s.outbox.home) is, same.1 ∙ ap (λ s. s.outbox.size) is, same.2 ∙ ap (λ s. s.outbox.putters) is, same.3 ∙ ap (λ s. s.outbox.ended) is), subst (λ l. AreSamePutters l c.take_over.new.inboxes.items) (ap (λ s. s.inboxes) is) over, ap (λ s. s.faults) is, ap (λ s. s.room) is)
 
 pub returns-in-None-clause-same : goal.returns-in-None-clause-same
 returns-in-None-clause-same g c =
     let is = c.self.view_is in
     let same = c.take.ensures.same in
     let all = c.self.inside.inboxes.items in
-    ((same.0 ∙ ap (λ s. s.outbox.home) is, same.1 ∙ ap (λ s. s.outbox.size) is, same.2 ∙ ap (λ s. s.outbox.putters) is, same.3 ∙ ap (λ s. s.outbox.ended) is), subst (λ l. AreSamePutters l all) (ap (λ s. s.inboxes) is) (putters_same all), ap (λ s. s.faults) is)
+    ((same.0 ∙ ap (λ s. s.outbox.home) is, same.1 ∙ ap (λ s. s.outbox.size) is, same.2 ∙ ap (λ s. s.outbox.putters) is, same.3 ∙ ap (λ s. s.outbox.ended) is), subst (λ l. AreSamePutters l all) (ap (λ s. s.inboxes) is) (putters_same all), ap (λ s. s.faults) is, ap (λ s. s.room) is)
