@@ -65,6 +65,7 @@ pub fn set_bit(words: &mut VecDeque<u64>, bit: u64)
     words[(bit / 64) as usize] |= 1 << (bit % 64);
 }
 
+#[inline(always)]
 pub fn drop_front(words: &mut VecDeque<u64>, count: u64)
     ensures words { words.new.items ≡ drop count words.old.items }
     ensures room { deque_capacity words.new ≡ deque_capacity words.old }

@@ -1,5 +1,5 @@
 //! The slots of a round, kept as runs: a node mostly owes a peer slots in succession, and there may be millions.
-ghost use Rattle.std.specs.Prelude.{◌≡◌, ◌+◌, ◌<◌, ◌≤◌, ◌^◌, ◌++◌, ◌∷◌, [], length, IsTrue, IfSome, IfNone, OnOk, OnErr};
+ghost use Rattle.std.specs.Prelude.{◌≡◌, ◌+◌, ◌<◌, ◌≤◌, ◌^◌, ◌++◌, ◌∷◌, [], length, drop, IsTrue, IfSome, IfNone, OnOk, OnErr};
 ghost use Rattle.cast_world.specs.DueRuns.{slots_of, rest_of, slots_from};
 
 use crate::due_run::Run;
@@ -83,6 +83,22 @@ impl DueSlots {
         Ok(())
     }
 
+    /// The first slots in succession that one node owes another, if there are any.
+    pub(crate) fn first_run(&self) -> Option<Run>
+        ensures some { IfSome result (λ run. self.now ≡ slots_of run ++ drop (run.more + 1) self.now) }
+        ensures none { IfNone result (self.now ≡ []) }
+    {
+        Some(*self.runs.get(self.place)?)
+    }
+
+    /// Takes off as many of the first slots.
+    pub(crate) fn skip(&mut self, count: u64)
+        ensures { self.new ≡ drop count self.old }
+    {
+        self.place = skip_slots(&mut self.runs, self.place, count);
+        self.len = self.len.saturating_sub(count);
+    }
+
     /// Takes the first slot, if there is one.
     pub fn pop_front(&mut self) -> Option<DueSlot>
         ensures some { IfSome result (λ due. self.old ≡ due ∷ self.new) }
@@ -137,6 +153,19 @@ impl Run {
         })
     }
 
+    // The slots after as many of the first, which are not all.
+    fn after(self, count: u64) -> Run
+        requires { count ≤ self.more }
+        ensures { slots_of result ≡ drop count (slots_of self) }
+    {
+        Run {
+            from: self.from,
+            to: self.to,
+            first: self.first + count,
+            more: self.more - count,
+        }
+    }
+
     // The run with this slot too, if the slot is the next.
     fn with(&self, due: &DueSlot) -> Option<Run>
         ensures { IfSome result (λ longer. slots_of longer ≡ slots_of self.now ++ due.now ∷ []) }
@@ -182,4 +211,21 @@ fn add_slot(runs: &mut Vec<Run>, place: usize, due: DueSlot) -> Result<(), Alloc
     }
     runs.push(Run::new(due))?;
     Ok(())
+}
+
+// Takes as many of the first slots off the runs from this place on. Returns the place from which on the others are.
+fn skip_slots(runs: &mut Vec<Run>, place: usize, count: u64) -> usize
+    requires { place ≤ length runs.old.items }
+    ensures place { result ≤ length runs.new.items }
+    ensures slots { slots_from result runs.new.items
+        ≡ drop count (slots_from place runs.old.items) }
+{
+    let Some(&run) = runs.get(place) else {
+        return place;
+    };
+    if count <= run.more {
+        runs[place] = run.after(count);
+        return place;
+    }
+    skip_slots(runs, place + 1, count - run.more - 1)
 }
