@@ -1,10 +1,10 @@
 -- A slot that is settled without news is sent, taken and acknowledged as the definitions of steps say.
-use Rattle.std.proofs.Common.{◌≡◌, ℕ, ◌+◌, ◌-◌, ◌<◌, suc, refl, sym, ◌∙◌, ap, subst, Bool, true, false, not, ◌&&◌, ◌||◌, cond, List, [], ◌∷◌, ◌++◌, length, replicate, Option, Some, None, Ok, arith, append-nil}
-use Rattle.std.specs.Prelude.{◌==◌, nat_lt, nat_le, is_some, unwrap_or, slice_set, slice_index_or}
+use Rattle.std.proofs.Common.{◌≡◌, ℕ, ◌+◌, ◌-◌, ◌<◌, suc, refl, sym, ◌∙◌, ap, true, false, not, ◌||◌, cond, List, [], ◌∷◌, ◌++◌, length, replicate, Option, Some, None, arith, append-nil}
+use Rattle.std.specs.Prelude.{◌==◌, nat_lt, nat_le, is_some, unwrap_or, slice_set}
 use Rattle.std.specs.Ordering.{nat_cmp}
 use Rattle.std.specs.FinSet as set
 use Rattle.std.specs.FinMap as finite
-use Rattle.std.proofs.lemmas.Bool.{not-false, and_parts, ltb-true, lt-leb, ne_eqb, eq-eqb, false≢true}
+use Rattle.std.proofs.lemmas.Bool.{and_parts, ltb-true, lt-leb, ne_eqb, eq-eqb, false≢true}
 use Rattle.std.proofs.lemmas.Bool.Decides.{nat_tests}
 use Rattle.std.proofs.lemmas.List.{get_or-set_same}
 use Rattle.std.specs.Cmp.{nat_cmp_total}
@@ -15,7 +15,7 @@ use Rattle.cast_message.specs.declared.message.Message.{Message}
 use Rattle.cast_message.specs.declared.message.Item.TheVariants.{Close}
 use Rattle.cast_message.specs.declared.message.Frame.{Frame}
 use Rattle.cast_message.specs.declared.event.StepFault.TheVariants.{Crashed}
-use Rattle.cast_message.specs.declared.event.Answer.TheVariants.{Sent as AnswerSent, Arrived as AnswerArrived}
+use Rattle.cast_message.specs.declared.event.Answer.TheVariants.{Arrived as AnswerArrived}
 use Rattle.cast_model.specs.OwnSteps.{nothing}
 use Rattle.cast_model.specs.Refusals.{Cause, first_fault}
 use Rattle.cast_model.specs.Steps.{Sent, Acknowledged, Arrived}
@@ -24,12 +24,11 @@ use Rattle.cast_model.proofs.Members.{here, there}
 use Rattle.cast_model.proofs.RoundFaults.{quiet}
 use Rattle.cast_link.specs.Links.{Link, with_acknowledged}
 use Rattle.cast_node.specs.Kept.{Kept, link_to, taken_from, knowers_of, holds}
-use Rattle.cast_node.specs.Turns.{Told, Gives, kept_fault, kept_causes, kept_after, message_owed, may_arrive, arrived, arrived_body, acknowledged, with_acked, with_taken, told_more, carried, taken_up}
-use Rattle.cast_node.specs.Calls.{is_peer, may_carry, carried_frame, took_frame, silent_reply}
+use Rattle.cast_node.specs.Turns.{Told, kept_fault, kept_causes, kept_after, message_owed, may_arrive, arrived, arrived_body, acknowledged, with_acked, with_taken, told_more, taken_up}
+use Rattle.cast_node.specs.Calls.{is_peer, may_carry, carried_frame, took_frame}
 use Rattle.cast_node.specs.Delivering.{Delivering, known_row, noted, told_in, outcome_in}
-use Rattle.cast_node.specs.Settling.{IsQuiet, MaySettle, SettlesGiven, SettlesTaken}
+use Rattle.cast_node.specs.Settling.{MaySettle, SettlesGiven}
 use Rattle.cast_node.proofs.DeliveryTables.{told_had}
-use Rattle.cast_node.proofs.Places.{at_set}
 
 -- a row that has the place
 pub known_here : (row : List (set.FinSet nat_cmp)) (i : ℕ) (members : set.FinSet nat_cmp) → i < length row → slice_set row i members ≡ known_row row i members

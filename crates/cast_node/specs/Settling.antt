@@ -3,7 +3,7 @@
 --     MaySettle kept to slot s i      the node can send the slot with this pair, which is quiet
 --     SettlesGiven kept to slot new   the node sends the slot, and takes its acknowledgement without news
 --     SettlesTaken kept from slot s i new   the node takes the slot with this pair without news, and acknowledges it
-use Rattle.std.specs.Prelude.{◌≡◌, ℕ, ◌+◌, ◌<◌, [], length, slice_index_or, None, Ok}
+use Rattle.std.specs.Prelude.{◌≡◌, ℕ, ◌<◌, [], length, slice_index_or, None, Ok}
 use Rattle.cast_message.specs.declared.event.Answer.TheVariants.{Sent as AnswerSent}
 use Rattle.cast_message.specs.declared.message.Item.{Item}
 use Rattle.cast_model.specs.Steps.{Sent, Acknowledged, Arrived}

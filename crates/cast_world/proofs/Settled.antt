@@ -1,10 +1,9 @@
 -- Slots that are settled without news are settled as the definitions say, event by event.
-use Rattle.std.proofs.Common.{◌≡◌, ◌≢◌, ◌⊎◌, ℕ, zero, suc, ◌+◌, ◌-◌, ◌<◌, ◌≤◌, refl, sym, ◌∙◌, ap, subst, true, false, cond, List, [], ◌∷◌, ◌++◌, length, map, take, drop, get_or, Some, None, inl, inr, arith, Ok, append-nil, append_assoc}
+use Rattle.std.proofs.Common.{◌≡◌, ◌≢◌, ℕ, zero, suc, ◌+◌, ◌-◌, ◌<◌, ◌≤◌, refl, sym, ◌∙◌, ap, subst, cond, List, [], ◌∷◌, ◌++◌, length, map, take, drop, get_or, Some, arith, Ok, append_assoc}
 use Rattle.std.specs.Prelude.{slice_get, slice_set, slice_index_or}
 use Rattle.std.specs.List.{range_with_len}
-use Rattle.std.proofs.lemmas.Bool.{ne_eqb, eq-eqb}
+use Rattle.std.proofs.lemmas.Bool.{ne_eqb}
 use Rattle.std.proofs.lemmas.List.{set-set, set_comm, set-append_left, set-append_right, take-append-drop, length-take-le, get_or-set_same, set-get_or, get_or-map, map-set, take-append-le, length-map}
-use Rattle.std.proofs.lemmas.List.FromFn.{take-map-range_with_len}
 use Rattle.cast_message.specs.declared.config.Config.{Config}
 use Rattle.cast_message.specs.declared.event.Event.TheVariants.{Send, Ack, Arrive}
 use Rattle.cast_message.specs.declared.event.Answer.TheVariants.{Sent as AnswerSent}
@@ -12,18 +11,18 @@ use Rattle.cast_message.specs.declared.message.Frame.{Frame}
 use Rattle.cast_message.specs.declared.message.FrameBody.TheVariants.{Carry, Took}
 use Rattle.cast_model.specs.History.{History}
 use Rattle.cast_model.specs.Rounds.{Due}
-use Rattle.cast_model.specs.Steps.{Step, Sent, Acknowledged, Arrived}
+use Rattle.cast_model.specs.Steps.{Sent, Acknowledged, Arrived}
 use Rattle.cast_node.specs.Kept.{Kept, nothing_kept}
 use Rattle.cast_node.specs.Turns.{Gives, kept_after, message_owed, carry_of, took_of}
-use Rattle.cast_node.specs.Calls.{carried_frame, took_frame, silent_reply, number_reply}
+use Rattle.cast_node.specs.Calls.{carried_frame, took_frame, silent_reply}
 use Rattle.cast_node.specs.Settling.{MaySettle, SettlesGiven, SettlesTaken}
 use Rattle.cast_node.proofs.Links.{range-more}
 use Rattle.cast_node.proofs.Parts.{slice_back}
 use Rattle.cast_node.proofs.Places.{at_set, length-slice_set}
 use Rattle.cast_world.specs.declared.frames.Mark.{Mark}
 use Rattle.cast_world.specs.Group.{State, Stands, StandingFor, node_at, marks_at, mark_of, item_in, frame_by}
-use Rattle.cast_world.specs.Moves.{StepsTo, TakesStep, ArrivesBy, IsSound}
-use Rattle.cast_world.specs.Plans.{due_of, events_from, events_of}
+use Rattle.cast_world.specs.Moves.{StepsTo, ArrivesBy, IsSound}
+use Rattle.cast_world.specs.Plans.{due_of, events_from}
 use Rattle.cast_world.specs.Rounds.{TakesSilently}
 use Rattle.cast_world.specs.Settled.{Ends, ends, ends_at, with_ends, SettlesSlot, SettlesSlots, SettlesBetween, SettlesSilently, SettlesFront}
 use Rattle.cast_world.proofs.Sounding.{stepped, sound_after, sound_made}

@@ -125,30 +125,6 @@ impl World {
         }
     }
 
-    /// Takes the events that settle a slot, whose two frames are to have these numbers, as `step_if_silent` takes each, and returns
-    /// how many it took. It may always stop early. The world is then as after the events that it took.
-    #[inline(always)]
-    pub fn settle_silently(&mut self, due: &DueSlot, carry: u64, took: u64) -> usize
-        ensures few { result ≤ 4 }
-        ensures takes { StandingFor self.old (λ config past.
-            TakesSilently config past (take result (events_of due.now carry took)) self.new) }
-    {
-        let DueSlot { from, to, slot } = *due;
-        if self.make(Carry, from, to, slot).is_err() {
-            return 0;
-        }
-        if self.arrive_silently(from, carry).is_none() {
-            return 1;
-        }
-        if self.make(Took, to, from, slot).is_err() {
-            return 2;
-        }
-        if self.arrive_silently(to, took).is_none() {
-            return 3;
-        }
-        4
-    }
-
     /// Settles the first of these slots, one after another, as long as each of their events (`DueSlot::events`) is accepted and
     /// nothing is delivered or decided by it, and takes them off. It may always stop early.
     pub fn settle_while_silent(&mut self, due: &mut DueSlots)

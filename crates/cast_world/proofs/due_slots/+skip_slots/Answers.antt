@@ -1,4 +1,4 @@
-use Rattle.std.proofs.Common.{◌≡◌, ◌<◌, ◌∙◌, sym, ap, subst, arith, get_or, length}
+use Rattle.std.proofs.Common.{◌≡◌, ◌<◌, ◌∙◌, sym, subst, arith, get_or, length}
 use Rattle.std.proofs.lemmas.Bool.{ltb-true}
 use Rattle.cast_world.proofs.DueRuns.{skip_within, skip_beyond}
 use Rattle.cast_world.proofs.due_slots.+skip_slots.Goals as goal

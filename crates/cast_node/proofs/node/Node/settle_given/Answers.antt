@@ -1,4 +1,4 @@
-use Rattle.std.proofs.Common.{◌∙◌, ◌+◌, arith, refl, sym, subst}
+use Rattle.std.proofs.Common.{◌∙◌, ◌+◌, arith, sym, subst}
 use Rattle.cast_message.specs.declared.message.Message.{Message}
 use Rattle.cast_message.specs.declared.message.Item.TheVariants.{Close}
 use Rattle.cast_node.specs.Outgoing.{links_of}

@@ -1,4 +1,4 @@
-use Rattle.std.proofs.Common.{◌≡◌, ◌<◌, ◌∙◌, ◌+◌, ◌++◌, sym, subst, drop, get_or, length}
+use Rattle.std.proofs.Common.{◌≡◌, ◌<◌, ◌+◌, ◌++◌, sym, subst, drop, get_or, length}
 use Rattle.std.proofs.lemmas.Bool.{ltb-true}
 use Rattle.cast_world.specs.DueRuns.{slots_of}
 use Rattle.cast_world.proofs.DueRuns.{first_split}

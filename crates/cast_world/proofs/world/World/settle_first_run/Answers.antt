@@ -1,6 +1,4 @@
-use Rattle.std.proofs.Common.{◌≤◌, ◌+◌, arith, subst, sym, map, drop}
-use Rattle.std.specs.List.{range_with_len}
-use Rattle.cast_world.specs.Plans.{due_of}
+use Rattle.std.proofs.Common.{◌≤◌, ◌+◌, arith, subst, sym, drop}
 use Rattle.cast_world.specs.DueRuns.{slots_of}
 use Rattle.cast_world.specs.Settled.{SettlesFront, SettlesSilently}
 use Rattle.cast_world.proofs.DueRuns.{length-slots_of, first_slots}

@@ -1,7 +1,6 @@
-use Rattle.std.proofs.Common.{◌≡◌, ◌<◌, ◌∙◌, ap, sym, subst, map, length}
+use Rattle.std.proofs.Common.{◌<◌, ◌∙◌, subst, map}
 use Rattle.std.specs.List.{range_with_len}
-use Rattle.cast_world.specs.Plans.{due_of}
-use Rattle.cast_world.specs.Settled.{SettlesSilently, SettlesBetween}
+use Rattle.cast_world.specs.Settled.{SettlesBetween}
 use Rattle.cast_world.specs.Group.{state_of}
 use Rattle.cast_world.proofs.Settled.{silently_none, run_sound, run_settled}
 use Rattle.cast_world.proofs.world.World.settle_run.Goals as goal
