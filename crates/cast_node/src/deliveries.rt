@@ -264,6 +264,7 @@ pub fn no_news(alloc: Global) -> Outcome
 }
 
 // Makes room for the place of a number.
+#[inline(always)]
 fn make_place(row: &mut Vec<GroupSet>, number: u64) -> Result<(), AllocError>
     requires { number < 4096 }
     ensures same { row.new.items ≡ row.old.items }

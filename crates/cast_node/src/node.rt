@@ -8,7 +8,7 @@ ghost use Rattle.cast_message.specs.declared.event.StepFault.TheVariants.{NoNode
 ghost use Rattle.cast_message.specs.declared.message.FrameBody.TheVariants.{Carry, Took};
 ghost use Rattle.cast_message.specs.declared.message.Item.{Item as Carried};
 ghost use Rattle.cast_agree.specs.Counted.{decision};
-ghost use Rattle.cast_link.specs.Links.{IsLeastFrom};
+ghost use Rattle.cast_link.specs.Links.{IsLeastFrom, IsOwedUntil};
 ghost use Rattle.cast_link.specs.Taken.{has_room};
 ghost use Rattle.cast_node.specs.Giving.{OwesNoneOf};
 ghost use Rattle.cast_node.specs.Outgoing.{links_of, HasRoomFor};
@@ -335,6 +335,14 @@ impl Node {
             return None;
         }
         self.outgoing.least_owed(to, from)
+    }
+
+    /// The slot up to which the node owes a peer, which is another node, all slots from `from` on.
+    pub fn owed_until(&self, to: NodeId, from: u64) -> u64
+        requires { is_peer self.now to ≡ true }
+        ensures { IsOwedUntil (link_to self.now to).owed from result }
+    {
+        self.outgoing.owed_until(to, from)
     }
 
     /// Whether the node owes one of these peers a slot. It looks at no link, and allocates nothing.
