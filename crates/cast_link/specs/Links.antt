@@ -4,6 +4,7 @@
 --     with_given link kept       one more slot is given
 --     with_acknowledged link slot      a slot is no longer owed
 --     IsLeastFrom owed from slot the least slot owed from `from` on
+--     IsOwedUntil owed from end  all slots from `from` up to the end are owed
 --     owed_map base places       the owed slots, if these are the places of the slots from base on
 --     link_of base places        the same as a link
 --     outward_of base places ..  the same with the room
@@ -39,6 +40,12 @@ module _ {X : Type 0} where
       ((other : ℕ) → from ≤ other → map.get owed other ≡ None)
       (λ slot. (from ≤ slot) × (map.contains_key owed slot ≡ true)
       × ((other : ℕ) → from ≤ other → other < slot → map.get owed other ≡ None))
+
+  -- all slots from `from` up to the end are owed; the end is `from` only if that one is not owed
+  pub record IsOwedUntil (owed : map.FinMap nat_cmp X) (from end : ℕ) : Type 0 where
+    pub order : from ≤ end
+    pub each : (slot : ℕ) → from ≤ slot → slot < end → map.contains_key owed slot ≡ true
+    pub more : map.contains_key owed from ≡ true → from < end
 
   -- the slots from base on that are still owed, with what they keep
   abbrev pub owed_from : ℕ → List (Option X) → List (ℕ × X)

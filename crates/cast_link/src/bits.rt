@@ -14,6 +14,7 @@ pub fn bit_of(base: u64, slot: u64) -> u64
     slot.saturating_sub(base / 64 * 64)
 }
 
+#[inline(always)]
 pub fn has_bit(words: &VecDeque<u64>, bit: u64) -> bool
     ensures { result ≡ is_set words.now.items bit }
 {
@@ -43,6 +44,7 @@ fn has_all_bits(word: u64) -> bool
 }
 
 /// Adds words with no bit set up to that of a bit.
+#[inline(always)]
 pub fn make_room(words: &mut VecDeque<u64>, bit: u64) -> Result<(), AllocError>
     ensures ok { OnOk result (bit / 64 < length words.new.items) }
     ensures more { length words.old.items ≤ length words.new.items }
@@ -65,6 +67,7 @@ pub fn set_bit(words: &mut VecDeque<u64>, bit: u64)
     words[(bit / 64) as usize] |= 1 << (bit % 64);
 }
 
+#[inline(always)]
 pub fn drop_front(words: &mut VecDeque<u64>, count: u64)
     ensures words { words.new.items ≡ drop count words.old.items }
     ensures room { deque_capacity words.new ≡ deque_capacity words.old }

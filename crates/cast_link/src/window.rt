@@ -57,6 +57,7 @@ pub fn advance(base: &mut u64, words: &mut VecDeque<u64>, far: &mut BTreeSet<u64
 }
 
 // The first slot from one on that has no bit and is not far, or the greatest slot there is.
+#[inline(always)]
 fn first_free(base: u64, words: &VecDeque<u64>, far: &BTreeSet<u64>, from: u64) -> u64
     ensures least { from ≤ result }
     ensures taken { (slot : ℕ) → from ≤ slot → slot < result →
@@ -73,6 +74,7 @@ fn first_free(base: u64, words: &VecDeque<u64>, far: &BTreeSet<u64>, from: u64) 
 }
 
 // Gives bits to the far slots within reach of a base.
+#[inline(always)]
 fn gather(base: u64, words: &mut VecDeque<u64>, far: &mut BTreeSet<u64>)
     requires short { length words.old.items ≤ 4097 }
     requires room { 0 < length far.old.keys → 4097 ≤ deque_capacity words.old }

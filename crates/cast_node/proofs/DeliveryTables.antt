@@ -4,7 +4,7 @@ use Rattle.std.specs.Ordering.{nat_cmp}
 use Rattle.std.specs.FinSet as set
 use Rattle.std.proofs.Common.{Bool, Vec, Global, refl, sym, ap, ◌∙◌, append-nil, arith}
 use Rattle.std.proofs.Math.ListN.{length-set}
-use Rattle.std.proofs.lemmas.List.{set-get_or, set-set, get_or-set_same, nil_from_length, length-map}
+use Rattle.std.proofs.lemmas.List.{set-get_or, set-set, get_or-set_same, nil_from_length, length-map, get_or-map}
 use Rattle.cast_message.specs.declared.config.Config.{Config}
 use Rattle.cast_message.specs.declared.message.Item.{Item}
 use Rattle.cast_message.specs.declared.message.Message.{Message}
@@ -130,6 +130,13 @@ module _ (rows : List Row) (hold_back : List HeldBack) (streams : List Stream) (
 
   in_streams : place < length streams
   in_streams = omega (arith, at, within, ap (λ (ds : Delivering). length ds.hold_back) is, sound.streams, length-map streams (λ (items : Stream). items.items))
+
+  -- the row at the place
+  pub row_is : (r : Row) → r ≡ slice_index_or rows place r → r.items ≡ slice_index_or now.knowers s []
+  row_is r e =
+      ap (λ (row : Row). row.items) e
+      ∙ sym (get_or-map (λ (row : Row). row.items) rows place r [] in_rows)
+      ∙ (λ k. slice_index_or (is k).knowers (at k) [])
 
   pub row_same : (r x : Row) → r ≡ slice_index_or rows place r → x.items ≡ r.items → (back : List HeldBack) → back ≡ hold_back → seen (slice_set rows place x) back streams agree ≡ now
   row_same r x e same back b = (λ k. record { knowers = same_rows (λ (row : Row). row.items) rows place r x e same k; hold_back = b k; delivered = streamed streams; agree = agree }) ∙ is

@@ -16,3 +16,4 @@ pub mod Made
 pub mod Logging
 pub mod Linking
 pub mod Telling
+pub mod Settling

@@ -3,7 +3,7 @@ use Rattle.std.specs.Prelude.{◌≡◌, ℕ, suc, ◌+◌, Bool, if◌then◌el
 use Rattle.std.specs.List.{All}
 use Rattle.std.proofs.Common.{sym, ap, subst, ◌∙◌, arith, drop, length-append, inl, inr}
 use Rattle.std.proofs.lemmas.List.{nil_from_length, get_or_past, length-map, map-set, get_or-map, get_or_append_left, get_or-set_other}
-use Rattle.cast_link.specs.Links.{Link, Outward, with_given, with_acknowledged, IsLeastFrom}
+use Rattle.cast_link.specs.Links.{Link, Outward, with_given, with_acknowledged, IsLeastFrom, IsOwedUntil}
 use Rattle.cast_relay.specs.Pairs.{goes_on}
 use Rattle.cast_node.proofs.Parts.{slice_back}
 use Rattle.cast_node.specs.Giving.{given_on, bare, HasRoom, link_in, OwesOnly, OwesNoneOf, AreOwed}
@@ -223,6 +223,13 @@ nothing_given_through (suc n) = λ i. record { given = 0; owed = through_empty [
 pub least_through : (messages : List Message) (owed : finite.FinMap nat_cmp ℕ) (from : ℕ) (result : Option ℕ) → IsLeastFrom owed from result → IsLeastFrom (owed_through messages owed) from result
 least_through messages owed from None h = λ other l. get_through messages owed other ∙ ap (option_map (kept_message messages)) (h other l)
 least_through messages owed from (Some slot) h = (h.0, contains_through messages owed slot ∙ h.1, λ other l m. get_through messages owed other ∙ ap (option_map (kept_message messages)) (h.2 other l m))
+
+pub until_through : (messages : List Message) (owed : finite.FinMap nat_cmp ℕ) (from end : ℕ) → IsOwedUntil owed from end → IsOwedUntil (owed_through messages owed) from end
+until_through messages owed from end h = record {
+  order = h.order;
+  each = λ slot l m. contains_through messages owed slot ∙ h.each slot l m;
+  more = λ held. h.more (sym (contains_through messages owed from) ∙ held);
+}
 
 -- a peer is owed a slot
 abbrev pub is_owed : {X : Type 0} → List (Link X) → ℕ → Bool

@@ -7,6 +7,7 @@ pub mod Stands
 pub mod Code
 pub mod Sound
 pub mod Calls
+pub mod Settling
 pub mod Promise
 pub mod Linked
 pub mod Linking

@@ -1,13 +1,14 @@
 //! Which nodes are known to hold each pair, what waits for its turn, and what was delivered and decided. A call first
 //! makes room, then allocates what no room can be made for. After that nothing is refused.
-ghost use Rattle.std.specs.Prelude.{◌≡◌, ◌≢◌, ◌+◌, ◌-◌, ◌<◌, ◌≤◌, ◌++◌, true, suc, [], length, map, vec_len, vec_capacity, slice_get, option_map, IsSome, IsTrue, IsFalse, IfOk, OnOk, OnErr};
+ghost use Rattle.std.specs.Prelude.{◌≡◌, ◌≢◌, ◌+◌, ◌-◌, ◌<◌, ◌≤◌, ◌++◌, true, suc, [], length, map, vec_len, vec_capacity, slice_get, slice_index_or, option_map, IsSome, IsTrue, IsFalse, IfOk, OnOk, OnErr};
 ghost use Rattle.std.specs.FinSet as set;
 ghost use Rattle.cast_model.specs.OwnSteps.{nothing};
 ghost use Rattle.cast_fifo.specs.HeldBack.{held_of, came, heard_items};
 ghost use Rattle.cast_fifo.specs.Calls.{Offer, held_after, answer};
 ghost use Rattle.cast_agree.specs.Journal.{counted_all};
 ghost use Rattle.cast_agree.specs.Counted.{decision};
-ghost use Rattle.cast_node.specs.Delivering.{knowers_in, is_enough, known_row, nothing_delivered, told_in, outcome_in, waiting_in, heard_news, heard_by, news_outcome, waits_by};
+ghost use Rattle.cast_node.specs.Delivering.{knowers_in, is_enough, known_row, noted, nothing_delivered, told_in, outcome_in, waiting_in, heard_news, heard_by, news_outcome, waits_by};
+ghost use Rattle.cast_node.specs.Settling.{IsQuiet};
 
 use cast_agree::Agree;
 use cast_fifo::HoldBack;
@@ -178,6 +179,30 @@ impl Deliveries {
         true
     }
 
+    /// Whether a pair had its turn, and there is a place for the nodes known to hold it. Then nothing is delivered because
+    /// one more node is known to hold it. The sender is a node. It allocates nothing.
+    #[inline(always)]
+    pub fn is_quiet(&self, sender: NodeId, number: u64) -> bool
+        requires { sender < length self.now.hold_back }
+        ensures { IsTrue result → IsQuiet self.now sender number }
+    {
+        self.hold_back.had_turn(sender, number)
+            && number < self.knowers[usize::from(sender.0)].len() as u64
+    }
+
+    /// Notes that one more node is known to hold a pair that had its turn. It allocates nothing.
+    #[inline(always)]
+    pub fn add_knower(&mut self, sender: NodeId, number: u64, node: NodeId)
+        requires sender { sender < length self.old.hold_back }
+        requires quiet { IsQuiet self.old sender number }
+        requires node { node < 64 }
+        ensures { self.new ≡ noted self.old sender number
+            (set.insert (knowers_in self.old.knowers sender number) node) }
+    {
+        let row = &mut self.knowers[usize::from(sender.0)];
+        note_one(row, number, node);
+    }
+
     /// Holds a message back, and notes that these nodes are known to hold it. Delivers it at once if it is its turn.
     pub fn take_up(
         &mut self,
@@ -239,6 +264,7 @@ pub fn no_news(alloc: Global) -> Outcome
 }
 
 // Makes room for the place of a number.
+#[inline(always)]
 fn make_place(row: &mut Vec<GroupSet>, number: u64) -> Result<(), AllocError>
     requires { number < 4096 }
     ensures same { row.new.items ≡ row.old.items }
@@ -259,6 +285,17 @@ fn note(row: &mut Vec<GroupSet>, number: u64, members: GroupSet)
         row.push_reserved(GroupSet::new());
     }
     row[place] = members;
+}
+
+// Notes that one more node is known to hold the pair with this number, which has a place.
+#[inline(always)]
+fn note_one(row: &mut Vec<GroupSet>, number: u64, node: NodeId)
+    requires place { number < length row.old.items }
+    requires node { node < 64 }
+    ensures { row.new.items ≡ known_row row.old.items number
+        (set.insert (slice_index_or row.old.items number set.empty) node) }
+{
+    row[number as usize].insert(node);
 }
 
 // Holds a message back, and marks it if enough nodes are known to hold it. That gives nothing its turn.

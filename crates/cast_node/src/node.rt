@@ -8,7 +8,7 @@ ghost use Rattle.cast_message.specs.declared.event.StepFault.TheVariants.{NoNode
 ghost use Rattle.cast_message.specs.declared.message.FrameBody.TheVariants.{Carry, Took};
 ghost use Rattle.cast_message.specs.declared.message.Item.{Item as Carried};
 ghost use Rattle.cast_agree.specs.Counted.{decision};
-ghost use Rattle.cast_link.specs.Links.{IsLeastFrom};
+ghost use Rattle.cast_link.specs.Links.{IsLeastFrom, IsOwedUntil};
 ghost use Rattle.cast_link.specs.Taken.{has_room};
 ghost use Rattle.cast_node.specs.Giving.{OwesNoneOf};
 ghost use Rattle.cast_node.specs.Outgoing.{links_of, HasRoomFor};
@@ -19,6 +19,7 @@ ghost use Rattle.cast_node.specs.Turns.{Gives, kept_fault, carry_of, took_of, me
 ghost use Rattle.cast_node.specs.Calls.{is_peer, may_carry, carry_slot, carried_frame, took_frame, ordered_reply, asked_reply, sent_reply, number_reply, numbered_reply, arrived_reply, silent_reply, crashed_reply};
 
 mod faults;
+mod settling;
 
 use crate::deliveries::{Deliveries, no_news};
 use crate::outgoing::Outgoing;
@@ -216,6 +217,7 @@ impl Node {
     /// message's item. Returns whether it did so without a delivery or decision. It may always return `false`: then
     /// nothing changed, and `arrive` takes the frame. It returns `true` if there is memory, and the pair had its turn
     /// or too few nodes are known to hold it.
+    #[inline(always)]
     #[tactic(auto, using(std::proofs::lemmas::Bool::Decides::nat_tests), unfolding(cast_model::specs::Refusals::first_fault, crate::specs::Turns::kept_fault))]
     pub fn arrive_again_silently(
         &mut self,
@@ -335,6 +337,14 @@ impl Node {
         self.outgoing.least_owed(to, from)
     }
 
+    /// The slot up to which the node owes a peer, which is another node, all slots from `from` on.
+    pub fn owed_until(&self, to: NodeId, from: u64) -> u64
+        requires { is_peer self.now to ≡ true }
+        ensures { IsOwedUntil (link_to self.now to).owed from result }
+    {
+        self.outgoing.owed_until(to, from)
+    }
+
     /// Whether the node owes one of these peers a slot. It looks at no link, and allocates nothing.
     pub fn owes_one_of(&self, peers: &GroupSet) -> bool
         ensures { IsFalse result ↔ OwesNoneOf self.now.outgoing peers.now }
@@ -435,6 +445,7 @@ impl Node {
     }
 
     // The same as `take_again`, if it delivers nothing.
+    #[inline(always)]
     fn take_again_silently(&mut self, from: NodeId, slot: u64, sender: NodeId, number: u64) -> bool
         requires from { from < self.old.config.nodes }
         requires fits { may_carry self.old slot sender number ≡ true }

@@ -3,7 +3,7 @@
 ghost use Rattle.std.specs.Prelude.{◌≡◌, ◌<◌, ◌≤◌, ◌↔◌, IsFalse, length, replicate, slice_set, IfOk, OnOk, OnErr};
 ghost use Rattle.std.specs.FinMap as finite;
 ghost use Rattle.std.specs.Option.{option_copied};
-ghost use Rattle.cast_link.specs.Links.{with_acknowledged, IsLeastFrom};
+ghost use Rattle.cast_link.specs.Links.{with_acknowledged, IsLeastFrom, IsOwedUntil};
 ghost use Rattle.cast_node.specs.Turns.{given_from};
 ghost use Rattle.cast_node.specs.Giving.{link_in, OwesNoneOf};
 ghost use Rattle.cast_node.specs.Outgoing.{links_of, HasRoomFor};
@@ -134,6 +134,14 @@ impl Outgoing {
         ensures { IsLeastFrom (link_in (links_of self.now) to).owed from result }
     {
         self.links[usize::from(to.0)].least_owed(from)
+    }
+
+    /// The slot up to which a peer is owed all slots from `from` on.
+    pub fn owed_until(&self, to: NodeId, from: u64) -> u64
+        requires { to < length (links_of self.now) }
+        ensures { IsOwedUntil (link_in (links_of self.now) to).owed from result }
+    {
+        self.links[usize::from(to.0)].owed_until(from)
     }
 
     /// Whether one of these peers is owed a slot.

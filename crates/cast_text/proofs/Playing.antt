@@ -18,10 +18,11 @@ use Rattle.cast_world.specs.Group.{State, Stands, Continues}
 use Rattle.cast_world.specs.Moves.{IsSilent}
 use Rattle.cast_world.specs.Plans.{events_from}
 use Rattle.cast_world.specs.Rounds.{TakesSilently}
+use Rattle.cast_world.specs.Settled.{SettlesSilently}
 use Rattle.cast_world.proofs.Running.{settled as settled_step}
 use Rattle.cast_world.proofs.Stepping.{made_count}
 use Rattle.cast_text.specs.declared.fault.TextFault.{TextFault}
-use Rattle.cast_text.specs.Played.{Played, Taken, SettleBegun, SettleEnded, Left, tried, one_left, round_left, joined, settled, left_by, played_from, Seeing, Observes, Overlooks, Plays, PlaysAll, ShowsReply}
+use Rattle.cast_text.specs.Played.{Played, Taken, SettleBegun, SettleEnded, Left, tried, one_left, round_left, joined, settled, left_by, played_from, Seeing, Observes, Overlooks, Skips, Plays, PlaysAll, ShowsReply}
 
 -- ---- whether an event is refused
 
@@ -238,20 +239,6 @@ module _ {O : Type 0} {saw : Seeing O} {ready : O → Type 0} (laws : Observes s
           subst (saw o o (Ok tt)) (sym (ap (λ left. left.took) on)) (laws.more o o o (Ok tt) (one ∷ []) (tried config index (event ∷ now) events).took (one_overlooked now event (reply config now event) refl took.0) rest.2),
         )
 
-    -- others were played after them
-    pub silent_then : (now : History) (front rest events : List Event) (mid world : State) (new : O) (result : Result Bool TextFault) → front ++ rest ≡ events → TakesSilently config now front mid →
-        ((h : History) → Stands config h mid → Plays saw config (tried config index h rest) world o new result) → Plays saw config (tried config index now events) world o new result
-    silent_then now front rest events mid world new result whole took then =
-        let first = silent_seen now front mid took in
-        let left = tried config index now front in
-        let is = tried_append config index now front rest (went_on left.stopped true refl first.0) in
-        subst (λ l. Plays saw config l world o new result) (sym is ∙ ap (tried config index now) whole) (joined_plays result (then left.past first.1))
-      where
-        joined_plays : (result : Result Bool TextFault) → Plays saw config (tried config index (tried config index now front).past rest) world o new result →
-            Plays saw config (joined (tried config index now front) (tried config index (tried config index now front).past rest)) world o new result
-        joined_plays (Ok all) plays = (plays.0, plays.1, laws.more o o new (Ok tt) (tried config index now front).took _ (silent_seen now front mid took).2 plays.2)
-        joined_plays (Err why) plays = laws.more o o new (Err why) (tried config index now front).took _ (silent_seen now front mid took).2 plays
-
   -- ---- slot by slot
 
   -- the slots before were settled, and none of their events was refused
@@ -339,6 +326,23 @@ module _ {O : Type 0} {saw : Seeing O} {ready : O → Type 0} (laws : Observes s
             let t = round.trying in
             let is = t.same ∙ ap (later t.seen) (ap (tried config index t.now) (plan_next config index past before ds d) ∙ tried_stops config index t.now these others ended) in
             subst (saw old new (Err why)) (sym (ap (λ left. left.took) is)) failed
+
+  -- the first of them were settled by events that the observer overlooks
+  module _ (past : History) (old o : O) (here : ready o) where
+    round_after : Overlooks saw ready o → (front rest : List Due) (world new : State) → IsRoundLeft past (front ++ rest) world old o → SettlesSilently world front new → IsRoundLeft past rest new old o
+    unfolding SettlesSilently
+    round_after overlooks [] rest world new left same = subst (λ w. IsRoundLeft past rest w old o) (sym same) left
+    round_after overlooks (d ∷ front) rest world new left settles =
+        let t = left.round.trying in
+        let seen = silent_seen o here overlooks t.now (events_from world d) settles.0 (settles.1 config t.now t.stands) in
+        let plays = plays_these t.now (events_from world d) (events_for past left.before d) settles.0 o o (Ok true) (slot_events config index past t.now left.before (front ++ rest) d world t.stands left.round.going) seen in
+        round_after overlooks front rest settles.0 new (round_more past left.before (front ++ rest) d world settles.0 old o o left.round true refl plays) settles.2
+
+    pub round_skips : (ds rest : List Due) (world new : State) → IsRoundLeft past ds world old o → Skips saw ready o world ds rest new → IsRoundLeft past rest new old o
+    round_skips ds rest world new left skips = elim skips [
+      | inl same ↦ subst (λ w. IsRoundLeft past rest w old o) (sym same.1) (subst (λ all. IsRoundLeft past all world old o) same.0 left)
+      | inr settled ↦ round_after settled.0 settled.1.front rest world new (subst (λ all. IsRoundLeft past all world old o) settled.1.split left) settled.1.settles
+    ]
 
   -- no slot is left
   pub round_done : (past : History) (ds : List Due) (world : State) (old new : O) → ds ≡ [] → IsRoundLeft past ds world old new → Plays saw config (round_left config index past) world old new (Ok true)

@@ -9,7 +9,7 @@ use Rattle.cast_message.specs.declared.event.Answer.{Answer}
 use Rattle.cast_message.specs.declared.event.StepFault.{StepFault}
 use Rattle.cast_model.specs.History.{History}
 use Rattle.cast_model.specs.Replies.{is_want_of_memory, fault, reply, after}
-use Rattle.cast_model.specs.Rounds.{plan}
+use Rattle.cast_model.specs.Rounds.{Due, plan}
 use Rattle.cast_script.specs.declared.script.Script.{Script}
 use Rattle.cast_script.specs.declared.script.ScriptEvent.{ScriptEvent}
 use Rattle.cast_script.specs.declared.script.ScriptEvent.TheVariants.{Core, Settle}
@@ -17,6 +17,7 @@ use Rattle.cast_text.specs.declared.fault.TextFault.{TextFault}
 use Rattle.cast_text.specs.declared.fault.TextFault.TheVariants.{Memory}
 use Rattle.cast_world.specs.Group.{State, Stands}
 use Rattle.cast_world.specs.Moves.{IsSilent}
+use Rattle.cast_world.specs.Settled.{SettlesFront}
 
 -- an event with its place in the script and the reply to it, or where a settle begins and ends
 pub data Played : Type 0 where
@@ -102,6 +103,11 @@ abbrev pub Overlooks : {O : Type 0} → Seeing O → (O → Type 0) → O → Ty
 Overlooks saw ready o =
     (index : ℕ) (event : Event) (answer : Answer) → ready o → IsSilent (Ok answer)
     → saw o o (Ok tt) (Taken index event (Ok answer) ∷ [])
+
+-- nothing was done; or an observer overlooks such events, and by them the first of some due slots were settled
+abbrev pub Skips : {O : Type 0} → Seeing O → (O → Type 0) → O → State → List Due → List Due → State → Type 0
+Skips saw ready o world old new after =
+    ((old ≡ new) × (after ≡ world)) ⊎ (Overlooks saw ready o × SettlesFront world old new after)
 
 -- Some events were taken, up to the first that is refused, and an observer saw them. It is known whether all were
 -- accepted, and their result.

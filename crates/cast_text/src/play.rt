@@ -1,14 +1,14 @@
 //! Plays a script: takes its events one by one, and two rounds for a settle, and shows each event to an observer.
-ghost use Rattle.std.specs.Prelude.{List, [], ◌∷◌, Result, Ok, OnOk, IsTrue};
+ghost use Rattle.std.specs.Prelude.{◌<◌, length, List, [], ◌∷◌, Result, Ok, OnOk, IfSome, IfNone, IsSome, IsTrue};
 ghost use Rattle.cast_world.specs.Group.{Stands, StandingFor};
 ghost use Rattle.cast_world.specs.Plans.{events_from};
 ghost use Rattle.cast_text.specs.declared.fault.TextFault.{TextFault as AnyFault};
-ghost use Rattle.cast_text.specs.Played.{Played, Taken, SettleBegun, SettleEnded, tried, one_left, round_left, settled, left_by, played, Observes, Overlooks, Plays, PlaysAll, ShowsReply};
+ghost use Rattle.cast_text.specs.Played.{Played, Taken, SettleBegun, SettleEnded, tried, one_left, round_left, settled, left_by, played, Observes, Overlooks, Skips, Plays, PlaysAll, ShowsReply};
 
 use crate::fault::TextFault;
 use cast_message::{Event, Reply};
 use cast_script::{Script, ScriptEvent};
-use cast_world::{DueSlot, World, is_want_of_memory};
+use cast_world::{DueSlot, DueSlots, World, is_want_of_memory};
 
 /// Sees what is taken as a script is played. `saw` describes calls that led from one of its states to another: what
 /// they showed, in order, and whether one failed. By the laws of `Observes`, what is shown is appended to what was
@@ -118,12 +118,27 @@ fn play_round<O: Observer>(
         (round_left config index past) world.new observer.old observer.new result) }
 {
     let mut due = world.due()?;
-    'slots: while let Some(slot) = due.pop_front() {
+    'slots: while let Some(slot) = next_slot(world, &mut due, observer) {
         if !play_slot(world, index, &slot, observer)? {
             return Ok(false);
         }
     }
     Ok(true)
+}
+
+// Takes off the next slot, if there is one. If the observer overlooks silent events, the slots before it were settled by such.
+fn next_slot<O: Observer>(world: &mut World, due: &mut DueSlots, observer: &O) -> Option<DueSlot>
+    ensures some { IfSome result (λ slot. Skips O.saw O.ready observer.now
+        world.old due.old (slot ∷ due.new) world.new) }
+    ensures none { IfNone result (Skips O.saw O.ready observer.now world.old due.old [] world.new) }
+    ensures fewer { IsSome result → length due.new < length due.old }
+{
+    if !observer.overlooks_silence() {
+        return due.pop_front();
+    }
+    // (most slots yield no news)
+    world.settle_while_silent(due);
+    due.pop_front()
 }
 
 // Plays the four events that settle a slot, up to the first that is refused. Returns whether none was refused.
@@ -141,17 +156,8 @@ fn play_slot<O: Observer>(
 {
     let carry = world.frame_count(slot.from);
     let took = world.frame_count(slot.to);
-    let mut taken = 0;
-    if observer.overlooks_silence() {
-        // (most slots yield no news)
-        taken = world.settle_silently(slot, carry, took);
-        if taken == 4 {
-            return Ok(true);
-        }
-    }
     let events = slot.events(carry, took);
-    let events = &events[..];
-    play_events(world, index, &events[taken..], observer)
+    play_events(world, index, &events, observer)
 }
 
 // Plays these events up to the first that is refused. Returns whether none was refused.

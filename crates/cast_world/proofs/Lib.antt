@@ -13,4 +13,5 @@ pub mod Numbering
 mod Marks
 pub mod Steps
 mod Faults
+pub mod Settled
 mod Offering

@@ -22,8 +22,9 @@ use Rattle.cast_model.proofs.OwnTurns.{length-map}
 use Rattle.cast_model.proofs.OwnReplies.{own_owed-steps_of}
 use Rattle.cast_model.proofs.Possible.{held_bounded}
 use Rattle.cast_node.specs.Kept.{link_to}
+use Rattle.cast_node.proofs.Links.{range-more}
 use Rattle.cast_node.specs.Stands.{StandsOut}
-use Rattle.cast_link.specs.Links.{Link}
+use Rattle.cast_link.specs.Links.{Link, IsOwedUntil}
 use Rattle.cast_world.proofs.Planning.{filter_more}
 use Rattle.cast_world.specs.Group.{State, node_at, Stands}
 use Rattle.cast_world.specs.Plans.{due_of, owed_below, owed_slots, live_at, due_between_at, due_at, IsBounded}
@@ -41,19 +42,29 @@ filter_same p n m l none =
     ap (λ k. filter p (range_with_len 0 k)) (let z : m ≡ n + (m - n) = omega (arith, l) in z)
     ∙ filter_gap p n (m - n) (λ i a b. none i a (omega (arith, b, l)))
 
+-- all of these hold
+filter_run : (p : ℕ → Bool) (first n : ℕ) → ((k : ℕ) → first ≤ k → k < first + n → p k ≡ true) → filter p (range_with_len 0 (first + n)) ≡ filter p (range_with_len 0 first) ++ range_with_len first n
+filter_run p first zero all = ap (λ m. filter p (range_with_len 0 m)) (let e : first + 0 ≡ first = omega arith in e) ∙ sym (append-nil (filter p (range_with_len 0 first)))
+filter_run p first (suc n) all =
+    ap (λ m. filter p (range_with_len 0 m)) (let e : first + suc n ≡ (first + n) + 1 = omega arith in e)
+    ∙ filter_more p (first + n) true (all (first + n) (omega arith) (omega arith))
+    ∙ ap (λ xs. xs ++ (first + n) ∷ []) (filter_run p first n (λ k a b. all k a (omega (arith, b))))
+    ∙ append_assoc (filter p (range_with_len 0 first)) (range_with_len first n) ((first + n) ∷ [])
+    ∙ ap (λ xs. filter p (range_with_len 0 first) ++ xs) (sym (range-more n first) ∙ ap (range_with_len first) (let e : n + 1 ≡ suc n = omega arith in e))
+
 module _ (link : Link Message) (f : ℕ → Due) where
-  -- the next slot owed
-  pub owed_next : (before after old : List Due) (from slot next : ℕ) → next ≡ slot + 1 → from ≤ slot → finite.contains_key link.owed slot ≡ true → ((other : ℕ) → from ≤ other → other < slot → finite.get link.owed other ≡ None) →
-      before ≡ old ++ map f (owed_below from link) → after ≡ before ++ f slot ∷ [] → after ≡ old ++ map f (owed_below next link)
-  owed_next before after old from slot next is l waits none so_far one =
+  -- the next slots owed, in succession
+  pub owed_next : (before after old : List Due) (from first end : ℕ) → from ≤ first → ((other : ℕ) → from ≤ other → other < first → finite.get link.owed other ≡ None) → IsOwedUntil link.owed first end →
+      before ≡ old ++ map f (owed_below from link) → after ≡ before ++ map f (range_with_len first (end - first)) → after ≡ old ++ map f (owed_below end link)
+  owed_next before after old from first end l none until so_far one =
       one
-      ∙ ap (λ ds. ds ++ f slot ∷ []) so_far
-      ∙ append_assoc old (map f (owed_below from link)) (f slot ∷ [])
-      ∙ ap (λ ds. old ++ ds) (sym (map-append f (owed_below from link) (slot ∷ [])))
+      ∙ ap (λ ds. ds ++ map f (range_with_len first (end - first))) so_far
+      ∙ append_assoc old (map f (owed_below from link)) (map f (range_with_len first (end - first)))
+      ∙ ap (λ ds. old ++ ds) (sym (map-append f (owed_below from link) (range_with_len first (end - first))))
       ∙ ap (λ slots. old ++ map f slots) (sym (
-      ap (λ n. owed_below n link) is
-      ∙ filter_more (finite.contains_key link.owed) slot true waits
-      ∙ ap (λ xs. xs ++ slot ∷ []) (filter_same (finite.contains_key link.owed) from slot l (λ i a b. ap is_some (none i a b)))))
+      ap (λ n. owed_below n link) (let order = until.order in let e : end ≡ first + (end - first) = omega (arith, order) in e)
+      ∙ filter_run (finite.contains_key link.owed) first (end - first) (λ k a b. until.each k a (let order = until.order in omega (arith, b, order)))
+      ∙ ap (λ xs. xs ++ range_with_len first (end - first)) (filter_same (finite.contains_key link.owed) from first l (λ i a b. ap is_some (none i a b)))))
 
   -- no more is owed
   pub owed_all : (now old : List Due) (from bound : ℕ) → ((other : ℕ) → from ≤ other → finite.get link.owed other ≡ None) → ((slot : ℕ) → bound ≤ slot → finite.contains_key link.owed slot ≡ false) →

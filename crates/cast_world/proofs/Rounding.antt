@@ -1,6 +1,5 @@
 -- A round comes together slot by slot: its events are those of the plan.
-use Rattle.std.proofs.Common.{◌≡◌, ℕ, ◌+◌, ◌-◌, ◌*◌, ◌<◌, arith, refl, sym, ◌∙◌, ap, subst, List, [], ◌∷◌, ◌++◌, length, take, drop, get_or, Some, None, Result, Ok, Err, IfOk, inl, inr, ◌⊎◌, append_assoc, append-nil}
-use Rattle.std.proofs.lemmas.List.{length-drop, take_all}
+use Rattle.std.proofs.Common.{◌≡◌, ℕ, ◌+◌, ◌*◌, ◌<◌, refl, sym, ◌∙◌, ap, subst, List, [], ◌∷◌, ◌++◌, length, drop, get_or, Some, None, Result, Ok, Err, IfOk, inl, inr, ◌⊎◌, append_assoc, append-nil}
 use Rattle.cast_message.proofs.Lists.{drop-next}
 use Rattle.cast_message.specs.declared.config.Config.{Config}
 use Rattle.cast_message.specs.declared.event.Event.{Event}
@@ -16,18 +15,20 @@ use Rattle.cast_model.proofs.RoundFaults.{Going, Going-next, Going-start, plan_f
 use Rattle.cast_model.proofs.TwoRounds.{round_frames, holds_all, holds_no_more}
 use Rattle.cast_world.specs.Group.{State, Stands, Continues}
 use Rattle.cast_world.specs.Plans.{events_from}
+use Rattle.cast_world.specs.Settled.{SettlesSilently, SettlesFront}
 use Rattle.cast_world.specs.Rounds.{Stops, TakesAll, TakesSilently, StopsFor, StopsRound, EndsRound, TakesRound, Spreads}
 use Rattle.cast_world.proofs.Stepping.{made_count}
-
--- what is left of a list from a place on, as a slice of it is read
-pub from_place : {A : Type 0} (n : ℕ) (xs : List A) → take (length xs - n) (drop n xs) ≡ drop n xs
-from_place n xs = let rest = length-drop n xs in take_all (length xs - n) (drop n xs) (omega (arith, rest))
 
 -- after events that were silent
 stands_after : (config : Config) (now : History) (events : List Event) (world : State) → TakesSilently config now events world → Stands config (with_all now events) world
 unfolding TakesSilently
 stands_after config now [] world st = st
 stands_after config now (event ∷ events) world took = stands_after config (event ∷ now) events world took.1
+
+silent_taken : (config : Config) (now : History) (events : List Event) (world : State) → TakesSilently config now events world → TakesAll config now events (Ok tt) world
+silent_taken config now events world took =
+    let st = stands_after config now events world took in
+    (all_accepted config now events st.accepted, subst (λ h. Stands config h world) (sym (history_from-with_all config now events st.accepted)) st)
 
 module _ (config : Config) (past : History) where
   -- the events in front were taken, and these are left
@@ -67,36 +68,6 @@ module _ (config : Config) (past : History) where
         all_accepted config past events stands.accepted,
         subst (λ h. Stands config h world) (sym (history_from-with_all config past events stands.accepted)) stands,
       )
-
-  pub silent_all : (events : List Event) (world : State) → TakesSilently config past events world → TakesAll config past events (Ok tt) world
-  silent_all events world took = taking_done events [] world refl (record { front = events; split = sym (append-nil events); stands = stands_after config past events world took })
-
-  -- others were taken after some that were silent
-  module _ (front : List Event) (mid : State) (took : TakesSilently config past front mid) where
-    silent_stands : Stands config (with_all past front) mid
-    silent_stands = stands_after config past front mid took
-
-    pub silent_then : (rest events : List Event) (result : Result (Unit {0}) StepFault) (new : State) → front ++ rest ≡ events →
-        ((h : History) → Stands config h mid → TakesAll config h rest result new) → TakesAll config past events result new
-    silent_then rest events result new whole then = subst (λ all. TakesAll config past all result new) whole (by_result result (then (with_all past front) silent_stands))
-      where
-        moved : (more : List Event) → IsAccepted config (with_all (with_all past front) more) → Stands config (history_from config (with_all past front) more) new → Stands config (with_all past (front ++ more)) new
-        moved more accepted st = subst (λ h. Stands config h new) (history_from-with_all config (with_all past front) more accepted ∙ sym (with_all-append past past front more)) st
-
-        by_result : (result : Result (Unit {0}) StepFault) → TakesAll config (with_all past front) rest result new → TakesAll config past (front ++ rest) result new
-        by_result (Ok done) all =
-            let accepted = accepted_all config (with_all past front) rest silent_stands.accepted all.0 in
-            taking_done (front ++ rest) [] new refl (record { front = front ++ rest; split = sym (append-nil (front ++ rest)); stands = moved rest accepted all.1 })
-        by_result (Err refusal) stop =
-            let accepted = accepted_all config (with_all past front) stop.front silent_stands.accepted stop.accepted in
-            taking_stops (front ++ rest) stop.rest stop.event new new
-            (record {
-              front = front ++ stop.front;
-              split = ap (λ es. front ++ es) stop.split ∙ sym (append_assoc front stop.front (stop.event ∷ stop.rest));
-              stands = moved stop.front accepted stop.stands;
-            })
-            refusal
-            (subst (λ h. IsRefused (fault config h stop.event) refusal) (history_from-with_all config (with_all past front) stop.front accepted ∙ sym (with_all-append past past front stop.front)) stop.refused, moved stop.front accepted stop.stands)
 
   -- the slots before were settled, and these are left
   pub record IsLeft (left : List Due) (world : State) : Type 0 where
@@ -177,6 +148,17 @@ module _ (config : Config) (past : History) where
           stops_for : (h : History) (event : Event) (later : List Event) (refusal : StepFault) → (fault config h event ≡ None) ⊎ (fault config h event ≡ Some FramesFull) → IsRefused (fault config h event) refusal → StopsFor config h (event ∷ later) refusal
           stops_for h event later refusal (inl none) refused = subst (StopsFor config h (event ∷ later)) (sym (subst (λ o. IsRefused o refusal) none refused)) none
           stops_for h event later refusal (inr full) refused = subst (StopsFor config h (event ∷ later)) (sym (subst (λ o. IsRefused o refusal) full refused)) full
+
+  -- the first of them were settled without news
+  left_after : (front rest : List Due) (world new : State) → IsLeft (front ++ rest) world → SettlesSilently world front new → IsLeft rest new
+  unfolding SettlesSilently
+  left_after [] rest world new left same = subst (IsLeft rest) (sym same) left
+  left_after (d ∷ front) rest world new left settles =
+      let now = with_all past left.front in
+      left_after front rest settles.0 new (slot_settled (front ++ rest) d world left settles.0 (silent_taken config now (events_from world d) settles.0 (settles.1 config now left.stands))) settles.2
+
+  pub left_settled : (ds rest : List Due) (world new : State) → IsLeft ds world → SettlesFront world ds rest new → IsLeft rest new
+  left_settled ds rest world new left settled = left_after settled.front rest world new (subst (λ all. IsLeft all world) settled.split left) settled.settles
 
   -- no slot is left
   pub round_ends : (ds left : List Due) (world : State) (made : ℕ) → ds ≡ due config past → made ≡ 2 * length ds → left ≡ [] → IsLeft left world → EndsRound config past made world

@@ -113,7 +113,7 @@ module _ (world : State) (sound : IsSound world) (p : ℕ) (within : p < length 
       by_place q seq found (inr e) f = sound.targets q seq found (sym (ap (λ b. slice_get (cond b (marks_at world p ++ frame ∷ []) (marks_at world q)) seq) (ne_eqb q p e)) ∙ f)
 
 -- the code's lists, where the node was asked for the step
-stepped : (world : State) (p : ℕ) (step : Step) (made : List Mark) (reply : Result Answer StepFault) (kept : Kept) (marks : List (List Mark)) → p < length world.nodes → OnOk reply (marks ≡ marks_after world.marks p made) → OnErr reply (marks ≡ world.marks) → Gives (node_at world p) step reply kept →
+pub stepped : (world : State) (p : ℕ) (step : Step) (made : List Mark) (reply : Result Answer StepFault) (kept : Kept) (marks : List (List Mark)) → p < length world.nodes → OnOk reply (marks ≡ marks_after world.marks p made) → OnErr reply (marks ≡ world.marks) → Gives (node_at world p) step reply kept →
     TakesStep world p step made reply (record { config = world.config; nodes = slice_set world.nodes p kept; marks = marks })
 stepped world p step made (Ok answer) kept marks within more same gives =
     let itself = sym (get_or-set_same world.nodes p kept (nothing_kept world.config 0) within) in

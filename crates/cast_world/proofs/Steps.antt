@@ -1,8 +1,8 @@
 -- What is said of a step beside its reply: a slot that is too great for a mark was neither given nor taken; and what the world
 -- stands for after an event that is taken silently.
-use Rattle.std.proofs.Common.{◌≡◌, ◌∷◌, ℕ, refl, sym, ap, subst, true, false, Option, Some, None, arith, Result, Ok, Err}
-use Rattle.std.specs.Prelude.{IfSome, IfNone, is_ok, is_some}
-use Rattle.std.proofs.lemmas.Bool.{false≢true, true≢false}
+use Rattle.std.proofs.Common.{◌≡◌, ◌∷◌, ℕ, refl, sym, ap, subst, true, Option, Some, None, arith, Result, Ok, Err}
+use Rattle.std.specs.Prelude.{IfSome, is_ok, is_some}
+use Rattle.std.proofs.lemmas.Bool.{false≢true}
 use Rattle.cast_message.specs.declared.config.Config.{Config}
 use Rattle.cast_message.specs.declared.event.Event.{Event}
 use Rattle.cast_message.specs.declared.event.Event.TheVariants.{Order, Send, Ack, Arrive, Crash}
@@ -58,12 +58,3 @@ module _ (config : Config) (past : History) (world : State) (st : Stands config 
   pub arrived_silently : (node : Option ℕ) → IfSome node (λ node. StepsTo world event (silent_reply node) new) → is_some node ≡ true → IsSilent (reply config past event) × Stands config (event ∷ past) new
   arrived_silently (Some node) t some = by_answer (AnswerArrived node nothing) refl t
   arrived_silently None t some = absurd (false≢true some)
-
-  -- nothing came of it
-  pub not_made : (made : Result ℕ StepFault) → StepsTo world event (number_reply made) new → is_ok made ≡ false → Stands config past new
-  not_made (Ok seq) t failed = absurd (true≢false failed)
-  not_made (Err refusal) t failed = (continues_to config past world st event (Err refusal) new t).1
-
-  pub not_arrived : (node : Option ℕ) → IfNone node (new ≡ world) → is_some node ≡ false → Stands config past new
-  not_arrived (Some node) same none = absurd (true≢false none)
-  not_arrived None same none = subst (Stands config past) (sym same) st

@@ -4,4 +4,5 @@ pub mod Code
 pub mod Plans
 pub mod DueRuns
 pub mod Rounds
+pub mod Settled
 pub mod Offers

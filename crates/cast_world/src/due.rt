@@ -107,16 +107,10 @@ fn add_owed(node: &Node, giver: NodeId, taker: NodeId, due: &mut DueSlots) -> Re
         ≡ due.old ++ map (due_of giver taker) (owed_below bound (link_to node.now taker))) }
 {
     let mut from = 0;
-    while let Some(slot) = node.least_owed(taker, from) {
-        due.push(DueSlot {
-            from: giver,
-            to: taker,
-            slot,
-        })?;
-        let Some(next) = slot.checked_add(1) else {
-            break;
-        };
-        from = next;
+    while let Some(first) = node.least_owed(taker, from) {
+        let end = node.owed_until(taker, first);
+        due.push_run(giver, taker, first, end)?;
+        from = end;
     }
     Ok(())
 }

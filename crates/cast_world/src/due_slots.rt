@@ -1,5 +1,7 @@
 //! The slots of a round, kept as runs: a node mostly owes a peer slots in succession, and there may be millions.
-ghost use Rattle.std.specs.Prelude.{◌≡◌, ◌+◌, ◌<◌, ◌≤◌, ◌^◌, ◌++◌, ◌∷◌, [], length, IsTrue, IfSome, IfNone, OnOk, OnErr};
+ghost use Rattle.std.specs.Prelude.{◌≡◌, ◌+◌, ◌<◌, ◌≤◌, ◌^◌, ◌++◌, ◌∷◌, [], ◌-◌, length, drop, map, IfSome, IfNone, OnOk, OnErr};
+ghost use Rattle.std.specs.List.{range_with_len};
+ghost use Rattle.cast_world.specs.Plans.{due_of};
 ghost use Rattle.cast_world.specs.DueRuns.{slots_of, rest_of, slots_from};
 
 use crate::due_run::Run;
@@ -70,17 +72,46 @@ impl DueSlots {
         self.len
     }
 
-    /// Appends a slot.
-    pub fn push(&mut self, due: DueSlot) -> Result<(), AllocError>
-        ensures ok { OnOk result (self.new ≡ self.old ++ due ∷ []) }
+    /// Appends slots in succession that one node owes another, from the first up to the end.
+    pub(crate) fn push_run(
+        &mut self,
+        from: NodeId,
+        to: NodeId,
+        first: u64,
+        end: u64,
+    ) -> Result<(), AllocError>
+        requires { first < end }
+        ensures ok { OnOk result (self.new
+            ≡ self.old ++ map (due_of from to) (range_with_len first (end - first))) }
         ensures err { OnErr result (self.new ≡ self.old) }
     {
-        if self.len >= TOO_MANY {
+        if end - first > TOO_MANY - self.len {
             return Err(AllocError);
         }
-        add_slot(&mut self.runs, self.place, due)?;
-        self.len += 1;
+        self.runs.push(Run {
+            from,
+            to,
+            first,
+            more: end - first - 1,
+        })?;
+        self.len += end - first;
         Ok(())
+    }
+
+    /// The first slots in succession that one node owes another, if there are any.
+    pub(crate) fn first_run(&self) -> Option<Run>
+        ensures some { IfSome result (λ run. self.now ≡ slots_of run ++ drop (run.more + 1) self.now) }
+        ensures none { IfNone result (self.now ≡ []) }
+    {
+        Some(*self.runs.get(self.place)?)
+    }
+
+    /// Takes off as many of the first slots.
+    pub(crate) fn skip(&mut self, count: u64)
+        ensures { self.new ≡ drop count self.old }
+    {
+        self.place = skip_slots(&mut self.runs, self.place, count);
+        self.len = self.len.saturating_sub(count);
     }
 
     /// Takes the first slot, if there is one.
@@ -100,17 +131,6 @@ impl DueSlots {
 }
 
 impl Run {
-    fn new(due: DueSlot) -> Run
-        ensures { slots_of result ≡ due ∷ [] }
-    {
-        Run {
-            from: due.from,
-            to: due.to,
-            first: due.slot,
-            more: 0,
-        }
-    }
-
     fn slot(self) -> DueSlot
         ensures { slots_of self ≡ result ∷ rest_of self }
     {
@@ -137,49 +157,33 @@ impl Run {
         })
     }
 
-    // The run with this slot too, if the slot is the next.
-    fn with(&self, due: &DueSlot) -> Option<Run>
-        ensures { IfSome result (λ longer. slots_of longer ≡ slots_of self.now ++ due.now ∷ []) }
+    // The slots after as many of the first, which are not all.
+    fn after(self, count: u64) -> Run
+        requires { count ≤ self.more }
+        ensures { slots_of result ≡ drop count (slots_of self) }
     {
-        if !self.is_before(due) {
-            return None;
-        }
-        Some(Run {
+        Run {
             from: self.from,
             to: self.to,
-            first: self.first,
-            more: self.more + 1,
-        })
-    }
-
-    // Whether this slot comes right after the run.
-    fn is_before(&self, due: &DueSlot) -> bool
-        ensures from { IsTrue result → due.now.from ≡ self.now.from }
-        ensures to { IsTrue result → due.now.to ≡ self.now.to }
-        ensures slot { IsTrue result → due.now.slot ≡ self.now.first + self.now.more + 1 }
-        ensures within { IsTrue result → self.now.first + self.now.more + 1 < 2 ^ 64 }
-    {
-        due.from == self.from
-            && due.to == self.to
-            && (self.first + self.more).checked_add(1) == Some(due.slot)
+            first: self.first + count,
+            more: self.more - count,
+        }
     }
 }
 
-// Appends a slot to those of the runs from this place on.
-fn add_slot(runs: &mut Vec<Run>, place: usize, due: DueSlot) -> Result<(), AllocError>
+// Takes as many of the first slots off the runs from this place on. Returns the place from which on the others are.
+fn skip_slots(runs: &mut Vec<Run>, place: usize, count: u64) -> usize
     requires { place ≤ length runs.old.items }
-    ensures ok { OnOk result (slots_from place runs.new.items
-        ≡ slots_from place runs.old.items ++ due ∷ []) }
-    ensures more { length runs.old.items ≤ length runs.new.items }
-    ensures err { OnErr result (runs.new.items ≡ runs.old.items) }
+    ensures place { result ≤ length runs.new.items }
+    ensures slots { slots_from result runs.new.items
+        ≡ drop count (slots_from place runs.old.items) }
 {
-    if place < runs.len() {
-        let end = runs.len() - 1;
-        if let Some(longer) = runs[end].with(&due) {
-            runs[end] = longer;
-            return Ok(());
-        }
+    let Some(&run) = runs.get(place) else {
+        return place;
+    };
+    if count <= run.more {
+        runs[place] = run.after(count);
+        return place;
     }
-    runs.push(Run::new(due))?;
-    Ok(())
+    skip_slots(runs, place + 1, count - run.more - 1)
 }

@@ -14,11 +14,11 @@ use cast_message::{Answer, Frame, FrameBody, FrameKind, Item, Message, NodeId, R
 use cast_node::{Node, Numbers};
 use std::alloc::AllocError;
 
-// The sender in an acknowledgement's mark; no node has this number.
-const NOBODY: u8 = 255;
+/// The sender in an acknowledgement's mark; no node has this number.
+pub const NOBODY: u8 = 255;
 
-// The greatest slot of a mark. No link gives as many.
-const LAST_SLOT: u64 = 0xffff_ffff;
+/// The greatest slot of a mark. No link gives as many.
+pub const LAST_SLOT: u64 = 0xffff_ffff;
 
 /// What is kept of a frame. Its place says its maker and its number, and its message's item is in the stream of the sender.
 #[derive(Clone, Copy)]

@@ -9,6 +9,7 @@ mod frames;
 mod rest;
 mod round;
 mod run;
+mod settling;
 mod world;
 
 pub use due_slots::{DueSlot, DueSlots};

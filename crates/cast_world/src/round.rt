@@ -1,15 +1,16 @@
 //! Rounds: every slot that a live node owes another is sent, taken and acknowledged. After two rounds in which no event is refused
 //! there is rest. `at_rest` says what live nodes have delivered and decided then.
-ghost use Rattle.std.specs.Prelude.{◌≡◌, ℕ, ◌<◌, ◌+◌, ◌^◌, ◌++◌, ◌==◌, ◌||◌, cond, IfOk, OnOk, length, slice_index_or};
+ghost use Rattle.std.specs.Prelude.{◌≡◌, ℕ, ◌<◌, ◌+◌, ◌^◌, ◌++◌, ◌∷◌, [], ◌==◌, ◌||◌, cond, IfOk, IfSome, IfNone, IsSome, OnOk, length, slice_index_or};
 ghost use Rattle.cast_message.specs.declared.config.Config.{Config as Settings};
 ghost use Rattle.cast_model.specs.History.{History};
 ghost use Rattle.cast_model.specs.Replies.{IsAccepted};
 ghost use Rattle.cast_model.specs.Rounds.{Rest, HoldTheSame, AreAccepted, plan, after_round};
 ghost use Rattle.cast_world.specs.Group.{Stands, StandingFor};
 ghost use Rattle.cast_world.specs.Plans.{events_from};
+ghost use Rattle.cast_world.specs.Settled.{SettlesFront};
 ghost use Rattle.cast_world.specs.Rounds.{TakesAll, TakesRound, Spreads, events_after};
 
-use crate::due_slots::DueSlot;
+use crate::due_slots::{DueSlot, DueSlots};
 use crate::world::World;
 use cast_message::{Event, FRAME_LIMIT, List, StepFault};
 use std::alloc::AllocError;
@@ -60,10 +61,21 @@ impl World {
             return self.unlisted();
         };
         let frames = 2 * due.len();
-        'slots: while let Some(slot) = due.pop_front() {
+        'slots: while let Some(slot) = self.next_slot(&mut due) {
             self.settle(&slot)?;
         }
         Ok(frames)
+    }
+
+    // Takes off the next slot that it doesn't settle without news, if there is one.
+    fn next_slot(&mut self, due: &mut DueSlots) -> Option<DueSlot>
+        ensures some { IfSome result (λ slot.
+            SettlesFront self.old due.old (slot ∷ due.new) self.new) }
+        ensures none { IfNone result (SettlesFront self.old due.old [] self.new) }
+        ensures fewer { IsSome result → length due.new < length due.old }
+    {
+        self.settle_while_silent(due);
+        due.pop_front()
     }
 
     // Takes the four events that settle a slot, up to the first that is refused.
@@ -73,13 +85,8 @@ impl World {
     {
         let carry = self.frame_count(due.from);
         let took = self.frame_count(due.to);
-        let taken = self.settle_silently(due, carry, took);
-        if taken == 4 {
-            return Ok(());
-        }
         let events = due.events(carry, took);
-        let events = &events[..];
-        self.take_all(&events[taken..])
+        self.take_all(&events)
     }
 
     // The result of a round that has no room for its slots. Its first event may have a cause of refusal all the same.

@@ -1,5 +1,6 @@
 //! The group as one value: events go in, replies come out.
-ghost use Rattle.std.specs.Prelude.{◌≡◌, ◌≢◌, ◌<◌, ◌≤◌, ◌^◌, ◌∷◌, IsTrue, IsFalse, IfOk, IfErr, IfSome, IfNone, IsSomeAnd, OnErr, [], length, take, slice_get, option_map, nat_lt, ◌&&◌, Ok, Err, None};
+ghost use Rattle.std.specs.Prelude.{◌≡◌, ◌≢◌, ◌<◌, ◌≤◌, ◌^◌, ◌∷◌, IsTrue, IsFalse, IfOk, IfErr, IfSome, IfNone, IsSomeAnd, OnErr, [], length, take, map, ◌-◌, slice_get, option_map, nat_lt, ◌&&◌, Ok, Err, None};
+ghost use Rattle.std.specs.List.{range_with_len};
 ghost use Rattle.cast_message.specs.declared.event.StepFault.TheVariants.{Memory};
 ghost use Rattle.cast_model.specs.History.{frames, is_live};
 ghost use Rattle.cast_model.specs.Replies.{reply};
@@ -8,11 +9,14 @@ ghost use Rattle.cast_model.specs.Shown.{ShowsDelivered, ShowsStream, ShowsOwed}
 ghost use Rattle.cast_world.specs.Group.{Stands, StandingFor, Continues, FindsNode, IsFar, IsCrash, IsRefusedForCause, node_at, marks_at};
 ghost use Rattle.cast_node.specs.Calls.{number_reply, silent_reply};
 ghost use Rattle.cast_world.specs.Moves.{FindsMark, IsSilent, MakesFrame, StepsTo};
-ghost use Rattle.cast_world.specs.Plans.{events_of};
+ghost use Rattle.cast_world.specs.Plans.{due_of, events_of};
 ghost use Rattle.cast_world.specs.Rounds.{TakesSilently};
+ghost use Rattle.cast_world.specs.Settled.{SettlesSilently, SettlesFront};
 
-use crate::due_slots::DueSlot;
+use crate::due_run::Run;
+use crate::due_slots::{DueSlot, DueSlots};
 use crate::frames::{self, Mark};
+use crate::settling::settle_between;
 use cast_message::FrameKind::{Carry, Took};
 use cast_message::{Answer, Config, Event, Frame, FrameKind, Item, NodeId, Reply, StepFault};
 use cast_node::{Node, no_news};
@@ -121,28 +125,52 @@ impl World {
         }
     }
 
-    /// Takes the events that settle a slot, whose two frames are to have these numbers, as `step_if_silent` takes each, and returns
-    /// how many it took. It may always stop early. The world is then as after the events that it took.
-    #[inline(always)]
-    pub fn settle_silently(&mut self, due: &DueSlot, carry: u64, took: u64) -> usize
-        ensures few { result ≤ 4 }
-        ensures takes { StandingFor self.old (λ config past.
-            TakesSilently config past (take result (events_of due.now carry took)) self.new) }
+    /// Settles the first of these slots, one after another, as long as each of their events (`DueSlot::events`) is accepted and
+    /// nothing is delivered or decided by it, and takes them off. It may always stop early.
+    pub fn settle_while_silent(&mut self, due: &mut DueSlots)
+        ensures { SettlesFront self.old due.old due.new self.new }
     {
-        let DueSlot { from, to, slot } = *due;
-        if self.make(Carry, from, to, slot).is_err() {
+        'runs: while self.settle_first_run(due) {
+            // (the next run, until one isn't settled as a whole)
+        }
+    }
+
+    // The same for the first slots in succession that one node owes another. Returns whether there were any, and all were settled.
+    fn settle_first_run(&mut self, due: &mut DueSlots) -> bool
+        ensures settles { SettlesFront self.old due.old due.new self.new }
+        ensures fewer { IsTrue result → length due.new < length due.old }
+    {
+        let Some(run) = due.first_run() else {
+            return false;
+        };
+        let Some(end) = (run.first + run.more).checked_add(1) else {
+            return false;
+        };
+        let settled = self.settle_run(run.from, run.to, run.first, end);
+        due.skip(settled);
+        settled > run.more
+    }
+
+    // Settles the slots from the first up to the end that one node owes another, in order. Returns how many.
+    fn settle_run(&mut self, from: NodeId, to: NodeId, first: u64, end: u64) -> u64
+        requires { first ≤ end }
+        ensures few { result ≤ end - first }
+        ensures settles { SettlesSilently self.old
+            (map (due_of from to) (range_with_len first result)) self.new }
+    {
+        let from = usize::from(from.0);
+        let to = usize::from(to.0);
+        if from == to || from >= self.nodes.len() || to >= self.nodes.len() {
             return 0;
         }
-        if self.arrive_silently(from, carry).is_none() {
-            return 1;
-        }
-        if self.make(Took, to, from, slot).is_err() {
-            return 2;
-        }
-        if self.arrive_silently(to, took).is_none() {
-            return 3;
-        }
-        4
+        settle_between(
+            self.nodes.as_mut_slice(),
+            self.marks.as_mut_slice(),
+            from,
+            to,
+            first,
+            end,
+        )
     }
 
     fn order(&mut self, node: NodeId, item: &Item) -> Reply

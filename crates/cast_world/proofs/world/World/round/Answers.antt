@@ -1,10 +1,10 @@
-use Rattle.std.proofs.Common.{◌*◌, ap, subst}
+use Rattle.std.proofs.Common.{◌*◌, [], ap, refl}
 use Rattle.std.proofs.lemmas.Result.{err_from_is_err_and}
 use Rattle.cast_model.specs.Rounds.{Rest, after_round}
 use Rattle.cast_model.proofs.Round.{with_all}
 use Rattle.cast_model.proofs.TwoRounds.{rests, two_rounds_rest}
 use Rattle.cast_world.specs.Rounds.{Spreads}
-use Rattle.cast_world.proofs.Rounding.{IsLeft, left_first, slot_settled, slot_stops, round_ends, round_spreads, where_taken}
+use Rattle.cast_world.proofs.Rounding.{left_first, left_settled, slot_settled, slot_stops, round_ends, round_spreads, where_taken}
 use Rattle.cast_world.proofs.world.World.round.Goals as goal
 
 pub slots-init : goal.slots-init
@@ -13,17 +13,17 @@ slots-init c config past st = left_first config past _ c.args.self.now (c.in-Ok.
 pub returns-in_err-settle-clause-takes : goal.returns-in_err-settle-clause-takes
 returns-in_err-settle-clause-takes c config past st =
     let p = err_from_is_err_and c.from_residual.result c.from_residual.ensures.1 in
-    let left = subst (λ slots. IsLeft config past slots c.slots.self) c.in-Some.ensures.some (c.slots.invariant config past st) in
-    rw (p.1, p.2) (slot_stops config past _ c.in-Some.slot c.slots.self left c.settle.new.self c.in_err-settle.field-0.0 (c.in_err-settle.ensures config (with_all past left.front) left.stands))
+    let left = left_settled config past _ _ c.slots.self _ (c.slots.invariant config past st) c.in-Some.ensures.some in
+    rw (p.1, p.2) (slot_stops config past _ c.in-Some.slot c.next_slot.new.self left c.settle.new.self c.in_err-settle.field-0.0 (c.in_err-settle.ensures config (with_all past left.front) left.stands))
 
 pub slots-preserved : goal.slots-preserved
 slots-preserved c config past st =
-    let left = subst (λ slots. IsLeft config past slots c.slots.self) c.in-Some.ensures.some (c.slots.invariant config past st) in
-    slot_settled config past _ c.in-Some.slot c.slots.self left c.settle.new.self (c.in_ok-settle.ensures config (with_all past left.front) left.stands)
+    let left = left_settled config past _ _ c.slots.self _ (c.slots.invariant config past st) c.in-Some.ensures.some in
+    slot_settled config past _ c.in-Some.slot c.next_slot.new.self left c.settle.new.self (c.in_ok-settle.ensures config (with_all past left.front) left.stands)
 
 pub returns-clause-takes : goal.returns-clause-takes
 returns-clause-takes c config past st =
-    round_ends config past _ _ c.slots.self _ (c.in-Ok.ensures.found config past st) (ap (λ n. 2 * n) c.len-frames.ensures.len) c.in_default-pop_front.ensures.none (c.slots.invariant config past st)
+    round_ends config past _ [] c.next_slot.new.self _ (c.in-Ok.ensures.found config past st) (ap (λ n. 2 * n) c.len-frames.ensures.len) refl (left_settled config past _ _ c.slots.self _ (c.slots.invariant config past st) c.in_default-next_slot.ensures.none)
 
 pub returns-clause-spreads : goal.returns-clause-spreads
 returns-clause-spreads c config past st = round_spreads config past st.accepted (returns-clause-takes c config past st).accepted
