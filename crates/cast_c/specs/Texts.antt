@@ -2,10 +2,11 @@
 --     only_length, numbers_of_fault, status_of_fault    how a text ended, as numbers, and the status
 --     RefusesAs script fault                   if it is a fault of scripts, it is the fault of this script
 --     IsRefused script told                    the script is refused, and this says why
+--     IsTextStatus status                      one of the statuses of these calls
 --     IsText Writes status told old new        a text, its length, and the text in the buffer, if that has room
 --     PutsText made status told old new        a text in the buffer, or why there is none
 --     PutsMigrated text status count old new   the text with the new head in the buffer, or why there is none
-use Rattle.std.specs.Prelude.{◌≡◌, ℕ, ◌<◌, ◌≤◌, List, length, Result, Ok, Err}
+use Rattle.std.specs.Prelude.{◌≡◌, ◌⊎◌, ℕ, ◌<◌, ◌≤◌, List, length, Result, Ok, Err}
 use Rattle.std.specs.Global.{Vec}
 use Rattle.cast_message.specs.Limits.{config_code}
 use Rattle.cast_record.specs.Migration.{Migrates}
@@ -62,6 +63,11 @@ PutsText (Ok text) status told old new =
     Puts text.items status old new × (told ≡ only_length (length text.items))
 PutsText (Err fault) status told old new =
     (status ≡ status_of_fault fault) × (told ≡ numbers_of_fault fault) × (new ≡ old)
+
+-- 1 only if a slice refused to be read, which it never does
+abbrev pub IsTextStatus : ℕ → Type 0
+IsTextStatus status =
+    (status ≡ 0) ⊎ (status ≡ 1) ⊎ (status ≡ 2) ⊎ (status ≡ 5) ⊎ (status ≡ 6)
 
 abbrev pub PutsMade : Result (Vec ℕ) MigrateFault → ℕ → ℕ → List ℕ → List ℕ → Type 0
 PutsMade (Ok text) status count old new = Puts text.items status old new × (count ≡ length text.items)

@@ -2,7 +2,7 @@
 ghost use Rattle.std.specs.Prelude.{◌≡◌, ◌⊎◌, [], Some, IfOk, IfErr};
 ghost use Rattle.cast_text.specs.Text.{WritesRecord};
 ghost use Rattle.cast_text.specs.Drawing.{WritesDrawing};
-ghost use Rattle.cast_c.specs.Texts.{IsText, PutsText, PutsMigrated, IsRefused, RefusesAs, numbers_of_fault, status_of_fault, only_length};
+ghost use Rattle.cast_c.specs.Texts.{IsText, IsTextStatus, PutsText, PutsMigrated, IsRefused, RefusesAs, numbers_of_fault, status_of_fault, only_length};
 
 use crate::deliveries::put_bytes;
 use crate::numbers::TextNumbers;
@@ -25,6 +25,7 @@ pub extern "C" fn cast_c_run(
         result told.new out.old out.new }
     ensures refused { result ≡ 2 → IsRefused script.now told.new }
     ensures kept { (result ≡ 0) ⊎ (out.new ≡ out.old) }
+    ensures status { IsTextStatus result }
 {
     put_text(record_of(alloc, script), out, told)
 }
@@ -53,6 +54,7 @@ pub extern "C" fn cast_c_draw(
         result told.new out.old out.new }
     ensures refused { result ≡ 2 → IsRefused script.now told.new }
     ensures kept { (result ≡ 0) ⊎ (out.new ≡ out.old) }
+    ensures status { IsTextStatus result }
 {
     put_text(picture_of(alloc, script, Window { from, to }), out, told)
 }
@@ -82,6 +84,7 @@ pub extern "C" fn cast_c_page(
         result told.new out.old out.new }
     ensures refused { result ≡ 2 → IsRefused script.now told.new }
     ensures kept { (result ≡ 0) ⊎ (out.new ≡ out.old) }
+    ensures status { IsTextStatus result }
 {
     put_text(page_of(alloc, script, Window { from, to }), out, told)
 }

@@ -1,4 +1,4 @@
-//! Where marks stand on the sheet, in points from its left upper corner.
+//! Where marks are on the sheet, in points from its upper left corner.
 ghost use Rattle.std.specs.Prelude.{◌<◌, ◌≤◌, ◌^◌};
 
 use crate::frames::Column;
@@ -9,19 +9,19 @@ use std::alloc::AllocError;
 /// Where the lines of the nodes begin.
 pub const LINES_FROM: u64 = 76;
 
-/// Where the column of the first event stands.
+/// Where the column of the first event is.
 pub const FIRST_COLUMN: u64 = 92;
 
-/// From a column whose event has no box to the next.
+/// The distance to the next column, if the event has no box.
 pub const NARROW: u64 = 16;
 
-/// From a column with boxes to the next, of which the boxes take 44.
+/// The distance to the next column, if the event has boxes. The boxes take 44 of it.
 pub const WIDE: u64 = 56;
 
-/// What a value beside a diamond takes more than a box.
+/// How much wider a diamond with its value is than a box.
 pub const FOR_VALUES: u64 = 20;
 
-/// The last place of a column.
+/// The greatest distance of a column from the left.
 pub const FARTHEST: u64 = 1_099_511_627_776;
 
 /// A point of the sheet.
@@ -36,7 +36,7 @@ pub struct Spot {
 }
 
 impl Spot {
-    /// The place of a column on a node's line.
+    /// Where a column meets a node's line.
     pub fn on_line(column: Column, node: NodeId) -> Spot {
         Spot {
             x: column.x(),
@@ -45,13 +45,13 @@ impl Spot {
     }
 }
 
-/// A place for a box or a diamond below a node's line. There are three in a row below one another, and then three more to the
-/// right of them.
+/// A place for a box or a diamond below a node's line. Three places are below one another. The next three are to their
+/// right.
 #[derive(Clone, Copy)]
 pub struct Cell {
-    /// The column that the place stands in.
+    /// The column of the place.
     pub x: u64,
-    /// How many places of the row are above it.
+    /// How many of the three places are above it.
     pub row: u64,
     /// The height of the node's line.
     pub line: u64,
@@ -62,7 +62,7 @@ pub struct Cell {
 }
 
 impl Cell {
-    /// The place of this number below the point of a node's line. A place past the last column finds no memory.
+    /// The place with this number below a point of a node's line. It counts as out of memory if that is too far to the right.
     pub fn below(spot: Spot, place: u64) -> Result<Cell, AllocError> {
         if place > FARTHEST {
             return Err(AllocError);
@@ -79,7 +79,7 @@ impl Cell {
     }
 }
 
-/// From the column of an event with this many boxes and diamonds to the next.
+/// The distance to the next column, if the event has this many boxes and diamonds.
 pub fn width_of(count: u64, has_values: bool) -> u64 {
     if count == 0 {
         return NARROW;

@@ -16,7 +16,7 @@ pub struct At {
     pub node: NodeId,
 }
 
-/// Puts a mark for each delivery, and after the delivery that caused it one for each decision.
+/// Adds a mark for each delivery, and for each decision one after the delivery that caused it.
 pub fn put_deeds(
     marks: &mut List<Mark>,
     at: &At,
@@ -37,7 +37,7 @@ pub fn put_deeds(
     put_decisions(marks, at, &decisions[decided..])
 }
 
-// Puts the decisions that no delivery here caused.
+// Adds the decisions that no delivery of this event caused.
 fn put_decisions(marks: &mut List<Mark>, at: &At, decisions: &[Decision]) -> Result<(), AllocError>
     ensures { OnOk result (marks.new ≡ marks.old
         ++ map (done_by at.now) (map Decides decisions.now)) }

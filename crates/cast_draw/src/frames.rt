@@ -7,12 +7,12 @@ use cast_message::NodeId;
 use std::alloc::{AllocError, Global};
 use std::marker::Model;
 
-/// What a frame says.
+/// What a frame carries.
 #[derive(Clone, Copy, PartialEq, Eq)]
 pub enum Cargo {
-    /// It carries this message.
+    /// This message.
     Message(Pair),
-    /// It acknowledges its slot.
+    /// The acknowledgement of its slot.
     Ack,
 }
 
@@ -21,13 +21,13 @@ pub enum Cargo {
 pub enum Fate {
     /// It has not arrived.
     UnderWay,
-    /// It arrived, by no event that is shown.
+    /// It arrived, but no arrival of it is shown.
     ArrivedUnseen,
     /// An arrival of it is shown.
     Shown,
 }
 
-/// The place of a column, in points from the left. Contracts see the number.
+/// Where a column is, in points from the left. Contracts see the number.
 #[derive(Clone, Copy)]
 pub struct Column {
     x: u64,
@@ -46,7 +46,6 @@ impl Model for Column {
 }
 
 impl Column {
-    /// The column at this place.
     pub fn at(x: u64) -> Column
         requires left { 76 ≤ x }
         requires right { x < 2 ^ 41 }
@@ -55,7 +54,6 @@ impl Column {
         Column { x }
     }
 
-    /// Its place.
     pub fn x(self) -> u64
         ensures value { result ≡ self }
         ensures left { 76 ≤ result }
@@ -72,11 +70,9 @@ pub struct MadeFrame {
     pub from: NodeId,
     /// Its number among the frames of that node.
     pub seq: u64,
-    /// The node that it is for.
+    /// The node to which it goes.
     pub to: NodeId,
-    /// Its slot.
     pub slot: u64,
-    /// What it says.
     pub cargo: Cargo,
     /// The place in the script of the event that made it.
     pub index: u64,
@@ -84,7 +80,6 @@ pub struct MadeFrame {
     pub column: u64,
     /// Whether that event is shown.
     pub is_shown: bool,
-    /// What became of it.
     pub fate: Fate,
 }
 
@@ -104,7 +99,7 @@ impl Model for MadeFrames {
 }
 
 impl MadeFrames {
-    /// No frames, which take no memory.
+    /// No frames. It allocates nothing.
     pub fn new(alloc: Global) -> MadeFrames
         ensures { result ≡ [] }
     {
@@ -113,31 +108,29 @@ impl MadeFrames {
         }
     }
 
-    /// All of them.
     pub fn as_slice(&self) -> &[MadeFrame]
         ensures { result.now ≡ self.now }
     {
         self.frames.as_slice()
     }
 
-    /// How many there are.
     pub fn count(&self) -> u64
         ensures { result ≡ length self.now }
     {
         self.frames.len() as u64
     }
 
-    /// One frame more.
+    /// Appends a frame.
     pub fn push(&mut self, frame: &MadeFrame) -> Result<(), AllocError>
         ensures { OnOk result (self.new ≡ self.old ++ frame.now ∷ []) }
     {
-        // The prover has no proof of `push(*frame)`, a copy of the whole record; it has one of a record that is written anew.
+        // The prover finds no proof of `push(*frame)`, which copies the whole record.
         let cargo: Cargo = frame.cargo;
         self.frames.push(MadeFrame { cargo, ..*frame })?;
         Ok(())
     }
 
-    /// The frame of this number, of which is kept that it arrived, by an event that is shown or is not.
+    /// Notes that the frame with this number arrived, by an event that is shown or not, and returns the frame as it was.
     pub fn arrive(&mut self, seq: u64, is_shown: bool) -> Option<MadeFrame>
         ensures frame { result ≡ slice_get self.old seq }
         ensures after { self.new ≡ with_arrival self.old seq is_shown }

@@ -15,9 +15,9 @@ pub enum Piece<'a> {
     Text(&'a [u8]),
     /// The number in decimal.
     Number(u64),
-    /// The place as paths name it: from the left, and from the top.
+    /// The place as paths name it: the distance from the left, then from the top.
     Place(u64, u64),
-    /// The word that the item has in a record.
+    /// The item's word in a record.
     Word(&'a Item),
     /// The item as it is shown beside a mark.
     Label(&'a Item),
@@ -40,21 +40,20 @@ impl Model for Ink {
 }
 
 impl Ink {
-    /// No text, which takes no memory.
+    /// No text. It allocates nothing.
     pub fn new(alloc: Global) -> Ink {
         Ink {
             bytes: Vec::new(alloc),
         }
     }
 
-    /// The bytes in order.
     pub fn as_slice(&self) -> &[u8]
         ensures { result.now ≡ self.now }
     {
         self.bytes.as_slice()
     }
 
-    /// Puts the pieces at the end.
+    /// Appends the pieces.
     pub fn put(&mut self, pieces: &[Piece<'_>]) -> Result<(), AllocError> {
         for piece in pieces {
             self.put_piece(piece)?;
@@ -73,7 +72,7 @@ impl Ink {
         }
     }
 
-    /// Puts these bytes at the end.
+    /// Appends bytes.
     pub fn put_bytes(&mut self, bytes: &[u8]) -> Result<(), AllocError> {
         self.bytes.extend_from_slice(bytes)
     }
@@ -89,7 +88,7 @@ impl Ink {
         self.put_number(y)
     }
 
-    /// Puts two digits at the end for each byte.
+    /// Appends two digits for each byte.
     pub fn put_hex(&mut self, bytes: &[u8]) -> Result<(), AllocError> {
         for byte in bytes {
             self.put_bytes(&[hex_digit(*byte / 16), hex_digit(*byte % 16)])?;

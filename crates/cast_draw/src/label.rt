@@ -1,4 +1,4 @@
-//! What stands beside a mark: at most eight letters, whatever the bytes are.
+//! The label beside a mark: at most eight letters, whatever the bytes are.
 
 use crate::ink::Ink;
 use cast_message::Item;
@@ -9,11 +9,11 @@ use std::alloc::AllocError;
 /// The most letters of a label.
 const LETTERS: usize = 8;
 
-/// What stands behind a label that was cut: three dots in one letter.
+/// What follows a label that was cut: three dots in one letter.
 const CUT: &[u8] = b"\xe2\x80\xa6";
 
-/// Puts what is shown of the item: a text where all of its bytes are printable, else their digits; instance and value of a
-/// proposal; or `close`.
+/// Appends the label of an item. Bytes are shown as text if all of them are printable, or else as digits. A proposal is shown
+/// by its instance and value, and a close as `close`.
 pub fn put_item_label(ink: &mut Ink, item: &Item) -> Result<(), AllocError> {
     match item {
         Item::Data(payload) => put_data(ink, payload.as_slice()),
@@ -22,7 +22,7 @@ pub fn put_item_label(ink: &mut Ink, item: &Item) -> Result<(), AllocError> {
     }
 }
 
-/// Puts what is shown of a decided value.
+/// Appends the label of a decided value.
 pub fn put_value_label(ink: &mut Ink, value: u64) -> Result<(), AllocError> {
     let mut buffer = Buffer::new();
     let digits = buffer.format(value).as_bytes();
@@ -30,7 +30,7 @@ pub fn put_value_label(ink: &mut Ink, value: u64) -> Result<(), AllocError> {
     put_dots(ink, digits.len() > LETTERS)
 }
 
-// Instance and value, of which no digit needs an escape.
+// An instance and a value. No digit needs an escape.
 fn put_proposal(ink: &mut Ink, instance: u64, value: u64) -> Result<(), AllocError> {
     let mut first = Buffer::new();
     let mut second = Buffer::new();
@@ -42,12 +42,12 @@ fn put_proposal(ink: &mut Ink, instance: u64, value: u64) -> Result<(), AllocErr
     put_dots(ink, instance.len() + 1 + value.len() > LETTERS)
 }
 
-// Puts the first bytes, as many as there is room for.
+// Appends as many of the first bytes as the label has room for.
 fn put_prefix(ink: &mut Ink, bytes: &[u8], room: usize) -> Result<(), AllocError> {
     ink.put_bytes(prefix(bytes, room))
 }
 
-// Puts the dots behind a label that was cut.
+// Appends the dots after a label that was cut.
 fn put_dots(ink: &mut Ink, is_cut: bool) -> Result<(), AllocError> {
     if is_cut { ink.put_bytes(CUT) } else { Ok(()) }
 }
@@ -65,7 +65,7 @@ fn put_text(ink: &mut Ink, bytes: &[u8]) -> Result<(), AllocError> {
     put_dots(ink, bytes.len() > LETTERS)
 }
 
-// Two digits a byte: half as many bytes as there are letters.
+// Each byte takes two digits, so the label has half as many bytes as letters.
 fn put_digits(ink: &mut Ink, bytes: &[u8]) -> Result<(), AllocError> {
     ink.put_hex(prefix(bytes, LETTERS / 2))?;
     put_dots(ink, bytes.len() > LETTERS / 2)
@@ -75,7 +75,7 @@ fn are_printing(bytes: &[u8]) -> bool {
     bytes.iter().all(|byte| is_printing(*byte))
 }
 
-// Puts the bytes as XML writes them within an element.
+// Appends the bytes as XML writes them in an element.
 fn put_escaped(ink: &mut Ink, bytes: &[u8]) -> Result<(), AllocError> {
     for byte in bytes {
         put_letter(ink, *byte)?;

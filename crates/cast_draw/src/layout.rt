@@ -1,4 +1,4 @@
-//! Where the columns of a picture stand. Contracts see how many there are.
+//! Where the columns of a picture are. Contracts see their number.
 ghost use Rattle.std.specs.Prelude.{◌≡◌, ◌+◌, ◌<◌, ◌≤◌, ◌^◌, OnOk};
 
 use crate::cell::{FARTHEST, FIRST_COLUMN};
@@ -23,7 +23,6 @@ impl Model for Layout {
 }
 
 impl Layout {
-    /// No columns.
     pub fn new(alloc: Global) -> Layout
         ensures { result ≡ 0 }
     {
@@ -33,7 +32,6 @@ impl Layout {
         }
     }
 
-    /// How many there are.
     pub fn count(&self) -> u64
         ensures { result ≡ self.now }
     {
@@ -47,7 +45,7 @@ impl Layout {
         self.next.x()
     }
 
-    /// A column more, of this width. There is no memory for a column too far to the right.
+    /// Adds a column of this width. It counts as out of memory if that is too far to the right.
     pub fn add(&mut self, width: u64) -> Result<(), AllocError>
         ensures { OnOk result (self.new ≡ self.old + 1) }
     {
@@ -57,7 +55,7 @@ impl Layout {
         Ok(())
     }
 
-    /// The next column starts no nearer than this to the column `from`.
+    /// Moves the next column to the right until it is at least this far from the column `from`.
     pub fn widen(&mut self, from: u64, width: u64) -> Result<(), AllocError>
         ensures { OnOk result (self.new ≡ self.old) }
     {
@@ -68,7 +66,7 @@ impl Layout {
         Ok(())
     }
 
-    /// Where this column starts. A column that is not there yet starts after the last.
+    /// Where a column starts. One that doesn't exist yet starts after the last.
     pub fn start(&self, column: u64) -> Column {
         match self.starts.get(column as usize) {
             Some(start) => *start,

@@ -1,5 +1,5 @@
-//! The picture of a run: a space-time diagram (Lamport 1978) as SVG, with a line a node, time to the right, and a column for
-//! each event of those that are shown. With the steps beside it, it is a page that steps through the run.
+//! The picture of a run: a space-time diagram (Lamport 1978) as SVG. Each node has a line, time runs to the right, and each event
+//! that is shown has a column. A page has the picture, and steps through the run.
 #![tactic(auto)]
 
 mod cell;

@@ -1,4 +1,4 @@
-//! What each node gives each peer, slot by slot: which message a frame carries that is made for a slot.
+//! What each node gives each peer, slot by slot. So it is known which message a frame for a slot carries.
 ghost use Rattle.std.specs.Prelude.{◌≡◌, ◌+◌, ◌≤◌, ◌++◌, ◌∷◌, [], IfOk, OnOk, OnErr, false, if◌then◌else◌, length, not};
 ghost use Rattle.cast_draw.specs.Gifts.{holding, slot_of, nothing_given, given_on, goes_on, is_held, with_held};
 
@@ -19,9 +19,9 @@ pub struct Pair {
 #[derive(Drop)]
 pub struct Links {
     me: NodeId,
-    // By the sender, the numbers that are held.
+    // By sender, the numbers that are held.
     held: Vec<NumberSet>,
-    // By the peer, what stands in each slot.
+    // By peer, the message in each slot.
     given: Vec<List<Pair>>,
 }
 
@@ -44,7 +44,7 @@ impl Model for Links {
 }
 
 impl Links {
-    /// A node of a group of this many nodes, which holds nothing.
+    /// A node that holds nothing, in a group of this many nodes.
     pub fn new(alloc: Global, me: NodeId, nodes: u64) -> Result<Links, AllocError>
         requires { nodes ≤ 64 }
         ensures { IfOk result (λ links. links ≡ nothing_given nodes me) }
@@ -58,7 +58,7 @@ impl Links {
         Ok(Links { me, held, given })
     }
 
-    /// What stands in this slot of what the node gives the peer.
+    /// The message in a slot of what the node gives a peer.
     pub fn given(&self, to: NodeId, slot: u64) -> Option<Pair>
         ensures { result ≡ slot_of self.now to slot }
     {
@@ -69,8 +69,8 @@ impl Links {
         self.given[place].as_slice().get(slot as usize).copied()
     }
 
-    /// Holds a message that came from this peer, or is the node's own. One that was not held goes on to all but its sender
-    /// and that peer. One that is held takes no memory.
+    /// Holds a message that came from this peer, or is the node's own. A new one goes on to all but its sender and that peer.
+    /// Only a new one takes memory.
     pub fn hold(&mut self, pair: Pair, source: NodeId) -> Result<(), AllocError>
         ensures ok { OnOk result (self.new ≡ holding self.old pair source) }
         ensures again { OnErr result (is_held self.old.held pair ≡ false) }
@@ -82,7 +82,7 @@ impl Links {
     }
 }
 
-// Adds the message, and says whether it is new. A sender that is no node has no set.
+// Adds the message, and returns whether it is new. A sender that is no node has no set.
 fn add(held: &mut [NumberSet], pair: Pair) -> Result<bool, AllocError>
     ensures test { IfOk result (λ is_new. is_new ≡ not (is_held held.old pair)) }
     ensures ok { OnOk result (held.new ≡ with_held held.old pair) }
@@ -95,7 +95,7 @@ fn add(held: &mut [NumberSet], pair: Pair) -> Result<bool, AllocError>
     held[place].insert(pair.number)
 }
 
-// Gives the message to each of these peers to which it goes. The first of them has the number `peer`.
+// Gives the message to those of these peers to which it goes. The first of them has the number `peer`.
 fn give_on(
     rows: &mut [List<Pair>],
     me: NodeId,

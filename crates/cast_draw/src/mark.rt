@@ -5,7 +5,7 @@ use cast_message::{Decision, Item, Message, NodeId, StepFault};
 /// A mark of an event.
 #[derive(Drop)]
 pub struct Mark {
-    /// The number of its column, from 0 on.
+    /// The number of its column, from 0.
     pub column: u64,
     /// The place of its event in the script.
     pub event: u64,
@@ -48,7 +48,7 @@ pub enum Deed {
     Decides(Decision),
 }
 
-/// The ground of a settle.
+/// The ground behind a settle.
 #[derive(Clone, Copy)]
 pub struct Ground {
     /// Its first column.

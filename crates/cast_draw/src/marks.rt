@@ -1,4 +1,4 @@
-//! How each mark is written: a small function puts its text at the end of an ink. None has a contract of its text.
+//! How each mark is written: a small function appends its text. No contract speaks of that text.
 ghost use Rattle.std.specs.Prelude.{◌<◌, ◌≤◌, ◌^◌};
 
 use crate::cell::{Cell, Spot};
@@ -110,7 +110,7 @@ fn put_numbered_box(ink: &mut Ink, cell: Cell, message: &Message) -> Result<(), 
     ])
 }
 
-/// A diamond in the place after a delivery, with the value that was decided.
+/// A diamond in the place after a delivery, with the decided value.
 pub fn put_decision(
     ink: &mut Ink,
     cell: Cell,
@@ -153,7 +153,7 @@ pub fn put_crash(ink: &mut Ink, spot: Spot, index: u64, node: NodeId) -> Result<
     ])
 }
 
-/// A pale mark of an event that was refused, with its code.
+/// A pale mark of a refused event, with the code.
 pub fn put_refusal(ink: &mut Ink, spot: Spot, index: u64, code: u64) -> Result<(), AllocError> {
     ink.put(&[
         Text(b"<g><title>event "),
@@ -172,7 +172,7 @@ pub fn put_refusal(ink: &mut Ink, spot: Spot, index: u64, code: u64) -> Result<(
     ])
 }
 
-// What is said of a frame first: its number, its ends, what it says and what made it.
+// The first words on a frame: its number, its ends, what it carries, and the event that made it.
 fn put_frame_words(ink: &mut Ink, frame: &MadeFrame) -> Result<(), AllocError> {
     ink.put(&[
         Text(b"<title>frame "),
@@ -200,7 +200,7 @@ fn put_cargo(ink: &mut Ink, cargo: Cargo, slot: u64) -> Result<(), AllocError> {
     }
 }
 
-// The class of what is drawn of a frame: the colour of its message's sender, or that of acknowledgements.
+// The class of a frame's drawing: the colour of its message's sender, or that of acknowledgements.
 fn put_class(ink: &mut Ink, frame: &MadeFrame) -> Result<(), AllocError> {
     match frame.cargo {
         Cargo::Message(pair) => ink.put(&[Text(b" s"), Number((pair.sender.0 % COLOURS) as u64)]),
@@ -251,7 +251,7 @@ pub fn put_lost(
     ])
 }
 
-/// A short line: a frame that arrives by an event that is not shown.
+/// A short line: a frame whose arrival is not shown.
 pub fn put_leaving(
     ink: &mut Ink,
     frame: &MadeFrame,

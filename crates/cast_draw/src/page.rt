@@ -23,10 +23,10 @@ use std::alloc::{AllocError, Global};
 use std::io::Write;
 use std::marker::Model;
 
-// From a node's name on its line to the next.
+// The distance between two names of a node on its line.
 const BETWEEN_NAMES: u64 = 1500;
 
-// What a name takes, so that none is cut at the right edge.
+// The room for a name, so that none is cut at the right edge.
 const NAME_WIDTH: u64 = 100;
 
 /// A finished picture. Contracts see its text.
@@ -46,7 +46,7 @@ impl Model for Drawing {
 }
 
 impl Picture {
-    /// The picture of what was taken.
+    /// The picture of all events that were taken.
     pub fn finish(self) -> Result<Drawing, AllocError> {
         let nodes = self.config.nodes();
         let width = (self.layout.next() + 8).max(LEGEND_WIDTH);
@@ -86,7 +86,7 @@ fn draw_ground(
     put_ground(ink, from - 8, width, height, ground.event)
 }
 
-// The arrows, and the marks in front of them. Refusals have this height.
+// The arrows, and the marks in front of them. Refusals are at this height.
 fn draw_marks(alloc: Global, picture: &Picture, refusals: u64) -> Result<(Ink, Ink), AllocError>
     requires { (76 ≤ refusals) × (refusals ≤ 16384) }
 {
@@ -156,8 +156,8 @@ fn draw_deed(
     }
 }
 
-/// Writes the picture. It takes no memory. A refusal comes only where the writer failed or took no byte; the meter tells so
-/// from then on, and a prefix of the text stands.
+/// Writes the picture. It allocates nothing. It fails only if the writer fails or takes no byte. Then a prefix of the text is
+/// written, and the meter says from then on that it failed.
 pub fn write_drawing<W: Write>(drawing: &Drawing, writer: &mut Meter<W>) -> Written
     requires { writer.old.failed ≡ false }
     ensures { Puts W.contents writer.old writer.new result drawing.now }
@@ -248,7 +248,7 @@ fn put_caption(ink: &mut Ink, config: &Config) -> Result<(), AllocError> {
     ])
 }
 
-// What stands behind the number of choices.
+// What follows the number of choices.
 fn values_word(config: &Config) -> &'static [u8] {
     if config.faults() < config.choices() {
         b", mode: "
@@ -280,7 +280,7 @@ fn put_lane(ink: &mut Ink, node: NodeId, crash: Option<u64>, width: u64) -> Resu
     put_names(ink, node, width)
 }
 
-// The name of a node again and again along its line, where the picture is wide.
+// The name of a node, again and again along its line if the picture is wide.
 fn put_names(ink: &mut Ink, node: NodeId, width: u64) -> Result<(), AllocError> {
     for place in 0..width.saturating_sub(NAME_WIDTH) / BETWEEN_NAMES {
         put_name(ink, node, BETWEEN_NAMES * (place + 1))?;
@@ -310,7 +310,7 @@ fn put_line(ink: &mut Ink, node: NodeId, crash: Option<u64>, width: u64) -> Resu
     }
 }
 
-// The name of a node and its line, as far as it lives.
+// The name of a node, and its line up to its crash.
 fn put_life(ink: &mut Ink, node: NodeId, end: u64) -> Result<(), AllocError> {
     let y = height_of(node);
     ink.put(&[

@@ -15,24 +15,24 @@ use std::alloc::{AllocError, Global};
 // The least width of a ground.
 const LEAST_GROUND: u64 = 48;
 
-/// The picture of a run. It takes the events one after another, with the replies to them, and keeps the marks of those of its
-/// window. Of the others it keeps the frames that they made, which of these arrived, what the nodes give one another, and where
-/// a node's line ends.
+/// The picture of a run. It takes the events with their replies, one after another. It keeps the marks of the events in its
+/// window. Of all events it keeps which frames they made, which of these arrived, what the nodes give one another, and where a
+/// node's line ends.
 #[derive(Drop)]
 pub struct Picture {
     pub(crate) alloc: Global,
     pub(crate) config: Config,
     pub(crate) window: Window,
     pub(crate) layout: Layout,
-    // The first column of the settle that began last.
+    // The first column of the last settle.
     pub(crate) settle: u64,
     pub(crate) grounds: List<Ground>,
     pub(crate) marks: List<Mark>,
-    // By the node, what it holds, and what it gives each peer.
+    // By node, what it holds, and what it gives each peer.
     pub(crate) links: Vec<Links>,
-    // By the node, the frames that it made.
+    // By node, the frames that it made.
     pub(crate) made: Vec<MadeFrames>,
-    // By the node, the column at which it crashed.
+    // By node, the column at which it crashed.
     pub(crate) crashes: Vec<Option<u64>>,
 }
 
@@ -61,9 +61,9 @@ impl Picture {
         })
     }
 
-    /// Takes an event, which has this place in its script, and the reply to it. A reply that is not one to the event leaves
-    /// nothing. What is kept of an event takes memory, and so do the marks of one that is shown. There is no memory for a picture
-    /// wider than 2^40 points. After a refusal the picture may have a part of the event's marks, and must not be finished.
+    /// Takes the event at this place of its script, and the reply to it. If the reply doesn't belong to the event, nothing
+    /// changes. A picture wider than 2^40 points counts as out of memory. If it is out of memory, the picture may have a part of
+    /// the event's marks, and must not be finished.
     pub fn take(&mut self, index: u64, event: &Event, reply: &Reply) -> Result<(), AllocError>
         ensures ok { OnOk result (sheet_of self.new
             ≡ drawn_after (sheet_of self.old) index event.now reply.now) }
@@ -82,15 +82,15 @@ impl Picture {
         self.layout.next()
     }
 
-    /// A settle begins: the events from here on are its own.
+    /// Notes that a settle begins: the next events belong to it.
     pub fn begin_settle(&mut self)
         ensures { sheet_of self.new ≡ settle_begun (sheet_of self.old) }
     {
         self.settle = self.layout.count();
     }
 
-    /// The settle that began last, which has this place in its script, is over. If it is shown, it may be refused as `take` is,
-    /// and then the picture must not be finished.
+    /// Notes that the settle at this place of the script is over. If the settle is shown, the call may be out of memory, as
+    /// `take` may, and then the picture must not be finished.
     pub fn end_settle(&mut self, index: u64) -> Result<(), AllocError>
         ensures ok { OnOk result (sheet_of self.new ≡ settle_ended (sheet_of self.old) index) }
         ensures err { OnErr result (shows self.old.window index ≡ true) }
@@ -99,7 +99,7 @@ impl Picture {
         if !self.window.shows(index) {
             return Ok(());
         }
-        // (one without an event has a column of its own)
+        // (a settle without events has a column of its own)
         if self.settle == self.layout.count() {
             self.layout.add(LEAST_GROUND)?;
         }
@@ -160,7 +160,7 @@ impl Picture {
         self.put_outcome(index, node, outcome, WIDE)
     }
 
-    // The frame carries what is in the slot. A slot that was not given has no frame.
+    // The frame carries the message in the slot. A slot that was not given has no frame.
     fn take_send(
         &mut self,
         index: u64,
@@ -260,7 +260,7 @@ impl Picture {
         self.layout.add(NARROW)
     }
 
-    // Puts a mark into the next column.
+    // Adds a mark in the next column.
     fn put(&mut self, event: u64, shown: Shown) -> Result<(), AllocError>
         ensures { OnOk result (sheet_of self.new ≡ with_mark (sheet_of self.old) event shown) }
     {
@@ -272,7 +272,7 @@ impl Picture {
         })
     }
 
-    // Puts what an event delivered and decided at a node into the next column, which is at least this wide and ends there.
+    // Adds what an event delivered and decided at a node to the next column, which is then complete and at least this wide.
     fn put_outcome(
         &mut self,
         event: u64,

@@ -1,4 +1,4 @@
-//! What a picture keeps by the node: what it holds and gives, the frames that it made, where its line ends.
+//! What a picture keeps of each node: what it holds and gives, the frames that it made, and where its line ends.
 ghost use Rattle.std.specs.Prelude.{◌≡◌, ◌++◌, ◌∷◌, [], ◌≤◌, Some, None, IfOk, OnOk, OnErr, true, length, map, replicate, slice_get, slice_index_or, slice_set};
 ghost use Rattle.std.specs.List.{range_with_len};
 ghost use Rattle.cast_draw.specs.Gifts.{nothing_given, slot_of};
@@ -10,7 +10,7 @@ use crate::links::{Links, Pair};
 use cast_message::NodeId;
 use std::alloc::{AllocError, Global};
 
-/// So many nodes that hold nothing.
+/// As many nodes as given, which hold nothing.
 pub fn new_links(alloc: Global, nodes: u64) -> Result<Vec<Links>, AllocError>
     requires { nodes ≤ 64 }
     ensures { IfOk result (λ links. links.items
@@ -23,7 +23,7 @@ pub fn new_links(alloc: Global, nodes: u64) -> Result<Vec<Links>, AllocError>
     Ok(links)
 }
 
-/// So many nodes that made no frames.
+/// As many nodes as given, which made no frames.
 pub fn new_made(alloc: Global, nodes: u64) -> Result<Vec<MadeFrames>, AllocError>
     ensures { IfOk result (λ made. made.items ≡ replicate nodes []) }
 {
@@ -34,7 +34,7 @@ pub fn new_made(alloc: Global, nodes: u64) -> Result<Vec<MadeFrames>, AllocError
     Ok(made)
 }
 
-/// A node holds what came from this one. What is no node holds nothing. Memory is wanted for a new message alone.
+/// Notes that a node holds a message that came from another. Only a new message takes memory. What is no node holds nothing.
 pub fn hold(
     links: &mut Vec<Links>,
     node: NodeId,
@@ -54,7 +54,7 @@ pub fn hold(
     links[place].hold(pair, source)
 }
 
-/// What stands in a slot of what a node gives another.
+/// The message in a slot of what a node gives another.
 pub fn given(links: &[Links], from: NodeId, to: NodeId, slot: u64) -> Option<Pair>
     ensures { result ≡ slot_of (gifts_at links.now from) to slot }
 {
@@ -76,7 +76,7 @@ pub fn count(made: &[MadeFrames], node: NodeId) -> u64
     made[place].count()
 }
 
-/// A frame more of its maker.
+/// Adds a frame to those of its maker.
 pub fn add_frame(made: &mut Vec<MadeFrames>, frame: &MadeFrame) -> Result<(), AllocError>
     ensures { OnOk result (made.new.items ≡ slice_set made.old.items frame.now.from
         (made_at made.old.items frame.now.from ++ frame.now ∷ [])) }
@@ -88,7 +88,7 @@ pub fn add_frame(made: &mut Vec<MadeFrames>, frame: &MadeFrame) -> Result<(), Al
     made[place].push(frame)
 }
 
-/// The frame of this number of a node, of which is kept that it arrived, by an event that is shown or is not.
+/// Notes that a node's frame arrived, by an event that is shown or not, and returns the frame as it was.
 pub fn arrive(
     made: &mut Vec<MadeFrames>,
     from: NodeId,
@@ -106,7 +106,7 @@ pub fn arrive(
     made[place].arrive(seq, is_shown)
 }
 
-/// The line of a node ends at this column.
+/// Ends the line of a node at this column.
 pub fn end_line(crashes: &mut Vec<Option<u64>>, node: NodeId, x: u64)
     ensures { crashes.new.items ≡ slice_set crashes.old.items node (Some x) }
 {
@@ -116,7 +116,7 @@ pub fn end_line(crashes: &mut Vec<Option<u64>>, node: NodeId, x: u64)
     }
 }
 
-/// Where the line of a node ends, if it does.
+/// Where the line of a node ends, if the node crashed.
 pub fn crash_of(crashes: &[Option<u64>], node: NodeId) -> Option<u64>
     ensures { result ≡ slice_index_or crashes.now node None }
 {

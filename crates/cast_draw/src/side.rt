@@ -12,7 +12,7 @@ pub enum Side {
 }
 
 impl Side {
-    /// On which side of a node's line that of another is.
+    /// The side of a node's line on which another's is.
     pub fn of(from: NodeId, to: NodeId) -> Side {
         if to.0 < from.0 { Side::Up } else { Side::Down }
     }

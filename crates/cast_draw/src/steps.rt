@@ -1,4 +1,4 @@
-//! What a page steps through: the events that are shown, each with what it changes at a node, as lines of words.
+//! What a page steps through, as lines of words: the events that are shown, and what each changes at a node.
 //!
 //! | line | what it says |
 //! |---|---|
@@ -12,9 +12,9 @@
 //! | `v P J W` | the step, or an event before the first, decides W in J at node P |
 //! | `w P C ..` | from here on node P owes each node this many slots |
 //!
-//! An event has the words that it has in a script, with its item as in a record: `order P ITEM`, `send P Q SLOT`,
+//! An event is written as in a script, and its item as in a record: `order P ITEM`, `send P Q SLOT`,
 //! `ack P Q SLOT`, `arrive P SEQ` or `crash P`. A reply is the number of the item or of the frame, or the node at which the
-//! frame arrives. No line has a letter that HTML has other uses for.
+//! frame arrives. No line has a letter with a meaning in HTML.
 use crate::ink::Ink;
 use crate::ink::Piece::{Number, Text, Word};
 use crate::window::Window;
@@ -22,7 +22,7 @@ use cast_message::{Answer, Config, Decision, Event, Message, NodeId, Outcome, RE
 use cast_world::{World, is_want_of_memory};
 use std::alloc::{AllocError, Global};
 
-/// The steps of a page as they grow, with a world that takes the events too, and is asked what they changed.
+/// The steps of a page as they grow. A world takes the same events, and shows what they change.
 #[derive(Drop)]
 pub struct Steps {
     lines: Ink,
@@ -52,7 +52,7 @@ impl Steps {
         self.lines.as_slice()
     }
 
-    /// Takes an event, whose column stands at `x`, and the reply to it.
+    /// Takes an event, whose column is at `x`, and the reply to it.
     pub fn take(
         &mut self,
         index: u64,
@@ -74,7 +74,7 @@ impl Steps {
         }
     }
 
-    /// Says what the nodes have delivered and owe before the first step, unless it was said.
+    /// Writes once what the nodes have delivered and owe before the first step.
     pub fn begin(&mut self) -> Result<(), AllocError> {
         if self.has_begun {
             return Ok(());
@@ -128,7 +128,7 @@ impl Steps {
         self.put_owed(node)
     }
 
-    // The decisions of an event before the first step are kept, since a world does not list them.
+    // Decisions before the first step are written too, since a world doesn't list them.
     fn put_earlier(&mut self, event: &Event, reply: &Reply) -> Result<(), AllocError> {
         if self.has_begun {
             return Ok(());

@@ -8,7 +8,7 @@ pub const STYLE: &[u8] =
 pub const COLOUR_STYLE: &[u8] =
     b".f0{fill:#0072b2}.f1{fill:#d55e00}.f2{fill:#009e73}.f3{fill:#cc79a7}.f4{fill:#e69f00}.f5{fill:#56b4e9}.f6{fill:#7a5195}.f7{fill:#6b6b00}.s0{stroke:#0072b2}.s1{stroke:#d55e00}.s2{stroke:#009e73}.s3{stroke:#cc79a7}.s4{stroke:#e69f00}.s5{stroke:#56b4e9}.s6{stroke:#7a5195}.s7{stroke:#6b6b00}.k{stroke:#888}.t0,.t1,.t2,.t6,.t7{fill:#fff}.t3,.t4,.t5{fill:#000}";
 
-/// The class and the colour of each kind of arrow, whose tip has that colour too.
+/// The class and the colour of each kind of arrow. Its tip has the same colour.
 pub const TIPS: &[(&[u8], &[u8])] = &[
     (b"s0", b"#0072b2"),
     (b"s1", b"#d55e00"),
@@ -21,13 +21,13 @@ pub const TIPS: &[(&[u8], &[u8])] = &[
     (b"k", b"#888"),
 ];
 
-/// How wide the legend is, with its margins.
+/// The width of the legend, with its margins.
 pub const LEGEND_WIDTH: u64 = 680;
 
-/// How much room in height the legend takes.
+/// The height of the legend.
 pub const LEGEND_HEIGHT: u64 = 128;
 
-/// What each kind of mark says: two columns of a mark with its words. It begins at its left upper corner.
+/// What each kind of mark means, in two columns.
 pub const LEGEND: &[u8] =
     b"<circle class='f0' cx='6' cy='10' r='5'/><text class='l' x='16' y='14'>ab</text><text class='h' x='56' y='14'>node 0 broadcasts an item of two letters</text>
 <path class='a s0' d='M340 10L384 10'/><text class='h' x='396' y='14'>a frame with an item of node 0 arrives</text>

@@ -1,12 +1,12 @@
 //! Which events of a script are shown.
 ghost use Rattle.std.specs.Prelude.{◌≡◌, ◌^◌, ◌-◌, ◌&&◌, nat_le};
 
-/// The events of a script from one place to another, both shown; counted from 0.
+/// The events of a script from one place to another, both included. Places are counted from 0.
 #[derive(Clone, Copy, PartialEq, Eq)]
 pub struct Window {
     /// The first event that is shown.
     pub from: u64,
-    /// The last event that is shown. Where it is less than the first, none is.
+    /// The last event that is shown. If it is less than the first, no event is shown.
     pub to: u64,
 }
 
@@ -21,7 +21,7 @@ impl Window {
         }
     }
 
-    /// Whether the event of this place is shown.
+    /// Whether the event at this place is shown.
     pub fn shows(self, index: u64) -> bool
         ensures { result ≡ (nat_le self.from index && nat_le index self.to) }
     {
