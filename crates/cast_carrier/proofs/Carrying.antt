@@ -1,21 +1,13 @@
 -- A carrier that carries one parcel has the same ends, and keeps what it keeps.
-use Rattle.std.proofs.Common.{◌≡◌, ◌≢◌, Bool, true, false, cond, ℕ, zero, suc, List, [], ◌∷◌, ◌++◌, map, slice_get, slice_set, Some, Ok, Err, Result, MatchResult, refl, sym, ap, ◌∙◌, subst, ◌⊎◌, inl, inr, ⊎_elim}
-use Rattle.cast_box.specs.Ends.{PutterEnd, IsSamePutter, AreSamePutters, WasFull}
+use Rattle.std.proofs.Common.{◌≡◌, ◌≢◌, Bool, true, false, cond, ℕ, zero, suc, List, [], ◌∷◌, ◌++◌, map, slice_get, slice_set, Some, refl, sym, ap, ◌∙◌, subst, ◌⊎◌, inl, inr, ⊎_elim}
+use Rattle.cast_box.specs.Ends.{PutterEnd, IsSamePutter, AreSamePutters}
 use Rattle.cast_box.proofs.Same.{get_set, putters_same, putters_again, putters_set}
-use Rattle.cast_box.specs.declared.ends.Full.{Full}
-use Rattle.cast_message.specs.Items.{kind_of}
 use Rattle.cast_journal.specs.declared.parcel.Parcel.{Parcel}
 use Rattle.cast_carrier.specs.declared.carrier.Delayed.{Delayed}
 use Rattle.cast_carrier.specs.declared.fate.Fate.{Fate}
 use Rattle.cast_journal.specs.Lists.{Has}
-use Rattle.cast_carrier.specs.Carriers.{IsTaken, Brings, CarrierKeeps, WaitsBy, HadRoom, PutsInto, PutsOne, PutsCopy, HandsOn, HandsOnAll, HandsOnUnless, HandsOver, counted_down, waiting_on, due_by}
+use Rattle.cast_carrier.specs.Carriers.{IsTaken, Brings, CarrierKeeps, WaitsBy, PutsInto, PutsOne, PutsCopy, HandsOn, HandsOnAll, HandsOnUnless, HandsOver, counted_down, waiting_on, due_by}
 use Rattle.cast_journal.proofs.Lists.{has_left, has_last, has_snoc, has_none, has_either, has_filter}
-
--- where there was room for it, the parcel was put, or handed back by a full inbox
-pub put_or_full : (room : ℕ) (old new : PutterEnd Parcel) (x : Parcel) (r : Result (Unit {0}) (Full Parcel)) → HadRoom room old (kind_of x.frame.body)
-    → MatchResult r (λ _. new.put ≡ old.put ++ x ∷ []) (λ full. (full.item ≡ x) × (new.put ≡ old.put) × WasFull old) → PutsInto room old x new
-put_or_full room old new x (Ok u) had h = inl (h, had)
-put_or_full room old new x (Err f) had h = inr (h.1, inl h.2)
 
 pub put_one : (room : ℕ) (inboxes : List (PutterEnd Parcel)) (x : Parcel) (to : ℕ) (old new : PutterEnd Parcel) → to ≡ x.frame.to → slice_get inboxes to ≡ Some old → IsSamePutter old new → PutsInto room old x new
     → PutsOne room inboxes x (slice_set inboxes to new)

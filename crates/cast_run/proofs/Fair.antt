@@ -1,11 +1,11 @@
 -- Each actor of a run by a schedule is served.
-use Rattle.std.proofs.Common.{◌≡◌, ◌≢◌, ◌<◌, ◌≤◌, ◌+◌, ◌-◌, ◌*◌, ◌⊎◌, ⊎_elim, inl, inr, ℕ, zero, suc, Bool, true, false, List, [], ◌∷◌, ◌++◌, length, slice_get, slice_set, get_or, swap_remove, take, Some, refl, sym, ap, ◌∙◌, subst, arith}
+use Rattle.std.proofs.Common.{◌≡◌, ◌≢◌, ◌<◌, ◌+◌, ◌-◌, ◌*◌, ◌⊎◌, ⊎_elim, inl, inr, ℕ, zero, suc, Bool, false, List, [], ◌∷◌, ◌++◌, length, slice_get, slice_set, get_or, swap_remove, take, Some, refl, sym, ap, ◌∙◌, subst, arith}
 use Prim.{yes, no}
 use Rattle.std.proofs.Math.Decide.{dec_lt}
-use Rattle.std.proofs.lemmas.List.{length-set, length-append, append_assoc}
+use Rattle.std.proofs.lemmas.List.{length-set, length-append}
 use Rattle.std.proofs.lemmas.Option.{slice_get_within, get_or_from_slice_get}
 use Rattle.cast_box.proofs.Same.{get_set}
-use Rattle.cast_box.proofs.Closing.{each_more, no_length}
+use Rattle.cast_box.proofs.Closing.{each_more}
 use Rattle.cast_engine.proofs.Few.{set_elsewhere}
 use Rattle.cast_carrier.proofs.Copying.{same_read}
 use Rattle.cast_journal.specs.Lists.{Has}

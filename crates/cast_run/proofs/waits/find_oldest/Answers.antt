@@ -1,5 +1,3 @@
-use Rattle.std.proofs.Common.{length}
-use Rattle.cast_run.specs.Waits.{IsOldest}
 use Rattle.cast_run.proofs.Waiting.{oldest_first, oldest_now, oldest_still}
 use Rattle.cast_run.proofs.waits.find_oldest.Goals as goal
 use Rattle.cast_run.proofs.waits.find_oldest.Goals.{then-live-place, else-live-place}

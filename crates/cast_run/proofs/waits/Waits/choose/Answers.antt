@@ -1,4 +1,4 @@
-use Rattle.std.proofs.Common.{◌∙◌, sym, ap, length, inl, arith}
+use Rattle.std.proofs.Common.{◌∙◌, ap, length, inl, arith}
 use Rattle.cast_box.proofs.Closing.{found}
 use Rattle.cast_run.specs.Waits.{WaitsState}
 use Rattle.cast_run.proofs.waits.Waits.choose.Goals as goal
