@@ -11,6 +11,7 @@ use cast_node::Node;
 
 /// Settles slots in succession between two nodes at these places, up to the first that yields news or can't be settled.
 /// Returns how many it settled. It may always stop early.
+#[inline(always)]
 pub fn settle_between(
     nodes: &mut [Node],
     marks: &mut [Vec<Mark>],

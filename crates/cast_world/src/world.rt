@@ -136,6 +136,7 @@ impl World {
     }
 
     // The same for the first slots in succession that one node owes another. Returns whether there were any, and all were settled.
+    #[inline(always)]
     fn settle_first_run(&mut self, due: &mut DueSlots) -> bool
         ensures settles { SettlesFront self.old due.old due.new self.new }
         ensures fewer { IsTrue result → length due.new < length due.old }
@@ -152,6 +153,7 @@ impl World {
     }
 
     // Settles the slots from the first up to the end that one node owes another, in order. Returns how many.
+    #[inline(always)]
     fn settle_run(&mut self, from: NodeId, to: NodeId, first: u64, end: u64) -> u64
         requires { first ≤ end }
         ensures few { result ≤ end - first }
