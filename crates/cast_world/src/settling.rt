@@ -1,4 +1,4 @@
-//! A run of slots that one node owes another, each settled without news. What all of them need is looked up once.
+//! A run of slots that one node owes another, each settled without news. The two nodes are looked up once for all of them.
 ghost use Rattle.std.specs.Prelude.{◌≡◌, ◌≢◌, ◌<◌, ◌≤◌, ◌-◌, IsTrue, IsFalse, length, map};
 ghost use Rattle.std.specs.List.{range_with_len};
 ghost use Rattle.cast_message.specs.declared.config.Config.{Config as Settings};
@@ -78,7 +78,8 @@ fn settle_run(
     end - first
 }
 
-// Settles a slot if it can without news. Returns whether it did. It may always return `false`: then nothing changed.
+// Settles a slot if it can without news. Returns whether it did. It may always return `false`: then nothing changed. Whatever may be
+// refused comes first. Once the taker has taken its steps, nothing is, so no step is undone.
 #[inline(always)]
 fn settle_slot(
     giver: &mut Node,

@@ -1,5 +1,5 @@
 //! The group as one value: events go in, replies come out.
-ghost use Rattle.std.specs.Prelude.{◌≡◌, ◌≢◌, ◌<◌, ◌≤◌, ◌^◌, ◌∷◌, IsTrue, IsFalse, IfOk, IfSome, IfNone, OnErr, [], length, take, map, ◌-◌, option_map, nat_lt, ◌&&◌, Ok, Err};
+ghost use Rattle.std.specs.Prelude.{◌≡◌, ◌≢◌, ◌<◌, ◌≤◌, ◌^◌, ◌∷◌, IsTrue, IsFalse, IfOk, IfSome, IfNone, OnErr, [], length, map, ◌-◌, option_map, nat_lt, ◌&&◌, Ok, Err};
 ghost use Rattle.std.specs.List.{range_with_len};
 ghost use Rattle.cast_message.specs.declared.event.StepFault.TheVariants.{Memory};
 ghost use Rattle.cast_model.specs.History.{is_live};
@@ -9,8 +9,7 @@ ghost use Rattle.cast_model.specs.Shown.{ShowsDelivered, ShowsStream, ShowsOwed}
 ghost use Rattle.cast_world.specs.Group.{Stands, StandingFor, Continues, FindsNode, IsFar, IsCrash, IsRefusedForCause, node_at, marks_at};
 ghost use Rattle.cast_node.specs.Calls.{number_reply, silent_reply};
 ghost use Rattle.cast_world.specs.Moves.{FindsMark, IsSilent, MakesFrame, StepsTo};
-ghost use Rattle.cast_world.specs.Plans.{due_of, events_of};
-ghost use Rattle.cast_world.specs.Rounds.{TakesSilently};
+ghost use Rattle.cast_world.specs.Plans.{due_of};
 ghost use Rattle.cast_world.specs.Settled.{SettlesSilently, SettlesFront};
 
 use crate::due_run::Run;
