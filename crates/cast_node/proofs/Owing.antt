@@ -137,7 +137,7 @@ len_through messages owed =
     ∙ length-map (finite.entries owed) (λ e. (e.0, kept_message messages e.1))
     ∙ sym (len-entries owed)
 
-contains_through : (messages : List Message) (owed : finite.FinMap nat_cmp ℕ) (q : ℕ) → finite.contains_key (owed_through messages owed) q ≡ finite.contains_key owed q
+pub contains_through : (messages : List Message) (owed : finite.FinMap nat_cmp ℕ) (q : ℕ) → finite.contains_key (owed_through messages owed) q ≡ finite.contains_key owed q
 contains_through messages owed q = ap is_some (get_through messages owed q) ∙ elim (finite.get owed q) as (λ o. is_some (option_map (kept_message messages) o) ≡ is_some o) [ None ↦ refl | Some place ↦ refl ]
 
 pub through_empty : (messages : List Message) → owed_through messages finite.empty ≡ finite.empty

@@ -23,11 +23,11 @@ use Rattle.cast_model.proofs.Accepted.{no_cause}
 use Rattle.cast_model.proofs.Members.{here, there}
 use Rattle.cast_model.proofs.RoundFaults.{quiet}
 use Rattle.cast_link.specs.Links.{Link, with_acknowledged}
-use Rattle.cast_node.specs.Kept.{Kept, link_to, taken_from, knowers_of, holds}
+use Rattle.cast_node.specs.Kept.{Kept, link_to, taken_from, knowers_of}
 use Rattle.cast_node.specs.Turns.{Told, kept_fault, kept_causes, kept_after, message_owed, may_arrive, arrived, arrived_body, acknowledged, with_acked, with_taken, told_more, taken_up}
 use Rattle.cast_node.specs.Calls.{is_peer, may_carry, carried_frame, took_frame}
 use Rattle.cast_node.specs.Delivering.{Delivering, known_row, noted, told_in, outcome_in}
-use Rattle.cast_node.specs.Settling.{MaySettle, SettlesGiven}
+use Rattle.cast_node.specs.Settling.{IsQuiet, MaySettle, SettlesGiven, SettlesTaken}
 use Rattle.cast_node.proofs.DeliveryTables.{told_had}
 
 -- a row that has the place
@@ -104,30 +104,50 @@ unfolding first_fault
 no_fault a b c d e ha hb hc hd he =
     quiet a (b ∷ c ∷ d ∷ e ∷ []) ha ∙ quiet b (c ∷ d ∷ e ∷ []) hb ∙ quiet c (d ∷ e ∷ []) hc ∙ quiet d (e ∷ []) hd ∙ quiet e [] he
 
--- a slot that a node takes of a peer, with a message that it holds
-module _ (kept : Kept) (from slot s i : ℕ) (peer : is_peer kept from ≡ true) (may : may_carry kept slot s i ≡ true) (held : holds kept s i ≡ true) (seq : ℕ) (item : Item) where
-  abbrev pub frame : Frame
-  frame = carried_frame kept.me from seq slot s i item
+-- a slot that a node takes of a peer, with a message that it holds and that is quiet
+module _ (kept : Kept) (from slot s i : ℕ) (peer : is_peer kept from ≡ true) (may : may_carry kept slot s i ≡ true) (silent : IsQuiet kept.deliveries s i) where
+  abbrev pub holders : set.FinSet nat_cmp
+  holders = set.insert (knowers_of kept s i) from
 
-  arrives_again : may_arrive kept frame ≡ true
-  arrives_again = grind (arith, nat_tests, peer, may)
+  -- what is told of the pair
+  pub told_again : (noted kept.deliveries s i holders ≡ told_in kept.config kept.deliveries s i holders) × (nothing ≡ outcome_in kept.config kept.deliveries s i holders)
+  told_again = told_had kept.config kept.deliveries s i holders silent.nothing_new silent.same
 
-  abbrev pub taken : Kept
-  taken = (told_more (with_taken kept from slot) s i from).kept
+  abbrev taken : Told
+  taken = told_more (with_taken kept from slot) s i from
 
-  pub taken_is : kept_after kept (Arrived frame) ≡ taken
-  taken_is =
-      ap (λ b. (cond b (arrived_body kept from frame.body) (record { outcome = nothing; kept = kept })).kept) arrives_again
-      ∙ ap (λ b. (cond b (told_more (with_taken kept from slot) s i from) (taken_up (with_taken kept from slot) (record { sender = s; number = i; item = item }) from)).kept) held
+  module _ (seq : ℕ) (item : Item) where
+    abbrev frame : Frame
+    frame = carried_frame kept.me from seq slot s i item
 
-  pub acknowledges : kept_fault kept (Arrived frame) ≡ None → length kept.incoming ≡ kept.config.nodes → kept.frames < 1048576 → kept_fault (kept_after kept (Arrived frame)) (Acknowledged from slot) ≡ None
-  unfolding kept_fault
-  acknowledges clear rows few =
-      let parts = and_parts (nat_lt from kept.config.nodes) _ peer in
-      let inside = ltb-true from kept.config.nodes parts.0 in
-      ap (λ k. kept_fault k (Acknowledged from slot)) taken_is
-      ∙ no_fault _ _ _ _ _ (ap not parts.0)
-      (ne_eqb kept.me from (λ e. false≢true (sym (ap not (eq-eqb from kept.me (sym e))) ∙ parts.1)))
-      (no_cause _ (kept_causes kept (Arrived frame)) clear here)
-      (ap not (ap (λ slots. set.contains slots slot) (get_or-set_same kept.incoming from (set.insert (taken_from kept from) slot) set.empty (omega (arith, inside, rows))) ∙ contains-insert nat_cmp_total (taken_from kept from) slot slot ∙ ap (λ b. b || set.contains (taken_from kept from) slot) (cmp_eq slot slot ∙ eq-eqb slot slot refl)))
-      (lt-leb 1048576 kept.frames few)
+    arrives_again : may_arrive kept frame ≡ true
+    arrives_again = grind (arith, nat_tests, peer, may)
+
+    taken_is : arrived kept frame ≡ taken
+    taken_is =
+        ap (λ b. cond b (arrived_body kept from frame.body) (record { outcome = nothing; kept = kept })) arrives_again
+        ∙ ap (λ b. cond b (told_more (with_taken kept from slot) s i from) (taken_up (with_taken kept from slot) (record { sender = s; number = i; item = item }) from)) silent.held
+
+    acknowledges : not kept.live ≡ false → length kept.incoming ≡ kept.config.nodes → kept.frames < 1048576 → kept_fault (kept_after kept (Arrived frame)) (Acknowledged from slot) ≡ None
+    unfolding kept_fault
+    acknowledges live rows few =
+        let parts = and_parts (nat_lt from kept.config.nodes) _ peer in
+        let inside = ltb-true from kept.config.nodes parts.0 in
+        ap (λ t. kept_fault t.kept (Acknowledged from slot)) taken_is
+        ∙ no_fault _ _ _ _ _ (ap not parts.0)
+        (ne_eqb kept.me from (λ e. false≢true (sym (ap not (eq-eqb from kept.me (sym e))) ∙ parts.1)))
+        live
+        (ap not (ap (λ slots. set.contains slots slot) (get_or-set_same kept.incoming from (set.insert (taken_from kept from) slot) set.empty (omega (arith, inside, rows))) ∙ contains-insert nat_cmp_total (taken_from kept from) slot slot ∙ ap (λ b. b || set.contains (taken_from kept from) slot) (cmp_eq slot slot ∙ eq-eqb slot slot refl)))
+        (lt-leb 1048576 kept.frames few)
+
+  pub settles_taken : not kept.live ≡ false → length kept.incoming ≡ kept.config.nodes → kept.frames < 1048576 → (incoming : List (set.FinSet nat_cmp)) (ds : Delivering) →
+      incoming ≡ slice_set kept.incoming from (set.insert (taken_from kept from) slot) → ds ≡ noted kept.deliveries s i holders → SettlesTaken kept from slot s i (record kept { frames = kept.frames + 1; incoming = incoming; deliveries = ds })
+  unfolding kept_fault first_fault
+  settles_taken live rows few incoming ds taken_so noted_so = λ seq item. (
+    (ap (λ b. cond b (Some Crashed) None) live, ap (AnswerArrived kept.me) (told_again.1 ∙ sym (ap (λ t. t.outcome) (taken_is seq item))), refl),
+    (
+      acknowledges seq item live rows few,
+      refl,
+      (λ k. record kept { frames = kept.frames + 1; incoming = taken_so k; deliveries = (noted_so ∙ told_again.0) k }) ∙ ap (λ t. record t.kept { frames = t.kept.frames + 1 }) (sym (taken_is seq item)),
+    ),
+  )

@@ -3,11 +3,11 @@
 --     MaySettle kept to slot s i      the node can send the slot with this pair, which is quiet
 --     SettlesGiven kept to slot new   the node sends the slot, and takes its acknowledgement without news
 --     SettlesTaken kept from slot s i new   the node takes the slot with this pair without news, and acknowledges it
-use Rattle.std.specs.Prelude.{◌≡◌, ℕ, ◌<◌, [], length, slice_index_or, None, Ok}
+use Rattle.std.specs.Prelude.{◌≡◌, ℕ, ◌<◌, [], length, slice_index_or, true, None, Ok}
 use Rattle.cast_message.specs.declared.event.Answer.TheVariants.{Sent as AnswerSent}
 use Rattle.cast_message.specs.declared.message.Item.{Item}
 use Rattle.cast_model.specs.Steps.{Sent, Acknowledged, Arrived}
-use Rattle.cast_fifo.specs.HeldBack.{held_of, known_items, known_after}
+use Rattle.cast_fifo.specs.HeldBack.{held_of, came, known_items, known_after}
 use Rattle.cast_node.specs.Kept.{Kept}
 use Rattle.cast_node.specs.Delivering.{Delivering}
 use Rattle.cast_node.specs.Turns.{Gives, kept_fault, kept_after, message_owed}
@@ -15,6 +15,7 @@ use Rattle.cast_node.specs.Calls.{carried_frame, took_frame, silent_reply}
 
 -- the pair had its turn, and there is a place for the nodes known to hold it
 pub record IsQuiet (ds : Delivering) (s i : ℕ) : Type 0 where
+  pub held : came (held_of ds.hold_back s) i ≡ true
   pub place : i < length (slice_index_or ds.knowers s [])
   pub nothing_new : known_items (held_of ds.hold_back s) i ≡ []
   pub same : known_after (held_of ds.hold_back s) i ≡ held_of ds.hold_back s

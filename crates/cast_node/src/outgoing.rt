@@ -1,6 +1,6 @@
 //! What a node gives its peers. A message that goes to several is kept once: the slots of a link keep its place, in
 //! eight bytes. No reference count changes when a slot is given, acknowledged or dropped.
-ghost use Rattle.std.specs.Prelude.{◌≡◌, ◌<◌, ◌≤◌, ◌↔◌, IsFalse, length, replicate, slice_set, IfOk, OnOk, OnErr};
+ghost use Rattle.std.specs.Prelude.{◌≡◌, ◌<◌, ◌≤◌, ◌↔◌, true, IsFalse, length, replicate, slice_set, IfOk, OnOk, OnErr};
 ghost use Rattle.std.specs.FinMap as finite;
 ghost use Rattle.std.specs.Option.{option_copied};
 ghost use Rattle.cast_link.specs.Links.{with_acknowledged, IsLeastFrom, IsOwedUntil};
@@ -98,15 +98,16 @@ impl Outgoing {
         Some(&self.messages[*place as usize])
     }
 
-    /// Marks a slot of a peer as acknowledged.
+    /// Marks a slot that a peer is owed as acknowledged.
     #[inline(always)]
     pub fn acknowledge(&mut self, to: NodeId, slot: u64)
-        requires { to < length (links_of self.old) }
+        requires to { to < length (links_of self.old) }
+        requires owed { finite.contains_key (link_in (links_of self.old) to).owed slot ≡ true }
         ensures { links_of self.new ≡ slice_set (links_of self.old) to
             (with_acknowledged (link_in (links_of self.old) to) slot) }
     {
         let link = &mut self.links[usize::from(to.0)];
-        link.acked(slot);
+        link.acked_owed(slot);
         if link.owed() == 0 {
             self.owed.remove(to);
         }

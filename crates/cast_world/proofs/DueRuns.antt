@@ -2,10 +2,8 @@
 use Rattle.std.proofs.Common.{◌≡◌, ℕ, zero, suc, ◌+◌, ◌-◌, ◌<◌, ◌≤◌, refl, drop, take, sym, ◌∙◌, ap, List, [], ◌∷◌, ◌++◌, length, map, get_or, arith, append_assoc, append-nil, length-append}
 use Rattle.std.specs.Prelude.{slice_set}
 use Rattle.std.specs.List.{flat_map, range_with_len}
-use Rattle.std.proofs.lemmas.List.{map-append, drop-map, drop-append-le}
+use Rattle.std.proofs.lemmas.List.{drop-map, drop-append-le}
 use Rattle.std.proofs.lemmas.List.FromFn.{length-map-range_with_len, take-map-range_with_len}
-use Rattle.cast_model.specs.Rounds.{Due}
-use Rattle.cast_node.proofs.Links.{range-more}
 use Rattle.cast_world.specs.Plans.{due_of}
 use Rattle.cast_world.specs.DueRuns.{slots_of, slots_from}
 use Rattle.cast_world.specs.declared.due_run.Run.{Run}

@@ -99,6 +99,7 @@ impl DueSlots {
     }
 
     /// The first slots in succession that one node owes another, if there are any.
+    #[inline(always)]
     pub(crate) fn first_run(&self) -> Option<Run>
         ensures some { IfSome result (λ run. self.now ≡ slots_of run ++ drop (run.more + 1) self.now) }
         ensures none { IfNone result (self.now ≡ []) }
@@ -107,6 +108,7 @@ impl DueSlots {
     }
 
     /// Takes off as many of the first slots.
+    #[inline(always)]
     pub(crate) fn skip(&mut self, count: u64)
         ensures { self.new ≡ drop count self.old }
     {
@@ -178,6 +180,9 @@ fn skip_slots(runs: &mut Vec<Run>, place: usize, count: u64) -> usize
     ensures slots { slots_from result runs.new.items
         ≡ drop count (slots_from place runs.old.items) }
 {
+    if count == 0 {
+        return place;
+    }
     let Some(&run) = runs.get(place) else {
         return place;
     };

@@ -1,4 +1,4 @@
-//! A run of slots that one node owes another, each settled without news. What all of them need is looked up once.
+//! A run of slots that one node owes another, each settled without news. The two nodes are looked up once for all of them.
 ghost use Rattle.std.specs.Prelude.{◌≡◌, ◌≢◌, ◌<◌, ◌≤◌, ◌-◌, IsTrue, IsFalse, length, map};
 ghost use Rattle.std.specs.List.{range_with_len};
 ghost use Rattle.cast_message.specs.declared.config.Config.{Config as Settings};
@@ -11,6 +11,7 @@ use cast_node::Node;
 
 /// Settles slots in succession between two nodes at these places, up to the first that yields news or can't be settled.
 /// Returns how many it settled. It may always stop early.
+#[inline(always)]
 pub fn settle_between(
     nodes: &mut [Node],
     marks: &mut [Vec<Mark>],
@@ -77,7 +78,8 @@ fn settle_run(
     end - first
 }
 
-// Settles a slot if it can without news. Returns whether it did. It may always return `false`: then nothing changed.
+// Settles a slot if it can without news. Returns whether it did. It may always return `false`: then nothing changed. Whatever may be
+// refused comes first. Once the taker has taken its steps, nothing is, so no step is undone.
 #[inline(always)]
 fn settle_slot(
     giver: &mut Node,

@@ -1,5 +1,9 @@
 //! The group as one value: events go in, replies come out.
+<<<<<<< HEAD
 ghost use Rattle.std.specs.Prelude.{◌≡◌, ◌≢◌, ◌<◌, ◌≤◌, ◌^◌, ◌∷◌, IsTrue, IsFalse, IfOk, IfErr, IfSome, IfNone, IsSomeAnd, OnErr, [], length, take, map, ◌-◌, slice_get, option_map, nat_lt, ◌&&◌, Ok, Err, None};
+=======
+ghost use Rattle.std.specs.Prelude.{◌≡◌, ◌≢◌, ◌<◌, ◌≤◌, ◌^◌, ◌∷◌, IsTrue, IsFalse, IfOk, IfSome, IfNone, OnErr, [], length, map, ◌-◌, option_map, nat_lt, ◌&&◌, Ok, Err};
+>>>>>>> 1964df7fadbd38bb9372870a6d351d3e2336098b
 ghost use Rattle.std.specs.List.{range_with_len};
 ghost use Rattle.cast_message.specs.declared.event.StepFault.TheVariants.{Memory};
 ghost use Rattle.cast_model.specs.History.{frames, is_live};
@@ -9,8 +13,7 @@ ghost use Rattle.cast_model.specs.Shown.{ShowsDelivered, ShowsStream, ShowsOwed}
 ghost use Rattle.cast_world.specs.Group.{Stands, StandingFor, Continues, FindsNode, IsFar, IsCrash, IsRefusedForCause, node_at, marks_at};
 ghost use Rattle.cast_node.specs.Calls.{number_reply, silent_reply};
 ghost use Rattle.cast_world.specs.Moves.{FindsMark, IsSilent, MakesFrame, StepsTo};
-ghost use Rattle.cast_world.specs.Plans.{due_of, events_of};
-ghost use Rattle.cast_world.specs.Rounds.{TakesSilently};
+ghost use Rattle.cast_world.specs.Plans.{due_of};
 ghost use Rattle.cast_world.specs.Settled.{SettlesSilently, SettlesFront};
 
 use crate::due_run::Run;
@@ -136,6 +139,7 @@ impl World {
     }
 
     // The same for the first slots in succession that one node owes another. Returns whether there were any, and all were settled.
+    #[inline(always)]
     fn settle_first_run(&mut self, due: &mut DueSlots) -> bool
         ensures settles { SettlesFront self.old due.old due.new self.new }
         ensures fewer { IsTrue result → length due.new < length due.old }
@@ -152,6 +156,7 @@ impl World {
     }
 
     // Settles the slots from the first up to the end that one node owes another, in order. Returns how many.
+    #[inline(always)]
     fn settle_run(&mut self, from: NodeId, to: NodeId, first: u64, end: u64) -> u64
         requires { first ≤ end }
         ensures few { result ≤ end - first }

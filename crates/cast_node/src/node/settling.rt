@@ -49,15 +49,18 @@ impl Node {
         ensures small { IsTrue result → sender < 64 }
         ensures not { IsFalse result → self.new ≡ self.old }
     {
-        if self.frames >= FRAME_LIMIT || !self.is_peer(from) {
+        if !self.live || self.frames >= FRAME_LIMIT || !self.is_peer(from) {
             return false;
         }
-        if !self.may_carry(slot, sender, number) || !self.holds(sender, number) {
+        if !self.may_carry(slot, sender, number) || !self.deliveries.is_quiet(sender, number) {
             return false;
         }
-        if !self.arrive_again_silently(from, slot, sender, number) {
+        let link = &mut self.incoming[usize::from(from.0)];
+        if link.reserve(slot).is_err() {
             return false;
         }
+        link.take_reserved(slot);
+        self.deliveries.add_knower(sender, number, from);
         self.frames += 1;
         true
     }

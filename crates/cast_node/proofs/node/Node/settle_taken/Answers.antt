@@ -1,23 +1,25 @@
-use Rattle.std.proofs.Common.{◌≡◌, ◌<◌, ◌+◌, ◌∙◌, arith, refl, sym, ap, subst, length}
-use Rattle.cast_message.specs.declared.message.Item.TheVariants.{Close}
+use Rattle.std.proofs.Common.{◌≡◌, ◌+◌, ◌∙◌, true, not, arith, refl, sym, ap, subst}
+use Rattle.std.specs.Prelude.{slice_set}
+use Rattle.cast_node.specs.Calls.{is_peer, may_carry}
 use Rattle.cast_node.specs.Kept.{Kept}
-use Rattle.cast_node.proofs.Settling.{taken_is, acknowledges}
+use Rattle.cast_node.specs.Outgoing.{links_of}
+use Rattle.cast_node.specs.Settling.{SettlesTaken}
+use Rattle.cast_node.specs.Sound.{slots_of}
+use Rattle.cast_node.proofs.Parts.{slots_same, slots_taken}
+use Rattle.cast_node.proofs.Settling.{settles_taken}
+use Rattle.cast_node.proofs.Wholes.{whole, peer_below}
 use Rattle.cast_node.proofs.node.Node.settle_taken.Goals as goal
 
-pub overflow_add-self : goal.overflow_add-self
-overflow_add-self c =
-    let now = c.args.self.now in
-    let given = c.if-not-arrive_again_silently.ensures.took refl 0 Close in
-    let same = ap (λ (k : Kept). k.frames) (c.self-2.view_is ∙ given.2 ∙ taken_is now c.args.from c.args.slot c.args.sender c.args.number (sym c.is_peer.ensures ∙ c.if-not-is_peer.false) (sym c.may_carry.ensures ∙ c.if-not-may_carry.false) (sym c.holds.ensures ∙ c.if-not-holds.false) 0 Close) in
-    let before = ap (λ (k : Kept). k.frames) c.self.view_is in
-    let few = c.if-self-ge-FRAME_LIMIT.false in
-    omega (arith, same, before, few)
+pub returns-then-is_err-clause-not : goal.returns-then-is_err-clause-not
+returns-then-is_err-clause-not c _ =
+    (λ k. whole c.self.inside.config c.self.inside.me c.self.inside.live c.self.inside.frames c.self.inside.stream.items (links_of c.self.inside.outgoing) (slots_same c.self.inside.incoming.items c.from-2.result c.args.from c.index_mut-link.result.now c.reserve.new.self c.index_mut-link.ensures.value c.reserve.ensures.same k) c.self.inside.deliveries) ∙ c.self.view_is
 
 pub returns-clause-took : goal.returns-clause-took
-returns-clause-took c silent seq item =
-    let now = c.args.self.now in
-    let given = c.if-not-arrive_again_silently.ensures.took refl seq item in
-    let rows = subst (λ (k : Kept). length k.incoming ≡ k.config.nodes) c.self.view_is c.self.invariant.peers_in in
-    let few : now.frames < 1048576 = subst (λ (k : Kept). k.frames < 1048576) c.self.view_is (let f = c.if-self-ge-FRAME_LIMIT.false in omega (arith, f)) in
-    let clear = acknowledges now c.args.from c.args.slot c.args.sender c.args.number (sym c.is_peer.ensures ∙ c.if-not-is_peer.false) (sym c.may_carry.ensures ∙ c.if-not-may_carry.false) (sym c.holds.ensures ∙ c.if-not-holds.false) seq item given.0 rows few in
-    ((given.0, given.1, refl), (clear, refl, ap (λ (k : Kept). record k { frames = k.frames + 1 }) (c.self-2.view_is ∙ given.2)))
+returns-clause-took c _ =
+    let peer = sym c.is_peer.ensures ∙ c.if-not-is_peer.false in
+    let may = sym c.may_carry.ensures ∙ c.if-not-may_carry.false in
+    let kept = whole c.self.inside.config c.self.inside.me c.self.inside.live c.self.inside.frames c.self.inside.stream.items (links_of c.self.inside.outgoing) (slots_of c.self.inside.incoming.items) c.self.inside.deliveries in
+    let taken = slots_taken c.self.inside.incoming.items c.from-2.result c.args.from c.index_mut-link.result.now c.reserve.new.self c.index_mut-link.ensures.value c.reserve.ensures.same c.self.inside.config c.args.self.now (peer_below c.args.self.now c.args.from peer) (ap (λ (k : Kept). k.config) c.self.view_is) c.self.invariant.peers_in (c.from-2.ensures ∙ c.from.view_is) c.args.slot c.take_reserved.new.self c.take_reserved.ensures.after in
+    subst (λ k. SettlesTaken k c.args.from c.args.slot c.args.sender c.args.number (whole c.self.inside.config c.self.inside.me c.self.inside.live (c.self.inside.frames + 1) c.self.inside.stream.items (links_of c.self.inside.outgoing) (slots_of (slice_set c.self.inside.incoming.items c.from-2.result c.take_reserved.new.self)) c.add_knower.new.self)) c.self.view_is
+    (settles_taken kept c.args.from c.args.slot c.args.sender c.args.number (subst (λ k. is_peer k c.args.from ≡ true) (sym c.self.view_is) peer) (subst (λ k. may_carry k c.args.slot c.args.sender c.args.number ≡ true) (sym c.self.view_is) may) (c.if-not-is_quiet.ensures refl)
+    (ap not c.if-not-self.false) c.self.invariant.peers_in (let few = c.if-self-ge-FRAME_LIMIT.false in omega (arith, few)) _ c.add_knower.new.self taken c.add_knower.ensures)

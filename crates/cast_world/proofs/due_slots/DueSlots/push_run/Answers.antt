@@ -1,6 +1,5 @@
-use Rattle.std.proofs.Common.{◌≡◌, ◌∙◌, ◌+◌, ◌-◌, ◌∷◌, [], ap, arith, length, length-append}
+use Rattle.std.proofs.Common.{◌∙◌, ap, arith, length, length-append}
 use Rattle.cast_world.specs.DueRuns.{slots_from}
-use Rattle.cast_world.specs.declared.due_run.Run.{Run}
 use Rattle.cast_world.proofs.DueRuns.{length-pushed}
 use Rattle.cast_world.proofs.due_slots.DueSlots.push_run.Goals as goal
 
