@@ -53,8 +53,8 @@ pub fn merge_members(alloc: Global, texts: &[Vec<u8>]) -> Result<Vec<u8>, Member
     let Some(head) = head_at_front(first.as_slice()) else {
         return Err(fault_in(0, 1, MemberCause::Head));
     };
-    let records = read_members(alloc, head, texts)?;
-    let merging = Merging::begin(alloc, head, records.as_slice())?;
+    let files = read_members(alloc, head, texts)?;
+    let merging = Merging::begin(alloc, head, files)?;
     Ok(merging.finish()?)
 }
 
@@ -109,22 +109,22 @@ impl<'a> Merging<'a> {
     fn begin(
         alloc: Global,
         head: RecordHead<'_>,
-        records: &[MemberRecord<'a>],
+        files: Vec<MemberRecord<'a>>,
     ) -> Result<Merging<'a>, AllocError> {
+        let mut due = VecDeque::new(alloc);
+        for file in 0..files.len() {
+            due.push_back(file)?;
+        }
         let mut merging = Merging {
             alloc,
             merged: Vec::new(alloc),
-            files: Vec::new(alloc),
-            due: VecDeque::new(alloc),
+            files,
+            due,
             waiting: BTreeMap::new(alloc),
             broadcasts: vec![in alloc; 0u64; 256]?,
             proposals: BTreeSet::new(alloc),
         };
         merging.put_line(head.line)?;
-        for (file, record) in records.iter().enumerate() {
-            merging.files.push(*record)?;
-            merging.due.push_back(file)?;
-        }
         Ok(merging)
     }
 
