@@ -5,10 +5,12 @@ usage: broadcast.py RECORD               the record is good
        broadcast.py --faulty RECORD      members deliver an item when it arrives, and not in its turn: the record is bad
        broadcast.py --judge [--faulty] RECORD      each line is also judged as it is logged, and the verdict is written; this takes the
                                          module castgroup (bindings/python)
+       broadcast.py [--faulty] --files FOLDER      each member writes a file of its own, which `castgroup merge` merges
 
 Each member is a thread with a UDP socket. It sends its items to the others, and repeats what they don't acknowledge. The first
 datagrams of one item are lost on purpose, since the loopback seldom loses any; so later items arrive before it.
 """
+import os
 import socket
 import sys
 import threading
@@ -16,34 +18,65 @@ import time
 
 MEMBERS, ITEMS, LOST_ITEM = 3, 5, 1
 RESEND_SECONDS, PATIENCE_SECONDS = 0.05, 30
+# No crash is tolerated, and nothing is agreed on.
+HEAD = f"cast/1 {MEMBERS} 0 1"
 
 
-class Record:
-    """What happened, one line per event. All members share one lock, so that the lines have one order."""
-
-    def __init__(self, judge=None):
-        self.lock, self.judge, self.lines = threading.Lock(), judge, []
-        # No crash is tolerated, and nothing is agreed on.
-        self.log(f"cast/1 {MEMBERS} 0 1")
+class Log:
+    """What the members log, a line for each event."""
 
     def broadcast(self, member, item):
         """Call this before the item is sent."""
-        self.log(f"b {member} {number_in(item)} data:{item.hex()}")
+        self.log(member, f"b {member} {number_in(item)} data:{item.hex()}")
 
     def deliver(self, member, sender, item):
         """Call this where the application gets the item."""
-        self.log(f"d {member} {sender} {number_in(item)} data:{item.hex()}")
+        self.log(member, f"d {member} {sender} {number_in(item)} data:{item.hex()}")
 
-    def log(self, line):
+
+class Record(Log):
+    """One record. All members share one lock, so that the lines have one order."""
+
+    def __init__(self, path, judge=None):
+        self.path, self.lock, self.judge, self.lines = path, threading.Lock(), judge, []
+        self.put(HEAD)
+
+    def log(self, _member, line):
         with self.lock:
-            self.lines.append(line + "\n")
-            if self.judge:
-                self.judge.feed(self.lines[-1].encode())
+            self.put(line)
 
-    def text(self):
+    def put(self, line):
+        self.lines.append(line + "\n")
+        if self.judge:
+            self.judge.feed(self.lines[-1].encode())
+
+    def finish(self, _members):
         """Call this when no member logs any more."""
-        self.log("end")
-        return "".join(self.lines)
+        self.put("end")
+        with open(self.path, "w", encoding="ascii") as file:
+            file.writelines(self.lines)
+
+
+class Files(Log):
+    """A file for each member, as if it were a process. The members share no lock."""
+
+    def __init__(self, folder):
+        os.makedirs(folder, exist_ok=True)
+        paths = [f"{folder}/{member}.record" for member in range(MEMBERS)]
+        # Each line goes to the operating system at once, so that a process that is killed loses none.
+        self.files = [open(path, "w", buffering=1, encoding="ascii") for path in paths]
+        for file in self.files:
+            file.write(HEAD + "\n")
+
+    def log(self, member, line):
+        self.files[member].write(line + "\n")
+
+    def finish(self, members):
+        """Ends the files of those that log no more."""
+        for member, file in zip(members, self.files):
+            if not member.is_alive():
+                file.write("end\n")
+                file.close()
 
 
 def number_in(item):
@@ -121,12 +154,15 @@ def make_judge():
     return castgroup.Judge()
 
 
+CHOICES = ([], ["--faulty"], ["--judge"], ["--judge", "--faulty"], ["--files"], ["--faulty", "--files"])
+
+
 def main():
     *options, path = sys.argv[1:] or [""]
-    if options not in ([], ["--faulty"], ["--judge"], ["--judge", "--faulty"]) or not path or path.startswith("-"):
+    if options not in CHOICES or not path or path.startswith("-"):
         sys.exit(__doc__)
     judge = make_judge() if "--judge" in options else None
-    record = Record(judge)
+    record = Files(path) if "--files" in options else Record(path, judge)
     members = [Member(me, record, "--faulty" in options) for me in range(MEMBERS)]
     for member in members:
         member.join_group(members)
@@ -135,8 +171,7 @@ def main():
     end = time.monotonic() + PATIENCE_SECONDS
     for member in members:
         member.join(max(0, end - time.monotonic()))
-    with open(path, "w", encoding="ascii") as file:
-        file.write(record.text())
+    record.finish(members)
     if judge:
         verdict = judge.finish()
         print("good" if verdict.good else f"bad {verdict.line} {verdict.rule}")

@@ -8,6 +8,8 @@ nothing. Then come its sections, each headed by such a line; what is left out is
     == input escaped        the same, with \\xNN for a byte that no text has
     == input parts          the same, as a JSON list of [text, times]
     == input of NAME        the input of another test case
+    == file NAME            a further input, which is a file of this name; the command gets these after its input, in order
+    == file NAME parts      the same, as a JSON list of [text, times]
     == stdout               what it must write on standard output
     == stdout pattern       a regular expression for all of that
     == stderr, == stderr pattern      the same for standard error
@@ -68,6 +70,15 @@ class Row:
         return [int(word) for word in self.text("status", "0").split()]
 
     @property
+    def files(self):
+        """The further inputs by name, as bytes."""
+        headings = [heading for heading in self.sections if heading.startswith("file ")]
+        return {heading.split()[1]: self.file(heading) for heading in headings}
+
+    def file(self, heading):
+        return joined(self.sections[heading]) if heading.endswith(" parts") else self.text(heading).encode()
+
+    @property
     def input(self):
         """The whole input, as bytes."""
         said = self.sections
@@ -75,7 +86,7 @@ class Row:
             lines = self.text("calls").splitlines(keepends=True)
             return "".join(line[2:] for line in lines if line.startswith("> ")).encode()
         if "input parts" in said:
-            return "".join(text * times for text, times in json.loads(said["input parts"])).encode()
+            return joined(said["input parts"])
         if "input escaped" in said:
             text = said["input escaped"].encode()
             return re.sub(rb"\\x([0-9a-f]{2})", lambda found: bytes.fromhex(found[1].decode()), text)
@@ -90,6 +101,11 @@ class Row:
             lines = self.text("calls").splitlines(keepends=True)
             return "".join(line for line in lines if not line.startswith("> ")).encode()
         return self.text(stream).encode()
+
+
+def joined(parts):
+    """The text of a JSON list of [text, times]."""
+    return "".join(text * times for text, times in json.loads(parts)).encode()
 
 
 def is_as(wanted, got):

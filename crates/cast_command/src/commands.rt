@@ -31,13 +31,16 @@ const ENDS: &str =
 rest: whether all that live nodes gave live nodes was acknowledged
 verdict: what the judge says of the record of what happened";
 
-/// What the lines of the summary of merged logs mean.
-const MERGED_ENDS: &str =
-    "A line for each node, with its end and how many items it delivered from each node. Ends:
+/// What is written of merged logs, and of merged records.
+const MERGED: &str =
+    "Of logs: a line for each node, with its end and how many items it delivered from each node. Ends:
   stopped    its log has its last line
   crashed    it has none
 rest: whether all that live nodes gave live nodes was acknowledged
-verdict: what the judge says of the record of what happened";
+verdict: what the judge says of the record of what happened
+
+If the first file begins with cast/1 or cast/2, each file is the record of a member of another system: the head of the
+group, then the member's own lines in order, and end if it logged all. Then only the verdict is written, as by judge.";
 
 /// What the marks in a picture mean.
 const MARKS: &str = "A line for each node, time to the right, a column for each event. Marks:
@@ -143,15 +146,17 @@ pub fn live_command<'a>(alloc: Global) -> Result<Command<'a>, AllocError> {
         .arg(script(alloc))
 }
 
-/// The command that merges the logs of a group's processes.
+/// The command that merges logs, or members' records.
 pub fn merge_command<'a>(alloc: Global) -> Result<Command<'a>, AllocError> {
-    let logs = Arg::new(alloc, "LOG").num_args(0..).help(
-        "The logs, one of each process; standard input if absent. A node without a log crashed before its first step",
+    let files = Arg::new(alloc, "FILE").num_args(0..).help(
+        "The logs, one of each process, or the records of another system's members; standard input if absent. A node without a log crashed before its first step",
     );
     let command = Command::new(alloc, "merge")
-        .about("Merges the logs of a group's processes into one run, and writes what became of it")
-        .after_help(MERGED_ENDS);
-    with_outputs(alloc, command)?.arg(logs)
+        .about(
+            "Merges the logs of a group's processes into one run, or members' records into one record, and judges that",
+        )
+        .after_help(MERGED);
+    with_outputs(alloc, command)?.arg(files)
 }
 
 // The options that choose seeds, by which a group runs in place of threads.

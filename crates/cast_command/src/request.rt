@@ -119,8 +119,8 @@ pub struct LiveTask<'a> {
 
 #[derive(Drop)]
 pub struct MergeTask<'a> {
-    /// The logs, at least one.
-    pub logs: Vec<Place<'a>>,
+    /// The logs, or the records of members, at least one.
+    pub files: Vec<Place<'a>>,
     pub places: RunPlaces<'a>,
 }
 
@@ -144,7 +144,7 @@ pub enum Task<'a> {
     },
     /// Write a record with the new head.
     Migrate(Place<'a>),
-    /// Merge the logs of a group's processes.
+    /// Merge the logs of a group's processes, or the records of another system's members.
     Merge(MergeTask<'a>),
 }
 
@@ -283,8 +283,8 @@ fn merge<'a>(alloc: Global, matches: &ArgMatches<'a>) -> Result<Task<'a>, Refusa
         let command = merge_command(alloc)?.bin_name("castgroup merge")?;
         return Err(fault(command, ONE_NAME));
     }
-    let logs = inputs_of(alloc, matches, "LOG")?;
-    Ok(Task::Merge(MergeTask { logs, places }))
+    let files = inputs_of(alloc, matches, "FILE")?;
+    Ok(Task::Merge(MergeTask { files, places }))
 }
 
 // Two outputs with one name are a fault: one would be lost.

@@ -1,11 +1,15 @@
 //! Logs of a group's nodes as files: reads and writes the text of a log, and merges the logs into one run. The group
-//! accepts that run with the outcomes that the nodes logged.
+//! accepts that run with the outcomes that the nodes logged. It also merges the records of another system's members into
+//! one record.
 #![tactic(auto)]
 
 mod fault;
 mod file_log;
 mod gathered;
 mod log_words;
+mod member_fault;
+mod member_record;
+mod members;
 mod merging;
 mod misfit;
 mod reading;
@@ -16,6 +20,9 @@ mod writing;
 pub use fault::{LogCause, LogFault, MergeFault};
 pub use file_log::{FileLog, LoggedStep};
 pub use gathered::{Gathered, gather, locate};
+pub use member_fault::{MemberCause, MembersFault};
+pub use member_record::is_members_record;
+pub use members::merge_members;
 pub use merging::{Merged, StepPlace, merge_steps};
 pub use misfit::Misfit;
 pub use reading::read_log;

@@ -6,9 +6,11 @@ mod command_line;
 mod console;
 mod explain;
 mod input;
+mod inputs;
 mod judge;
 mod live;
 mod lots;
+mod members;
 mod merge;
 mod output;
 mod outputs;
@@ -25,7 +27,7 @@ use command_line::{command_words, detail_of, refuse_request, refuse_words};
 use console::Console;
 use judge::judge_records;
 use live::run_live;
-use merge::merge_logs;
+use merge::merge_files;
 use status::{Status, refuse};
 use std::io::Stderr;
 use std::process::ExitCode;
@@ -90,7 +92,7 @@ fn perform<R: Runtime + AllocGlobal + Threads + Wait + Clock + Copy + Send + 'st
             };
             write_text(console, command, script)
         }
-        Task::Merge(task) => merge_logs(console, &task),
+        Task::Merge(task) => merge_files(console, &task),
         Task::Migrate(record) => write_text(console, TextCommand::Migrate, record),
     }
 }

@@ -1,23 +1,28 @@
-//! The command `merge`: reads and merges the logs of a group's processes, and keeps the requested texts.
+//! The command `merge`: reads and merges the logs of a group's processes, and keeps the requested texts. If the first
+//! file is a member's record, `members` merges them.
 ghost use Rattle.std.specs.Prelude.{◌≡◌, false};
 ghost use Rattle.cast_live.specs.Outputs.{AreSound, IsSound};
 
 use crate::console::Console;
 use crate::explain::{Stop, input_name, tell_stop};
 use crate::input::open_source;
+use crate::inputs::{read_after_first, read_whole};
 use crate::live::status_of;
-use crate::outputs::{Outputs, keep_outputs, open_outputs, summary_target, warn_of_lengths};
+use crate::members::merge_records;
+use crate::outputs::{
+    Outputs, keep_outputs, open_outputs, put_bytes, put_wanted, summary_target, warn_of_lengths,
+};
 use crate::status::Status;
 use cast_command::{MergeTask, Place, RunPlaces};
 use cast_live::Summary;
 use cast_logfile::{
-    Gathered, LogCause, LogFault, MergeFault, Merged, gather, judge_record, locate, merge_steps,
-    read_log, record_of, summary_of,
+    FileLog, Gathered, LogCause, LogFault, MergeFault, Merged, gather, is_members_record,
+    judge_record, locate, merge_steps, read_log, record_of, summary_of,
 };
-use cast_record::{Meter, write_bytes};
+use cast_record::Meter;
 use cast_script::write_script;
-use cast_text::{INPUT_LIMIT, TextFault};
-use std::io::{Read, Write};
+use cast_text::TextFault;
+use std::io::Write;
 use std::rt::Runtime;
 
 // Why the logs were not merged, or not all was written.
@@ -29,19 +34,34 @@ enum Halt<'a> {
         line: u64,
         cause: LogCause,
     },
-    // This log can't be read, memory ran out, or an output failed.
+    // Memory ran out, or an output failed.
     Stop {
         file: Place<'a>,
         stop: Stop<'a>,
     },
+    // This was said before.
+    Said(Status),
 }
 
-/// Merges the logs, and writes what was requested.
-pub fn merge_logs<'a, R: Runtime + AllocGlobal>(
+/// Merges the files, and writes what was requested.
+pub fn merge_files<'a, R: Runtime + AllocGlobal>(
     console: &Console<'a, R>,
     task: &MergeTask<'a>,
 ) -> Status {
-    let halt = match read_logs(console, task.logs.as_slice()) {
+    match read_whole(console, place_at(task.files.as_slice(), 0)) {
+        Ok(first) if is_members_record(first.as_slice()) => merge_records(console, task, first),
+        Ok(first) => merge_logs(console, task, first),
+        Err(status) => status,
+    }
+}
+
+// Merges logs, of which the first has this text.
+fn merge_logs<'a, R: Runtime + AllocGlobal>(
+    console: &Console<'a, R>,
+    task: &MergeTask<'a>,
+    first: Vec<u8>,
+) -> Status {
+    let halt = match read_logs(console, task.files.as_slice(), first) {
         Ok(gathered) => match merge_gathered(console, task, &gathered) {
             Ok(summary) => return status_of(summary),
             Err(halt) => halt,
@@ -54,6 +74,7 @@ pub fn merge_logs<'a, R: Runtime + AllocGlobal>(
             Status::Refused
         }
         Halt::Stop { file, stop } => tell_stop(console, stop, open_source(console, file)),
+        Halt::Said(status) => status,
     }
 }
 
@@ -73,25 +94,17 @@ fn say_cause<R: Runtime + AllocGlobal>(
 fn read_logs<'a, R: Runtime + AllocGlobal>(
     console: &Console<'a, R>,
     places: &[Place<'a>],
+    first: Vec<u8>,
 ) -> Result<Gathered, Halt<'a>> {
     let alloc = console.rt.alloc();
+    let mut first = Some(first);
     let mut logs = Vec::new(alloc);
     for place in places {
-        let text = match read_text(console, *place) {
+        let text = match read_after_first(console, &mut first, *place) {
             Ok(text) => text,
-            Err(fault) => return Err(stopped_by(*place, fault)),
+            Err(status) => return Err(Halt::Said(status)),
         };
-        let log = match read_log(alloc, text.as_slice()) {
-            Ok(log) => log,
-            Err(LogFault::Memory) => return Err(stopped_by(*place, TextFault::Memory)),
-            Err(LogFault::Line { line, cause }) => {
-                return Err(Halt::Log {
-                    file: *place,
-                    line,
-                    cause,
-                });
-            }
-        };
+        let log = log_of(console, *place, text.as_slice())?;
         if logs.push(log).is_err() {
             return Err(stopped_by(*place, TextFault::Memory));
         }
@@ -99,6 +112,22 @@ fn read_logs<'a, R: Runtime + AllocGlobal>(
     match gather(alloc, logs) {
         Ok(gathered) => Ok(gathered),
         Err(fault) => Err(halt_of(places, fault)),
+    }
+}
+
+fn log_of<'a, R: Runtime + AllocGlobal>(
+    console: &Console<'a, R>,
+    place: Place<'a>,
+    text: &[u8],
+) -> Result<FileLog, Halt<'a>> {
+    match read_log(console.rt.alloc(), text) {
+        Ok(log) => Ok(log),
+        Err(LogFault::Memory) => Err(stopped_by(place, TextFault::Memory)),
+        Err(LogFault::Line { line, cause }) => Err(Halt::Log {
+            file: place,
+            line,
+            cause,
+        }),
     }
 }
 
@@ -127,25 +156,6 @@ fn place_at<'a>(places: &[Place<'a>], file: usize) -> Place<'a> {
     }
 }
 
-fn read_text<'a, R: Runtime + AllocGlobal>(
-    console: &Console<'a, R>,
-    place: Place<'a>,
-) -> Result<Vec<u8>, TextFault> {
-    let mut text = Vec::new(console.rt.alloc());
-    let source = open_source(console, place);
-    if source
-        .take(INPUT_LIMIT as u64 + 1)
-        .read_to_end(&mut text)
-        .is_err()
-    {
-        return Err(TextFault::Read);
-    }
-    if text.len() > INPUT_LIMIT {
-        return Err(TextFault::TooLong);
-    }
-    Ok(text)
-}
-
 fn merge_gathered<'a, R: Runtime + AllocGlobal>(
     console: &Console<'a, R>,
     task: &MergeTask<'a>,
@@ -154,7 +164,7 @@ fn merge_gathered<'a, R: Runtime + AllocGlobal>(
     let alloc = console.rt.alloc();
     let merged = match merge_steps(alloc, gathered.config, gathered.logs.as_slice()) {
         Ok(merged) => merged,
-        Err(misfit) => return Err(halt_of(task.logs.as_slice(), locate(gathered, misfit))),
+        Err(misfit) => return Err(halt_of(task.files.as_slice(), locate(gathered, misfit))),
     };
     match write_all(console, &task.places, gathered, &merged) {
         Ok(summary) => Ok(summary),
@@ -207,24 +217,6 @@ fn put_texts<'a, R: Runtime + AllocGlobal>(
     replay?;
     told?;
     Ok(Summary { rest, verdict })
-}
-
-fn put_wanted<W: Write>(wanted: &mut Option<Meter<W>>, bytes: &[u8]) -> Result<(), TextFault>
-    requires { IsSound wanted.old }
-{
-    match wanted {
-        Some(writer) => put_bytes(writer, bytes),
-        None => Ok(()),
-    }
-}
-
-fn put_bytes<W: Write>(writer: &mut Meter<W>, bytes: &[u8]) -> Result<(), TextFault>
-    requires { writer.old.failed ≡ false }
-{
-    match write_bytes(bytes, writer) {
-        Ok(()) => Ok(()),
-        Err(_) => Err(TextFault::Write),
-    }
 }
 
 fn put_replay<W: Write>(

@@ -1,5 +1,5 @@
 //! The outputs of a run: its record, its replay, its picture and its summary, in the order of writing.
-ghost use Rattle.std.specs.Prelude.{IfOk};
+ghost use Rattle.std.specs.Prelude.{◌≡◌, false, IfOk};
 ghost use Rattle.cast_live.specs.Outputs.{AreSound, IsSound};
 
 use crate::console::Console;
@@ -7,7 +7,7 @@ use crate::explain::{Stop, done_and_written};
 use crate::output::{Failure, Finished, Sink, Target, finish, open_output};
 use cast_command::{Place, RunPlaces};
 use cast_live::RunOutputs;
-use cast_record::Meter;
+use cast_record::{Meter, write_bytes};
 use cast_text::{INPUT_LIMIT, TextFault, Window, draw_text};
 use std::io::{BufWriter, Write};
 use std::rt::Runtime;
@@ -57,6 +57,26 @@ fn open_wanted<'a, R: Runtime + AllocGlobal>(
     match target {
         Some(target) => Ok(Some(Meter::new(open_output(console, target)?))),
         None => Ok(None),
+    }
+}
+
+/// Writes bytes to an output, if it was requested.
+pub fn put_wanted<W: Write>(wanted: &mut Option<Meter<W>>, bytes: &[u8]) -> Result<(), TextFault>
+    requires { IsSound wanted.old }
+{
+    match wanted {
+        Some(writer) => put_bytes(writer, bytes),
+        None => Ok(()),
+    }
+}
+
+/// Writes bytes to an output.
+pub fn put_bytes<W: Write>(writer: &mut Meter<W>, bytes: &[u8]) -> Result<(), TextFault>
+    requires { writer.old.failed ≡ false }
+{
+    match write_bytes(bytes, writer) {
+        Ok(()) => Ok(()),
+        Err(_) => Err(TextFault::Write),
     }
 }
 
@@ -143,7 +163,7 @@ fn keep_replay<'a, R: Runtime + AllocGlobal>(
         Err(failure) => return kept.note(Stop::Output(failure)),
     };
     if let Some(place) = places.replay {
-        match write_bytes(console, place, text.as_slice()) {
+        match write_text(console, place, text.as_slice()) {
             Ok(()) => kept.replay = text.len() as u64,
             Err(stop) => kept.note(stop),
         }
@@ -155,7 +175,7 @@ fn keep_replay<'a, R: Runtime + AllocGlobal>(
     }
 }
 
-fn write_bytes<'a, R: Runtime + AllocGlobal>(
+fn write_text<'a, R: Runtime + AllocGlobal>(
     console: &Console<'a, R>,
     place: Place<'a>,
     bytes: &[u8],
