@@ -1,9 +1,5 @@
 //! The group as one value: events go in, replies come out.
-<<<<<<< HEAD
-ghost use Rattle.std.specs.Prelude.{◌≡◌, ◌≢◌, ◌<◌, ◌≤◌, ◌^◌, ◌∷◌, IsTrue, IsFalse, IfOk, IfErr, IfSome, IfNone, IsSomeAnd, OnErr, [], length, take, map, ◌-◌, slice_get, option_map, nat_lt, ◌&&◌, Ok, Err, None};
-=======
-ghost use Rattle.std.specs.Prelude.{◌≡◌, ◌≢◌, ◌<◌, ◌≤◌, ◌^◌, ◌∷◌, IsTrue, IsFalse, IfOk, IfSome, IfNone, OnErr, [], length, map, ◌-◌, option_map, nat_lt, ◌&&◌, Ok, Err};
->>>>>>> 1964df7fadbd38bb9372870a6d351d3e2336098b
+ghost use Rattle.std.specs.Prelude.{◌≡◌, ◌≢◌, ◌<◌, ◌≤◌, ◌^◌, ◌∷◌, IsTrue, IsFalse, IfOk, IfErr, IfSome, IfNone, IsSomeAnd, OnErr, [], length, map, ◌-◌, slice_get, option_map, nat_lt, ◌&&◌, Ok, Err, None};
 ghost use Rattle.std.specs.List.{range_with_len};
 ghost use Rattle.cast_message.specs.declared.event.StepFault.TheVariants.{Memory};
 ghost use Rattle.cast_model.specs.History.{frames, is_live};
