@@ -155,6 +155,9 @@ uint32_t cast_c_world_round(struct cast_world *world, struct cast_reply *reply);
 uint32_t cast_c_world_delivered(struct cast_world *world, uint8_t node, uint8_t sender, uint64_t *count);
 uint32_t cast_c_world_item(struct cast_world *world, uint8_t node, uint8_t sender, uint64_t number, struct cast_item *item,
                            uint8_t *bytes, size_t room);
+uint32_t cast_c_world_stream(struct cast_world *world, uint8_t node, uint64_t *count);
+uint32_t cast_c_world_stream_item(struct cast_world *world, uint8_t node, uint64_t number, struct cast_item *item, uint8_t *bytes,
+                                  size_t room);
 uint32_t cast_c_world_decision(struct cast_world *world, uint8_t node, uint64_t instance, bool *is_decided, uint64_t *value);
 uint32_t cast_c_world_owed(struct cast_world *world, uint8_t from, uint8_t to, uint64_t *count);
 uint32_t cast_c_world_live(struct cast_world *world, uint8_t node, bool *is_so);
@@ -375,6 +378,19 @@ static inline uint32_t cast_world_item(struct cast_world *world, uint8_t node, u
                                        struct cast_item *item, void *bytes, size_t room) {
     if (world == NULL || item == NULL || !cast_has(bytes, room)) return CAST_MISUSED;
     return cast_c_world_item(world, node, sender, number, item, cast_some(bytes), room);
+}
+
+/* How many items `node` broadcast. CAST_DONE; CAST_MISUSED: the handle holds no group; CAST_REFUSED: it is no node. */
+static inline uint32_t cast_world_stream(struct cast_world *world, uint8_t node, uint64_t *count) {
+    if (world == NULL || count == NULL) return CAST_MISUSED;
+    return cast_c_world_stream(world, node, count);
+}
+/* The item with this number, from 0, of those that `node` broadcast, with its bytes. CAST_DONE; CAST_MISUSED: the handle
+ * holds no group; CAST_REFUSED: there is no such item; CAST_TOO_SHORT: `item` has the number of its bytes. */
+static inline uint32_t cast_world_stream_item(struct cast_world *world, uint8_t node, uint64_t number, struct cast_item *item,
+                                              void *bytes, size_t room) {
+    if (world == NULL || item == NULL || !cast_has(bytes, room)) return CAST_MISUSED;
+    return cast_c_world_stream_item(world, node, number, item, cast_some(bytes), room);
 }
 /* The value that a node decided in an instance, if there is such a node and it did: CAST_DONE, CAST_MISUSED. */
 static inline uint32_t cast_world_decision(struct cast_world *world, uint8_t node, uint64_t instance, bool *is_decided,

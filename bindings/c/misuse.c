@@ -92,6 +92,10 @@ static int worlds(void) {
     NEED(cast_world_item(&world, 0, 0, 0, &item, NULL, 0) == CAST_TOO_SHORT && item.kind == CAST_DATA);
     NEED(cast_world_item(&world, 0, 0, 0, &item, bytes, 3) == CAST_DONE && strcmp(bytes, "abc") == 0);
     NEED(cast_world_item(&world, 0, 0, 1, &item, bytes, 3) == CAST_REFUSED);
+    NEED(cast_world_stream(&world, 0, &count) == CAST_DONE && count == 1 && cast_world_stream(&world, 2, &count) == CAST_REFUSED);
+    NEED(cast_world_stream_item(&world, 0, 0, &item, bytes, 2) == CAST_TOO_SHORT && item.length == 3);
+    NEED(cast_world_stream_item(&world, 0, 0, &item, bytes, 3) == CAST_DONE && strcmp(bytes, "abc") == 0);
+    NEED(cast_world_stream_item(&world, 0, 1, &item, bytes, 3) == CAST_REFUSED && cast_world_stream(&world, 0, NULL) == CAST_MISUSED);
     NEED(cast_world_delivered(&world, 0, 2, &count) == CAST_REFUSED && cast_world_owed(&world, 1, 1, &count) == CAST_REFUSED);
     NEED(cast_world_delivered(&world, 0, 0, NULL) == CAST_MISUSED && cast_world_round(&world, NULL) == CAST_MISUSED);
     cast_world_drop(&world);

@@ -105,6 +105,8 @@ _EXPORTS: dict[str, tuple[Any, ...]] = {
     "world_round": (c_void_p, c_void_p),
     "world_delivered": (c_void_p, c_uint8, c_uint8, c_void_p),
     "world_item": (c_void_p, c_uint8, c_uint8, c_uint64, c_void_p, *_ROOM),
+    "world_stream": (c_void_p, c_uint8, c_void_p),
+    "world_stream_item": (c_void_p, c_uint8, c_uint64, c_void_p, *_ROOM),
     "world_decision": (c_void_p, c_uint8, c_uint64, c_void_p, c_void_p),
     "world_owed": (c_void_p, c_uint8, c_uint8, c_void_p),
     "world_live": (c_void_p, c_uint8, c_void_p),

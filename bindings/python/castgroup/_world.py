@@ -25,6 +25,7 @@ _REPLY = Struct("=6Q")
 _new, _drop = held["world_new"], held["world_drop"]
 _step, _fault, _round = held["world_step"], held["world_fault"], free["world_round"]
 _delivered, _item, _decision = held["world_delivered"], held["world_item"], held["world_decision"]
+_stream, _stream_item = held["world_stream"], held["world_stream_item"]
 _owed, _live, _at_rest = held["world_owed"], held["world_live"], held["world_at_rest"]
 _frame, _enabled, _plan = held["world_frame"], free["world_enabled"], free["world_plan"]
 
@@ -152,12 +153,15 @@ class World:
         who, whose = _pair(node, sender)
         place = count(number)
         with self._lock:
-            if accept(_item(self._at, who, whose, place, self._at_told, self._at_bytes, _MOST_BYTES)) != DONE:
-                return None
-            told = self._told
-            if told.kind == _DATA:
-                return string_at(self._at_bytes, told.length)
-            return Propose(told.instance, told.value) if told.kind == _PROPOSE else Close()
+            status = accept(_item(self._at, who, whose, place, self._at_told, self._at_bytes, _MOST_BYTES))
+            return self._item_told() if status == DONE else None
+
+    def _item_told(self) -> Item:
+        """The item that a call has just told."""
+        told = self._told
+        if told.kind == _DATA:
+            return string_at(self._at_bytes, told.length)
+        return Propose(told.instance, told.value) if told.kind == _PROPOSE else Close()
 
     def deliveries(self, node: SupportsIndex, sender: SupportsIndex, first: SupportsIndex = 0) -> Iterator[Item]:
         """The items that a node delivered from a sender, in order, from this number on. It ends when there are no more;
@@ -170,6 +174,19 @@ class World:
     def delivered(self, node: SupportsIndex, sender: SupportsIndex) -> list[Item] | None:
         """The items that a node delivered from a sender, in order, if both are nodes."""
         return None if self.delivered_count(node, sender) is None else list(self.deliveries(node, sender))
+
+    def stream(self, node: SupportsIndex) -> list[Item] | None:
+        """The items that a node broadcast, in order, if it is one."""
+        who = library.node(node)
+        with self._lock:
+            if accept(_stream(self._at, who, self._at_number)) != DONE:
+                return None
+            return [self._broadcast(who, number) for number in range(self._number.value)]
+
+    def _broadcast(self, who: int, number: int) -> Item:
+        """The item with this number that a node broadcast; there is one."""
+        accept(_stream_item(self._at, who, number, self._at_told, self._at_bytes, _MOST_BYTES))
+        return self._item_told()
 
     def decision(self, node: SupportsIndex, instance: SupportsIndex) -> int | None:
         """The value that a node decided in an instance, if it did."""

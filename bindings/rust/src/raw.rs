@@ -133,6 +133,15 @@ extern "C" {
     ) -> u32;
     pub(crate) fn cast_c_world_round(world: *mut Handle, reply: *mut Reply) -> u32;
     pub(crate) fn cast_c_world_delivered(world: *mut Handle, node: u8, sender: u8, count: *mut u64) -> u32;
+    pub(crate) fn cast_c_world_stream(world: *mut Handle, node: u8, count: *mut u64) -> u32;
+    pub(crate) fn cast_c_world_stream_item(
+        world: *mut Handle,
+        node: u8,
+        number: u64,
+        item: *mut Item,
+        bytes: *mut u8,
+        room: usize,
+    ) -> u32;
     pub(crate) fn cast_c_world_item(
         world: *mut Handle,
         node: u8,

@@ -143,6 +143,26 @@ impl World {
         (0..).map_while(move |number| self.item(node, sender, number).transpose())
     }
 
+    /// The number of items that `node` broadcast, if it is a node.
+    pub fn stream_count(&self, node: u8) -> Option<u64> {
+        let mut count = 0;
+        // SAFETY: see `raw`.
+        let status = unsafe { raw::cast_c_world_stream(self.handle.get(), node, &mut count) };
+        (status == raw::DONE).then_some(count)
+    }
+
+    /// The items that `node` broadcast, in order; none if it is no node.
+    pub fn stream(&self, node: u8) -> impl Iterator<Item = Result<Item, OutOfMemory>> + '_ {
+        (0..).map_while(move |number| self.stream_item(node, number).transpose())
+    }
+
+    fn stream_item(&self, node: u8, number: u64) -> Result<Option<Item>, OutOfMemory> {
+        // SAFETY: see `raw`.
+        read_item(|told, room| unsafe {
+            raw::cast_c_world_stream_item(self.handle.get(), node, number, told, room.as_mut_ptr(), room.len())
+        })
+    }
+
     /// What a step delivered at `node`, given the outcome in its reply.
     pub fn deliveries_of(&self, node: u8, outcome: Outcome) -> impl Iterator<Item = Result<Delivery, OutOfMemory>> + '_ {
         let numbers = outcome.first..outcome.first + outcome.deliveries;

@@ -7,5 +7,6 @@ pub mod PeerOwning
 pub mod Peers
 pub mod Pieces
 pub mod Steps
+pub mod Streams
 pub mod Texts
 pub mod WorldOwning

@@ -24,6 +24,7 @@ mod peer_out;
 mod readers;
 mod status;
 mod step;
+mod stream;
 mod text;
 mod world;
 mod world_handle;
