@@ -180,7 +180,7 @@ class Groups(unittest.TestCase):
         self.assertTrue(world.at_rest())
         self.assertEqual(world.delivered(1, 0), [b"a\0b", Propose(7, 3), Close()])
         self.assertEqual(world.stream(0), [b"a\0b", Propose(7, 3), Close()])
-        self.assertEqual((world.stream(1), world.stream(2)), ([], None))
+        self.assertEqual((world.stream(1), world.stream(3)), ([], None))
         self.assertEqual((world.owed(0, 1), world.owed(0, 0)), (0, None))
         self.assertIsNone(world.delivered(1, 3))
         self.assertIsNone(world.item(1, 0, 3))

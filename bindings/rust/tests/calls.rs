@@ -26,6 +26,8 @@ fn a_group_goes_to_another_thread() {
     .unwrap();
     assert!(world.at_rest());
     assert_eq!(world.delivered(2, 0).collect::<Vec<_>>(), [Ok(Item::Data(vec![1, 2]))]);
+    assert_eq!(world.stream(0).collect::<Vec<_>>(), [Ok(Item::Data(vec![1, 2]))]);
+    assert_eq!((world.stream_count(0), world.stream_count(64)), (Some(1), None));
 }
 
 #[test]
