@@ -2,3 +2,5 @@ pub mod WholeFeeds
 pub mod Hearing
 pub mod Following
 pub mod Sums
+pub mod Walks
+pub mod Tries
