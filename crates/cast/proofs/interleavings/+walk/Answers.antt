@@ -1,6 +1,6 @@
-use Rattle.std.proofs.Common.{◌≡◌, ◌-◌, ◌<◌, ◌≤◌, ◌∷◌, ◌++◌, [], true, false, length, slice_index_or, refl, sym, ap, ◌∙◌, subst, rules, arith}
+use Rattle.std.proofs.Common.{◌≡◌, ◌-◌, ◌<◌, ◌≤◌, ◌∷◌, ◌++◌, [], true, false, length, slice_index_or, refl, ap, ◌∙◌, subst, rules, arith}
 use Rattle.std.specs.List.{flat_map, range_with_len}
-use Rattle.cast.specs.Orders.{Visits, orders_from, times}
+use Rattle.cast.specs.Orders.{Visits, times}
 use Rattle.cast.proofs.Walks.{with_next, back_again, ends, after_call, of_all, visits_none, sender_passed, sender_seen, stops}
 use Rattle.cast.proofs.interleavings.+walk.Goals as goal
 

@@ -1,4 +1,4 @@
-use Rattle.std.proofs.Common.{◌≡◌, ◌-◌, ◌<◌, true}
+use Rattle.std.proofs.Common.{◌≡◌, ◌-◌, true}
 use Rattle.std.specs.List.{flat_map, range_with_len}
 use Rattle.cast.specs.Orders.{Visits}
 use Rattle.cast.proofs.Walks.{with_next}

@@ -1,4 +1,4 @@
-use Rattle.std.proofs.Common.{◌≡◌, length, map, ap, ◌∙◌}
+use Rattle.std.proofs.Common.{length, map, ap, ◌∙◌}
 use Rattle.std.specs.List.{sum}
 use Rattle.cast.proofs.Tries.{found_all, found_more}
 use Rattle.cast.proofs.interleavings.every_order.Goals as goal

@@ -1,6 +1,6 @@
-use Rattle.std.proofs.Common.{◌≡◌, ◌≤◌, ◌+◌, length, refl, subst, rules, arith}
+use Rattle.std.proofs.Common.{◌+◌, refl, subst, arith}
 use Rattle.cast.specs.Orders.{messages_of}
-use Rattle.cast.proofs.Tries.{GoodUpTo, good_first, good_next, messages_more}
+use Rattle.cast.proofs.Tries.{good_first, good_next, messages_more}
 use Rattle.cast.proofs.interleavings.steps_to_refusal.Goals as goal
 
 pub loop-place-init : goal.loop-place-init
