@@ -4,3 +4,4 @@ pub mod Following
 pub mod Sums
 pub mod Walks
 pub mod Tries
+pub mod EachOnce

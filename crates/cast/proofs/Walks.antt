@@ -47,6 +47,9 @@ front f (suc k) s n e =
     let later = front f k (s + 1) n (omega (arith, e)) in
     (f s ++ later.0, sym (append_assoc (flat_map f (range_with_len 0 s)) (f s) later.0) ∙ ap (λ os. os ++ later.0) (next_sender f s) ∙ later.1)
 
+pub taken : (counts begun : List ℕ) (steps s : ℕ) → times s begun < slice_index_or counts s 0 → orders_from counts steps (begun ++ s ∷ []) ≡ with_next counts steps begun s
+taken counts begun steps s some = sym (ap (λ b. cond b (orders_from counts steps (begun ++ s ∷ [])) []) (lt-ltb (times s begun) (slice_index_or counts s 0) some))
+
 module _ {V : Type 0} (sees : V → List ℕ → V → Bool → Type 0) where
   pub visits_one : (old : V) (order : List ℕ) (new : V) (on : Bool) → sees old order new on → Visits sees old (order ∷ []) new on
   unfolding Visits
@@ -79,9 +82,6 @@ module _ {V : Type 0} (sees : V → List ℕ → V → Bool → Type 0) where
   sender_passed counts begun steps s old now none before =
       let nothing : with_next counts steps begun s ≡ [] = ap (λ b. cond b (orders_from counts steps (begun ++ s ∷ [])) []) (le-ltb (times s begun) (slice_index_or counts s 0) none) in
       sender_done (with_next counts steps begun) s old now now before (subst (λ os. Visits sees now os now true) (sym nothing) (visits_none now))
-
-  taken : (counts begun : List ℕ) (steps s : ℕ) → times s begun < slice_index_or counts s 0 → orders_from counts steps (begun ++ s ∷ []) ≡ with_next counts steps begun s
-  taken counts begun steps s some = sym (ap (λ b. cond b (orders_from counts steps (begun ++ s ∷ [])) []) (lt-ltb (times s begun) (slice_index_or counts s 0) some))
 
   pub sender_seen : (counts begun : List ℕ) (steps s : ℕ) (old between new : V) → times s begun < slice_index_or counts s 0
       → Visits sees old (flat_map (with_next counts steps begun) (range_with_len 0 s)) between true → Visits sees between (orders_from counts steps (begun ++ s ∷ [])) new true

@@ -3,13 +3,15 @@
 --     goes_on counts order s             sender s has a message left after this order
 --     orders_from counts steps begun     each order that begins so and has this many senders more, each while it has messages left
 --     orders counts                      each order that has each sender as often as its count
+--     IsOrder counts order               the order has all messages, and no sender more often than its count
+--     AreDifferent all                   no order is there twice
 --     Visits sees old all new on         the visitor saw all of these, one after another, or some first ones and then stopped
 --     message_at streams order i         the message at place i of the order: its sender's next item
 --     messages_of streams order n        the first n messages of the order
 --     HoldsAlong stands good ..          after each message of the order, and before the first one, a machine is good
 --     Checks stands good old order ..    what a check does with an order
 --     IsOutcome holds counts most ..     what was found holds of all orders
-use Rattle.std.specs.Prelude.{◌≡◌, ◌⊎◌, ℕ, zero, suc, Bool, true, false, Option, Some, None, ◌<◌, ◌≤◌, ◌+◌, ◌==◌, ◌++◌, ◌∷◌, [], List, length, if◌then◌else◌, nat_lt, slice_index_or, slice_get, take, All}
+use Rattle.std.specs.Prelude.{◌≡◌, ◌≢◌, ◌⊎◌, ℕ, zero, suc, Bool, true, false, Option, Some, None, ◌<◌, ◌≤◌, ◌+◌, ◌==◌, ◌++◌, ◌∷◌, [], List, length, if◌then◌else◌, nat_lt, slice_index_or, slice_get, take, All}
 use Rattle.std.specs.List.{count_by, filter_map, flat_map, range_with_len, sum}
 use Rattle.cast_message.specs.declared.message.Item.{Item}
 use Rattle.cast_message.specs.declared.message.Message.{Message}
@@ -68,3 +70,11 @@ IsOutcome holds counts most (AllHold n) = (n ≡ length (orders counts)) × All 
 IsOutcome holds counts most (Refused order) = Unit {0}
 IsOutcome holds counts most More = most < length (orders counts)
 IsOutcome holds counts most TooLong = Unit {0}
+
+-- the order has all messages, and no sender more often than its count
+abbrev pub IsOrder : List ℕ → List ℕ → Type 0
+IsOrder counts order = (length order ≡ sum counts) × ((s : ℕ) → times s order ≤ slice_index_or counts s 0)
+
+-- no order is there twice
+abbrev pub AreDifferent : List (List ℕ) → Type 0
+AreDifferent all = (i j : ℕ) → i < j → j < length all → slice_index_or all i [] ≢ slice_index_or all j []

@@ -1,8 +1,8 @@
 //! All orders in which the messages of a few short streams may come.
-ghost use Rattle.std.specs.Prelude.{◌≡◌, ◌<◌, ◌≤◌, ◌++◌, ℕ, List as Members, [], Bool, true, length, map, option_to_list, OnOk, IfOk, IfSome, IsNone, IsTrue};
-ghost use Rattle.std.specs.List.{sum};
+ghost use Rattle.std.specs.Prelude.{◌≡◌, ◌↔◌, ◌<◌, ◌≤◌, ◌++◌, ℕ, List as Members, [], Bool, true, length, map, option_to_list, OnOk, IfOk, IfSome, IsNone, IsTrue};
+ghost use Rattle.std.specs.List.{sum, Contains};
 ghost use Rattle.cast_message.specs.declared.message.Message.{Message};
-ghost use Rattle.cast.specs.Orders.{Visits, Checks, HoldsAlong, IsOutcome, message_at, orders_from, times};
+ghost use Rattle.cast.specs.Orders.{Visits, Checks, HoldsAlong, IsOutcome, IsOrder, AreDifferent, message_at, orders, orders_from, times};
 
 use crate::machine::Machine;
 use cast_message::{Item, List, Message, NodeId};
@@ -256,3 +256,10 @@ pub fn every_order<C: OrderCheck>(
         None => Ok(EveryOrder::More),
     }
 }
+
+/// A law of the orders that `every_order` tries: they are exactly those which have all messages, and no sender more often
+/// than its stream is long. No two of them are the same.
+pub fn tries_each_order_once()
+    ensures all { (counts order : Members ℕ) → Contains (orders counts) order ↔ IsOrder counts order }
+    ensures once { (counts : Members ℕ) → AreDifferent (orders counts) }
+{}
