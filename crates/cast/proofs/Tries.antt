@@ -1,13 +1,14 @@
 -- What the check of one order after another says of all of them.
 use Rattle.std.proofs.Common.{◌≡◌, ◌<◌, ◌≤◌, ◌+◌, ◌-◌, ℕ, Bool, true, false, Option, Some, None, List, [], ◌∷◌, ◌++◌, length, refl, sym, ap, ◌∙◌, subst, arith, inl, inr}
-use Rattle.std.specs.Prelude.{All, option_to_list}
+use Rattle.std.specs.Prelude.{All, IfSome, Vec, option_to_list}
 use Rattle.std.specs.List.{filter_map, cons_option, range_with_len, sum}
 use Rattle.std.proofs.lemmas.Bool.Decides.{leb_tells}
 use Rattle.std.proofs.lemmas.List.Elements.{All-nil, All-cons, filter_map-append}
+use Rattle.std.specs.declared.alloc.Global.{Global}
 use Rattle.cast_message.specs.declared.message.Item.{Item}
 use Rattle.cast_message.specs.declared.message.Message.{Message}
 use Rattle.cast.specs.declared.interleavings.Checking.{Checking}
-use Rattle.cast.specs.Orders.{Visits, Checks, HoldsAlong, message_at, messages_of, orders, orders_from}
+use Rattle.cast.specs.Orders.{Visits, Checks, HoldsAlong, message_at, messages_of, IsFront, IsNext, orders, orders_from}
 use Rattle.cast.proofs.Walks.{range_to}
 
 one_item : {X : Type 0} (o : Option X) → cons_option o [] ≡ option_to_list o
@@ -83,3 +84,33 @@ module _ {C S : Type 0} (stands : S → List Message → Type 0) (good : C → S
       → Visits (Checks stands good) old (orders_from cs steps begun) new on → new.refused ≡ None → old.left < length (orders counts)
   found_more counts cs begun steps old new on same total first e seen none =
       stopped_at_none old (orders counts) new (of_streams counts cs begun steps old new on false same total first e seen) none
+
+  -- the first order that holds, and then those of the rest
+  later_next : (old between : Checking C) (order : List ℕ) (rest : List (List ℕ)) (front : List ℕ) → between.check ≡ old.check → between.streams ≡ old.streams
+      → HoldsAlong stands good old.check.now old.streams.now order → IsNext (HoldsAlong stands good between.check.now between.streams.now) rest front
+      → IsNext (HoldsAlong stands good old.check.now old.streams.now) (order ∷ rest) front
+  later_next old between order rest front same_check same_streams holds later =
+      let Holds = HoldsAlong stands good old.check.now old.streams.now in
+      let others : All Holds later.before = subst (λ c. All (HoldsAlong stands good c.now old.streams.now) later.before) same_check
+        (subst (λ s. All (HoldsAlong stands good between.check.now s.now) later.before) same_streams later.hold) in
+      record {
+        before = order ∷ later.before; order = later.order; rest = later.rest; all_are = ap (λ os. order ∷ os) later.all_are;
+        hold = All-cons Holds order later.before holds others; next = later.next;
+      }
+
+  pub refused_next : (old : Checking C) (all : List (List ℕ)) (new : Checking C) (front : Vec ℕ Global) → Visits (Checks stands good) old all new false → old.refused ≡ None → new.refused ≡ Some front
+      → IsNext (HoldsAlong stands good old.check.now old.streams.now) all front.items
+  unfolding Visits
+  refused_next old [] new front seen none some = absurd (cc)
+  refused_next old (order ∷ rest) new front (inl stopped) none some =
+      let part : IsFront order front.items = subst (λ r. IfSome r (λ v. IsFront order v.items)) some (stopped.0.refuses refl none) in
+      record { before = []; order = order; rest = rest; all_are = refl; hold = All-nil (HoldsAlong stands good old.check.now old.streams.now); next = part }
+  refused_next old (order ∷ rest) new front (inr went) none some =
+      let one = went.1.holds refl in
+      later_next old went.0 order rest front.items went.1.same.0 went.1.same.1 one.2 (refused_next went.0 rest new front went.2 (one.1 ∙ none) some)
+
+  pub found_refused : (counts cs begun : List ℕ) (steps : ℕ) (old new : Checking C) (on : Bool) (front : Vec ℕ Global) → cs ≡ counts → steps ≡ sum counts → begun ≡ [] → on ≡ false
+      → Visits (Checks stands good) old (orders_from cs steps begun) new on → old.refused ≡ None → new.refused ≡ Some front
+      → IsNext (HoldsAlong stands good old.check.now old.streams.now) (orders counts) front.items
+  found_refused counts cs begun steps old new on front same total first e seen none some =
+      refused_next old (orders counts) new front (of_streams counts cs begun steps old new on false same total first e seen) none some

@@ -9,9 +9,10 @@
 --     message_at streams order i         the message at place i of the order: its sender's next item
 --     messages_of streams order n        the first n messages of the order
 --     HoldsAlong stands good ..          after each message of the order, and before the first one, a machine is good
+--     IsNext holds all front             the first orders hold, and this is a first part of the next one
 --     Checks stands good old order ..    what a check does with an order
 --     IsOutcome holds counts most ..     what was found holds of all orders
-use Rattle.std.specs.Prelude.{◌≡◌, ◌≢◌, ◌⊎◌, ℕ, zero, suc, Bool, true, false, Option, Some, None, ◌<◌, ◌≤◌, ◌+◌, ◌==◌, ◌++◌, ◌∷◌, [], List, length, if◌then◌else◌, nat_lt, slice_index_or, slice_get, take, All}
+use Rattle.std.specs.Prelude.{◌≡◌, ◌≢◌, ◌⊎◌, ℕ, zero, suc, Bool, true, false, Option, Some, None, ◌<◌, ◌≤◌, ◌+◌, ◌==◌, ◌++◌, ◌∷◌, [], List, length, if◌then◌else◌, nat_lt, slice_index_or, slice_get, take, All, IfSome}
 use Rattle.std.specs.List.{count_by, filter_map, flat_map, range_with_len, sum}
 use Rattle.cast_message.specs.declared.message.Item.{Item}
 use Rattle.cast_message.specs.declared.message.Message.{Message}
@@ -59,15 +60,29 @@ abbrev pub HoldsAlong : {C S : Type 0} → (S → List Message → Type 0) → (
 HoldsAlong {C} {S} stands good check streams order =
     (n : ℕ) → n ≤ length order → (state : S) × stands state (messages_of streams order n) × good check state
 
+-- a first part of the order
+abbrev pub IsFront : List ℕ → List ℕ → Type 0
+IsFront order front = (n : ℕ) × (front ≡ take n order)
+
+-- the first orders hold, and this is a first part of the next one
+pub record IsNext (holds : List ℕ → Type 0) (all : List (List ℕ)) (front : List ℕ) : Type 0 where
+  pub before : List (List ℕ)
+  pub order : List ℕ
+  pub rest : List (List ℕ)
+  pub all_are : all ≡ before ++ order ∷ rest
+  pub hold : All holds before
+  pub next : IsFront order front
+
 -- the check goes on if the order holds, and stops at one that it refuses, or if it may take none
 pub record Checks {C S : Type 0} (stands : S → List Message → Type 0) (good : C → S → Type 0) (old : Checking C) (order : List ℕ) (new : Checking C) (on : Bool) : Type 0 where
   pub same : (new.check ≡ old.check) × (new.streams ≡ old.streams)
   pub holds : on ≡ true → (new.left + 1 ≡ old.left) × (new.refused ≡ old.refused) × HoldsAlong stands good old.check.now old.streams.now order
   pub stops : on ≡ false → new.refused ≡ None → old.left ≡ 0
+  pub refuses : on ≡ false → old.refused ≡ None → IfSome new.refused (λ front. IsFront order front.items)
 
 abbrev pub IsOutcome : (List ℕ → Type 0) → List ℕ → ℕ → EveryOrder → Type 0
 IsOutcome holds counts most (AllHold n) = (n ≡ length (orders counts)) × All holds (orders counts)
-IsOutcome holds counts most (Refused order) = Unit {0}
+IsOutcome holds counts most (Refused front) = IsNext holds (orders counts) front.items
 IsOutcome holds counts most More = most < length (orders counts)
 IsOutcome holds counts most TooLong = Unit {0}
 
