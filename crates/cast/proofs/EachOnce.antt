@@ -1,5 +1,5 @@
 -- The orders that a walk goes over are exactly those with all messages, and no order is there twice.
-use Rattle.std.proofs.Common.{◌≡◌, ◌≢◌, ◌<◌, ◌≤◌, ◌+◌, ◌-◌, inl, inr, ℕ, zero, suc, Bool, true, false, cond, eqb, eq-eqb, List, [], ◌∷◌, ◌++◌, length, get_or, slice_index_or, nat_lt, refl, sym, ap, ◌∙◌, subst, arith, append_assoc}
+use Rattle.std.proofs.Common.{◌≡◌, ◌<◌, ◌≤◌, ◌+◌, inl, inr, ℕ, zero, suc, Bool, true, false, cond, eqb, eq-eqb, List, [], ◌∷◌, ◌++◌, length, get_or, slice_index_or, refl, sym, ap, ◌∙◌, subst, arith, append_assoc}
 use Rattle.std.specs.Prelude.{◌↔◌}
 use Rattle.std.specs.List.{flat_map, range_with_len, sum, Contains}
 use Rattle.std.proofs.lemmas.Bool.{ltb-true}
@@ -7,7 +7,7 @@ use Rattle.std.proofs.lemmas.Bool.Decides.{leb_tells, eqb_tells}
 use Rattle.std.proofs.lemmas.List.{append-nil, get_or_past, length-append}
 use Rattle.std.proofs.lemmas.List.Concat.{flat_map-cons}
 use Rattle.std.proofs.lemmas.List.Sums.{sum_by-append, sum_by-cons}
-use Rattle.cast_model.proofs.Members.{Member, here, there, Member-one, Member-uncons, Member-append_left, Member-append_right, Member-when, Member-Contains, Contains-Member, Member-get_or}
+use Rattle.cast_model.proofs.Members.{Member, here, Member-one, Member-uncons, Member-append_left, Member-append_right, Member-when, Member-Contains, Contains-Member, Member-get_or}
 use Rattle.cast_model.proofs.Dues.{Once, Once-append, Once-range, Member-flat_in}
 use Rattle.cast_model.proofs.AtRest.{Member-range_with_len}
 use Rattle.cast.specs.Orders.{orders_from, orders, goes_on, times, IsOrder, AreDifferent}
@@ -29,16 +29,16 @@ times_own s begun rest =
 
 has_messages : (counts : List ℕ) (s k : ℕ) → k < slice_index_or counts s 0 → s < length counts
 has_messages counts s k some = elim (leb_tells (length counts) s) [
-    | inl past ↦ (let none = get_or_past counts s 0 past.1 in absurd (omega (arith, none, some)))
-    | inr within ↦ within.1
-  ]
+  | inl past ↦ (let none = get_or_past counts s 0 past.1 in absurd (omega (arith, none, some)))
+  | inr within ↦ within.1
+]
 
 Member-flat : {A B : Type 0} (f : A → List B) (x : A) (y : B) (xs : List A) → Member x xs → Member y (f x) → Member y (flat_map f xs)
 Member-flat f x y [] at m = elim at [ ]
 Member-flat f x y (z ∷ xs) at m = elim (Member-uncons x z xs at) [
-    | inl same ↦ subst (Member y) (sym (flat_map-cons f z xs)) (Member-append_left y (f z) (flat_map f xs) (subst (λ w. Member y (f w)) same m))
-    | inr later ↦ subst (Member y) (sym (flat_map-cons f z xs)) (Member-append_right y (f z) (flat_map f xs) (Member-flat f x y xs later m))
-  ]
+  | inl same ↦ subst (Member y) (sym (flat_map-cons f z xs)) (Member-append_left y (f z) (flat_map f xs) (subst (λ w. Member y (f w)) same m))
+  | inr later ↦ subst (Member y) (sym (flat_map-cons f z xs)) (Member-append_right y (f z) (flat_map f xs) (Member-flat f x y xs later m))
+]
 
 -- an order that goes on from `begun` is there
 is_there : (counts begun rest : List ℕ) → ((s : ℕ) → times s (begun ++ rest) ≤ slice_index_or counts s 0) → Member (begun ++ rest) (orders_from counts (length rest) begun)
@@ -61,14 +61,14 @@ fits_last counts begun s left fits t =
     let last = times_last t s begun in
     let before = fits t in
     elim (eqb_tells s t) [
-    | inl e ↦ (
-        let one : counted (eqb s t) ≡ 1 = ap counted e.0 in
-        let some : times t begun < slice_index_or counts t 0 = subst (λ u. times u begun < slice_index_or counts u 0) e.1 (ltb-true (times s begun) (slice_index_or counts s 0) left) in
-        omega (arith, last, one, some))
-    | inr e ↦ (
-        let none : counted (eqb s t) ≡ 0 = ap counted e.0 in
-        omega (arith, last, none, before))
-  ]
+      | inl e ↦ (
+          let one : counted (eqb s t) ≡ 1 = ap counted e.0 in
+          let some : times t begun < slice_index_or counts t 0 = subst (λ u. times u begun < slice_index_or counts u 0) e.1 (ltb-true (times s begun) (slice_index_or counts s 0) left) in
+          omega (arith, last, one, some))
+      | inr e ↦ (
+          let none : counted (eqb s t) ≡ 0 = ap counted e.0 in
+          omega (arith, last, none, before))
+    ]
 
 is_order : (counts : List ℕ) (steps : ℕ) (begun order : List ℕ) → Member order (orders_from counts steps begun) → ((s : ℕ) → times s begun ≤ slice_index_or counts s 0)
     → (length order ≡ length begun + steps) × ((s : ℕ) → times s order ≤ slice_index_or counts s 0)
@@ -134,11 +134,11 @@ apart (x ∷ xs) once (suc i) (suc j) less within e = apart xs once.1 i j (omega
 
 pub exactly_orders : (counts order : List ℕ) → Contains (orders counts) order ↔ IsOrder counts order
 exactly_orders counts order = (
-    λ at. (
+  λ at. (
       let is = is_order counts (sum counts) [] order (Contains-Member order (orders counts) at) (λ s. let none : times s [] ≡ 0 = refl in omega (arith, none)) in
       (omega (arith, is.0), is.1)),
-    λ is. Member-Contains order (orders counts) (subst (λ n. Member order (orders_from counts n [])) is.0 (is_there counts [] order is.1)),
-  )
+  λ is. Member-Contains order (orders counts) (subst (λ n. Member order (orders_from counts n [])) is.0 (is_there counts [] order is.1)),
+)
 
 pub all_different : (counts : List ℕ) → AreDifferent (orders counts)
 all_different counts = apart (orders counts) (once_from counts (sum counts) [])

@@ -92,10 +92,14 @@ module _ {C S : Type 0} (stands : S → List Message → Type 0) (good : C → S
   later_next old between order rest front same_check same_streams holds later =
       let Holds = HoldsAlong stands good old.check.now old.streams.now in
       let others : All Holds later.before = subst (λ c. All (HoldsAlong stands good c.now old.streams.now) later.before) same_check
-        (subst (λ s. All (HoldsAlong stands good between.check.now s.now) later.before) same_streams later.hold) in
+      (subst (λ s. All (HoldsAlong stands good between.check.now s.now) later.before) same_streams later.hold) in
       record {
-        before = order ∷ later.before; order = later.order; rest = later.rest; all_are = ap (λ os. order ∷ os) later.all_are;
-        hold = All-cons Holds order later.before holds others; next = later.next;
+        before = order ∷ later.before;
+        order = later.order;
+        rest = later.rest;
+        all_are = ap (λ os. order ∷ os) later.all_are;
+        hold = All-cons Holds order later.before holds others;
+        next = later.next;
       }
 
   pub refused_next : (old : Checking C) (all : List (List ℕ)) (new : Checking C) (front : Vec ℕ Global) → Visits (Checks stands good) old all new false → old.refused ≡ None → new.refused ≡ Some front
