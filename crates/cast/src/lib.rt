@@ -7,6 +7,7 @@ mod followed;
 mod follower;
 mod followers;
 mod group;
+mod interleavings;
 mod items;
 mod machine;
 
@@ -28,6 +29,11 @@ pub use followed::{Followed, run_followers, run_followers_by_seed};
 pub use follower::Follower;
 pub use followers::Followers;
 pub use machine::Machine;
+
+// A machine in every order in which the messages of a few short streams may come. It needs no group.
+pub use interleavings::{
+    EveryOrder, LONGEST_ORDER, OrderCheck, every_order, tries_each_order_once,
+};
 
 // A group of your own jobs, in threads or by a seed, if a client does more than submit a list and follow. `run_group`
 // has the usual gates and limits; `run_live` and `run_scheduled` take them from you.
