@@ -72,7 +72,7 @@ pub trait OrderCheck {
 /// What `every_order` found.
 #[derive(Debug, Drop, PartialEq)]
 pub enum EveryOrder {
-    /// The check holds after each message of each order. So many orders there are.
+    /// The check holds after each message of each order. `orders` is their number.
     AllHold { orders: u64 },
     /// The senders of the messages, in the first order that is refused, up to the message after which it is refused.
     Refused { order: Vec<usize> },
